@@ -41,7 +41,7 @@ NUMBERED = (
     ("/osdp_msg/specs/NakReasons", r"^reason_number (?P<name>\w+) = (?P<number>\d+)$", "OSDP_NAK_"),
     ("/osdp_msg/specs/Limits", r"^(?P<name>most_data) = (?P<number>\d+)$", "OSDP_"),
     ("/osdp_frame/specs/Packet", r"^(?P<name>largest) = (?P<number>\d+)$", "OSDP_"),
-    ("/osdp_bus/specs/Machine", r"^(?P<name>most_devices) = (?P<number>\d+)$", "OSDP_"),
+    ("/osdp_bus/specs/Machine", r"^(?P<name>most_entries) = (?P<number>\d+)$", "OSDP_"),
     ("/osdp_c_values/src/pieces.rt", r"^pub const (?P<name>MAX_TEXT): usize = (?P<number>\d+);$", "OSDP_"),
 )
 # What the standard calls otherwise than the definitions do
@@ -50,7 +50,7 @@ TERMS = {
     "Output": "OUT", "Led": "LED", "Buzzer": "BUZ", "Text": "TEXT", "Comset": "COMSET", "Maker": "MFG",
     "Ack": "ACK", "Nak": "NAK", "PdId": "PDID", "PdCap": "PDCAP", "LocalState": "LSTATR", "Inputs": "ISTATR", "Outputs": "OSTATR",
     "Readers": "RSTATR", "Raw": "RAW", "Formatted": "FMT", "Keypad": "KEYPAD", "Com": "COM", "MakerReply": "MFGREP",
-    "most_data": "MOST_DATA", "largest": "MOST_PACKET", "most_devices": "MOST_DEVICES", "MAX_TEXT": "MOST_TEXT", "pends": "PENDING", "maybe_again": "MAYBE_AGAIN",
+    "most_data": "MOST_DATA", "largest": "MOST_PACKET", "most_entries": "MOST_DEVICES", "MAX_TEXT": "MOST_TEXT", "pends": "PENDING", "maybe_again": "MAYBE_AGAIN",
 }
 # What a constant calls otherwise than its definition does
 OTHERWISE = {

@@ -15,7 +15,7 @@ use Rattle.osdp_bus.specs.declared.entry.Entry.{Entry}
 use Rattle.osdp_bus.specs.Buses.{BusState, device_of, has_report, holder, is_silent, waiting_after}
 use Rattle.osdp_bus.specs.Deadlines.{IsDeadline, acts, has_acted, is_run_ended}
 use Rattle.osdp_bus.specs.Remembering.{Remembered}
-use Rattle.osdp_bus.specs.Entries.{first_around, first_from, holds, is_device_due, step_of}
+use Rattle.osdp_bus.specs.Entries.{first_around, first_from, holds, is_entry_due, step_of}
 use Rattle.osdp_bus.specs.Hearing.{ends_run, ends_silent, hears_items}
 use Rattle.osdp_bus.specs.Ticking.{BusTicked, is_due_at, is_held_and_due, next_due, stays, ticks_at, ticks_by, ticks_free, ticks_held, ticks_on, ticks_with}
 use Rattle.osdp_bus.specs.Waits.{IsDueFrom, IsHolderDeadline, any_due, earlier}
@@ -75,10 +75,10 @@ any_push test (x ∷ xs) d = by_test (test x) (any_push test xs d)
     by_test false others = others
 
 pub due_more : (ds : List Entry) (now i : ℕ) (d : Entry) (a b : Option ℕ) → i < length ds → d ≡ get_or ds i d
-    → IsDueFrom (any_due (take i ds)) now a → IsDueFrom (λ at. is_device_due at d) now b → IsDueFrom (any_due (take (i + 1) ds)) now (earlier a b)
+    → IsDueFrom (any_due (take i ds)) now a → IsDueFrom (λ at. is_entry_due at d) now b → IsDueFrom (any_due (take (i + 1) ds)) now (earlier a b)
 due_more ds now i d a b within is before here =
-    due_earlier (any_due (take i ds)) (λ at. is_device_due at d) (any_due (take (i + 1) ds)) now a b before here
-    (λ at. ap (list_any (is_device_due at)) (take_more ds i d within ∙ ap (λ x. take i ds ++ x ∷ []) (sym is)) ∙ any_push (is_device_due at) (take i ds) d)
+    due_earlier (any_due (take i ds)) (λ at. is_entry_due at d) (any_due (take (i + 1) ds)) now a b before here
+    (λ at. ap (list_any (is_entry_due at)) (take_more ds i d within ∙ ap (λ x. take i ds ++ x ∷ []) (sym is)) ∙ any_push (is_entry_due at) (take i ds) d)
 
 -- ---- what is first
 
@@ -174,7 +174,7 @@ told_some n None = refl
 told_some n (Some report) = refl
 
 ticked_acts : (c : BusConfig) (m : List Remembered) (ds : List Entry) (first last greatest n : ℕ) (old : BusState) (d : Entry) → slice_get ds n ≡ Some d
-    → is_device_due greatest d ≡ true → has_acted old (ticks_at (Some n) (bus c m ds first last [] greatest)) ≡ true
+    → is_entry_due greatest d ≡ true → has_acted old (ticks_at (Some n) (bus c m ds first last [] greatest)) ≡ true
 ticked_acts c m ds first last greatest n old d there due =
     ap (λ o. has_acted old (ticks_with n o (bus c m ds first last [] greatest))) there
     ∙ ap (λ t. t || is_run_ended old (ticks_with n (Some d) (bus c m ds first last [] greatest)).bus)
@@ -204,28 +204,28 @@ free_acts c m ds first last greatest now nobody =
     ap (λ s. has_acted old (ticks_on s)) (nothing_silent (bus c m ds first last [] g) refl)
     ∙ ap (λ o. has_acted old (ticks_by o b)) nobody
     ∙ ap (λ s. has_acted old (ticks_free s)) (nothing_ends (bus c m ds first last [] g) refl)
-    ∙ by_next (next_due b) (around (is_device_due g) first ds)
+    ∙ by_next (next_due b) (around (is_entry_due g) first ds)
   where
-    by_next : (o : Option ℕ) → IsAround (is_device_due (max greatest now)) ds o
+    by_next : (o : Option ℕ) → IsAround (is_entry_due (max greatest now)) ds o
         → has_acted (bus c m ds first last [] greatest) (ticks_at o (bus c m ds first last [] (max greatest now))) ≡ any_due ds (max greatest now)
     by_next None none = sym none
     by_next (Some n) here =
         ticked_acts c m ds first last (max greatest now) n (bus c m ds first last [] greatest) here.0 here.1.0 here.1.1
-        ∙ sym (any_at (is_device_due (max greatest now)) ds n here.0 here.1.0 here.1.1)
+        ∙ sym (any_at (is_entry_due (max greatest now)) ds n here.0 here.1.0 here.1.1)
 
 -- a device holds the line and nothing is held: it does something where this device is due
 pub held_acts : (c : BusConfig) (m : List Remembered) (ds : List Entry) (first last greatest now n : ℕ) (d : Entry) → first_from 0 holds ds ≡ Some n
-    → slice_get ds n ≡ Some d → holds d ≡ true → acts now (bus c m ds first last [] greatest) ≡ is_device_due (max greatest now) d
+    → slice_get ds n ≡ Some d → holds d ≡ true → acts now (bus c m ds first last [] greatest) ≡ is_entry_due (max greatest now) d
 held_acts c m ds first last greatest now n d holder_is there stands =
     let g = max greatest now in
     let b = bus c m ds first last [] g in
     let old = bus c m ds first last [] greatest in
     ap (λ s. has_acted old (ticks_on s)) (nothing_silent (bus c m ds first last [] g) refl)
     ∙ ap (λ o. has_acted old (ticks_by o b)) holder_is
-    ∙ ap (λ o. has_acted old (cond (option_map_or (is_device_due g) o false) (ticks_held n (ends_run b)) (stays b))) there
-    ∙ by_due (is_device_due g d) refl
+    ∙ ap (λ o. has_acted old (cond (option_map_or (is_entry_due g) o false) (ticks_held n (ends_run b)) (stays b))) there
+    ∙ by_due (is_entry_due g d) refl
   where
-    by_due : (due : Bool) → is_device_due (max greatest now) d ≡ due
+    by_due : (due : Bool) → is_entry_due (max greatest now) d ≡ due
         → has_acted (bus c m ds first last [] greatest) (cond due (ticks_held n (ends_run (bus c m ds first last [] (max greatest now)))) (stays (bus c m ds first last [] (max greatest now)))) ≡ due
     by_due false is = refl
     by_due true is =
@@ -233,8 +233,8 @@ held_acts c m ds first last greatest now n d holder_is there stands =
         let b = bus c m ds first last [] g in
         let old = bus c m ds first last [] greatest in
         ap (λ s. has_acted old (ticks_held n s)) (nothing_ends (bus c m ds first last [] g) refl)
-        ∙ ap (λ o. has_acted old (cond (not (option_map_or holds o false && option_map_or (is_device_due g) o false)) (stays b) (ticks_at (Some n) b))) there
-        ∙ ap (λ t. has_acted old (cond (not (t && is_device_due g d)) (stays b) (ticks_at (Some n) b))) stands
+        ∙ ap (λ o. has_acted old (cond (not (option_map_or holds o false && option_map_or (is_entry_due g) o false)) (stays b) (ticks_at (Some n) b))) there
+        ∙ ap (λ t. has_acted old (cond (not (t && is_entry_due g d)) (stays b) (ticks_at (Some n) b))) stands
         ∙ ap (λ t. has_acted old (cond (not t) (stays b) (ticks_at (Some n) b))) is
         ∙ ticked_acts c m ds first last g n old d there is
 
@@ -289,7 +289,7 @@ free_ends c m ds first last greatest now byte bytes nobody = by_silent (is_silen
 -- a device holds the line and bytes are held: their run ends where the line was silent long enough, or where this device is due
 pub held_ends : (c : BusConfig) (m : List Remembered) (ds : List Entry) (first last greatest now byte n : ℕ) (bytes : List ℕ) (d : Entry) → first_from 0 holds ds ≡ Some n
     → slice_get ds n ≡ Some d
-    → acts now (bus c m ds first last (byte ∷ bytes) greatest) ≡ (is_device_due (max greatest now) d || is_silent_for c.gap last (max greatest now))
+    → acts now (bus c m ds first last (byte ∷ bytes) greatest) ≡ (is_entry_due (max greatest now) d || is_silent_for c.gap last (max greatest now))
 held_ends c m ds first last greatest now byte n bytes d holder_is there =
     by_silent (is_silent_for c.gap last (max greatest now))
   where
@@ -303,18 +303,18 @@ held_ends c m ds first last greatest now byte n bytes d holder_is there =
 
     by_silent : (b : Bool) → has_acted (bus c m ds first last (byte ∷ bytes) greatest)
         (ticks_on (cond b (ends_run (bus c m ds first last (byte ∷ bytes) (max greatest now))) (bus c m ds first last (byte ∷ bytes) (max greatest now))))
-        ≡ (is_device_due (max greatest now) d || b)
+        ≡ (is_entry_due (max greatest now) d || b)
     by_silent true =
         let s = ends_run (bus c m ds first last (byte ∷ bytes) (max greatest now)) in
         ended_acts (bus c m ds first last (byte ∷ bytes) greatest) byte bytes (ticks_on s) refl (by_empty (holder s) s refl)
-        ∙ sym (or_true (is_device_due (max greatest now) d))
+        ∙ sym (or_true (is_entry_due (max greatest now) d))
     by_silent false =
         let g = max greatest now in
         let s = bus c m ds first last (byte ∷ bytes) g in
         let old = bus c m ds first last (byte ∷ bytes) greatest in
         ap (λ o. has_acted old (ticks_by o s)) holder_is
-        ∙ ap (λ o. has_acted old (cond (option_map_or (is_device_due g) o false) (ticks_held n (ends_run s)) (stays s))) there
-        ∙ by_due (is_device_due g d) ∙ sym (or_false (is_device_due g d))
+        ∙ ap (λ o. has_acted old (cond (option_map_or (is_entry_due g) o false) (ticks_held n (ends_run s)) (stays s))) there
+        ∙ by_due (is_entry_due g d) ∙ sym (or_false (is_entry_due g d))
 
 -- ---- the moment that a bus tells
 
@@ -364,12 +364,12 @@ deadline_held b n moment none holder_is fits due =
     by_held : (d : Entry) → slice_get b.devices.entries n ≡ Some d → holds d ≡ true → (held : List ℕ) → b.held ≡ held
         → IsHolderDeadline (length b.held == 0) b d moment → IsDeadline b moment
     by_held d there stands [] is from =
-        as_deadline b (λ at. is_device_due at d) moment none fits
+        as_deadline b (λ at. is_entry_due at d) moment none fits
         (λ now. ap (acts now) (plain b [] (none_of b.devices.report none) is)
         ∙ held_acts b.config b.remembered b.devices.entries b.first b.last b.greatest now n d holder_is there stands)
         (subst (λ (l : List ℕ). IsHolderDeadline (length l == 0) b d moment) is from)
     by_held d there stands (byte ∷ bytes) is from =
-        as_deadline b (λ at. is_device_due at d || is_silent_for b.config.gap b.last at) moment none fits
+        as_deadline b (λ at. is_entry_due at d || is_silent_for b.config.gap b.last at) moment none fits
         (λ now. ap (acts now) (plain b (byte ∷ bytes) (none_of b.devices.report none) is)
         ∙ held_ends b.config b.remembered b.devices.entries b.first b.last b.greatest now byte n bytes d holder_is there)
         (subst (λ t. IsHolderDeadline t b d moment) (ap (λ l. length l == 0) is ∙ ne_eqb (length (byte ∷ bytes)) 0 (λ h. omega arith)) from)

@@ -60,15 +60,15 @@ abbrev pub holds : Entry → Bool
 holds d = is_outstanding d.controller.session.state
 
 -- a tick of its controller would send or report
-abbrev pub is_device_due : ℕ → Entry → Bool
-is_device_due now d = is_due now d.controller
+abbrev pub is_entry_due : ℕ → Entry → Bool
+is_entry_due now d = is_due now d.controller
 
 -- what its controller tells of a packet, and the device after it
 abbrev pub told_of : Packet → ℕ → Entry → Option Report
 told_of p now d = (hears p now d.controller.session).report
 
-abbrev pub device_hears : Packet → ℕ → Entry → Entry
-device_hears p now d = record {
+abbrev pub entry_hears : Packet → ℕ → Entry → Entry
+entry_hears p now d = record {
   controller = after_frame p now d.controller;
   reserved = reserved_after (told_of p now d) d.reserved;
 }
@@ -77,8 +77,8 @@ device_hears p now d = record {
 abbrev pub step_of : ℕ → Entry → Step
 step_of now d = (ticks now d.controller.session d.controller.waiting).step
 
-abbrev pub device_ticks : ℕ → Entry → Entry
-device_ticks now d = record {
+abbrev pub entry_ticks : ℕ → Entry → Entry
+entry_ticks now d = record {
   controller = after_tick now d.controller;
   reserved = reserved_after (step_of now d).report d.reserved;
 }

@@ -5,13 +5,13 @@ use Rattle.osdp_frame.specs.Packet.{Packet}
 use Rattle.osdp_frame.specs.Reading.{RunItem, PacketItem, SkippedItem, RefusedItem}
 use Rattle.osdp_bus.specs.declared.entry.Entry.{Entry}
 use Rattle.osdp_bus.specs.Buses.{BusState, Devices, is_silent, seen, waiting_after}
-use Rattle.osdp_bus.specs.Entries.{device_hears, first_from, is_at, told_of}
+use Rattle.osdp_bus.specs.Entries.{entry_hears, first_from, is_at, told_of}
 
 -- a packet reaches the device of an entry
 abbrev pub hears_with : Packet → ℕ → ℕ → Option Entry → Devices → Devices
 hears_with p now entry None ds = ds
 hears_with p now entry (Some d) ds = record {
-  entries = slice_set ds.entries entry (device_hears p now d);
+  entries = slice_set ds.entries entry (entry_hears p now d);
   report = waiting_after entry (told_of p now d) ds.report;
 }
 

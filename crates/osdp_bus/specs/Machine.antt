@@ -21,8 +21,8 @@ use Rattle.osdp_bus.specs.Remembering.{Remembered, remembers_at}
 use Rattle.osdp_bus.specs.Settings.{IsBusConfig, controller_config}
 
 -- how many devices there may be
-abbrev pub most_devices : ℕ
-most_devices = 16
+abbrev pub most_entries : ℕ
+most_entries = 16
 
 -- a controller's refusal, told by the bus
 abbrev pub bus_fault : ControllerFault → BusFault
@@ -33,8 +33,8 @@ bus_fault controllers.PollSubmitted = PollSubmitted
 bus_fault controllers.NotClosed = NotClosed
 
 -- the device of an entry is changed
-abbrev pub changes_device : ℕ → (Entry → Entry) → BusState → BusState
-changes_device entry change b =
+abbrev pub changes_entry : ℕ → (Entry → Entry) → BusState → BusState
+changes_entry entry change b =
     option_map_or (λ d. record b {
       devices = record b.devices { entries = slice_set b.devices.entries entry (change d) };
     }) (device_of entry b) b
@@ -49,7 +49,7 @@ NewEnds config (Err _) = ⊥
 -- adding: where as many devices are there as there may be, then for the configuration address, then for one that is taken
 abbrev pub add_refusal : ℕ → BusState → Option BusFault
 add_refusal address b =
-    if nat_le most_devices (length b.devices.entries) then Some TooMany
+    if nat_le most_entries (length b.devices.entries) then Some TooMany
     else (if nat_lt address 127 then (if is_taken address b.devices.entries then Some AddressTaken else None)
     else Some OutOfRange)
 
@@ -79,11 +79,11 @@ begin_refusal_of (Some d) = option_map bus_fault (begin_refusal d.controller)
 abbrev pub begin_refusal_at : ℕ → BusState → Option BusFault
 begin_refusal_at entry b = begin_refusal_of (device_of entry b)
 
-abbrev pub device_begins : ℕ → Entry → Entry
-device_begins now d = record d { controller = after_begin now d.controller }
+abbrev pub entry_begins : ℕ → Entry → Entry
+entry_begins now d = record d { controller = after_begin now d.controller }
 
 abbrev pub after_begin_at : ℕ → ℕ → BusState → BusState
-after_begin_at entry now b = changes_device entry (device_begins (max b.greatest now)) (seen now b)
+after_begin_at entry now b = changes_entry entry (entry_begins (max b.greatest now)) (seen now b)
 
 -- a COMSET whose address another device takes up, or of a device for which an address is reserved already
 abbrev pub is_comset_refused : Option Communication → ℕ → Entry → BusState → Bool
@@ -117,14 +117,14 @@ abbrev pub order_refusal_at : ℕ → Command → BusState → Option BusFault
 order_refusal_at entry command b = order_refusal_of entry command (device_of entry b) b
 
 -- the command waits, and a COMSET reserves its address
-abbrev pub device_submits : Command → Entry → Entry
-device_submits command d = record {
+abbrev pub entry_submits : Command → Entry → Entry
+entry_submits command d = record {
   controller = after_submit command d.controller;
   reserved = reserved_for (comset_of command) d.reserved;
 }
 
 abbrev pub after_submit_at : ℕ → Command → BusState → BusState
-after_submit_at entry command b = changes_device entry (device_submits command) b
+after_submit_at entry command b = changes_entry entry (entry_submits command) b
 
 -- another address for an entry: as its controller refuses it, then where another device takes it up, or a COMSET waits here
 abbrev pub or_taken : Option BusFault → Bool → Option BusFault
@@ -141,11 +141,11 @@ abbrev pub retarget_refusal_at : ℕ → ℕ → BusState → Option BusFault
 retarget_refusal_at entry address b = retarget_refusal_of entry address (device_of entry b) b
 
 -- the device is at the address, and nothing is reserved for it
-abbrev pub device_retargets : ℕ → Entry → Entry
-device_retargets address d = record { controller = after_retarget address d.controller; reserved = None }
+abbrev pub entry_retargets : ℕ → Entry → Entry
+entry_retargets address d = record { controller = after_retarget address d.controller; reserved = None }
 
 abbrev pub after_retarget_at : ℕ → ℕ → BusState → BusState
-after_retarget_at entry address b = changes_device entry (device_retargets address) b
+after_retarget_at entry address b = changes_entry entry (entry_retargets address) b
 
 -- withdrawing: as the controller of the entry; a withdrawn COMSET reserves nothing any more
 abbrev pub reserved_without : Option Command → Option ℕ → Option ℕ
@@ -155,8 +155,8 @@ reserved_without (Some command) reserved = freed_with command reserved
 abbrev pub withdrawn_of : Entry → Option Command
 withdrawn_of d = withdrawn_in d.controller.session.state d.controller.waiting
 
-abbrev pub device_withdraws : Entry → Entry
-device_withdraws d = record {
+abbrev pub entry_withdraws : Entry → Entry
+entry_withdraws d = record {
   controller = after_withdraw d.controller;
   reserved = reserved_without (withdrawn_of d) d.reserved;
 }
@@ -177,7 +177,7 @@ abbrev pub is_withdrawn_at : ℕ → BusState → Result Bool BusFault
 is_withdrawn_at entry b = is_withdrawn_of (device_of entry b)
 
 abbrev pub after_withdraw_at : ℕ → BusState → BusState
-after_withdraw_at entry b = changes_device entry device_withdraws b
+after_withdraw_at entry b = changes_entry entry entry_withdraws b
 
 -- the report that waits is taken, and remembered of its entry
 abbrev pub remembered_after : Option (ℕ × Report) → BusState → List Remembered

@@ -6,7 +6,7 @@ use Rattle.osdp_bus.specs.declared.entry_list.EntryList.{EntryList}
 use Rattle.osdp_bus.specs.declared.line.Line.{Line}
 use Rattle.osdp_bus.specs.Buses.{BusState, Devices}
 use Rattle.osdp_bus.specs.Hearing.{hears_items}
-use Rattle.osdp_bus.specs.Machine.{most_devices}
+use Rattle.osdp_bus.specs.Machine.{most_entries}
 use Rattle.osdp_bus.specs.Remembering.{Remembered, nothing_yet}
 use Rattle.osdp_bus.specs.Settings.{IsBusConfig}
 
@@ -30,8 +30,8 @@ state_of l = record {
 
 -- the list has room for all devices, so that a new one asks for its own block and its queue alone
 pub record HasRoom (l : EntryList) : Type 0 where
-  pub few : length l.entries.items ≤ most_devices
-  pub room : most_devices ≤ vec_capacity l.entries
+  pub few : length l.entries.items ≤ most_entries
+  pub room : most_entries ≤ vec_capacity l.entries
 
 -- what holds of the parts between two calls
 pub record IsLine (l : Line) : Type 0 where
@@ -41,7 +41,7 @@ pub record IsLine (l : Line) : Type 0 where
   pub read : IsAllRead l.receiver
   pub first : l.first ≤ length l.devices.entries.items
   pub memories : length l.memories.items ≡ length l.devices.entries.items
-  pub memories_room : most_devices ≤ vec_capacity l.memories
+  pub memories_room : most_entries ≤ vec_capacity l.memories
 
 -- the first `count` bytes were read by themselves, by devices and a receiver that has read all before them: what comes of these and the
 -- others is what comes of all, and so is what is left of them

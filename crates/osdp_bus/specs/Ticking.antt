@@ -4,7 +4,7 @@ use Rattle.std.specs.Option.{option_map_or}
 use Rattle.osdp_frame.specs.Packet.{Packet}
 use Rattle.osdp_bus.specs.declared.entry.Entry.{Entry}
 use Rattle.osdp_bus.specs.Buses.{BusState, device_of, has_report, holder, seen, waiting_after}
-use Rattle.osdp_bus.specs.Entries.{device_ticks, first_around, holds, is_device_due, step_of}
+use Rattle.osdp_bus.specs.Entries.{entry_ticks, first_around, holds, is_entry_due, step_of}
 use Rattle.osdp_bus.specs.Hearing.{ends_run, ends_silent}
 
 -- what comes of a tick: the bus after it, and the frame that goes out
@@ -21,7 +21,7 @@ ticks_with entry None b = stays b
 ticks_with entry (Some d) b = record {
   bus = record b {
     devices = record {
-      entries = slice_set b.devices.entries entry (device_ticks b.greatest d);
+      entries = slice_set b.devices.entries entry (entry_ticks b.greatest d);
       report = waiting_after entry (step_of b.greatest d).report b.devices.report;
     };
     first = entry + 1;
@@ -35,7 +35,7 @@ ticks_at (Some entry) b = ticks_with entry (device_of entry b) b
 
 -- the device of an entry would send or report
 abbrev pub is_due_at : ℕ → BusState → Bool
-is_due_at entry b = option_map_or (is_device_due b.greatest) (device_of entry b) false
+is_due_at entry b = option_map_or (is_entry_due b.greatest) (device_of entry b) false
 
 -- and its exchange still stands
 abbrev pub is_held_and_due : ℕ → BusState → Bool
@@ -43,7 +43,7 @@ is_held_and_due entry b = option_map_or holds (device_of entry b) false && is_du
 
 -- nobody holds the line: the first in turn that is due begins an exchange
 abbrev pub next_due : BusState → Option ℕ
-next_due b = first_around b.first (is_device_due b.greatest) b.devices.entries
+next_due b = first_around b.first (is_entry_due b.greatest) b.devices.entries
 
 -- what the first in turn that is due comes to, or what rests where a report waits
 abbrev pub asks_free : {A : Type 0} → A → (Option ℕ → A) → BusState → A

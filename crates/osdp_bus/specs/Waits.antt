@@ -4,7 +4,7 @@ use Rattle.std.specs.List.{list_any}
 use Rattle.osdp_frame.specs.Silence.{is_silent_for}
 use Rattle.osdp_bus.specs.declared.entry.Entry.{Entry}
 use Rattle.osdp_bus.specs.Buses.{BusState}
-use Rattle.osdp_bus.specs.Entries.{is_device_due}
+use Rattle.osdp_bus.specs.Entries.{is_entry_due}
 
 -- from the moment `now` on: due from this moment on, or never
 abbrev pub IsDueFrom : (ℕ → Bool) → ℕ → Option ℕ → Type 0
@@ -19,10 +19,10 @@ earlier (Some a) (Some b) = Some (min a b)
 
 -- whether one of the devices is due
 abbrev pub any_due : List Entry → ℕ → Bool
-any_due devices at = list_any (is_device_due at) devices
+any_due devices at = list_any (is_entry_due at) devices
 
 -- where a device holds the line: this device is due, or else, where bytes are held, the line has been silent long enough
 abbrev pub IsHolderDeadline : Bool → BusState → Entry → Option ℕ → Type 0
-IsHolderDeadline true b d moment = IsDueFrom (λ at. is_device_due at d) b.greatest moment
+IsHolderDeadline true b d moment = IsDueFrom (λ at. is_entry_due at d) b.greatest moment
 IsHolderDeadline false b d moment =
-    IsDueFrom (λ at. is_device_due at d || is_silent_for b.config.gap b.last at) b.greatest moment
+    IsDueFrom (λ at. is_entry_due at d || is_silent_for b.config.gap b.last at) b.greatest moment

@@ -5,8 +5,8 @@ ghost use Rattle.osdp_controller.specs.Comsets.{is_comset};
 ghost use Rattle.osdp_controller.specs.Hearing.{comset_of};
 ghost use Rattle.osdp_controller.specs.Lent.{IsWritten};
 ghost use Rattle.osdp_controller.specs.Machine.{begin_refusal, retarget_refusal, submit_refusal};
-ghost use Rattle.osdp_bus.specs.Entries.{device_hears, device_ticks, freed_with, holds, is_at, is_device_due, is_reserved, reserved_after, reserved_for, step_of, takes_up, told_of};
-ghost use Rattle.osdp_bus.specs.Machine.{bus_fault, device_begins, device_retargets, device_submits, device_withdraws, reserved_without, withdrawn_of};
+ghost use Rattle.osdp_bus.specs.Entries.{entry_hears, entry_ticks, freed_with, holds, is_at, is_entry_due, is_reserved, reserved_after, reserved_for, step_of, takes_up, told_of};
+ghost use Rattle.osdp_bus.specs.Machine.{bus_fault, entry_begins, entry_retargets, entry_submits, entry_withdraws, reserved_without, withdrawn_of};
 ghost use Rattle.osdp_bus.specs.Waits.{IsDueFrom};
 
 use crate::fault::BusFault;
@@ -45,7 +45,7 @@ impl Entry {
 
     /// Whether its controller would send or report at this moment.
     pub(crate) fn is_due(&self, now: u64) -> bool
-        ensures { result ≡ is_device_due now self.now }
+        ensures { result ≡ is_entry_due now self.now }
     {
         self.controller.due(now)
     }
@@ -60,14 +60,14 @@ impl Entry {
     /// Begins a session.
     pub(crate) fn begin(&mut self, now: u64)
         requires { begin_refusal self.old.controller ≡ None }
-        ensures { self.new ≡ device_begins now self.old }
+        ensures { self.new ≡ entry_begins now self.old }
     {
         let _ = self.controller.begin(now);
     }
 
     /// Puts a command after those that wait. A COMSET reserves its address.
     pub(crate) fn submit(&mut self, command: &Command<'_>) -> Result<(), BusFault>
-        ensures ok { OnOk result ((submit_refusal command.now self.old.controller ≡ None) × (self.new ≡ device_submits command.now self.old)) }
+        ensures ok { OnOk result ((submit_refusal command.now self.old.controller ≡ None) × (self.new ≡ entry_submits command.now self.old)) }
         ensures err { IfErr result (λ fault. (option_map bus_fault (submit_refusal command.now self.old.controller) ≡ Some fault) × (self.new ≡ self.old)) }
     {
         match self.controller.submit(command) {
@@ -82,7 +82,7 @@ impl Entry {
     /// Sets the address, and frees what is reserved.
     pub(crate) fn retarget(&mut self, address: Address)
         requires { retarget_refusal address self.old.controller ≡ None }
-        ensures { self.new ≡ device_retargets address self.old }
+        ensures { self.new ≡ entry_retargets address self.old }
     {
         let _ = self.controller.retarget(address);
         self.reserved = None;
@@ -98,7 +98,7 @@ impl Entry {
     /// Takes it back. Whether there was one.
     pub(crate) fn withdraw(&mut self) -> bool
         ensures command { result ≡ is_some (withdrawn_of self.old) }
-        ensures device { self.new ≡ device_withdraws self.old }
+        ensures device { self.new ≡ entry_withdraws self.old }
     {
         self.reserved = reserved_without(&self.withdrawable(), self.reserved);
         self.controller.withdraw()
@@ -106,7 +106,7 @@ impl Entry {
 
     /// From when on its controller would send or report, but not before this moment. None where it never would.
     pub(crate) fn deadline(&self, now: u64) -> Option<u64>
-        ensures { IsDueFrom (λ at. is_device_due at self.now) now result }
+        ensures { IsDueFrom (λ at. is_entry_due at self.now) now result }
     {
         let deadline = self.controller.next_deadline()?;
         if self.is_due(now) {
@@ -119,7 +119,7 @@ impl Entry {
     /// A packet comes from the line. What it says, or that nothing is to be told, stands in `report`.
     pub(crate) fn hear(&mut self, frame: &FrameView<'_>, now: u64, report: &mut KeptReport)
         ensures report { report.new ≡ told_of frame.now now self.old }
-        ensures device { self.new ≡ device_hears frame.now now self.old }
+        ensures device { self.new ≡ entry_hears frame.now now self.old }
     {
         self.controller.hear(frame, now, report);
         self.free_after(report);
@@ -130,7 +130,7 @@ impl Entry {
         ensures sent { result ≡ is_some (step_of now self.old).frame }
         ensures bytes { IsWritten (step_of now self.old).frame out.old.items out.new.items }
         ensures report { report.new ≡ (step_of now self.old).report }
-        ensures device { self.new ≡ device_ticks now self.old }
+        ensures device { self.new ≡ entry_ticks now self.old }
     {
         let sends = self.controller.tick(now, out, report);
         self.free_after(report);

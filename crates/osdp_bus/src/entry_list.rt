@@ -1,7 +1,7 @@
 //! The devices of a bus, and the report of one that waits.
 
 ghost use Rattle.std.specs.Prelude.{◌≡◌, ◌+◌, ◌<◌, ◌≤◌, ◌^◌, IfSome, length, vec_capacity};
-ghost use Rattle.osdp_bus.specs.Entries.{first_around, first_from, holds, is_at, is_device_due, is_taken, is_taken_beside};
+ghost use Rattle.osdp_bus.specs.Entries.{first_around, first_from, holds, is_at, is_entry_due, is_taken, is_taken_beside};
 ghost use Rattle.osdp_bus.specs.Hearing.{hears_item, hears_packet};
 ghost use Rattle.osdp_bus.specs.Private.{devices_of};
 ghost use Rattle.osdp_bus.specs.Waits.{IsDueFrom, any_due, earlier};
@@ -47,7 +47,7 @@ pub(crate) fn first_holding(devices: &[BoxedEntry]) -> Option<EntryNumber>
 /// The first device that is due, by its number, where the first of them has number `at`.
 fn first_due(devices: &[BoxedEntry], at: EntryNumber, now: u64) -> Option<EntryNumber>
     requires { at + length devices.now < 2 ^ 63 }
-    ensures { result ≡ first_from at (is_device_due now) devices.now }
+    ensures { result ≡ first_from at (is_entry_due now) devices.now }
 {
     for (i, device) in devices.iter().enumerate() {
         if device.is_due(now) {
@@ -60,7 +60,7 @@ fn first_due(devices: &[BoxedEntry], at: EntryNumber, now: u64) -> Option<EntryN
 /// The first device in turn that is due, beginning with that of this entry.
 pub(crate) fn next_due(devices: &[BoxedEntry], first: EntryNumber, now: u64) -> Option<EntryNumber>
     requires { first ≤ length devices.now }
-    ensures { result ≡ first_around first (is_device_due now) devices.now }
+    ensures { result ≡ first_around first (is_entry_due now) devices.now }
 {
     match first_due(&devices[first..], first, now) {
         Some(entry) => Some(entry),

@@ -3,7 +3,7 @@
 ghost use Rattle.std.specs.Prelude.{◌≡◌, false, is_some, None, Some};
 ghost use Rattle.osdp_controller.specs.Lent.{IsWritten};
 ghost use Rattle.osdp_bus.specs.Buses.{waiting_after};
-ghost use Rattle.osdp_bus.specs.Entries.{device_hears, device_ticks, step_of, told_of};
+ghost use Rattle.osdp_bus.specs.Entries.{entry_hears, entry_ticks, step_of, told_of};
 
 use crate::EntryNumber;
 use crate::boxed_entry::BoxedEntry;
@@ -78,7 +78,7 @@ impl Told {
         now: u64,
     )
         ensures told { self.new ≡ waiting_after entry (told_of frame.now now device.old) self.old }
-        ensures device { device.new ≡ device_hears frame.now now device.old }
+        ensures device { device.new ≡ entry_hears frame.now now device.old }
     {
         if self.report.is_some() {
             self.hear_beside(entry, device, frame, now);
@@ -100,7 +100,7 @@ impl Told {
         now: u64,
     )
         ensures told { self.new ≡ waiting_after entry (told_of frame.now now device.old) self.old }
-        ensures device { device.new ≡ device_hears frame.now now device.old }
+        ensures device { device.new ≡ entry_hears frame.now now device.old }
     {
         let mut report = KeptReport::new();
         device.hear(frame, now, &mut report);
@@ -124,7 +124,7 @@ impl Told {
         ensures sent { result ≡ is_some (step_of now device.old).frame }
         ensures bytes { IsWritten (step_of now device.old).frame out.old.items out.new.items }
         ensures told { self.new ≡ waiting_after entry (step_of now device.old).report self.old }
-        ensures device { device.new ≡ device_ticks now device.old }
+        ensures device { device.new ≡ entry_ticks now device.old }
     {
         self.entry = entry;
         device.tick(now, out, &mut self.report)

@@ -21,7 +21,7 @@ use Rattle.osdp_bus.specs.declared.fault.BusFault.{BusFault}
 use Rattle.osdp_bus.specs.declared.fault.BusFault.TheVariants.{TooMany, AddressTaken, OutOfRange}
 use Rattle.osdp_bus.specs.Buses.{BusState, Devices, device_of, new_bus, seen}
 use Rattle.osdp_bus.specs.Entries.{address_of, is_at, is_reserved, is_taken, is_taken_beside, reserved_for, takes_up}
-use Rattle.osdp_bus.specs.Machine.{add_refusal, after_add, after_begin_at, after_next_report, after_retarget_at, after_submit_at, begin_refusal_at, begin_refusal_of, bus_fault, changed_unless, changes_device, device_begins, device_retargets, device_submits, device_withdraws, is_comset_refused, most_devices, new_device, or_taken, reserved_without, retarget_refusal_at, retarget_refusal_of, submit_refusal_at, submit_refusal_of, withdrawn_of}
+use Rattle.osdp_bus.specs.Machine.{add_refusal, after_add, after_begin_at, after_next_report, after_retarget_at, after_submit_at, begin_refusal_at, begin_refusal_of, bus_fault, changed_unless, changes_entry, entry_begins, entry_retargets, entry_submits, entry_withdraws, is_comset_refused, most_entries, new_device, or_taken, reserved_without, retarget_refusal_at, retarget_refusal_of, submit_refusal_at, submit_refusal_of, withdrawn_of}
 use Rattle.osdp_bus.specs.Settings.{IsBusConfig, controller_config}
 use Rattle.osdp_bus_laws.specs.Addresses.{Names, comsets_in}
 use Rattle.osdp_bus_laws.specs.Calls.{Call, Add, Begin, Submit, Withdraw, Retarget, OnBytes, OnSilence, Tick, NextReport, after_call, after_calls}
@@ -96,7 +96,7 @@ withdrawn_reserves (Pausing until o) waiting reserved is = is
 -- ---- a device of an entry changes
 
 sound_changes : (entry : ℕ) (change : Entry → Entry) (b : BusState)
-    → ((d : Entry) → device_of entry b ≡ Some d → Comes b.devices entry (change d) None) → SoundBus b → SoundBus (changes_device entry change b)
+    → ((d : Entry) → device_of entry b ≡ Some d → Comes b.devices entry (change d) None) → SoundBus b → SoundBus (changes_entry entry change b)
 sound_changes entry change b comes is = by_device (device_of entry b) refl
   where
     by_device : (o : Option Entry) → device_of entry b ≡ o
@@ -107,11 +107,11 @@ sound_changes entry change b comes is = by_device (device_of entry b) refl
 -- a session begins
 
 comes_begun : (entry now : ℕ) (d : Entry) (ds : Devices) → Sound ds → slice_get ds.entries entry ≡ Some d → begin_refusal d.controller ≡ None
-    → Comes ds entry (device_begins now d) None
+    → Comes ds entry (entry_begins now d) None
 comes_begun entry now d ds sound at ok =
     let is = sound.devices entry d at in
     let m = d.controller in
-    comes_of ds entry d (device_begins now d) None sound at
+    comes_of ds entry d (entry_begins now d) None sound at
     (record {
       machine = subst (λ f. IsMachine (changed_machine f m (after_begin now m))) ok (keeps_each (BeginOf now) m is.machine);
       reserves = subst (λ l. Reserves l d.reserved) (closed_comsets m (was_closed m.session.state ok)) is.reserves;
@@ -121,7 +121,7 @@ sound_begin : (entry now : ℕ) (f : Option BusFault) (b : BusState) → begin_r
     → SoundBus (changed_unless f b (after_begin_at entry now b))
 sound_begin entry now (Some fault) b refused is = is
 sound_begin entry now None b ok is =
-    sound_changes entry (device_begins (max b.greatest now)) (seen now b)
+    sound_changes entry (entry_begins (max b.greatest now)) (seen now b)
     (λ d at. comes_begun entry (max b.greatest now) d b.devices is.devices at (map_none (begin_refusal d.controller) (sym (ap begin_refusal_of at) ∙ ok)))
     (sound_seen now b is)
 
@@ -151,7 +151,7 @@ submitted_comsets command m =
 
 comes_submitted : (entry : ℕ) (command : Command) (d : Entry) (b : BusState) → Sound b.devices → device_of entry b ≡ Some d
     → is_comset_refused (comset_of command) entry d b ≡ false → submit_refusal command d.controller ≡ None
-    → Comes b.devices entry (device_submits command d) None
+    → Comes b.devices entry (entry_submits command d) None
 comes_submitted entry command d b sound at free ok =
     let is = sound.devices entry d at in
     let m = d.controller in record {
@@ -170,7 +170,7 @@ sound_submit : (entry : ℕ) (command : Command) (f : Option BusFault) (b : BusS
     → SoundBus (changed_unless f b (after_submit_at entry command b))
 sound_submit entry command (Some fault) b refused is = is
 sound_submit entry command None b ok is =
-    sound_changes entry (device_submits command) b
+    sound_changes entry (entry_submits command) b
     (λ d at.
     let parts = unless_taken (is_comset_refused (comset_of command) entry d b) AddressTaken (option_map bus_fault (submit_refusal command d.controller))
     (sym (ap (λ o. submit_refusal_of entry command o b) at) ∙ ok) in
@@ -181,7 +181,7 @@ sound_submit entry command None b ok is =
 
 comes_retargeted : (entry address : ℕ) (d : Entry) (b : BusState) → Sound b.devices → device_of entry b ≡ Some d
     → is_taken_beside entry address b.devices.entries ≡ false → has_comset d.controller.waiting ≡ false → retarget_refusal address d.controller ≡ None
-    → Comes b.devices entry (device_retargets address d) None
+    → Comes b.devices entry (entry_retargets address d) None
 comes_retargeted entry address d b sound at beside none ok =
     let is = sound.devices entry d at in
     let m = d.controller in
@@ -196,7 +196,7 @@ comes_retargeted entry address d b sound at beside none ok =
       quiet = λ h. sound.waits h entry d at;
     }
   where
-    free_retargeted : (a : ℕ) → Names a (device_retargets address d) → IsFree a entry b.devices
+    free_retargeted : (a : ℕ) → Names a (entry_retargets address d) → IsFree a entry b.devices
     free_retargeted a (inl same) j f other there named =
         let free = free_beside address entry b.devices.entries j f beside other there in
         let taken = names_take address f (subst (λ n. Names n f) (sym same) named) in
@@ -207,7 +207,7 @@ sound_retarget : (entry address : ℕ) (f : Option BusFault) (b : BusState) → 
     → SoundBus (changed_unless f b (after_retarget_at entry address b))
 sound_retarget entry address (Some fault) b refused is = is
 sound_retarget entry address None b ok is =
-    sound_changes entry (device_retargets address) b
+    sound_changes entry (entry_retargets address) b
     (λ d at.
     let parts = or_none (option_map bus_fault (retarget_refusal address d.controller))
     (is_taken_beside entry address b.devices.entries || has_comset d.controller.waiting)
@@ -222,14 +222,14 @@ kept_without : (o : Option Command) (a : ℕ) (reserved : Option ℕ) → reserv
 kept_without None a reserved is = is
 kept_without (Some command) a reserved is = freed_some (is_some (comset_of command)) a reserved is
 
-names_withdrawn : (a : ℕ) (d : Entry) → Names a (device_withdraws d) → Names a d
+names_withdrawn : (a : ℕ) (d : Entry) → Names a (entry_withdraws d) → Names a d
 names_withdrawn a d (inl is) = inl is
 names_withdrawn a d (inr is) = inr (kept_without (withdrawn_of d) a d.reserved is)
 
-comes_withdrawn : (entry : ℕ) (d : Entry) (ds : Devices) → Sound ds → slice_get ds.entries entry ≡ Some d → Comes ds entry (device_withdraws d) None
+comes_withdrawn : (entry : ℕ) (d : Entry) (ds : Devices) → Sound ds → slice_get ds.entries entry ≡ Some d → Comes ds entry (entry_withdraws d) None
 comes_withdrawn entry d ds sound at =
     let is = sound.devices entry d at in
-    comes_of ds entry d (device_withdraws d) None sound at
+    comes_of ds entry d (entry_withdraws d) None sound at
     (record {
       machine = keeps_each WithdrawOf d.controller is.machine;
       reserves = withdrawn_reserves d.controller.session.state d.controller.waiting d.reserved is.reserves;
@@ -265,7 +265,7 @@ comes_new address b device free is = record {
 sound_add : (address : ℕ) (f : Option BusFault) (b : BusState) → add_refusal address b ≡ f → SoundBus b → SoundBus (changed_unless f b (after_add address b))
 sound_add address (Some fault) b refused is = is
 sound_add address None b ok is =
-    let room = unless_taken (nat_le most_devices (length b.devices.entries)) TooMany
+    let room = unless_taken (nat_le most_entries (length b.devices.entries)) TooMany
     (if nat_lt address 127 then (if is_taken address b.devices.entries then Some AddressTaken else None) else Some OutOfRange) ok in
     let device = unless_not (nat_lt address 127) OutOfRange (if is_taken address b.devices.entries then Some AddressTaken else None) room.1 in
     let free = unless_taken (is_taken address b.devices.entries) AddressTaken None device.1 in record {
@@ -285,7 +285,7 @@ pub sound_call : (call : Call) (b : BusState) → SoundBus b → SoundBus (after
 sound_call (Add address) b is = sound_add address (add_refusal address b) b refl is
 sound_call (Begin entry now) b is = sound_begin entry now (begin_refusal_at entry b) b refl is
 sound_call (Submit entry command) b is = sound_submit entry command (submit_refusal_at entry command b) b refl is
-sound_call (Withdraw entry) b is = sound_changes entry device_withdraws b (λ d at. comes_withdrawn entry d b.devices is.devices at) is
+sound_call (Withdraw entry) b is = sound_changes entry entry_withdraws b (λ d at. comes_withdrawn entry d b.devices is.devices at) is
 sound_call (Retarget entry address) b is = sound_retarget entry address (retarget_refusal_at entry address b) b refl is
 sound_call (OnBytes bytes now) b is = sound_on_bytes bytes now b is
 sound_call (OnSilence now) b is = sound_run (seen now b) (sound_seen now b is)

@@ -9,9 +9,9 @@ use Rattle.osdp_bus.specs.declared.config.BusConfig.{BusConfig}
 use Rattle.osdp_bus.specs.declared.entry.Entry.{Entry}
 use Rattle.osdp_bus.specs.declared.fault.BusFault.{BusFault}
 use Rattle.osdp_bus.specs.Buses.{BusState, Devices, device_of, has_report, holder, is_silent, new_bus, seen}
-use Rattle.osdp_bus.specs.Entries.{device_ticks, holds, is_device_due}
+use Rattle.osdp_bus.specs.Entries.{entry_ticks, holds, is_entry_due}
 use Rattle.osdp_bus.specs.Hearing.{after_bytes, ends_run, ends_silent, hears_bytes}
-use Rattle.osdp_bus.specs.Machine.{add_refusal, after_add, after_begin_at, after_retarget_at, after_submit_at, begin_refusal_at, changed_unless, changes_device, device_begins, device_retargets, device_submits, device_withdraws, new_device, retarget_refusal_at, submit_refusal_at}
+use Rattle.osdp_bus.specs.Machine.{add_refusal, after_add, after_begin_at, after_retarget_at, after_submit_at, begin_refusal_at, changed_unless, changes_entry, entry_begins, entry_retargets, entry_submits, entry_withdraws, new_device, retarget_refusal_at, submit_refusal_at}
 use Rattle.osdp_bus.specs.Settings.{IsBusConfig}
 use Rattle.osdp_bus.specs.Ticking.{BusTicked, bus_ticks, is_due_at, is_held_and_due, next_due, stays, ticks_at, ticks_by, ticks_held, ticks_on, ticks_with}
 use Rattle.osdp_bus_laws.specs.Calls.{Call, Add, Begin, Submit, Withdraw, Retarget, OnBytes, OnSilence, Tick, NextReport, after_call, after_calls}
@@ -76,7 +76,7 @@ held_set entry d e b at was entries is j f there h = by_place (replaced b.device
     by_place (inr (other, stood)) = (f, stood, h)
 
 quiet_changes : (entry : ℕ) (change : Entry → Entry) (b : BusState) → ((d : Entry) → holds (change d) ≡ true → holds d ≡ true)
-    → Quiet b (changes_device entry change b)
+    → Quiet b (changes_entry entry change b)
 quiet_changes entry change b was = by_device (device_of entry b) refl
   where
     by_device : (o : Option Entry) → device_of entry b ≡ o
@@ -108,7 +108,7 @@ quiet_held : (now entry : ℕ) (b : BusState) → FirstIs b → (has_report (ask
     → Quiet b (ticks_at (Some entry) (asking now b)).bus
 quiet_held now entry b first h = by_holder (held_there entry (asking now b) h).1
   where
-    by_holder : ((d : Entry) × (device_of entry (asking now b) ≡ Some d) × (holds d ≡ true) × (is_device_due (asking now b).greatest d ≡ true))
+    by_holder : ((d : Entry) × (device_of entry (asking now b) ≡ Some d) × (holds d ≡ true) × (is_entry_due (asking now b).greatest d ≡ true))
         → Quiet b (ticks_at (Some entry) (asking now b)).bus
     by_holder (d, at, stands, due) =
         let r = asking now b in
@@ -117,7 +117,7 @@ quiet_held now entry b first h = by_holder (held_there entry (asking now b) h).1
         subst (λ (t : BusTicked). Quiet b t.bus) (sym (ap (λ o. ticks_with entry o r) at)) (
           turn,
           held_on b.devices r.devices (ticks_with entry (Some d) r).bus.devices (quiet_asking now b).1
-              (held_set entry d (device_ticks r.greatest d) r at (λ h. stands) (slice_set r.devices.entries entry (device_ticks r.greatest d)) refl),
+              (held_set entry d (entry_ticks r.greatest d) r at (λ h. stands) (slice_set r.devices.entries entry (entry_ticks r.greatest d)) refl),
         )
 
 module _ (now : ℕ) (b : BusState) (first : FirstIs b) where
@@ -159,12 +159,12 @@ pub who : (call : Call) (b : BusState) → FirstIs b → Who call b
 who (Add address) b first = inr (quiet_unless (add_refusal address b) b (after_add address b) (refl, held_added (new_device address b.config) b refl))
 who (Begin entry now) b first =
     inr (quiet_unless (begin_refusal_at entry b) b (after_begin_at entry now b)
-    (quiet_on b (seen now b) (after_begin_at entry now b) (quiet_seen now b) (quiet_changes entry (device_begins (max b.greatest now)) (seen now b) (λ d h. cc))))
+    (quiet_on b (seen now b) (after_begin_at entry now b) (quiet_seen now b) (quiet_changes entry (entry_begins (max b.greatest now)) (seen now b) (λ d h. cc))))
 who (Submit entry command) b first =
-    inr (quiet_unless (submit_refusal_at entry command b) b (after_submit_at entry command b) (quiet_changes entry (device_submits command) b (λ d h. h)))
-who (Withdraw entry) b first = inr (quiet_changes entry device_withdraws b (λ d h. h))
+    inr (quiet_unless (submit_refusal_at entry command b) b (after_submit_at entry command b) (quiet_changes entry (entry_submits command) b (λ d h. h)))
+who (Withdraw entry) b first = inr (quiet_changes entry entry_withdraws b (λ d h. h))
 who (Retarget entry address) b first =
-    inr (quiet_unless (retarget_refusal_at entry address b) b (after_retarget_at entry address b) (quiet_changes entry (device_retargets address) b (λ d h. h)))
+    inr (quiet_unless (retarget_refusal_at entry address b) b (after_retarget_at entry address b) (quiet_changes entry (entry_retargets address) b (λ d h. h)))
 who (OnBytes bytes now) b first = inr (quiet_bytes bytes now b)
 who (OnSilence now) b first = inr (quiet_on b (seen now b) (ends_run (seen now b)) (quiet_seen now b) (quiet_run (seen now b)))
 who (Tick now) b first = who_ticks now b first

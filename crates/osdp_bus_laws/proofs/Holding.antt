@@ -18,7 +18,7 @@ use Rattle.osdp_controller.proofs.Choices.{either_way}
 use Rattle.osdp_controller_laws.specs.Commands.{asked_in}
 use Rattle.osdp_bus.specs.declared.entry.Entry.{Entry}
 use Rattle.osdp_bus.specs.Buses.{BusState, device_of, has_report, holder, seen, waiting_after}
-use Rattle.osdp_bus.specs.Entries.{device_ticks, holds, is_device_due}
+use Rattle.osdp_bus.specs.Entries.{entry_ticks, holds, is_entry_due}
 use Rattle.osdp_bus.specs.Ticking.{BusTicked, bus_ticks, is_due_at, is_held_and_due, next_due, stays, ticks_at, ticks_by, ticks_held, ticks_on, ticks_with}
 use Rattle.osdp_bus_laws.specs.Holding.{HoldersTick, HoldsAt, IsStillDue, SendsItsOwn, TellsItsEnd, TicksItsHolder}
 use Rattle.osdp_bus_laws.specs.Turns.{IsDueEntry, asking, judged}
@@ -57,12 +57,12 @@ one_of (Pausing until o) s w stands =
 is_due_here : (entry : ℕ) (b : BusState) → is_due_at entry b ≡ true → IsDueEntry entry b
 is_due_here entry b h = by_device (device_of entry b) refl h
   where
-    by_device : (o : Option Entry) → device_of entry b ≡ o → option_map_or (is_device_due b.greatest) o false ≡ true → IsDueEntry entry b
+    by_device : (o : Option Entry) → device_of entry b ≡ o → option_map_or (is_entry_due b.greatest) o false ≡ true → IsDueEntry entry b
     by_device None at due = absurd cc
     by_device (Some d) at due = record { device = d; there = at; due = due }
 
 due_there : (entry : ℕ) (b : BusState) → IsDueEntry entry b → is_due_at entry b ≡ true
-due_there entry b is = ap (λ o. option_map_or (is_device_due b.greatest) o false) is.there ∙ is.due
+due_there entry b is = ap (λ o. option_map_or (is_entry_due b.greatest) o false) is.there ∙ is.due
 
 -- a tick where this entry holds the line
 held_tick : (now entry : ℕ) (b : BusState) → HoldsAt now entry b
@@ -96,7 +96,7 @@ still_ticks entry b sound still =
     held : is_held_and_due entry b ≡ true
     held = both (option_map_or holds (device_of entry b) false) (is_due_at entry b)
         (ap (λ o. option_map_or holds o false) still.there ∙ still.outstanding)
-        (ap (λ o. option_map_or (is_device_due b.greatest) o false) still.there ∙ still.due)
+        (ap (λ o. option_map_or (is_entry_due b.greatest) o false) still.there ∙ still.due)
 
 -- ---- its tick
 
@@ -108,7 +108,7 @@ module _ (now entry : ℕ) (b : BusState) (sound : SoundBus b) (is : HoldsAt now
   ticked = due_tick now entry b is due ∙ still_ticks entry (asking now b) (sound_asking now b sound) still
 
   abbrev later : Entry
-  later = device_ticks (asking now b).greatest still.device
+  later = entry_ticks (asking now b).greatest still.device
 
   there_after : device_of entry after.bus ≡ Some later
   there_after = set_here (asking now b).devices.entries entry still.device later still.there
@@ -165,7 +165,7 @@ not_still : (entry : ℕ) (b : BusState) → (IsStillDue entry b → ⊥) → ti
 not_still entry b never = either_way (λ (t : BusTicked). t ≡ stays b) (has_report b || not (is_held_and_due entry b)) (stays b) (ticks_at (Some entry) b) (λ h. refl)
     (λ h. absurd (by_holder (held_there entry b h).1))
   where
-    by_holder : ((d : Entry) × (device_of entry b ≡ Some d) × (holds d ≡ true) × (is_device_due b.greatest d ≡ true)) → ⊥
+    by_holder : ((d : Entry) × (device_of entry b ≡ Some d) × (holds d ≡ true) × (is_entry_due b.greatest d ≡ true)) → ⊥
     by_holder (d, at, stands, due) = never (record { device = d; there = at; outstanding = stands; due = due })
 
 pub holders_tick : (b : BusState) → SoundBus b → HoldersTick b

@@ -11,7 +11,7 @@ use Rattle.osdp_frame.proofs.Head.{AreBytes-append}
 use Rattle.osdp_bus.specs.declared.config.BusConfig.{BusConfig}
 use Rattle.osdp_bus.specs.declared.entry.Entry.{Entry}
 use Rattle.osdp_bus.specs.Buses.{BusState, Devices, is_silent, seen}
-use Rattle.osdp_bus.specs.Entries.{address_of, device_hears, first_from, is_at}
+use Rattle.osdp_bus.specs.Entries.{address_of, entry_hears, first_from, is_at}
 use Rattle.osdp_bus.specs.Hearing.{after_bytes, ends_run, ends_silent, hears_at, hears_bytes, hears_items, hears_packet, hears_with}
 use Rattle.osdp_bus.proofs.Runs.{hears_items-append}
 use Rattle.osdp_frame_laws.proofs.LeftOver.{left_over-append}
@@ -60,7 +60,7 @@ module _ (p : Packet) (now : ℕ) (ds : Devices) (sound : Sound ds) where
       let apart : entry ≢ n = (λ same. differs (let one : Some d ≡ Some other.0 = sym at ∙ ap (slice_get ds.entries) same ∙ other.1 in
       let is : d ≡ other.0 = cc in ap address_of is ∙ other.2)) in
       ap (λ (e : Devices). slice_get e.entries entry) (heard (Some n) h ∙ ap (λ k. hears_with p now n k ds) other.1)
-      ∙ set_other ds.entries n entry (device_hears p now other.0) apart ∙ at
+      ∙ set_other ds.entries n entry (entry_hears p now other.0) apart ∙ at
 
   nobody_hears : ((entry : ℕ) (d : Entry) → slice_get ds.entries entry ≡ Some d → address_of d ≢ p.address) → (o : Option ℕ) → found_as o
       → hears_packet p now ds ≡ ds
@@ -71,9 +71,9 @@ module _ (p : Packet) (now : ℕ) (ds : Devices) (sound : Sound ds) where
   goes_to_its_address = record {
     own = λ entry d at same. own_heard entry d at same (first_from 0 (is_at p.address) ds.entries) refl;
     seen = λ entry d at same. (
-      device_hears p now d,
+      entry_hears p now d,
       ap (λ (e : Devices). slice_get e.entries entry) (own_heard entry d at same (first_from 0 (is_at p.address) ds.entries) refl)
-          ∙ set_here ds.entries entry d (device_hears p now d) at,
+          ∙ set_here ds.entries entry d (entry_hears p now d) at,
       hears_at_moment p now d.controller.session,
     );
     others = λ entry d at differs. others_kept entry d at differs (first_from 0 (is_at p.address) ds.entries) refl;

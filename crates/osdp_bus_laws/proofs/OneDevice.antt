@@ -31,7 +31,7 @@ use Rattle.osdp_controller_laws.proofs.Stepwise.{frames_in_steps}
 use Rattle.osdp_controller_laws.proofs.Ticks.{tells_lost}
 use Rattle.osdp_controller_laws.proofs.Well.{keeps_each}
 use Rattle.osdp_bus.specs.declared.entry.Entry.{Entry}
-use Rattle.osdp_bus.specs.Entries.{address_of, device_hears, device_ticks, holds, reserved_after, step_of, told_of}
+use Rattle.osdp_bus.specs.Entries.{address_of, entry_hears, entry_ticks, holds, reserved_after, step_of, told_of}
 use Rattle.osdp_bus_laws.specs.Addresses.{Names, ReservesItsComset, comsets_in}
 
 -- ---- COMSETs on their way, and what is reserved
@@ -105,7 +105,7 @@ pending_told told m k reserved report is leave reserves =
     ∙ comsets_append (option_to_list (told_command report)) (pending k) in
     reserves_told report (comsets_in (pending k)) reserved (subst (λ l. Reserves l reserved) parts reserves)
 
-pub device_heard : (p : Packet) (now : ℕ) (d : Entry) → IsDevice d → IsDevice (device_hears p now d)
+pub device_heard : (p : Packet) (now : ℕ) (d : Entry) → IsDevice d → IsDevice (entry_hears p now d)
 device_heard p now d is =
     let m = d.controller in
     let place = commands_by_place m (Hear p now ∷ []) is.machine in
@@ -117,7 +117,7 @@ device_heard p now d is =
           is.reserves;
     }
 
-pub device_ticked : (now : ℕ) (d : Entry) → IsDevice d → IsDevice (device_ticks now d)
+pub device_ticked : (now : ℕ) (d : Entry) → IsDevice d → IsDevice (entry_ticks now d)
 device_ticked now d is =
     let m = d.controller in
     let place = commands_by_place m (Tick now ∷ []) is.machine in
@@ -179,9 +179,9 @@ names_by a new (Some (PollAnswered reply)) p now d is told there named = kept a 
 names_by a new (Some (Unread command code)) p now d is told there named = kept a (address_of d) new d.reserved d.reserved there (λ h. h) named
 names_by a new (Some (Lost cause command)) p now d is told there named = kept a (address_of d) new d.reserved d.reserved there (λ h. h) named
 
-pub names_heard : (a : ℕ) (p : Packet) (now : ℕ) (d : Entry) → IsDevice d → Names a (device_hears p now d) → Names a d
+pub names_heard : (a : ℕ) (p : Packet) (now : ℕ) (d : Entry) → IsDevice d → Names a (entry_hears p now d) → Names a d
 names_heard a p now d is named =
-    names_by a (address_of (device_hears p now d)) (told_of p now d) p now d is refl
+    names_by a (address_of (entry_hears p now d)) (told_of p now d) p now d is refl
     (ap (λ (c : ControllerConfig). c.address) (keeps_settings (Hear p now) d.controller)) named
 
 -- a tick tells of no address
@@ -197,9 +197,9 @@ names_lost a new (Some report) now d told there named =
         kept a (address_of d) new d.reserved (reserved_after (Some report) d.reserved)
         (there ∙ ap (λ r. told_address (Some r) (address_of d)) lost) (λ h. sym (ap (λ r. reserved_after (Some r) d.reserved) lost) ∙ h) named
 
-pub names_ticked : (a : ℕ) (now : ℕ) (d : Entry) → Names a (device_ticks now d) → Names a d
+pub names_ticked : (a : ℕ) (now : ℕ) (d : Entry) → Names a (entry_ticks now d) → Names a d
 names_ticked a now d named =
-    names_lost a (address_of (device_ticks now d)) (step_of now d).report now d refl
+    names_lost a (address_of (entry_ticks now d)) (step_of now d).report now d refl
     (ap (λ (c : ControllerConfig). c.address) (keeps_settings (Tick now) d.controller)) named
 
 -- ---- its exchange
@@ -212,7 +212,7 @@ outstanding_exchange state h = absurd cc
 pub closed_exchange : (state : State) → is_closed state ≡ true → is_outstanding state ≡ false
 closed_exchange state h = ap is_outstanding (closed_is state h)
 
-pub heard_holds : (p : Packet) (now : ℕ) (d : Entry) → holds (device_hears p now d) ≡ true → holds d ≡ true
+pub heard_holds : (p : Packet) (now : ℕ) (d : Entry) → holds (entry_hears p now d) ≡ true → holds d ≡ true
 heard_holds p now d h = by_holds (holds d) refl
   where
     by_holds : (b : Bool) → holds d ≡ b → holds d ≡ true
@@ -226,14 +226,14 @@ Ended d e = (holds d ≡ true) × (holds e ≡ false)
 heard_ends : (p : Packet) (now : ℕ) (d : Entry) (x : Exchange) → is_some (told_of p now d) ≡ true
     → (GoesOn x (hears p now d.controller.session).session.state (hears p now d.controller.session).report
     ⊎ IsAnswered x (hears p now d.controller.session).session.state (hears p now d.controller.session).report)
-    → holds (device_hears p now d) ≡ false
+    → holds (entry_hears p now d) ≡ false
 heard_ends p now d x tells (inl on) = absurd (let nothing : told_of p now d ≡ None = on.nothing in let e = ap (λ (o : Option Report). is_some o) nothing in cc)
 heard_ends p now d x tells (inr ended) = none_outstanding (hears p now d.controller.session).session.state ended.ended
 
-pub heard_told : (p : Packet) (now : ℕ) (d : Entry) → is_some (told_of p now d) ≡ true → Ended d (device_hears p now d)
+pub heard_told : (p : Packet) (now : ℕ) (d : Entry) → is_some (told_of p now d) ≡ true → Ended d (entry_hears p now d)
 heard_told p now d tells = by_holds (holds d) refl
   where
-    by_holds : (b : Bool) → holds d ≡ b → Ended d (device_hears p now d)
+    by_holds : (b : Bool) → holds d ≡ b → Ended d (entry_hears p now d)
     by_holds true is =
         let x = outstanding_exchange d.controller.session.state is in
         (is, heard_ends p now d x.0 tells ((tells_ends now d.controller.session).by_frame x.0 p x.1))
@@ -245,7 +245,7 @@ heard_told p now d tells = by_holds (holds d) refl
 ticked_ends : (now : ℕ) (d : Entry) (x : Exchange) → is_some (step_of now d).report ≡ true
     → (GoesOn x (ticks now d.controller.session d.controller.waiting).session.state (step_of now d).report
     ⊎ IsGivenUp x (ticks now d.controller.session d.controller.waiting).session.state (step_of now d).report)
-    → holds (device_ticks now d) ≡ false
+    → holds (entry_ticks now d) ≡ false
 ticked_ends now d x tells (inl on) = absurd (let nothing : (step_of now d).report ≡ None = on.nothing in let e = ap (λ (o : Option Report). is_some o) nothing in cc)
 ticked_ends now d x tells (inr ended) = closed_exchange (ticks now d.controller.session d.controller.waiting).session.state ended.ended
 
@@ -258,13 +258,13 @@ some_is : (report : Option Report) → is_some report ≡ true → (r : Report) 
 some_is None h = absurd cc
 some_is (Some r) h = (r, refl)
 
-pub ticked_told : (now : ℕ) (d : Entry) → is_some (step_of now d).report ≡ true → Ended d (device_ticks now d)
+pub ticked_told : (now : ℕ) (d : Entry) → is_some (step_of now d).report ≡ true → Ended d (entry_ticks now d)
 ticked_told now d tells =
     let r = some_is (step_of now d).report tells in
     let why = tells_lost now d.controller.session d.controller.waiting r.0 r.1 in
     by_why why.0 why.1
   where
-    by_why : (x : Exchange) → exchange_in d.controller.session.state ≡ Some x → Ended d (device_ticks now d)
+    by_why : (x : Exchange) → exchange_in d.controller.session.state ≡ Some x → Ended d (entry_ticks now d)
     by_why x out = (
       exchange_stands d.controller.session.state x out,
       ticked_ends now d x tells ((tells_ends now d.controller.session).by_tick x d.controller.waiting out),

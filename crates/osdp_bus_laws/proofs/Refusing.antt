@@ -22,7 +22,7 @@ use Rattle.osdp_bus.specs.declared.fault.BusFault.{BusFault}
 use Rattle.osdp_bus.specs.declared.fault.BusFault.TheVariants.{TooMany, AddressTaken, OutOfRange, AddressOutOfRange, Full, PollSubmitted, NotClosed}
 use Rattle.osdp_bus.specs.Buses.{BusState, device_of}
 use Rattle.osdp_bus.specs.Entries.{address_of, is_at, is_reserved, is_taken, is_taken_beside, takes_up}
-use Rattle.osdp_bus.specs.Machine.{add_refusal, after_add, after_begin_at, after_retarget_at, after_submit_at, begin_refusal_at, begin_refusal_of, bus_fault, changed_unless, device_withdraws, is_comset_refused, leads_nowhere, most_devices, or_taken, order_refusal_at, order_refusal_of, retarget_refusal_at, retarget_refusal_of, submit_refusal_at, submit_refusal_of, withdrawal_of}
+use Rattle.osdp_bus.specs.Machine.{add_refusal, after_add, after_begin_at, after_retarget_at, after_submit_at, begin_refusal_at, begin_refusal_of, bus_fault, changed_unless, entry_withdraws, is_comset_refused, leads_nowhere, most_entries, or_taken, order_refusal_at, order_refusal_of, retarget_refusal_at, retarget_refusal_of, submit_refusal_at, submit_refusal_of, withdrawal_of}
 use Rattle.osdp_bus_laws.specs.Addresses.{Names, comsets_in}
 use Rattle.osdp_bus_laws.specs.Calls.{Call, Add, Begin, Submit, Withdraw, Retarget, OnBytes, OnSilence, Tick, NextReport, after_call}
 use Rattle.osdp_bus_laws.specs.Refusals.{Accepts, AwaitsMove, HasNoRoom, IsBarredComset, IsNoEntry, IsNowhere, IsOpen, IsTakenByAnother, IsTakenUp, Judges, JudgesInOrder, JudgesOrder, OfEntry, RefusesInOrder, refusal_of, refused_with}
@@ -140,7 +140,7 @@ same_device entry d e b at there = let same : Some d ≡ Some e = sym at ∙ the
 judges_add : (address : ℕ) (b : BusState) → JudgesInOrder (Add address) b (add_refusal address b)
 judges_add address b =
     judged TooMany (16 ≤ length b.devices.entries) (Judges OutOfRange (127 ≤ address) (Judges AddressTaken (IsTakenUp address b) Accepts))
-    (nat_le most_devices (length b.devices.entries))
+    (nat_le most_entries (length b.devices.entries))
     (if nat_lt address 127 then (if is_taken address b.devices.entries then Some AddressTaken else None) else Some OutOfRange)
     (λ h. leb-true 16 (length b.devices.entries) h) (λ h many. let few = leb-false 16 (length b.devices.entries) h in omega arith)
     (by_address (nat_lt address 127) refl)
@@ -403,7 +403,7 @@ unchanged (Submit entry command) fault b h = ap (λ f. changed_unless f b (after
 unchanged (Withdraw entry) fault b h = by_device (device_of entry b) h
   where
     by_device : (o : Option Entry) → refused_with (withdrawal_of o) ≡ Some fault
-        → option_map_or (λ d. record b { devices = record b.devices { entries = slice_set b.devices.entries entry (device_withdraws d) } }) o b ≡ b
+        → option_map_or (λ d. record b { devices = record b.devices { entries = slice_set b.devices.entries entry (entry_withdraws d) } }) o b ≡ b
     by_device None refused = refl
     by_device (Some d) refused = absurd cc
 unchanged (Retarget entry address) fault b h = ap (λ f. changed_unless f b (after_retarget_at entry address b)) h

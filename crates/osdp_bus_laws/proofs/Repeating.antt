@@ -15,9 +15,9 @@ use Rattle.osdp_msg.specs.declared.event.Event.{Event}
 use Rattle.osdp_bus.specs.declared.entry.Entry.{Entry}
 use Rattle.osdp_bus.specs.declared.fault.BusFault.{BusFault}
 use Rattle.osdp_bus.specs.Buses.{BusState, Devices, device_of, has_report, holder, is_silent, is_told_maybe_again, new_bus, seen, waiting_after}
-use Rattle.osdp_bus.specs.Entries.{device_hears, device_ticks, step_of, told_of}
+use Rattle.osdp_bus.specs.Entries.{entry_hears, entry_ticks, step_of, told_of}
 use Rattle.osdp_bus.specs.Hearing.{after_bytes, ends_run, ends_silent, hears_bytes, hears_with}
-use Rattle.osdp_bus.specs.Machine.{add_refusal, after_add, after_begin_at, after_next_report, after_retarget_at, after_submit_at, begin_refusal_at, changed_unless, changes_device, device_begins, device_retargets, device_submits, device_withdraws, remembered_after, retarget_refusal_at, submit_refusal_at}
+use Rattle.osdp_bus.specs.Machine.{add_refusal, after_add, after_begin_at, after_next_report, after_retarget_at, after_submit_at, begin_refusal_at, changed_unless, changes_entry, entry_begins, entry_retargets, entry_submits, entry_withdraws, remembered_after, retarget_refusal_at, submit_refusal_at}
 use Rattle.osdp_bus.specs.Remembering.{Remembered, event_bytes, may_be_again, memory_at, nothing_yet, remembers, remembers_at}
 use Rattle.osdp_bus.specs.Ticking.{BusTicked, bus_ticks, is_due_at, next_due, stays, ticks_at, ticks_by, ticks_free, ticks_held, ticks_on, ticks_with}
 use Rattle.osdp_bus_laws.specs.Calls.{Call, Add, Begin, Submit, Withdraw, Retarget, OnBytes, OnSilence, Tick, NextReport, after_call, after_calls}
@@ -200,7 +200,7 @@ within_put ds i e (Some report) inside within = λ k r is. let same : i ≡ k = 
 
 within_packet : (now : ℕ) (p : Packet) (i : ℕ) (d : Entry) (ds : Devices) → slice_get ds.entries i ≡ Some d → Within ds
     → Within (hears_with p now i (Some d) ds)
-within_packet now p i d ds at within = within_put ds i (device_hears p now d) (told_of p now d) (slice_get_within ds.entries i d at) within
+within_packet now p i d ds at within = within_put ds i (entry_hears p now d) (told_of p now d) (slice_get_within ds.entries i d at) within
 
 -- ---- calls that take no report leave what is remembered
 
@@ -218,7 +218,7 @@ keeps_unless : (f : Option BusFault) (old new : BusState) → Keeps old new → 
 keeps_unless None old new same = same
 keeps_unless (Some fault) old new same = as_it_is old
 
-keeps_changed : (entry : ℕ) (change : Entry → Entry) (b : BusState) → Keeps b (changes_device entry change b)
+keeps_changed : (entry : ℕ) (change : Entry → Entry) (b : BusState) → Keeps b (changes_entry entry change b)
 keeps_changed entry change b = by_device (device_of entry b) refl
   where
     by_device : (o : Option Entry) → device_of entry b ≡ o
@@ -255,7 +255,7 @@ keeps_with : (entry : ℕ) (o : Option Entry) (b : BusState) → device_of entry
 keeps_with entry None b at = as_it_is b
 keeps_with entry (Some d) b at = record {
   remembered = refl;
-  within = within_put b.devices entry (device_ticks b.greatest d) (step_of b.greatest d).report (slice_get_within b.devices.entries entry d at);
+  within = within_put b.devices entry (entry_ticks b.greatest d) (step_of b.greatest d).report (slice_get_within b.devices.entries entry d at);
 }
 
 keeps_at : (o : Option ℕ) (b : BusState) → TickKeeps b (ticks_at o b)
@@ -364,12 +364,12 @@ one_call (Add address) b taken is = kept b (after_call (Add address) b) taken
     (keeps_unless (add_refusal address b) b (after_add address b) (record { remembered = refl; within = longer b.devices _ })) is
 one_call (Begin entry now) b taken is = kept b (after_call (Begin entry now) b) taken
     (keeps_unless (begin_refusal_at entry b) b (after_begin_at entry now b)
-    (keeps_then b (seen now b) (after_begin_at entry now b) (keeps_seen now b) (keeps_changed entry (device_begins (max b.greatest now)) (seen now b)))) is
+    (keeps_then b (seen now b) (after_begin_at entry now b) (keeps_seen now b) (keeps_changed entry (entry_begins (max b.greatest now)) (seen now b)))) is
 one_call (Submit entry command) b taken is = kept b (after_call (Submit entry command) b) taken
-    (keeps_unless (submit_refusal_at entry command b) b (after_submit_at entry command b) (keeps_changed entry (device_submits command) b)) is
-one_call (Withdraw entry) b taken is = kept b (after_call (Withdraw entry) b) taken (keeps_changed entry device_withdraws b) is
+    (keeps_unless (submit_refusal_at entry command b) b (after_submit_at entry command b) (keeps_changed entry (entry_submits command) b)) is
+one_call (Withdraw entry) b taken is = kept b (after_call (Withdraw entry) b) taken (keeps_changed entry entry_withdraws b) is
 one_call (Retarget entry address) b taken is = kept b (after_call (Retarget entry address) b) taken
-    (keeps_unless (retarget_refusal_at entry address b) b (after_retarget_at entry address b) (keeps_changed entry (device_retargets address) b)) is
+    (keeps_unless (retarget_refusal_at entry address b) b (after_retarget_at entry address b) (keeps_changed entry (entry_retargets address) b)) is
 one_call (OnBytes bytes now) b taken is = kept b (after_call (OnBytes bytes now) b) taken (keeps_bytes bytes now b) is
 one_call (OnSilence now) b taken is = kept b (after_call (OnSilence now) b) taken
     (keeps_then b (seen now b) (ends_run (seen now b)) (keeps_seen now b) (keeps_run (seen now b))) is

@@ -9,7 +9,7 @@ use Rattle.osdp_bus.specs.declared.entry.Entry.{Entry}
 use Rattle.osdp_bus.specs.Buses.{BusState, Devices, device_of, has_report, holder, is_silent, new_bus, seen, waiting_after}
 use Rattle.osdp_bus.specs.Entries.{first_from, is_at, step_of, told_of}
 use Rattle.osdp_bus.specs.Hearing.{after_bytes, ends_run, ends_silent, hears_at, hears_bytes, hears_item, hears_items, hears_with}
-use Rattle.osdp_bus.specs.Machine.{add_refusal, after_add, after_begin_at, after_retarget_at, after_submit_at, begin_refusal_at, device_begins, device_retargets, device_submits, device_withdraws, retarget_refusal_at, submit_refusal_at}
+use Rattle.osdp_bus.specs.Machine.{add_refusal, after_add, after_begin_at, after_retarget_at, after_submit_at, begin_refusal_at, entry_begins, entry_retargets, entry_submits, entry_withdraws, retarget_refusal_at, submit_refusal_at}
 use Rattle.osdp_bus.specs.Ticking.{BusTicked, bus_ticks, is_due_at, is_held_and_due, next_due, stays, ticks_at, ticks_by, ticks_free, ticks_held, ticks_on, ticks_with}
 use Rattle.osdp_bus_laws.specs.Calls.{Call, Add, Begin, Submit, Withdraw, Retarget, OnBytes, OnSilence, Tick, NextReport, after_call, after_calls}
 use Rattle.osdp_bus_laws.specs.Reports.{TellsEachOnce, taken_along, taken_in, told_along, told_at, told_by_bytes, told_by_device, told_by_end, told_by_entry, told_by_holder, told_by_item, told_by_items, told_by_silence, told_by_tick, told_by_ticking, told_in, told_with}
@@ -136,12 +136,12 @@ nothing_new b c same = ap option_to_list same ∙ nothing_told b.devices.report
 waits_call : (call : Call) (b : BusState) → SoundBus b → CallWaits call b
 waits_call (Add address) b is = nothing_new b (after_call (Add address) b) (kept_unless (add_refusal address b) b (after_add address b) refl)
 waits_call (Begin entry now) b is = nothing_new b (after_call (Begin entry now) b)
-    (kept_unless (begin_refusal_at entry b) b (after_begin_at entry now b) (changed_report entry (device_begins (max b.greatest now)) (seen now b)))
+    (kept_unless (begin_refusal_at entry b) b (after_begin_at entry now b) (changed_report entry (entry_begins (max b.greatest now)) (seen now b)))
 waits_call (Submit entry command) b is = nothing_new b (after_call (Submit entry command) b)
-    (kept_unless (submit_refusal_at entry command b) b (after_submit_at entry command b) (changed_report entry (device_submits command) b))
-waits_call (Withdraw entry) b is = nothing_new b (after_call (Withdraw entry) b) (changed_report entry device_withdraws b)
+    (kept_unless (submit_refusal_at entry command b) b (after_submit_at entry command b) (changed_report entry (entry_submits command) b))
+waits_call (Withdraw entry) b is = nothing_new b (after_call (Withdraw entry) b) (changed_report entry entry_withdraws b)
 waits_call (Retarget entry address) b is = nothing_new b (after_call (Retarget entry address) b)
-    (kept_unless (retarget_refusal_at entry address b) b (after_retarget_at entry address b) (changed_report entry (device_retargets address) b))
+    (kept_unless (retarget_refusal_at entry address b) b (after_retarget_at entry address b) (changed_report entry (entry_retargets address) b))
 waits_call (OnBytes bytes now) b is = waits_bytes bytes now b is
 waits_call (OnSilence now) b is = waits_run (seen now b) (sound_seen now b is)
 waits_call (Tick now) b is = waits_tick now b is

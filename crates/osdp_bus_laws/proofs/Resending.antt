@@ -21,9 +21,9 @@ use Rattle.osdp_controller_laws.proofs.OneCall.{begins_with_frame}
 use Rattle.osdp_bus.specs.declared.entry.Entry.{Entry}
 use Rattle.osdp_bus.specs.declared.fault.BusFault.{BusFault}
 use Rattle.osdp_bus.specs.Buses.{BusState, Devices, device_of, has_report, holder, is_silent, new_bus, seen}
-use Rattle.osdp_bus.specs.Entries.{device_hears, device_ticks, holds, is_taken_beside, step_of}
+use Rattle.osdp_bus.specs.Entries.{entry_hears, entry_ticks, holds, is_taken_beside, step_of}
 use Rattle.osdp_bus.specs.Hearing.{after_bytes, ends_run, ends_silent, hears_bytes, hears_items, hears_with}
-use Rattle.osdp_bus.specs.Machine.{add_refusal, after_add, after_begin_at, after_retarget_at, after_submit_at, begin_refusal_at, bus_fault, changed_unless, changes_device, device_begins, device_retargets, device_submits, device_withdraws, new_device, retarget_refusal_at, retarget_refusal_of, submit_refusal_at}
+use Rattle.osdp_bus.specs.Machine.{add_refusal, after_add, after_begin_at, after_retarget_at, after_submit_at, begin_refusal_at, bus_fault, changed_unless, changes_entry, entry_begins, entry_retargets, entry_submits, entry_withdraws, new_device, retarget_refusal_at, retarget_refusal_of, submit_refusal_at}
 use Rattle.osdp_bus.specs.Ticking.{BusTicked, bus_ticks, is_due_at, next_due, stays, ticks_at, ticks_by, ticks_free, ticks_held, ticks_on, ticks_with}
 use Rattle.osdp_controller.specs.Comsets.{has_comset}
 use Rattle.osdp_bus_laws.specs.Calls.{Call, Add, Begin, Submit, Withdraw, Retarget, OnBytes, OnSilence, Tick, NextReport, after_call, after_calls}
@@ -81,10 +81,10 @@ kept_frame call m before after =
     own.1
     ∙ sym (from_holds (after_call_of call m).session.state (after_call_of call m).session m.session own.0 (more (sent_in m.session.state) (sent_by_of call m)) after later.1)
 
-frame_heard : (p : Packet) (now : ℕ) (d : Entry) → holds (device_hears p now d) ≡ true → own_frame d ≡ own_frame (device_hears p now d)
+frame_heard : (p : Packet) (now : ℕ) (d : Entry) → holds (entry_hears p now d) ≡ true → own_frame d ≡ own_frame (entry_hears p now d)
 frame_heard p now d h = kept_frame (Hear p now) d.controller (heard_holds p now d h) h
 
-frame_ticked : (now : ℕ) (d : Entry) → holds d ≡ true → holds (device_ticks now d) ≡ true → own_frame d ≡ own_frame (device_ticks now d)
+frame_ticked : (now : ℕ) (d : Entry) → holds d ≡ true → holds (entry_ticks now d) ≡ true → own_frame d ≡ own_frame (entry_ticks now d)
 frame_ticked now d before after = kept_frame (TickOf now) d.controller before after
 
 -- ---- the devices: where nothing goes out, who holds the line held it before, with the same frame
@@ -119,7 +119,7 @@ keep_packet : (first : Devices) (now : ℕ) (p : Packet) (i : ℕ) (d : Entry) (
     → KeepFrames first (hears_with p now i (Some d) ds)
 keep_packet first now p i d ds at kept =
     keep_on first ds (hears_with p now i (Some d) ds) kept
-    (keep_set i d (device_hears p now d) ds at (λ h. (heard_holds p now d h, frame_heard p now d h)))
+    (keep_set i d (entry_hears p now d) ds at (λ h. (heard_holds p now d h, frame_heard p now d h)))
 
 keep_items : (now : ℕ) (parts : List RunItem) (ds : Devices) → KeepFrames ds (hears_items now parts ds)
 keep_items now parts ds = items_keep now (KeepFrames ds) (keep_packet ds now) parts ds (keep ds)
@@ -158,11 +158,11 @@ TickLast last t = LastIs (option_or t.sent last) t.bus.devices
 
 -- a device ticks, and no other holds the line
 ticked_last : (now : ℕ) (d : Entry) (last sent : Option Packet) → (step_of now d).frame ≡ sent → (holds d ≡ true → own_frame d ≡ last)
-    → holds (device_ticks now d) ≡ true → own_frame (device_ticks now d) ≡ option_or sent last
+    → holds (entry_ticks now d) ≡ true → own_frame (entry_ticks now d) ≡ option_or sent last
 ticked_last now d last (Some p) is before h = frame_sent now d p is
 ticked_last now d last None is before h = by_held (holds d) refl
   where
-    by_held : (b : Bool) → holds d ≡ b → own_frame (device_ticks now d) ≡ last
+    by_held : (b : Bool) → holds d ≡ b → own_frame (entry_ticks now d) ≡ last
     by_held true stands = sym (frame_ticked now d stands h) ∙ before stands
     by_held false free = absurd (
         let sent = begins_with_frame (TickOf now) d.controller free h in
@@ -172,9 +172,9 @@ ticked_last now d last None is before h = by_held (holds d) refl
 last_with : (last : Option Packet) (entry : ℕ) (o : Option Entry) (b : BusState) → device_of entry b ≡ o → HoldsAlone entry b.devices → LastIs last b.devices
     → TickLast last (ticks_with entry o b)
 last_with last entry None b at alone is = is
-last_with last entry (Some d) b at alone is = λ j f there h. by_place j f h (replaced b.devices.entries entry (device_ticks b.greatest d) j f there)
+last_with last entry (Some d) b at alone is = λ j f there h. by_place j f h (replaced b.devices.entries entry (entry_ticks b.greatest d) j f there)
   where
-    by_place : (j : ℕ) (f : Entry) → holds f ≡ true → IsAt b.devices.entries entry (device_ticks b.greatest d) j f
+    by_place : (j : ℕ) (f : Entry) → holds f ≡ true → IsAt b.devices.entries entry (entry_ticks b.greatest d) j f
         → own_frame f ≡ option_or (step_of b.greatest d).frame last
     by_place j f h (inl (here, same)) =
         ap own_frame same ∙ ticked_last b.greatest d last (step_of b.greatest d).frame refl (λ stands. is entry d at stands) (sym (ap holds same) ∙ h)
@@ -211,7 +211,7 @@ last_tick last now b sound is =
 
 keep_changes : (entry : ℕ) (change : Entry → Entry) (b : BusState)
     → ((d : Entry) → device_of entry b ≡ Some d → holds (change d) ≡ true → (holds d ≡ true) × (own_frame d ≡ own_frame (change d)))
-    → KeepFrames b.devices (changes_device entry change b).devices
+    → KeepFrames b.devices (changes_entry entry change b).devices
 keep_changes entry change b same = by_device (device_of entry b) refl
   where
     by_device : (o : Option Entry) → device_of entry b ≡ o
@@ -235,7 +235,7 @@ closed_holds state closed = ap is_outstanding closed
 
 keep_retarget : (entry address : ℕ) (b : BusState) → retarget_refusal_at entry address b ≡ None → KeepFrames b.devices (after_retarget_at entry address b).devices
 keep_retarget entry address b ok =
-    keep_changes entry (device_retargets address) b
+    keep_changes entry (entry_retargets address) b
     (λ d at h.
     let parts = or_none (option_map bus_fault (retarget_refusal address d.controller))
     (is_taken_beside entry address b.devices.entries || has_comset d.controller.waiting)
@@ -252,13 +252,13 @@ last_call last (Add address) b sound is =
 last_call last (Begin entry now) b sound is =
     still_last last b.devices (after_call (Begin entry now) b).devices
     (keep_unless (begin_refusal_at entry b) b (after_begin_at entry now b)
-    (λ ok. keep_changes entry (device_begins (max b.greatest now)) (seen now b) (λ d at h. absurd cc))) is
+    (λ ok. keep_changes entry (entry_begins (max b.greatest now)) (seen now b) (λ d at h. absurd cc))) is
 last_call last (Submit entry command) b sound is =
     still_last last b.devices (after_call (Submit entry command) b).devices
     (keep_unless (submit_refusal_at entry command b) b (after_submit_at entry command b)
-    (λ ok. keep_changes entry (device_submits command) b (λ d at h. (h, refl)))) is
+    (λ ok. keep_changes entry (entry_submits command) b (λ d at h. (h, refl)))) is
 last_call last (Withdraw entry) b sound is =
-    still_last last b.devices (after_call (Withdraw entry) b).devices (keep_changes entry device_withdraws b (λ d at h. (h, refl))) is
+    still_last last b.devices (after_call (Withdraw entry) b).devices (keep_changes entry entry_withdraws b (λ d at h. (h, refl))) is
 last_call last (Retarget entry address) b sound is =
     still_last last b.devices (after_call (Retarget entry address) b).devices
     (keep_unless (retarget_refusal_at entry address b) b (after_retarget_at entry address b) (keep_retarget entry address b)) is

@@ -14,7 +14,7 @@ use Rattle.osdp_bus.specs.declared.fault.BusFault.{BusFault}
 use Rattle.osdp_bus.specs.declared.fault.BusFault.TheVariants.{AddressTaken}
 use Rattle.osdp_bus.specs.Buses.{BusState, device_of, seen}
 use Rattle.osdp_bus.specs.Entries.{is_taken_beside, reserved_for, reserved_told}
-use Rattle.osdp_bus.specs.Machine.{add_refusal, after_add, after_begin_at, after_retarget_at, after_submit_at, begin_refusal_at, bus_fault, changed_unless, changes_device, device_begins, device_retargets, device_submits, device_withdraws, is_comset_refused, new_device, reserved_without, retarget_refusal_at, retarget_refusal_of, submit_refusal_at, submit_refusal_of, withdrawn_of}
+use Rattle.osdp_bus.specs.Machine.{add_refusal, after_add, after_begin_at, after_retarget_at, after_submit_at, begin_refusal_at, bus_fault, changed_unless, changes_entry, entry_begins, entry_retargets, entry_submits, entry_withdraws, is_comset_refused, new_device, reserved_without, retarget_refusal_at, retarget_refusal_of, submit_refusal_at, submit_refusal_of, withdrawn_of}
 use Rattle.osdp_bus_laws.specs.Addresses.{NoneFrees, ReservationsLast, accepts, frees, is_comset_done, is_some_comset, reserved_at, tells_done, withdraws_comset}
 use Rattle.osdp_bus_laws.specs.Calls.{Call, Add, Begin, Submit, Withdraw, Retarget, OnBytes, OnSilence, Tick, NextReport, after_call, after_calls, arisen}
 use Rattle.osdp_bus_laws.specs.Exchanges.{KeepsReports}
@@ -61,12 +61,12 @@ line_steps old new j follows = by_report old.devices.report refl
 -- ---- a device of an entry changes
 
 changed_at : (entry j : ℕ) (change : Entry → Entry) (b : BusState) (d : Entry) → device_of entry b ≡ Some d
-    → reserved_at j (changes_device entry change b) ≡ (if entry == j then (change d).reserved else reserved_at j b)
+    → reserved_at j (changes_entry entry change b) ≡ (if entry == j then (change d).reserved else reserved_at j b)
 changed_at entry j change b d at =
     ap (λ o. reserved_at j (option_map_or (λ d. record b { devices = record b.devices { entries = slice_set b.devices.entries entry (change d) } }) o b)) at
     ∙ reserved_set b.devices.entries entry d (change d) j at
 
-not_there : (entry j : ℕ) (change : Entry → Entry) (b : BusState) → device_of entry b ≡ None → reserved_at j (changes_device entry change b) ≡ reserved_at j b
+not_there : (entry j : ℕ) (change : Entry → Entry) (b : BusState) → device_of entry b ≡ None → reserved_at j (changes_entry entry change b) ≡ reserved_at j b
 not_there entry j change b at =
     ap (λ o. reserved_at j (option_map_or (λ d. record b { devices = record b.devices { entries = slice_set b.devices.entries entry (change d) } }) o b)) at
 
@@ -81,9 +81,9 @@ begin_steps entry now j (Some fault) b = refl
 begin_steps entry now j None b = by_device (device_of entry b) refl
   where
     by_device : (o : Option Entry) → device_of entry b ≡ o → reserved_at j (after_begin_at entry now b) ≡ reserved_at j b
-    by_device None at = not_there entry j (device_begins (max b.greatest now)) (seen now b) at
+    by_device None at = not_there entry j (entry_begins (max b.greatest now)) (seen now b) at
     by_device (Some d) at =
-        changed_at entry j (device_begins (max b.greatest now)) (seen now b) d at
+        changed_at entry j (entry_begins (max b.greatest now)) (seen now b) d at
         ∙ same_there (entry == j) true d.reserved (reserved_at j b) (reserved_there b.devices.entries entry d j at)
 
 -- a device is added
@@ -133,7 +133,7 @@ submit_steps entry j command None b ok = by_device (device_of entry b) refl
         let parts = unless_taken (is_comset_refused (comset_of command) entry d b) AddressTaken (option_map bus_fault (submit_refusal command d.controller))
         (sym (ap (λ o. submit_refusal_of entry command o b) at) ∙ ok) in
         let there = reserved_there b.devices.entries entry d j at in (
-          changed_at entry j (device_submits command) b d at ∙ accepted (entry == j) (comset_of command) d.reserved (reserved_at j b) there,
+          changed_at entry j (entry_submits command) b d at ∙ accepted (entry == j) (comset_of command) d.reserved (reserved_at j b) there,
           λ asked h. unreserved (entry == j) (comset_of command) entry d b j asked there parts.0 h,
         )
 
@@ -149,19 +149,19 @@ withdrawn true (Some command) was before there = by_test (is_comset command)
     by_test true = refl
     by_test false = sym (there refl)
 
-withdraw_steps : (entry j : ℕ) (b : BusState) → reserved_at j (changes_device entry device_withdraws b)
+withdraw_steps : (entry j : ℕ) (b : BusState) → reserved_at j (changes_entry entry entry_withdraws b)
     ≡ (if entry == j && withdraws_comset (device_of entry b) then None else reserved_at j b)
 withdraw_steps entry j b = by_device (device_of entry b) refl
   where
-    by_device : (o : Option Entry) → device_of entry b ≡ o → reserved_at j (changes_device entry device_withdraws b)
+    by_device : (o : Option Entry) → device_of entry b ≡ o → reserved_at j (changes_entry entry entry_withdraws b)
         ≡ (if entry == j && withdraws_comset o then None else reserved_at j b)
-    by_device None at = not_there entry j device_withdraws b at ∙ by_test (entry == j)
+    by_device None at = not_there entry j entry_withdraws b at ∙ by_test (entry == j)
       where
         by_test : (x : Bool) → reserved_at j b ≡ (if x && false then None else reserved_at j b)
         by_test true = refl
         by_test false = refl
     by_device (Some d) at =
-        changed_at entry j device_withdraws b d at
+        changed_at entry j entry_withdraws b d at
         ∙ withdrawn (entry == j) (withdrawn_of d) d.reserved (reserved_at j b) (reserved_there b.devices.entries entry d j at)
 
 -- an address is set
@@ -178,7 +178,7 @@ retarget_steps entry address j None b ok = by_device (device_of entry b) refl
     by_device : (o : Option Entry) → device_of entry b ≡ o
         → reserved_at j (after_retarget_at entry address b) ≡ (if entry == j && true then None else reserved_at j b)
     by_device None at = absurd (let e = sym (ap (λ o. retarget_refusal_of entry address o b) at) ∙ ok in cc)
-    by_device (Some d) at = changed_at entry j (device_retargets address) b d at ∙ by_test (entry == j)
+    by_device (Some d) at = changed_at entry j (entry_retargets address) b d at ∙ by_test (entry == j)
       where
         by_test : (x : Bool) → (if x then None else reserved_at j b) ≡ (if x && true then None else reserved_at j b)
         by_test true = refl
@@ -251,7 +251,7 @@ pub kept_unless : (f : Option BusFault) (old new : BusState) → new.devices.rep
 kept_unless None old new same = same
 kept_unless (Some fault) old new same = refl
 
-pub changed_report : (entry : ℕ) (change : Entry → Entry) (b : BusState) → (changes_device entry change b).devices.report ≡ b.devices.report
+pub changed_report : (entry : ℕ) (change : Entry → Entry) (b : BusState) → (changes_entry entry change b).devices.report ≡ b.devices.report
 changed_report entry change b = by_device (device_of entry b)
   where
     by_device : (o : Option Entry)
@@ -262,12 +262,12 @@ changed_report entry change b = by_device (device_of entry b)
 pub keeps_reports : (b : BusState) → SoundBus b → KeepsReports b
 keeps_reports b is (Add address) waiting h taken = kept_unless (add_refusal address b) b (after_add address b) refl ∙ h
 keeps_reports b is (Begin entry now) waiting h taken =
-    kept_unless (begin_refusal_at entry b) b (after_begin_at entry now b) (changed_report entry (device_begins (max b.greatest now)) (seen now b)) ∙ h
+    kept_unless (begin_refusal_at entry b) b (after_begin_at entry now b) (changed_report entry (entry_begins (max b.greatest now)) (seen now b)) ∙ h
 keeps_reports b is (Submit entry command) waiting h taken =
-    kept_unless (submit_refusal_at entry command b) b (after_submit_at entry command b) (changed_report entry (device_submits command) b) ∙ h
-keeps_reports b is (Withdraw entry) waiting h taken = changed_report entry device_withdraws b ∙ h
+    kept_unless (submit_refusal_at entry command b) b (after_submit_at entry command b) (changed_report entry (entry_submits command) b) ∙ h
+keeps_reports b is (Withdraw entry) waiting h taken = changed_report entry entry_withdraws b ∙ h
 keeps_reports b is (Retarget entry address) waiting h taken =
-    kept_unless (retarget_refusal_at entry address b) b (after_retarget_at entry address b) (changed_report entry (device_retargets address) b) ∙ h
+    kept_unless (retarget_refusal_at entry address b) b (after_retarget_at entry address b) (changed_report entry (entry_retargets address) b) ∙ h
 keeps_reports b is (OnBytes bytes now) waiting h taken = ((follows_bytes bytes now b is).stays (ap (λ (o : Option (ℕ × Report)). is_some o) h)).0 ∙ h
 keeps_reports b is (OnSilence now) waiting h taken =
     ((follows_run (seen now b) (sound_seen now b is)).stays (ap (λ (o : Option (ℕ × Report)). is_some o) h)).0 ∙ h

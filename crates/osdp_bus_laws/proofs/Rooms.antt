@@ -10,9 +10,9 @@ use Rattle.osdp_bus.specs.declared.config.BusConfig.{BusConfig}
 use Rattle.osdp_bus.specs.declared.entry.Entry.{Entry}
 use Rattle.osdp_bus.specs.declared.fault.BusFault.{BusFault}
 use Rattle.osdp_bus.specs.Buses.{BusState, Devices, device_of, has_report, holder, is_silent, new_bus, seen}
-use Rattle.osdp_bus.specs.Entries.{device_hears, device_ticks}
+use Rattle.osdp_bus.specs.Entries.{entry_hears, entry_ticks}
 use Rattle.osdp_bus.specs.Hearing.{after_bytes, ends_run, ends_silent, hears_items}
-use Rattle.osdp_bus.specs.Machine.{add_refusal, after_add, after_begin_at, after_retarget_at, after_submit_at, begin_refusal_at, changed_unless, changes_device, device_begins, device_retargets, device_submits, device_withdraws, new_device, retarget_refusal_at, submit_refusal_at}
+use Rattle.osdp_bus.specs.Machine.{add_refusal, after_add, after_begin_at, after_retarget_at, after_submit_at, begin_refusal_at, changed_unless, changes_entry, entry_begins, entry_retargets, entry_submits, entry_withdraws, new_device, retarget_refusal_at, submit_refusal_at}
 use Rattle.osdp_bus.specs.Ticking.{BusTicked, bus_ticks, is_due_at, is_held_and_due, next_due, stays, ticks_at, ticks_by, ticks_held, ticks_on, ticks_with}
 use Rattle.osdp_bus_laws.specs.Calls.{Call, Add, Begin, Submit, Withdraw, Retarget, OnBytes, OnSilence, Tick, NextReport, after_call, after_calls}
 use Rattle.osdp_bus_laws.proofs.Hearing.{items_keep}
@@ -38,7 +38,7 @@ rooms_set room i d e ds at same are = λ j f there. by_place j f (replaced ds i 
 
 rooms_items : (room : Room) (now : ℕ) (parts : List RunItem) (ds : Devices) → RoomsAre room ds.entries → RoomsAre room (hears_items now parts ds).entries
 rooms_items room now =
-    items_keep now (λ (ds : Devices). RoomsAre room ds.entries) (λ p i d ds at are. rooms_set room i d (device_hears p now d) ds.entries at refl are)
+    items_keep now (λ (ds : Devices). RoomsAre room ds.entries) (λ p i d ds at are. rooms_set room i d (entry_hears p now d) ds.entries at refl are)
 
 rooms_run : (b : BusState) → HasRooms b → HasRooms (ends_run b)
 rooms_run b are = rooms_items b.config.room b.greatest (items true b.held) b.devices are
@@ -59,7 +59,7 @@ TickRooms t = HasRooms t.bus
 
 rooms_ticks_with : (i : ℕ) (o : Option Entry) (b : BusState) → device_of i b ≡ o → HasRooms b → TickRooms (ticks_with i o b)
 rooms_ticks_with i None b at are = are
-rooms_ticks_with i (Some d) b at are = rooms_set b.config.room i d (device_ticks b.greatest d) b.devices.entries at refl are
+rooms_ticks_with i (Some d) b at are = rooms_set b.config.room i d (entry_ticks b.greatest d) b.devices.entries at refl are
 
 rooms_ticks_at : (o : Option ℕ) (b : BusState) → HasRooms b → TickRooms (ticks_at o b)
 rooms_ticks_at None b are = are
@@ -84,7 +84,7 @@ rooms_tick now b are =
 -- each call
 
 rooms_changes : (entry : ℕ) (change : Entry → Entry) (b : BusState) → ((d : Entry) → room_of (change d) ≡ room_of d) → HasRooms b
-    → HasRooms (changes_device entry change b)
+    → HasRooms (changes_entry entry change b)
 rooms_changes entry change b same are = by_device (device_of entry b) refl
   where
     by_device : (o : Option Entry) → device_of entry b ≡ o
@@ -107,13 +107,13 @@ rooms_call : (call : Call) (b : BusState) → HasRooms b → HasRooms (after_cal
 rooms_call (Add address) b are = rooms_unless (add_refusal address b) b (after_add address b) are (rooms_added address b are)
 rooms_call (Begin entry now) b are =
     rooms_unless (begin_refusal_at entry b) b (after_begin_at entry now b) are
-    (rooms_changes entry (device_begins (max b.greatest now)) (seen now b) (λ d. refl) are)
+    (rooms_changes entry (entry_begins (max b.greatest now)) (seen now b) (λ d. refl) are)
 rooms_call (Submit entry command) b are =
-    rooms_unless (submit_refusal_at entry command b) b (after_submit_at entry command b) are (rooms_changes entry (device_submits command) b (λ d. refl) are)
-rooms_call (Withdraw entry) b are = rooms_changes entry device_withdraws b (λ d. refl) are
+    rooms_unless (submit_refusal_at entry command b) b (after_submit_at entry command b) are (rooms_changes entry (entry_submits command) b (λ d. refl) are)
+rooms_call (Withdraw entry) b are = rooms_changes entry entry_withdraws b (λ d. refl) are
 rooms_call (Retarget entry address) b are =
     rooms_unless (retarget_refusal_at entry address b) b (after_retarget_at entry address b) are
-    (rooms_changes entry (device_retargets address) b (λ d. refl) are)
+    (rooms_changes entry (entry_retargets address) b (λ d. refl) are)
 rooms_call (OnBytes bytes now) b are = rooms_bytes bytes now b are
 rooms_call (OnSilence now) b are = rooms_run (seen now b) are
 rooms_call (Tick now) b are = rooms_tick now b are

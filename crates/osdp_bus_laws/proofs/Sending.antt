@@ -17,7 +17,7 @@ use Rattle.osdp_controller_laws.specs.Laws.{exchange_in}
 use Rattle.osdp_bus.specs.declared.entry.Entry.{Entry}
 use Rattle.osdp_bus.specs.Buses.{BusState, device_of, has_report, holder, seen}
 use Rattle.osdp_bus.specs.Entries.{holds}
-use Rattle.osdp_bus.specs.Machine.{after_begin_at, changed_unless, device_begins}
+use Rattle.osdp_bus.specs.Machine.{after_begin_at, changed_unless, entry_begins}
 use Rattle.osdp_bus.specs.Ticking.{BusTicked, bus_ticks, is_due_at, stays, ticks_at, ticks_by, ticks_held, ticks_on, ticks_with}
 use Rattle.osdp_bus_laws.specs.Calls.{Begin, after_call}
 use Rattle.osdp_bus_laws.specs.Exchanges.{own_frame}
@@ -72,7 +72,7 @@ holders_send_their_frame b now entry p held sent = by_tick now entry b p held se
 
 pub sessions_begin_alone : (b : BusState) → SessionsBeginAlone b
 sessions_begin_alone b entry now d at ok =
-    let change = device_begins (max b.greatest now) in
+    let change = entry_begins (max b.greatest now) in
     let after : after_call (Begin entry now) b
     ≡ record (seen now b) { devices = record b.devices { entries = slice_set b.devices.entries entry (change d) } } =
     ap (λ f. changed_unless f b (after_begin_at entry now b)) ok

@@ -7,7 +7,7 @@ use Rattle.osdp_frame.specs.Packet.{Packet}
 use Rattle.osdp_frame.specs.Reading.{RunItem}
 use Rattle.osdp_bus.specs.declared.entry.Entry.{Entry}
 use Rattle.osdp_bus.specs.Buses.{BusState, Devices, device_of, has_report, holder, is_silent, seen}
-use Rattle.osdp_bus.specs.Entries.{device_hears, device_ticks, holds, is_device_due, step_of, told_of}
+use Rattle.osdp_bus.specs.Entries.{entry_hears, entry_ticks, holds, is_entry_due, step_of, told_of}
 use Rattle.osdp_bus.specs.Hearing.{after_bytes, ends_run, ends_silent, hears_bytes, hears_item, hears_items, hears_with}
 use Rattle.osdp_bus.specs.Settings.{IsBusConfig}
 use Rattle.osdp_bus.specs.Ticking.{BusTicked, bus_ticks, is_due_at, is_held_and_due, next_due, stays, ticks_at, ticks_by, ticks_free, ticks_held, ticks_on, ticks_with}
@@ -20,15 +20,15 @@ use Rattle.osdp_bus_laws.proofs.Places.{IsAt, none_at, replaced}
 
 -- ---- a packet
 
-comes_heard : (p : Packet) (now i : ℕ) (d : Entry) (ds : Devices) → Sound ds → slice_get ds.entries i ≡ Some d → Comes ds i (device_hears p now d) (told_of p now d)
+comes_heard : (p : Packet) (now i : ℕ) (d : Entry) (ds : Devices) → Sound ds → slice_get ds.entries i ≡ Some d → Comes ds i (entry_hears p now d) (told_of p now d)
 comes_heard p now i d ds sound at =
     let is = sound.devices i d at in
-    comes_of ds i d (device_hears p now d) (told_of p now d) sound at (device_heard p now d is) (λ a. names_heard a p now d is)
+    comes_of ds i d (entry_hears p now d) (told_of p now d) sound at (device_heard p now d is) (λ a. names_heard a p now d is)
     (heard_holds p now d) (heard_told p now d)
 
 pub sound_packet : (now : ℕ) (p : Packet) (i : ℕ) (d : Entry) (ds : Devices) → slice_get ds.entries i ≡ Some d → Sound ds
     → Sound (hears_with p now i (Some d) ds)
-sound_packet now p i d ds at sound = sound_set ds i (device_hears p now d) (told_of p now d) sound (comes_heard p now i d ds sound at)
+sound_packet now p i d ds at sound = sound_set ds i (entry_hears p now d) (told_of p now d) sound (comes_heard p now i d ds sound at)
 
 pub sound_item : (now : ℕ) (part : RunItem) (ds : Devices) → Sound ds → Sound (hears_item now part ds)
 sound_item now = item_keeps now Sound (sound_packet now)
@@ -48,9 +48,9 @@ same_held ds j f at h = (f, at, h)
 
 held_packet : (first : Devices) (now : ℕ) (p : Packet) (i : ℕ) (d : Entry) (ds : Devices) → slice_get ds.entries i ≡ Some d → WereHeld first ds
     → WereHeld first (hears_with p now i (Some d) ds)
-held_packet first now p i d ds at were = λ j f there h. by_place j f h (replaced ds.entries i (device_hears p now d) j f there)
+held_packet first now p i d ds at were = λ j f there h. by_place j f h (replaced ds.entries i (entry_hears p now d) j f there)
   where
-    by_place : (j : ℕ) (f : Entry) → holds f ≡ true → IsAt ds.entries i (device_hears p now d) j f → HeldBefore j first
+    by_place : (j : ℕ) (f : Entry) → holds f ≡ true → IsAt ds.entries i (entry_hears p now d) j f → HeldBefore j first
     by_place j f h (inl (here, same)) = were j d (ap (slice_get ds.entries) here ∙ at) (heard_holds p now d (sym (ap holds same) ∙ h))
     by_place j f h (inr (other, was)) = were j f was h
 
@@ -86,7 +86,7 @@ some_not None h = refl
 some_not (Some a) h = cc
 
 comes_ticked : (now i : ℕ) (d : Entry) (ds : Devices) → Sound ds → slice_get ds.entries i ≡ Some d → is_some ds.report ≡ false → HoldsAlone i ds
-    → Comes ds i (device_ticks now d) (step_of now d).report
+    → Comes ds i (entry_ticks now d) (step_of now d).report
 comes_ticked now i d ds sound at none alone = record {
   device = device_ticked now d (sound.devices i d at);
   free = λ a named j f other there named_there. other (sound.apart a j i f d there at named_there (names_ticked a now d named));
@@ -100,7 +100,7 @@ sound_ticks_with : (i : ℕ) (o : Option Entry) (b : BusState) → device_of i b
 sound_ticks_with i None b at none alone is = is
 sound_ticks_with i (Some d) b at none alone is = record {
   config = is.config;
-  devices = sound_set b.devices i (device_ticks b.greatest d) (step_of b.greatest d).report is.devices
+  devices = sound_set b.devices i (entry_ticks b.greatest d) (step_of b.greatest d).report is.devices
       (comes_ticked b.greatest i d b.devices is.devices at none alone);
 }
 
@@ -139,15 +139,15 @@ by_tests true false e = cc
 by_tests false y e = cc
 
 pub held_there : (entry : ℕ) (b : BusState) → (has_report b || not (is_held_and_due entry b)) ≡ false
-    → (has_report b ≡ false) × ((d : Entry) × (device_of entry b ≡ Some d) × (holds d ≡ true) × (is_device_due b.greatest d ≡ true))
+    → (has_report b ≡ false) × ((d : Entry) × (device_of entry b ≡ Some d) × (holds d ≡ true) × (is_entry_due b.greatest d ≡ true))
 held_there entry b h = by_device (device_of entry b) (has_report b) h
   where
-    by_device : (o : Option Entry) (r : Bool) → (r || not (option_map_or holds o false && option_map_or (is_device_due b.greatest) o false)) ≡ false
-        → (r ≡ false) × ((d : Entry) × (o ≡ Some d) × (holds d ≡ true) × (is_device_due b.greatest d ≡ true))
+    by_device : (o : Option Entry) (r : Bool) → (r || not (option_map_or holds o false && option_map_or (is_entry_due b.greatest) o false)) ≡ false
+        → (r ≡ false) × ((d : Entry) × (o ≡ Some d) × (holds d ≡ true) × (is_entry_due b.greatest d ≡ true))
     by_device o true e = cc
     by_device None false e = absurd cc
     by_device (Some d) false e =
-        let both = by_tests (holds d) (is_device_due b.greatest d) e in
+        let both = by_tests (holds d) (is_entry_due b.greatest d) e in
         (refl, (d, refl, both.0, both.1))
 
 -- what holds of a bus that stays, and of the tick of an entry that holds the line

@@ -6,7 +6,7 @@ use Rattle.osdp_bus.specs.declared.entry.Entry.{Entry}
 use Rattle.osdp_bus.specs.declared.fault.BusFault.{BusFault}
 use Rattle.osdp_bus.specs.Buses.{BusState, device_of, has_report, holder, is_silent, seen}
 use Rattle.osdp_bus.specs.Hearing.{ends_run, ends_silent}
-use Rattle.osdp_bus.specs.Machine.{add_refusal, after_add, after_begin_at, after_retarget_at, after_submit_at, changed_unless, changes_device, device_begins, device_retargets, device_submits, device_withdraws, retarget_refusal_at, submit_refusal_at}
+use Rattle.osdp_bus.specs.Machine.{add_refusal, after_add, after_begin_at, after_retarget_at, after_submit_at, changed_unless, changes_entry, entry_begins, entry_retargets, entry_submits, entry_withdraws, retarget_refusal_at, submit_refusal_at}
 use Rattle.osdp_bus.specs.Ticking.{BusTicked, bus_ticks, is_due_at, next_due, stays, ticks_at, ticks_by, ticks_free, ticks_held, ticks_on, ticks_with}
 use Rattle.osdp_controller.proofs.Choices.{either_way}
 use Rattle.osdp_bus_laws.specs.Calls.{Call, Add, Begin, Submit, Withdraw, Retarget, OnBytes, OnSilence, Tick, NextReport, after_call}
@@ -31,7 +31,7 @@ stays_unless : (f : Option BusFault) (old new : BusState) → Stays old new → 
 stays_unless None old new same = same
 stays_unless (Some fault) old new same = as_it_is old
 
-stays_changed : (entry : ℕ) (change : Entry → Entry) (b : BusState) → Stays b (changes_device entry change b)
+stays_changed : (entry : ℕ) (change : Entry → Entry) (b : BusState) → Stays b (changes_entry entry change b)
 stays_changed entry change b = by_device (device_of entry b)
   where
     by_device : (o : Option Entry)
@@ -80,7 +80,7 @@ stays_tick now b =
 -- ---- other calls
 
 pub stays_begin : (entry now : ℕ) (b : BusState) → Stays (seen now b) (after_begin_at entry now b)
-stays_begin entry now b = stays_changed entry (device_begins (max b.greatest now)) (seen now b)
+stays_begin entry now b = stays_changed entry (entry_begins (max b.greatest now)) (seen now b)
 
 -- neither bytes nor a moment
 abbrev pub BringsNothing : Call → Type 0
@@ -94,9 +94,9 @@ pub stays_call : (call : Call) (b : BusState) → BringsNothing call → Stays b
 stays_call (Add address) b none =
     stays_unless (add_refusal address b) b (after_add address b) (record { config = refl; last = refl; greatest = refl })
 stays_call (Submit entry command) b none =
-    stays_unless (submit_refusal_at entry command b) b (after_submit_at entry command b) (stays_changed entry (device_submits command) b)
-stays_call (Withdraw entry) b none = stays_changed entry device_withdraws b
+    stays_unless (submit_refusal_at entry command b) b (after_submit_at entry command b) (stays_changed entry (entry_submits command) b)
+stays_call (Withdraw entry) b none = stays_changed entry entry_withdraws b
 stays_call (Retarget entry address) b none =
-    stays_unless (retarget_refusal_at entry address b) b (after_retarget_at entry address b) (stays_changed entry (device_retargets address) b)
+    stays_unless (retarget_refusal_at entry address b) b (after_retarget_at entry address b) (stays_changed entry (entry_retargets address) b)
 stays_call NextReport b none = record { config = refl; last = refl; greatest = refl }
 stays_call _ b none = absurd none

@@ -8,7 +8,7 @@ use Rattle.osdp_controller.specs.declared.report.Report.{Report}
 use Rattle.osdp_controller.proofs.Choices.{either_way}
 use Rattle.osdp_bus.specs.declared.entry.Entry.{Entry}
 use Rattle.osdp_bus.specs.Buses.{BusState, Devices, device_of, has_report, holder, is_silent, seen, waiting_after}
-use Rattle.osdp_bus.specs.Entries.{device_hears, device_ticks, reserved_after, reserved_told, step_of, told_of}
+use Rattle.osdp_bus.specs.Entries.{entry_hears, entry_ticks, reserved_after, reserved_told, step_of, told_of}
 use Rattle.osdp_bus.specs.Hearing.{after_bytes, ends_run, ends_silent, hears_bytes, hears_items, hears_with}
 use Rattle.osdp_bus.specs.Ticking.{BusTicked, bus_ticks, is_due_at, is_held_and_due, next_due, stays, ticks_at, ticks_by, ticks_free, ticks_held, ticks_on, ticks_with}
 use Rattle.osdp_bus_laws.proofs.Changing.{Sound}
@@ -103,7 +103,7 @@ follows_packet : (first : Devices) (now : ℕ) (p : Packet) (i : ℕ) (d : Entry
 follows_packet first now p i d ds at (sound, follows) = (
   sound_packet now p i d ds at sound,
   follows_on first ds (hears_with p now i (Some d) ds) follows
-      (follows_told ds i d (device_hears p now d) (told_of p now d) at refl
+      (follows_told ds i d (entry_hears p now d) (told_of p now d) at refl
       (λ some. none_told (told_of p now d)
       (is_false (is_some (told_of p now d)) (λ h. let stands = (heard_told p now d h).0 in let none = sound.waits some i d at in cc)))),
 )
@@ -131,7 +131,7 @@ follows_ticks_with : (i : ℕ) (o : Option Entry) (b : BusState) → device_of i
     → ReservesByReport b.devices (ticks_with i o b).bus.devices
 follows_ticks_with i None b at none = same_follows b.devices
 follows_ticks_with i (Some d) b at none =
-    follows_told b.devices i d (device_ticks b.greatest d) (step_of b.greatest d).report at refl (λ some. absurd cc)
+    follows_told b.devices i d (entry_ticks b.greatest d) (step_of b.greatest d).report at refl (λ some. absurd cc)
 
 follows_ticks_at : (o : Option ℕ) (b : BusState) → has_report b ≡ false → ReservesByReport b.devices (ticks_at o b).bus.devices
 follows_ticks_at None b none = same_follows b.devices

@@ -12,7 +12,7 @@ use Rattle.osdp_controller_laws.proofs.Stepwise.{sends_its_frame}
 use Rattle.osdp_controller_laws.proofs.Ticks.{counts_sends}
 use Rattle.osdp_bus.specs.declared.entry.Entry.{Entry}
 use Rattle.osdp_bus.specs.Buses.{BusState, device_of, has_report, seen, waiting_after}
-use Rattle.osdp_bus.specs.Entries.{device_ticks, first_from, holds, is_device_due, step_of}
+use Rattle.osdp_bus.specs.Entries.{entry_ticks, first_from, holds, is_entry_due, step_of}
 use Rattle.osdp_bus.specs.Ticking.{bus_ticks, next_due, stays, ticks_at, ticks_by, ticks_on, ticks_with}
 use Rattle.osdp_bus.proofs.Waiting.{IsAround, IsFound, around, found}
 use Rattle.osdp_bus_laws.specs.Exchanges.{own_frame}
@@ -92,7 +92,7 @@ not_both first i j (inr (inr (a, b))) (inr (inr (c, d))) = omega arith
 
 pub due_is_next : (n : ℕ) (b : BusState) → next_due b ≡ Some n → IsNext n b
 due_is_next n b is =
-    let test = is_device_due b.greatest in
+    let test = is_entry_due b.greatest in
     let here = subst (IsAround test b.devices.entries) is (around test b.first b.devices.entries) in
     record {
       due = record { device = here.0; there = here.1.0; due = here.1.1 };
@@ -103,7 +103,7 @@ due_is_next n b is =
 
 pub none_is_due : (b : BusState) → next_due b ≡ None → (entry : ℕ) → IsDueEntry entry b → ⊥
 none_is_due b is entry due =
-    let test = is_device_due b.greatest in
+    let test = is_entry_due b.greatest in
     let nothing = subst (IsAround test b.devices.entries) is (around test b.first b.devices.entries) in
     let fails = none_at test b.devices.entries entry due.device nothing due.there in
     let passes = due.due in
@@ -132,11 +132,11 @@ no_report false report h e = absurd cc
 tells_nothing : (now : ℕ) (d : Entry) → holds d ≡ false → is_some (step_of now d).report ≡ false
 tells_nothing now d free = is_false (is_some (step_of now d).report) (λ h. let stands = (ticked_told now d h).0 in cc)
 
-pub begins_frame : (now : ℕ) (d : Entry) → holds d ≡ false → is_device_due now d ≡ true → is_some (step_of now d).frame ≡ true
+pub begins_frame : (now : ℕ) (d : Entry) → holds d ≡ false → is_entry_due now d ≡ true → is_some (step_of now d).frame ≡ true
 begins_frame now d free due =
     no_report (is_some (step_of now d).frame) (is_some (step_of now d).report) due (tells_nothing now d free)
 
-pub begins_exchange : (now : ℕ) (d : Entry) → holds d ≡ false → is_device_due now d ≡ true → holds (device_ticks now d) ≡ true
+pub begins_exchange : (now : ℕ) (d : Entry) → holds d ≡ false → is_entry_due now d ≡ true → holds (entry_ticks now d) ≡ true
 begins_exchange now d free due = (counts_sends now d.controller.session d.controller.waiting).outstanding (begins_frame now d free due)
 
 pub set_here : (ds : List Entry) (i : ℕ) (d e : Entry) → slice_get ds i ≡ Some d → slice_get (slice_set ds i e) i ≡ Some e
@@ -158,7 +158,7 @@ free_tick now b free =
     ∙ ap (λ t. if t then stays (asking now b) else ticks_at (next_due (asking now b)) (asking now b)) free.after
 
 -- what a tick sends is the frame of the exchange that is outstanding then
-pub frame_sent : (now : ℕ) (d : Entry) (p : Packet) → (step_of now d).frame ≡ Some p → own_frame (device_ticks now d) ≡ Some p
+pub frame_sent : (now : ℕ) (d : Entry) (p : Packet) → (step_of now d).frame ≡ Some p → own_frame (entry_ticks now d) ≡ Some p
 frame_sent now d p sent =
     let s = (ticks now d.controller.session d.controller.waiting).session in
     let own = sends_its_frame now d.controller.session d.controller.waiting p sent in
@@ -174,18 +174,18 @@ none_waits : (entry : ℕ) (told : Option Report) (waiting : Option (ℕ × Repo
 none_waits entry None waiting h none = none
 none_waits entry (Some report) waiting h none = absurd cc
 
-began_with : (entry : ℕ) (d : Entry) (b : BusState) → device_of entry b ≡ Some d → holds d ≡ false → is_device_due b.greatest d ≡ true
+began_with : (entry : ℕ) (d : Entry) (b : BusState) → device_of entry b ≡ Some d → holds d ≡ false → is_entry_due b.greatest d ≡ true
     → has_report b ≡ false → BeginsExchange entry b (ticks_with entry (Some d) b)
 began_with entry d b at free due none =
     let sends = some_frame (step_of b.greatest d).frame (begins_frame b.greatest d free due) in
     record {
-      device = device_ticks b.greatest d;
-      there = set_here b.devices.entries entry d (device_ticks b.greatest d) at;
+      device = entry_ticks b.greatest d;
+      there = set_here b.devices.entries entry d (entry_ticks b.greatest d) at;
       outstanding = begins_exchange b.greatest d free due;
       frame = sends.0;
       sent = sends.1;
       own = frame_sent b.greatest d sends.0 sends.1;
-      others = λ other apart. set_other b.devices.entries entry other (device_ticks b.greatest d) apart;
+      others = λ other apart. set_other b.devices.entries entry other (entry_ticks b.greatest d) apart;
       turn = refl;
       untold = none_waits entry (step_of b.greatest d).report b.devices.report (tells_nothing b.greatest d free) none;
     }

@@ -7,7 +7,7 @@ use Rattle.osdp_controller.specs.States.{is_closed}
 use Rattle.osdp_controller_laws.specs.Commands.{asked_in}
 use Rattle.osdp_bus.specs.declared.entry.Entry.{Entry}
 use Rattle.osdp_bus.specs.Buses.{BusState, device_of, has_report, holder, seen}
-use Rattle.osdp_bus.specs.Entries.{holds, is_device_due}
+use Rattle.osdp_bus.specs.Entries.{holds, is_entry_due}
 use Rattle.osdp_bus.specs.Ticking.{BusTicked, bus_ticks, stays}
 use Rattle.osdp_bus_laws.specs.Exchanges.{IsOutstandingAt}
 use Rattle.osdp_bus_laws.specs.Exchanges.{own_frame}
@@ -23,7 +23,7 @@ pub record IsStillDue (entry : ℕ) (b : BusState) : Type 0 where
   pub device : Entry
   pub there : device_of entry b ≡ Some device
   pub outstanding : holds device ≡ true
-  pub due : is_device_due b.greatest device ≡ true
+  pub due : is_entry_due b.greatest device ≡ true
 
 -- the burst of its exchange goes out, the exchange stands on, and nothing is told
 pub record SendsItsOwn (entry : ℕ) (d : Entry) (t : BusTicked) : Type 0 where

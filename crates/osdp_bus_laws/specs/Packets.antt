@@ -5,14 +5,14 @@ use Rattle.osdp_frame.specs.Packet.{Packet}
 use Rattle.osdp_frame.specs.Reading.{RunItem}
 use Rattle.osdp_bus.specs.declared.entry.Entry.{Entry}
 use Rattle.osdp_bus.specs.Buses.{BusState, Devices, waiting_after}
-use Rattle.osdp_bus.specs.Entries.{address_of, device_hears, told_of}
+use Rattle.osdp_bus.specs.Entries.{address_of, entry_hears, told_of}
 use Rattle.osdp_bus.specs.Hearing.{after_bytes, hears_items, hears_packet}
 
 pub record GoesToItsAddress (p : Packet) (now : ℕ) (ds : Devices) : Type 0 where
   -- the device at its address hears a packet; what its controller tells waits, and where it tells nothing, what waited stays
   pub own : (entry : ℕ) (d : Entry) → slice_get ds.entries entry ≡ Some d → address_of d ≡ p.address
       → hears_packet p now ds ≡ record {
-        entries = slice_set ds.entries entry (device_hears p now d);
+        entries = slice_set ds.entries entry (entry_hears p now d);
         report = waiting_after entry (told_of p now d) ds.report;
       }
   -- the controller has then seen the moment, also where it ignores the packet

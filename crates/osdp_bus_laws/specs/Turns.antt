@@ -3,7 +3,7 @@ use Rattle.std.specs.Prelude.{◌≡◌, ◌≢◌, ◌⊎◌, ℕ, ◌+◌, ◌
 use Rattle.osdp_frame.specs.Packet.{Packet}
 use Rattle.osdp_bus.specs.declared.entry.Entry.{Entry}
 use Rattle.osdp_bus.specs.Buses.{BusState, device_of, has_report, holder, seen}
-use Rattle.osdp_bus.specs.Entries.{holds, is_device_due}
+use Rattle.osdp_bus.specs.Entries.{holds, is_entry_due}
 use Rattle.osdp_bus.specs.Hearing.{ends_run, ends_silent}
 use Rattle.osdp_bus.specs.Ticking.{BusTicked, bus_ticks, stays}
 use Rattle.osdp_bus_laws.specs.Exchanges.{own_frame}
@@ -25,7 +25,7 @@ pub record IsFree (now : ℕ) (b : BusState) : Type 0 where
 pub record IsDueEntry (entry : ℕ) (b : BusState) : Type 0 where
   pub device : Entry
   pub there : device_of entry b ≡ Some device
-  pub due : is_device_due b.greatest device ≡ true
+  pub due : is_entry_due b.greatest device ≡ true
 
 -- around the entries, beginning with the one that is asked first, i is asked before j
 abbrev pub IsBefore : ℕ → ℕ → ℕ → Type 0

@@ -129,7 +129,7 @@ module _ {H : Type 0} (ends : EndsAreTold) where
             subst (λ o. Hears (IsPlainlySaid p) (hears_at p now o ds) ss (first_gets p now ss)) (sym (ap (first_from 0 (is_at p.address)) entries ∙ some ∙ ap Some here))
             (subst (λ d. Hears (IsPlainlySaid p) (hears_with p now k d ds) ss (first_gets p now ss)) (sym (ap (λ es. slice_get es k) entries ∙ get_device k s ss is))
             (subst (Hears (IsPlainlySaid p) (hears_with p now k (Some (device_of s)) ds) ss) (sym got) (record {
-              entries = ap (λ es. slice_set es k (devices.device_hears p now (device_of s))) entries
+              entries = ap (λ es. slice_set es k (devices.entry_hears p now (device_of s))) entries
                   ∙ ap (λ r. slice_set (map device_of ss) k (record { controller = controllers.after_frame p now s.controller; reserved = r }))
                   (freed_same (devices.told_of p now (device_of s)) s.reserved)
                   ∙ set_device k (gets p now s) ss;

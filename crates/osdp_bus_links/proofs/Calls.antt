@@ -40,7 +40,7 @@ module _ {H : Type 0} where
 
   -- the device of one entry changes as its site does
   one_changed : (b : BusState) (ss : List (Site H)) (k : ℕ) (s t : Site H) (change : Entry → Entry) → IsBusOf b ss → site_at k ss ≡ Some s
-      → change (device_of s) ≡ device_of t → IsBusOf (bus.changes_device k change b) (changed k t ss)
+      → change (device_of s) ≡ device_of t → IsBusOf (bus.changes_entry k change b) (changed k t ss)
   one_changed b ss k s t change h is same =
       subst (λ o. IsBusOf (changes o) (changed k t ss)) (sym (there b ss k s h is)) (record {
         entries = ap (λ ds. slice_set ds k (change (device_of s))) h.entries
@@ -84,7 +84,7 @@ module _ {H : Type 0} (answer_of : H → Command → Answer) (after : H → Comm
       by_fault (Some f) faults test same = same ∙ ap (λ ss. record n { sites = ss }) (changed_same k s n.sites is)
       by_fault None faults test same = (
         subst (λ (m : Net H). IsBusOf (after_submit_at k c b) m.sites) (sym same)
-            (one_changed b n.sites k s (submits_by None c s) (bus.device_submits c) h is
+            (one_changed b n.sites k s (submits_by None c s) (bus.entry_submits c) h is
             (ap (λ r. record { controller = controllers.after_submit c s.controller; reserved = r }) (asked_same (comset_of c) s.reserved))),
         (
           s,
@@ -120,7 +120,7 @@ module _ {H : Type 0} (answer_of : H → Command → Answer) (after : H → Comm
       ap (λ o. line.change_at k o (line.calls answer_of after (link.Reopen g)) n) is
       ∙ ap (λ f. record n { sites = changed k (begins_by f g s) n.sites }) none in
       subst (λ (m : Net H). IsBusOf (after_begin_at k now b) m.sites) (sym same)
-      (one_changed (seen now b) n.sites k s (begins_by None g s) (bus.device_begins g)
+      (one_changed (seen now b) n.sites k s (begins_by None g s) (bus.entry_begins g)
       (record { entries = h.entries; held = h.held; report = h.report }) is refl)
 
   pub begins_as_a_move : BeginsAsAMove answer_of after

@@ -86,7 +86,7 @@ module _ {H : Type 0} (ends : EndsAreTold) (answer_of : H → Command → Answer
       let said = tagged entry (option_to_list t.step.frame) in
       record {
         bus = record {
-          entries = ap (λ ds. slice_set ds entry (devices.device_ticks b.greatest (device_of s))) h.entries
+          entries = ap (λ ds. slice_set ds entry (devices.entry_ticks b.greatest (device_of s))) h.entries
               ∙ ap (λ r. slice_set (map device_of n.sites) entry (record { controller = controllers.after_tick b.greatest s.controller; reserved = r }))
               (frees_none s.reserved s.controller.session.state (clocks.seen b.greatest s.controller.session) s.controller.waiting)
               ∙ set_device entry u n.sites

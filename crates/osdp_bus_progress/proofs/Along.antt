@@ -14,9 +14,9 @@ use Rattle.osdp_controller_laws.specs.Calls.{IsInRange, StaysInRange, longest_wa
 use Rattle.osdp_controller_laws.specs.Runs.{Begin, Hear, Tick}
 use Rattle.osdp_reader.specs.declared.handler.Answer.{Answer}
 use Rattle.osdp_bus.specs.Buses.{BusState, Devices, device_of, has_report, holder, is_silent, seen}
-use Rattle.osdp_bus.specs.Entries.{device_hears, device_ticks, holds}
+use Rattle.osdp_bus.specs.Entries.{entry_hears, entry_ticks, holds}
 use Rattle.osdp_bus.specs.Hearing.{after_bytes, ends_run, ends_silent, hears_bytes, hears_items}
-use Rattle.osdp_bus.specs.Machine.{after_next_report, after_submit_at, device_submits, submit_refusal_at}
+use Rattle.osdp_bus.specs.Machine.{after_next_report, after_submit_at, entry_submits, submit_refusal_at}
 use Rattle.osdp_bus.specs.Settings.{controller_config}
 use Rattle.osdp_bus.specs.Ticking.{BusTicked, bus_ticks, is_due_at, next_due, stays, ticks_at, ticks_by, ticks_free, ticks_held, ticks_on, ticks_with}
 use Rattle.osdp_bus.specs.declared.config.BusConfig.{BusConfig}
@@ -50,10 +50,10 @@ set_all P i e ds all is j f at = by_place (replaced ds i e j f at)
     by_place (inl (here, same)) = subst P (sym same) is
     by_place (inr (other, was)) = all j f was
 
-all_items : (P : Entry → Type 0) (now : ℕ) → ((p : Packet) (d : Entry) → P d → P (device_hears p now d))
+all_items : (P : Entry → Type 0) (now : ℕ) → ((p : Packet) (d : Entry) → P d → P (entry_hears p now d))
     → (parts : List RunItem) (ds : Devices) → AllAre P ds.entries → AllAre P (hears_items now parts ds).entries
 all_items P now hears =
-    items_keep now (λ (ds : Devices). AllAre P ds.entries) (λ p i d ds at all. set_all P i (device_hears p now d) ds.entries all (hears p d (all i d at)))
+    items_keep now (λ (ds : Devices). AllAre P ds.entries) (λ p i d ds at all. set_all P i (entry_hears p now d) ds.entries all (hears p d (all i d at)))
 
 -- ---- a bus at a moment
 
@@ -80,7 +80,7 @@ still_one ds es were one i j d e at there h k = by_before (were i d at h) (were 
     by_before (f, was, stands) (g, stood, too) = one i j f g was stood stands too
 
 module _ (ranges : StaysInRange) (wait clock : ℕ) where
-  hears_at_moment : (now : ℕ) → now ≤ clock → (p : Packet) (d : Entry) → DeviceAt wait clock d → DeviceAt wait clock (device_hears p now d)
+  hears_at_moment : (now : ℕ) → now ≤ clock → (p : Packet) (d : Entry) → DeviceAt wait clock d → DeviceAt wait clock (entry_hears p now d)
   hears_at_moment now before p d is =
       let time = is.time in
       record {
@@ -134,7 +134,7 @@ module _ (ranges : StaysInRange) (wait clock : ℕ) where
   abbrev TickAt : BusTicked → Type 0
   TickAt t = BusAt wait clock t.bus
 
-  ticks_at_moment : (now : ℕ) (d : Entry) → now ≤ clock → DeviceAt wait clock d → DeviceAt wait clock (device_ticks now d)
+  ticks_at_moment : (now : ℕ) (d : Entry) → now ≤ clock → DeviceAt wait clock d → DeviceAt wait clock (entry_ticks now d)
   ticks_at_moment now d before is =
       let s = d.controller.session in
       let time = is.time in
@@ -164,9 +164,9 @@ module _ (ranges : StaysInRange) (wait clock : ℕ) where
       record {
         fits = is.fits;
         greatest = is.greatest;
-        devices = set_all (DeviceAt wait clock) i (device_ticks b.greatest d) b.devices.entries is.devices
+        devices = set_all (DeviceAt wait clock) i (entry_ticks b.greatest d) b.devices.entries is.devices
             (ticks_at_moment b.greatest d is.greatest (is.devices i d at));
-        one = one_set i (device_ticks b.greatest d) b.devices next refl alone;
+        one = one_set i (entry_ticks b.greatest d) b.devices next refl alone;
       }
 
   one_at : (o : Option ℕ) (b : BusState) → ((i : ℕ) → o ≡ Some i → Alone i b.devices) → BusAt wait clock b → TickAt (ticks_at o b)
@@ -198,18 +198,18 @@ module _ (ranges : StaysInRange) (wait clock : ℕ) where
   -- ---- a command
 
   submits_with : (i : ℕ) (command : Command) (o : Option Entry) (b : BusState) → device_of i b ≡ o → BusAt wait clock b
-      → BusAt wait clock (option_map_or (λ d. record b { devices = record b.devices { entries = slice_set b.devices.entries i (device_submits command d) } }) o b)
+      → BusAt wait clock (option_map_or (λ d. record b { devices = record b.devices { entries = slice_set b.devices.entries i (entry_submits command d) } }) o b)
   submits_with i command None b at is = is
   submits_with i command (Some d) b at is = record {
     fits = is.fits;
     greatest = is.greatest;
-    devices = set_all (DeviceAt wait clock) i (device_submits command d) b.devices.entries is.devices
+    devices = set_all (DeviceAt wait clock) i (entry_submits command d) b.devices.entries is.devices
         (let old = is.devices i d at in record { time = old.time; range = old.range });
-    one = still_one b.devices (record b.devices { entries = slice_set b.devices.entries i (device_submits command d) })
-        (λ j f there h. by_place j f h (replaced b.devices.entries i (device_submits command d) j f there)) is.one;
+    one = still_one b.devices (record b.devices { entries = slice_set b.devices.entries i (entry_submits command d) })
+        (λ j f there h. by_place j f h (replaced b.devices.entries i (entry_submits command d) j f there)) is.one;
   }
     where
-      by_place : (j : ℕ) (f : Entry) → holds f ≡ true → IsAt b.devices.entries i (device_submits command d) j f → HeldBefore j b.devices
+      by_place : (j : ℕ) (f : Entry) → holds f ≡ true → IsAt b.devices.entries i (entry_submits command d) j f → HeldBefore j b.devices
       by_place j f h (inl (here, same)) = (d, ap (slice_get b.devices.entries) here ∙ at, sym (ap holds same) ∙ h)
       by_place j f h (inr (other, was)) = (f, was, h)
 

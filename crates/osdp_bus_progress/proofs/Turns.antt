@@ -7,7 +7,7 @@ use Rattle.osdp_controller.specs.Machine.{is_outstanding}
 use Rattle.osdp_controller.specs.declared.state.State.{State}
 use Rattle.osdp_controller.specs.declared.state.State.TheVariants.{Closed}
 use Rattle.osdp_bus.specs.Buses.{BusState, device_of, has_report, holder, seen}
-use Rattle.osdp_bus.specs.Entries.{holds, is_device_due}
+use Rattle.osdp_bus.specs.Entries.{holds, is_entry_due}
 use Rattle.osdp_bus.specs.Hearing.{ends_run, ends_silent}
 use Rattle.osdp_bus.specs.Ticking.{asks_holder, bus_ticks, is_due_at, is_held_and_due, next_due, stays, ticks_at, ticks_by, ticks_free, ticks_held, ticks_on, ticks_with}
 use Rattle.osdp_bus.specs.declared.entry.Entry.{Entry}
@@ -57,7 +57,7 @@ abbrev pub Lasts : Entry → Type 0
 Lasts d = d.controller.session.state ≡ Closed → ⊥
 
 abbrev pub LastingDue : ℕ → List Entry → Type 0
-LastingDue now ds = AllAre (λ d. Lasts d → is_device_due now d ≡ true) ds
+LastingDue now ds = AllAre (λ d. Lasts d → is_entry_due now d ≡ true) ds
 
 outstanding_lasts : (state : State) → is_outstanding state ≡ true → state ≡ Closed → ⊥
 outstanding_lasts state stands closed = absurd (let none : is_outstanding state ≡ false = ap is_outstanding closed in cc)
@@ -82,7 +82,7 @@ pub record Ticks (entry k : ℕ) (b : BusState) : Type 0 where
   pub at : ℕ
   pub device : Entry
   pub there : device_of at b ≡ Some device
-  pub due : is_device_due b.greatest device ≡ true
+  pub due : is_entry_due b.greatest device ≡ true
   pub alone : (i : ℕ) (d : Entry) → slice_get b.devices.entries i ≡ Some d → holds d ≡ true → i ≡ at
   pub before : (at ≡ k → ⊥) → IsBefore entry at k
   pub ticks : ticks_on b ≡ ticks_with at (Some device) b
@@ -96,8 +96,8 @@ abbrev none_or_one : Bool → Option ℕ → Option ℕ
 none_or_one rests o = if rests then None else o
 
 module _ (b : BusState) (due : LastingDue b.greatest b.devices.entries) (one : OneHolds b.devices) where
-  is_due_here : (entry : ℕ) (d : Entry) → device_of entry b ≡ Some d → is_device_due b.greatest d ≡ true → is_due_at entry b ≡ true
-  is_due_here entry d at is = ap (λ o. option_map_or (is_device_due b.greatest) o false) at ∙ is
+  is_due_here : (entry : ℕ) (d : Entry) → device_of entry b ≡ Some d → is_entry_due b.greatest d ≡ true → is_due_at entry b ≡ true
+  is_due_here entry d at is = ap (λ o. option_map_or (is_entry_due b.greatest) o false) at ∙ is
 
   turn_ticks : (entry k : ℕ) → b.held ≡ [] → has_report b ≡ false → IsTurn entry b → IsDueEntry k b → Ticks entry k b
   turn_ticks entry k held none (inl here) mine =
@@ -158,7 +158,7 @@ pub record BusTicks (now entry k : ℕ) (b : BusState) : Type 0 where
   pub who : who_ticks now b ≡ Some turn.at
 
 pub tick_is : (now entry k : ℕ) (b : BusState) → LastingDue (max b.greatest now) b.devices.entries → OneHolds b.devices → b.held ≡ []
-    → b.devices.report ≡ None → IsTurn entry b → (d : Entry) → device_of k b ≡ Some d → is_device_due (max b.greatest now) d ≡ true
+    → b.devices.report ≡ None → IsTurn entry b → (d : Entry) → device_of k b ≡ Some d → is_entry_due (max b.greatest now) d ≡ true
     → BusTicks now entry k b
 tick_is now entry k b due one held none turn d at mine =
     let silent : has_report b ≡ false = ap (λ o. is_some o) none in

@@ -11,7 +11,7 @@ use Rattle.osdp_time_laws.proofs.Instances.{reached_in}
 use Rattle.osdp_bus.specs.declared.entry.Entry.{Entry}
 use Rattle.osdp_bus.specs.Buses.{BusState, device_of, has_report, holder}
 use Rattle.osdp_bus.specs.Deadlines.{acts}
-use Rattle.osdp_bus.specs.Entries.{holds, is_device_due}
+use Rattle.osdp_bus.specs.Entries.{holds, is_entry_due}
 use Rattle.osdp_bus.specs.Machine.{new_device}
 use Rattle.osdp_bus.proofs.Waiting.{free_acts, held_acts}
 use Rattle.osdp_bus_laws.specs.Calls.{Call}
@@ -21,19 +21,19 @@ use Rattle.osdp_bus_time_laws.proofs.Moments.{as_bare}
 
 -- a controller with no command that waits while it is idle is due only once the moment is reached
 pub reached_of : (at : ℕ) (b : BusState) (d : Entry) → (is_idle d.controller.session.state ≡ true → d.controller.waiting ≡ [])
-    → d.controller.session.greatest ≤ b.greatest → is_device_due (max b.greatest at) d ≡ true → until_of d.controller.session.state ≤ max b.greatest at
+    → d.controller.session.greatest ≤ b.greatest → is_entry_due (max b.greatest at) d ≡ true → until_of d.controller.session.state ≤ max b.greatest at
 reached_of at b d rests seen due =
     let until : until_of d.controller.session.state ≤ max d.controller.session.greatest (max b.greatest at) =
     reached_in d.controller.session.state (seen_by (max b.greatest at) d.controller.session) d.controller.waiting rests due in
     omega arith
 
 module _ (b : BusState) (none : b.held ≡ []) (untold : has_report b ≡ false) (at : ℕ) (so : acts at b ≡ true) where
-  pub held_due : (entry : ℕ) (d : Entry) → holder b ≡ Some entry → device_of entry b ≡ Some d → holds d ≡ true → is_device_due (max b.greatest at) d ≡ true
+  pub held_due : (entry : ℕ) (d : Entry) → holder b ≡ Some entry → device_of entry b ≡ Some d → holds d ≡ true → is_entry_due (max b.greatest at) d ≡ true
   held_due entry d held there stands =
       sym (ap (acts at) (as_bare b [] untold none)
       ∙ held_acts b.config b.remembered b.devices.entries b.first b.last b.greatest at entry d held there stands) ∙ so
 
-  pub free_due : holder b ≡ None → list_any (is_device_due (max b.greatest at)) b.devices.entries ≡ true
+  pub free_due : holder b ≡ None → list_any (is_entry_due (max b.greatest at)) b.devices.entries ≡ true
   free_due free =
       sym (ap (acts at) (as_bare b [] untold none) ∙ free_acts b.config b.remembered b.devices.entries b.first b.last b.greatest at free) ∙ so
 

@@ -31,7 +31,7 @@ use Rattle.osdp_time_laws.specs.Laws.{is_quiet}
 use Rattle.osdp_time_laws.specs.Orders.{is_under_way}
 use Rattle.osdp_bus.specs.declared.entry.Entry.{Entry}
 use Rattle.osdp_bus.specs.Buses.{BusState, device_of}
-use Rattle.osdp_bus.specs.Entries.{device_ticks, holds}
+use Rattle.osdp_bus.specs.Entries.{entry_ticks, holds}
 use Rattle.osdp_bus.specs.Ticking.{BusTicked, ticks_with}
 use Rattle.osdp_bus_laws.specs.Calls.{Call, after_call}
 use Rattle.osdp_bus_laws.specs.Fairness.{Begins}
@@ -119,7 +119,7 @@ OnItsWay w d = (is_quiet d.controller.session.state ≡ false) × (d.controller.
 record Beginning (call : Call) (b : BusState) (entry : ℕ) (w : List Command) : Type 0 where
   now : ℕ
   device : Entry
-  after : device_of entry (after_call call b) ≡ Some (device_ticks now device)
+  after : device_of entry (after_call call b) ≡ Some (entry_ticks now device)
   idle : is_idle device.controller.session.state ≡ true
   waits : device.controller.waiting ≡ w
   due : acts (ticks_in device.controller.session.state (seen now device.controller.session) device.controller.waiting).step ≡ true
@@ -139,7 +139,7 @@ beginning b call entry w d there under waits begun =
     ap (λ t. after_call t b) begun.tick ∙ ap (λ (t : BusTicked). t.bus) (begun_ticked begun.now entry b begun.free begun.next) in record {
       now = r.greatest;
       device = f;
-      after = ap (device_of entry) after ∙ set_here r.devices.entries entry f (device_ticks r.greatest f) begun.next.due.there;
+      after = ap (device_of entry) after ∙ set_here r.devices.entries entry f (entry_ticks r.greatest f) begun.next.due.there;
       idle = begins_at_rest r.greatest f.controller.session.state (seen r.greatest f.controller.session) f.controller.waiting on.0 free begun.next.due.due;
       waits = on.1;
       due = begun.next.due.due;
@@ -150,7 +150,7 @@ takes_the_front b call entry command rest d there under waits begun =
     let own = beginning b call entry (command ∷ rest) d there under waits begun in
     let f = own.device in
     let front = (takes_front own.now f.controller.session f.controller.waiting).front command rest own.idle own.waits in
-    (device_ticks own.now f, own.after, ap command_of front.0, front.1)
+    (entry_ticks own.now f, own.after, ap command_of front.0, front.1)
 
 -- a POLL where none waits
 abbrev Polls : Ticked → Type 0
@@ -170,4 +170,4 @@ polls_else b call entry d there under waits begun =
     let own = beginning b call entry [] d there under waits begun in
     let f = own.device in
     let poll = poll_tells f.controller.session.state (seen own.now f.controller.session) f.controller.waiting own.idle own.waits own.due in
-    (device_ticks own.now f, own.after, poll.0, poll.1)
+    (entry_ticks own.now f, own.after, poll.0, poll.1)

@@ -24,9 +24,9 @@ use Rattle.osdp_bus.specs.declared.config.BusConfig.{BusConfig}
 use Rattle.osdp_bus.specs.declared.entry.Entry.{Entry}
 use Rattle.osdp_bus.specs.declared.fault.BusFault.{BusFault}
 use Rattle.osdp_bus.specs.Buses.{BusState, Devices, device_of, has_report, holder, is_silent, new_bus, seen}
-use Rattle.osdp_bus.specs.Entries.{device_hears, device_ticks}
+use Rattle.osdp_bus.specs.Entries.{entry_hears, entry_ticks}
 use Rattle.osdp_bus.specs.Hearing.{after_bytes, ends_run, hears_items, hears_with}
-use Rattle.osdp_bus.specs.Machine.{add_refusal, after_add, after_begin_at, after_retarget_at, after_submit_at, begin_refusal_at, changed_unless, changes_device, device_begins, device_retargets, device_submits, device_withdraws, new_device, retarget_refusal_at, submit_refusal_at}
+use Rattle.osdp_bus.specs.Machine.{add_refusal, after_add, after_begin_at, after_retarget_at, after_submit_at, begin_refusal_at, changed_unless, changes_entry, entry_begins, entry_retargets, entry_submits, entry_withdraws, new_device, retarget_refusal_at, submit_refusal_at}
 use Rattle.osdp_bus.specs.Settings.{IsBusConfig, controller_config}
 use Rattle.osdp_bus.specs.Ticking.{BusTicked, bus_ticks, is_due_at, is_held_and_due, next_due, stays, ticks_at, ticks_by, ticks_held, ticks_on, ticks_with}
 use Rattle.osdp_bus_laws.specs.Calls.{Call, Add, Begin, Submit, Withdraw, Retarget, OnBytes, OnSilence, Tick, NextReport, after_call, after_calls}
@@ -45,14 +45,14 @@ use Rattle.osdp_bus_time_laws.proofs.Moments.{grows}
 abbrev pub Each : (Entry → Type 0) → Devices → Type 0
 Each Q ds = (i : ℕ) (d : Entry) → slice_get ds.entries i ≡ Some d → Q d
 
-module _ (g : ℕ) (Q : Entry → Type 0) (heard : (p : Packet) (d : Entry) → Q d → Q (device_hears p g d)) (ticked : (d : Entry) → Q d → Q (device_ticks g d)) where
+module _ (g : ℕ) (Q : Entry → Type 0) (heard : (p : Packet) (d : Entry) → Q d → Q (entry_hears p g d)) (ticked : (d : Entry) → Q d → Q (entry_ticks g d)) where
   put : (ds : Devices) (i : ℕ) (e : Entry) → Q e → Each Q ds → (j : ℕ) (f : Entry) → IsAt ds.entries i e j f → Q f
   put ds i e new all j f (inl (here, same)) = subst Q (sym same) new
   put ds i e new all j f (inr (other, was)) = all j f was
 
   each_packet : (p : Packet) (i : ℕ) (d : Entry) (ds : Devices) → slice_get ds.entries i ≡ Some d → Each Q ds → Each Q (hears_with p g i (Some d) ds)
   each_packet p i d ds at all =
-      λ j f there. put ds i (device_hears p g d) (heard p d (all i d at)) all j f (replaced ds.entries i (device_hears p g d) j f there)
+      λ j f there. put ds i (entry_hears p g d) (heard p d (all i d at)) all j f (replaced ds.entries i (entry_hears p g d) j f there)
 
   each_items : (moment : ℕ) (ended : Bool) (held : List ℕ) (ds : Devices) → moment ≡ g → Each Q ds → Each Q (hears_items moment (items ended held) ds)
   each_items moment ended held ds is all =
@@ -88,8 +88,8 @@ module _ (g : ℕ) (Q : Entry → Type 0) (heard : (p : Packet) (d : Entry) → 
   each_with : (k : ℕ) (o : Option Entry) (b : BusState) → device_of k b ≡ o → b.greatest ≡ g → Of b → Ticks (ticks_with k o b)
   each_with k None b at is all = all
   each_with k (Some d) b at is all =
-      let new : Q (device_ticks b.greatest d) = subst (λ (n : ℕ). Q (device_ticks n d)) (sym is) (ticked d (all k d at)) in
-      λ j f there. put b.devices k (device_ticks b.greatest d) new all j f (replaced b.devices.entries k (device_ticks b.greatest d) j f there)
+      let new : Q (entry_ticks b.greatest d) = subst (λ (n : ℕ). Q (entry_ticks n d)) (sym is) (ticked d (all k d at)) in
+      λ j f there. put b.devices k (entry_ticks b.greatest d) new all j f (replaced b.devices.entries k (entry_ticks b.greatest d) j f there)
 
   each_at : (o : Option ℕ) (b : BusState) → b.greatest ≡ g → Of b → Ticks (ticks_at o b)
   each_at None b is all = all
@@ -113,7 +113,7 @@ module _ (g : ℕ) (Q : Entry → Type 0) (heard : (p : Packet) (d : Entry) → 
 
   -- calls of the user
 
-  each_changed : (change : Entry → Entry) (at : ℕ) (b : BusState) → ((d : Entry) → Q d → Q (change d)) → Of b → Of (changes_device at change b)
+  each_changed : (change : Entry → Entry) (at : ℕ) (b : BusState) → ((d : Entry) → Q d → Q (change d)) → Of b → Of (changes_entry at change b)
   each_changed change at b changes all = by_device (device_of at b) refl
     where
       by_device : (o : Option Entry) → device_of at b ≡ o
@@ -126,8 +126,8 @@ module _ (g : ℕ) (Q : Entry → Type 0) (heard : (p : Packet) (d : Entry) → 
   each_unless None b c all after = after
   each_unless (Some fault) b c all after = all
 
-  module _ (begun : (now : ℕ) (d : Entry) → now ≤ g → Q d → Q (device_begins now d)) (submitted : (command : Command) (d : Entry) → Q d → Q (device_submits command d))
-      (withdrawn : (d : Entry) → Q d → Q (device_withdraws d)) (retargeted : (address : ℕ) (d : Entry) → Q d → Q (device_retargets address d)) where
+  module _ (begun : (now : ℕ) (d : Entry) → now ≤ g → Q d → Q (entry_begins now d)) (submitted : (command : Command) (d : Entry) → Q d → Q (entry_submits command d))
+      (withdrawn : (d : Entry) → Q d → Q (entry_withdraws d)) (retargeted : (address : ℕ) (d : Entry) → Q d → Q (entry_retargets address d)) where
     pub each_call : (call : Call) (b : BusState) → ((address : ℕ) → Q (new_device address b.config)) → (after_call call b).greatest ≡ g → Of b → Of (after_call call b)
     each_call (Add address) b new moment all =
         each_unless (add_refusal address b) b (after_add address b) all
@@ -138,13 +138,13 @@ module _ (g : ℕ) (Q : Entry → Type 0) (heard : (p : Packet) (d : Entry) → 
         begin_by : (f : Option BusFault) → begin_refusal_at at b ≡ f → Of (changed_unless f b (after_begin_at at now b))
         begin_by None ok =
             let is : (after_call (Begin at now) b).greatest ≡ max b.greatest now = (moments_are_seen b).brought (Begin at now) now (ok, refl) in
-            each_changed (device_begins (max b.greatest now)) at (seen now b) (λ d kept. begun (max b.greatest now) d (omega arith) kept) all
+            each_changed (entry_begins (max b.greatest now)) at (seen now b) (λ d kept. begun (max b.greatest now) d (omega arith) kept) all
         begin_by (Some fault) refused = all
     each_call (Submit at command) b new moment all =
-        each_unless (submit_refusal_at at command b) b (after_submit_at at command b) all (each_changed (device_submits command) at b (submitted command) all)
-    each_call (Withdraw at) b new moment all = each_changed device_withdraws at b withdrawn all
+        each_unless (submit_refusal_at at command b) b (after_submit_at at command b) all (each_changed (entry_submits command) at b (submitted command) all)
+    each_call (Withdraw at) b new moment all = each_changed entry_withdraws at b withdrawn all
     each_call (Retarget at address) b new moment all =
-        each_unless (retarget_refusal_at at address b) b (after_retarget_at at address b) all (each_changed (device_retargets address) at b (retargeted address) all)
+        each_unless (retarget_refusal_at at address b) b (after_retarget_at at address b) all (each_changed (entry_retargets address) at b (retargeted address) all)
     each_call (OnBytes bytes now) b new moment all =
         each_bytes bytes now b (sym ((moments_are_seen b).brought (OnBytes bytes now) now refl) ∙ moment) all
     each_call (OnSilence now) b new moment all =
@@ -171,19 +171,19 @@ kept_call call c g d e is near k =
       timely = subst IsTimely (sym is) (stays_timely.later m (call ∷ []) k.timely);
     }
 
-kept_heard : (c : BusConfig) (g : ℕ) (p : Packet) (d : Entry) → Kept c g d → Kept c g (device_hears p g d)
+kept_heard : (c : BusConfig) (g : ℕ) (p : Packet) (d : Entry) → Kept c g d → Kept c g (entry_hears p g d)
 kept_heard c g p d k =
     let near : (after_call_of (HearOf p g) d.controller).session.greatest ≡ max d.controller.session.greatest g = hears_at_moment p g d.controller.session in
     let reached : d.controller.session.greatest ≤ g = k.reached in
-    kept_call (HearOf p g) c g d (device_hears p g d) refl (omega arith) k
+    kept_call (HearOf p g) c g d (entry_hears p g d) refl (omega arith) k
 
-kept_ticked : (c : BusConfig) (g : ℕ) (d : Entry) → Kept c g d → Kept c g (device_ticks g d)
+kept_ticked : (c : BusConfig) (g : ℕ) (d : Entry) → Kept c g d → Kept c g (entry_ticks g d)
 kept_ticked c g d k =
     let near : (after_call_of (TickOf g) d.controller).session.greatest ≡ max d.controller.session.greatest g = tick_at_moment g d.controller in
     let reached : d.controller.session.greatest ≤ g = k.reached in
-    kept_call (TickOf g) c g d (device_ticks g d) refl (omega arith) k
+    kept_call (TickOf g) c g d (entry_ticks g d) refl (omega arith) k
 
-kept_begun : (c : BusConfig) (g now : ℕ) (d : Entry) → now ≤ g → Kept c g d → Kept c g (device_begins now d)
+kept_begun : (c : BusConfig) (g now : ℕ) (d : Entry) → now ≤ g → Kept c g d → Kept c g (entry_begins now d)
 kept_begun c g now d near k =
     let reached : d.controller.session.greatest ≤ g = k.reached in record {
       address = k.address;
@@ -199,7 +199,7 @@ at_address c address greatest (Idle due) w = w
 at_address c address greatest (Waiting until sends o) w = w
 at_address c address greatest (Pausing until o) w = w
 
-kept_retargeted : (c : BusConfig) (g address : ℕ) (d : Entry) → Kept c g d → Kept c g (device_retargets address d)
+kept_retargeted : (c : BusConfig) (g address : ℕ) (d : Entry) → Kept c g d → Kept c g (entry_retargets address d)
 kept_retargeted c g address d k =
     let s = d.controller.session in record {
       address = address;
@@ -256,8 +256,8 @@ well_call call b w =
     let c = b.config in
     let before : Each (Kept c g) b.devices = λ i d at. kept_later c b.greatest g d (grows call b) (w.devices i d at) in
     let after : Each (Kept c g) (after_call call b).devices =
-    each_call g (Kept c g) (kept_heard c g) (kept_ticked c g) (kept_begun c g) (λ command d k. kept_same c g d (device_submits command d) refl k)
-    (λ d k. kept_same c g d (device_withdraws d) refl k) (kept_retargeted c g) call b (kept_new c g) refl before in
+    each_call g (Kept c g) (kept_heard c g) (kept_ticked c g) (kept_begun c g) (λ command d k. kept_same c g d (entry_submits command d) refl k)
+    (λ d k. kept_same c g d (entry_withdraws d) refl k) (kept_retargeted c g) call b (kept_new c g) refl before in
     record {
       sound = sound_call call b w.sound;
       first = first_is call b w.sound w.first;

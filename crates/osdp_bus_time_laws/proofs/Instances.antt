@@ -8,8 +8,8 @@ use Rattle.osdp_time_laws.proofs.Instances.{reached_in}
 use Rattle.osdp_bus.specs.declared.entry.Entry.{Entry}
 use Rattle.osdp_bus.specs.Buses.{BusState, has_report, holder, seen}
 use Rattle.osdp_bus.specs.Deadlines.{acts}
-use Rattle.osdp_bus.specs.Entries.{device_ticks, holds, is_device_due}
-use Rattle.osdp_bus.specs.Machine.{device_begins, new_device}
+use Rattle.osdp_bus.specs.Entries.{entry_ticks, holds, is_entry_due}
+use Rattle.osdp_bus.specs.Machine.{entry_begins, new_device}
 use Rattle.osdp_bus.specs.Hearing.{ends_silent}
 use Rattle.osdp_bus.specs.Settings.{IsBusConfig}
 use Rattle.osdp_bus.specs.Ticking.{BusTicked, bus_ticks, is_due_at, stays, ticks_by, ticks_free, ticks_held, ticks_on}
@@ -71,7 +71,7 @@ no_other : {A : Type 0} → true ≡ false → A
 no_other h = cc
 
 -- a controller with no command that waits is due only once the moment is reached
-reached_of : (n : ℕ) (d : Entry) → (is_idle d.controller.session.state ≡ true → d.controller.waiting ≡ []) → is_device_due n d ≡ true
+reached_of : (n : ℕ) (d : Entry) → (is_idle d.controller.session.state ≡ true → d.controller.waiting ≡ []) → is_entry_due n d ≡ true
     → until_of d.controller.session.state ≤ max d.controller.session.greatest n
 reached_of n d none due = reached_in d.controller.session.state (seen_by n d.controller.session) d.controller.waiting none due
 
@@ -81,12 +81,12 @@ either_due until false true same due = inr refl
 either_due until false false same due = cc
 
 abbrev one : Entry
-one = device_begins 0 (new_device 0 short_line)
+one = entry_begins 0 (new_device 0 short_line)
 
 abbrev other : Entry
-other = device_begins 0 (new_device 1 short_line)
+other = entry_begins 0 (new_device 1 short_line)
 
-quiet_by : (at : ℕ) → (is_device_due (max 0 at) one ≡ true) ⊎ (is_device_due (max 0 at) other ≡ true) → 4 ≤ at
+quiet_by : (at : ℕ) → (is_entry_due (max 0 at) one ≡ true) ⊎ (is_entry_due (max 0 at) other ≡ true) → 4 ≤ at
 quiet_by at (inl due) = let reached : 4 ≤ max 0 (max 0 at) = reached_of (max 0 at) one (λ idle. cc) due in omega arith
 quiet_by at (inr due) = let reached : 4 ≤ max 0 (max 0 at) = reached_of (max 0 at) other (λ idle. cc) due in omega arith
 
@@ -94,15 +94,15 @@ quiet_reached : (at : ℕ) → acts at two_begun ≡ true → 4 ≤ at
 quiet_reached at so =
     let b = two_begun in
     quiet_by at
-    (either_due at (is_device_due (max 0 at) one) (is_device_due (max 0 at) other) (λ h. omega arith)
+    (either_due at (is_entry_due (max 0 at) one) (is_entry_due (max 0 at) other) (λ h. omega arith)
     (sym (free_acts b.config b.remembered b.devices.entries b.first b.last b.greatest at refl) ∙ so))
 
 outstanding_reached : (at : ℕ) → acts at after_first ≡ true → 8 ≤ at
 outstanding_reached at so =
     let b = after_first in
     let reached : 8 ≤ max 5 (max 5 at) =
-    reached_of (max 5 at) (device_ticks 5 one) (λ idle. cc)
-    (sym (held_acts b.config b.remembered b.devices.entries b.first b.last b.greatest at 0 (device_ticks 5 one) refl refl refl) ∙ so) in
+    reached_of (max 5 at) (entry_ticks 5 one) (λ idle. cc)
+    (sym (held_acts b.config b.remembered b.devices.entries b.first b.last b.greatest at 0 (entry_ticks 5 one) refl refl refl) ∙ so) in
     omega arith
 
 -- ---- the whole
@@ -167,6 +167,6 @@ opening_is_reached = record {
   in_time = in_time;
   few = few;
   not_before = λ out. not_out (subst (IsOutstandingAt 1) three_are out);
-  begins = subst (IsOutstandingAt 1) (sym four_are) (record { device = device_ticks 10 other; there = refl; outstanding = refl });
+  begins = subst (IsOutstandingAt 1) (sym four_are) (record { device = entry_ticks 10 other; there = refl; outstanding = refl });
   moment = ap (λ (b : BusState). b.greatest) four_are;
 }

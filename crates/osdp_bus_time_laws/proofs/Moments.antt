@@ -8,7 +8,7 @@ use Rattle.osdp_bus.specs.declared.entry.Entry.{Entry}
 use Rattle.osdp_bus.specs.declared.fault.BusFault.{BusFault}
 use Rattle.osdp_bus.specs.Buses.{BusState, device_of, has_report, holder}
 use Rattle.osdp_bus.specs.Deadlines.{acts}
-use Rattle.osdp_bus.specs.Entries.{holds, is_device_due}
+use Rattle.osdp_bus.specs.Entries.{holds, is_entry_due}
 use Rattle.osdp_bus.specs.Machine.{begin_refusal_at}
 use Rattle.osdp_bus.proofs.Waiting.{any_at, free_acts, free_ends, held_acts, held_ends}
 use Rattle.osdp_bus_laws.specs.Calls.{Call, Add, Begin, Submit, Withdraw, Retarget, OnBytes, OnSilence, Tick, NextReport, after_call}
@@ -106,7 +106,7 @@ as_bare b held none is =
 
 -- where an entry holds the line and is due
 pub acts_held : (b : BusState) (entry : ℕ) (d : Entry) (at : ℕ) → has_report b ≡ false → holder b ≡ Some entry → device_of entry b ≡ Some d → holds d ≡ true
-    → is_device_due (max b.greatest at) d ≡ true → acts at b ≡ true
+    → is_entry_due (max b.greatest at) d ≡ true → acts at b ≡ true
 acts_held b entry d at none held there stands due = by_held b.held refl
   where
     by_held : (l : List ℕ) → b.held ≡ l → acts at b ≡ true
@@ -120,14 +120,14 @@ acts_held b entry d at none held there stands due = by_held b.held refl
 
 -- where nobody holds it and an entry is due
 pub acts_free : (b : BusState) (entry : ℕ) (d : Entry) (at : ℕ) → has_report b ≡ false → holder b ≡ None → device_of entry b ≡ Some d
-    → is_device_due (max b.greatest at) d ≡ true → acts at b ≡ true
+    → is_entry_due (max b.greatest at) d ≡ true → acts at b ≡ true
 acts_free b entry d at none nobody there due = by_held b.held refl
   where
     by_held : (l : List ℕ) → b.held ≡ l → acts at b ≡ true
     by_held [] is =
         ap (acts at) (as_bare b [] none is)
         ∙ free_acts b.config b.remembered b.devices.entries b.first b.last b.greatest at nobody
-        ∙ any_at (is_device_due (max b.greatest at)) b.devices.entries entry d there due
+        ∙ any_at (is_entry_due (max b.greatest at)) b.devices.entries entry d there due
     by_held (byte ∷ bytes) is =
         ap (acts at) (as_bare b (byte ∷ bytes) none is)
         ∙ free_ends b.config b.remembered b.devices.entries b.first b.last b.greatest at byte bytes nobody

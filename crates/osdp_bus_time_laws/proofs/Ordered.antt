@@ -21,8 +21,8 @@ use Rattle.osdp_time_laws.proofs.Orders.{at_rest, lives, next_product}
 use Rattle.osdp_bus.specs.declared.config.BusConfig.{BusConfig}
 use Rattle.osdp_bus.specs.declared.entry.Entry.{Entry}
 use Rattle.osdp_bus.specs.Buses.{BusState, device_of, has_report}
-use Rattle.osdp_bus.specs.Entries.{device_ticks, holds}
-use Rattle.osdp_bus.specs.Machine.{after_submit_at, changed_unless, device_submits, device_withdraws, submit_refusal_at}
+use Rattle.osdp_bus.specs.Entries.{entry_ticks, holds}
+use Rattle.osdp_bus.specs.Machine.{after_submit_at, changed_unless, entry_submits, entry_withdraws, submit_refusal_at}
 use Rattle.osdp_bus.specs.Ticking.{BusTicked, bus_ticks, ticks_with}
 use Rattle.osdp_bus_laws.specs.Calls.{Call, Submit, Tick, after_call}
 use Rattle.osdp_bus_laws.specs.Exchanges.{IsOutstandingAt}
@@ -45,10 +45,10 @@ use Rattle.osdp_bus_time_laws.proofs.Turning.{Ready, decide, ends_later, has_its
 abbrev Waits : ℕ → Entry → Type 0
 Waits least d = least ≤ length d.controller.waiting
 
-waits_submitted : (least : ℕ) (command : Command) (d : Entry) → Waits least d → Waits least (device_submits command d)
+waits_submitted : (least : ℕ) (command : Command) (d : Entry) → Waits least d → Waits least (entry_submits command d)
 waits_submitted least command d some = let both = length-append d.controller.waiting (command ∷ []) in omega arith
 
-waits_withdrawn : (least : ℕ) (d : Entry) → Waits least d → is_closed d.controller.session.state ≡ false → Waits least (device_withdraws d)
+waits_withdrawn : (least : ℕ) (d : Entry) → Waits least d → is_closed d.controller.session.state ≡ false → Waits least (entry_withdraws d)
 waits_withdrawn least d some stands =
     subst (λ t. least ≤ length (if t then drop 1 d.controller.waiting else d.controller.waiting)) (sym stands) some
 
@@ -60,7 +60,7 @@ not_idle (Waiting until sends o) out = refl
 not_idle (Pausing until o) out = refl
 
 -- an exchange that goes on takes none
-waits_ticked : (least g : ℕ) (d : Entry) → holds d ≡ true → Waits least d → Waits least (device_ticks g d)
+waits_ticked : (least g : ℕ) (d : Entry) → holds d ≡ true → Waits least d → Waits least (entry_ticks g d)
 waits_ticked least g d stands some =
     let stay = (takes_front g d.controller.session d.controller.waiting).stay (not_idle d.controller.session.state stands) in
     subst (λ (w : List Command). least ≤ length w) (sym stay) some
@@ -79,7 +79,7 @@ module _ (least own : ℕ) (call : Call) (b : BusState) (well : Well b) (stands 
           absurd (not (subst (λ c. Begins c own b) (sym is) (subst (λ n. Begins (Tick now) n b) (eqb-true k own same) begun)))
       by_same false other = others (eqb-false k own other)
   wait_outcome now is (inr (inl (f, at, (some, never)))) = (f, at, some)
-  wait_outcome now is (inr (inr (f, some, so, due, at))) = (device_ticks g_then f, at, waits_ticked least g_then f so some)
+  wait_outcome now is (inr (inr (f, some, so, due, at))) = (entry_ticks g_then f, at, waits_ticked least g_then f so some)
 
   wait_tick : (now : ℕ) → call ≡ Tick now → has_report b ≡ false → AtPlace own (Waits least) (after_call call b).devices
   wait_tick now is none =
@@ -117,8 +117,8 @@ begun_waits least own call b place begun =
     let some : least + 1 ≤ length d.controller.waiting = subst (Waits (least + 1)) one asked.2 in
     let after : after_call call b ≡ (ticks_with own (Some d) r).bus =
     ap (λ t. after_call t b) begun.tick ∙ ap (λ (t : BusTicked). t.bus) (begun_ticked begun.now own b begun.free begun.next) in (
-      device_ticks r.greatest d,
-      ap (device_of own) after ∙ set_here r.devices.entries own d (device_ticks r.greatest d) begun.next.due.there,
+      entry_ticks r.greatest d,
+      ap (device_of own) after ∙ set_here r.devices.entries own d (entry_ticks r.greatest d) begun.next.due.there,
       ticks_take least r.greatest d.controller.session d.controller.waiting some,
     )
 
@@ -310,13 +310,13 @@ module _ (late : ℕ) (time : ℕ → ℕ) (n own limit wait : ℕ) (need : ℕ 
 -- ---- from its acceptance on
 
 accepted_at : (entry : ℕ) (command : Command) (d : Entry) (b : BusState) → submit_refusal_at entry command b ≡ None → device_of entry b ≡ Some d
-    → device_of entry (after_call (Submit entry command) b) ≡ Some (device_submits command d)
+    → device_of entry (after_call (Submit entry command) b) ≡ Some (entry_submits command d)
 accepted_at entry command d b accepted there =
     ap (λ f. device_of entry (changed_unless f b (after_submit_at entry command b))) accepted
-    ∙ ap (λ o. device_of entry (changed o)) there ∙ set_here b.devices.entries entry d (device_submits command d) there
+    ∙ ap (λ o. device_of entry (changed o)) there ∙ set_here b.devices.entries entry d (entry_submits command d) there
   where
     changed : Option Entry → BusState
-    changed o = option_map_or (λ f. record b { devices = record b.devices { entries = slice_set b.devices.entries entry (device_submits command f) } }) o b
+    changed o = option_map_or (λ f. record b { devices = record b.devices { entries = slice_set b.devices.entries entry (entry_submits command f) } }) o b
 
 -- arithmetic on moments alone
 first_fits : (g k time late others turns wait more all : ℕ) → k ≡ g → others + (time + late) ≡ turns → all ≡ more + (wait + turns)
@@ -369,12 +369,12 @@ orders_go_out b well late time n entry before command calls accepted keeps =
     let here = accepted_at entry command d b accepted.accepted under.there in
     let moment : k.greatest ≡ b.greatest = (moments_are_seen b).kept (Submit entry command) (λ at brings. brings) in
     let turns = turns_of time late n in
-    let wait : before + 1 ≤ length (device_submits command d).controller.waiting =
+    let wait : before + 1 ≤ length (entry_submits command d).controller.waiting =
     (let both = length-append d.controller.waiting (command ∷ []) in let place : length d.controller.waiting ≡ before = accepted.place in omega arith) in
     subst (λ (g : ℕ). GoesOutBy (g + (before + 1) * turns) before entry calls k) moment
     (subst (λ (t : ℕ). GoesOutBy (k.greatest + (before + 1) * t) before entry calls k) (let none : 0 + turns ≡ turns = omega arith in none)
     (goes_out_from late time n entry 0 before (λ more. more + 1) (λ more. inl (omega arith)) calls k (well_call (Submit entry command) b well) keeps (λ more. inl (omega arith))
-    (device_submits command d, here, wait)))
+    (entry_submits command d, here, wait)))
 
 pub polls_go_out : (b : BusState) → Well b → ExchangesComeRound b
 polls_go_out b well late time n entry before calls under keeps =

@@ -32,7 +32,7 @@ use Rattle.osdp_time_laws.proofs.Timely.{timely_then}
 use Rattle.osdp_bus.specs.declared.entry.Entry.{Entry}
 use Rattle.osdp_bus.specs.Buses.{BusState, device_of, has_report, seen}
 use Rattle.osdp_bus.specs.Deadlines.{acts}
-use Rattle.osdp_bus.specs.Entries.{device_hears, device_ticks, holds, is_device_due}
+use Rattle.osdp_bus.specs.Entries.{entry_hears, entry_ticks, holds, is_entry_due}
 use Rattle.osdp_bus.specs.Settings.{controller_config}
 use Rattle.osdp_bus.specs.Ticking.{BusTicked, bus_ticks, ticks_with}
 use Rattle.osdp_bus_laws.specs.Calls.{Call, Add, Begin, Submit, Withdraw, Retarget, OnBytes, OnSilence, Tick, NextReport, after_call}
@@ -93,7 +93,7 @@ stands_not_closed d stands = by_state d.controller.session.state stands
     by_state (Pausing until o) h = refl
 
 -- a device is due from the moment that its state waits for on
-pub due_then : (d : Entry) (at : ℕ) → is_closed d.controller.session.state ≡ false → until_of d.controller.session.state ≤ at → is_device_due at d ≡ true
+pub due_then : (d : Entry) (at : ℕ) → is_closed d.controller.session.state ≡ false → until_of d.controller.session.state ≤ at → is_entry_due at d ≡ true
 due_then d at lives reached =
     due_at d.controller.session.state (seen_by at d.controller.session) d.controller.waiting lives (omega arith)
 
@@ -142,7 +142,7 @@ module _ (late e : ℕ) (c : ControllerConfig) (more : ℕ) (many : c.sends ≡ 
       (omega arith, λ so. (config, subst (λ (n : ℕ). Ph l s.state n) (sym at) phase)) in
       ((h.1 stands).0, subst (λ (n : ℕ). Ph l (hears p g s).session.state n) (hears_at_moment p g s ∙ at) (h.1 stands).1)
 
-  heard_on : (l : List CallOf) (g : ℕ) → (All IsNotBusy l → ⊥) → g ≤ e → (p : Packet) (d : Entry) → On l g d → On l g (device_hears p g d)
+  heard_on : (l : List CallOf) (g : ℕ) → (All IsNotBusy l → ⊥) → g ≤ e → (p : Packet) (d : Entry) → On l g d → On l g (entry_hears p g d)
   heard_on l g some near p d on = (
     (let reached : d.controller.session.greatest ≤ g = on.0 in
         let is : (hears p g d.controller.session).session.greatest ≡ max d.controller.session.greatest g = hears_at_moment p g d.controller.session in omega arith),
@@ -162,13 +162,13 @@ module _ (late e : ℕ) (c : ControllerConfig) (more : ℕ) (many : c.sends ≡ 
   )
 
   -- a holder that isn't due
-  ahead_by : (d : Entry) (g : ℕ) → holds d ≡ true → (is_device_due g d ≡ true → ⊥)
+  ahead_by : (d : Entry) (g : ℕ) → holds d ≡ true → (is_entry_due g d ≡ true → ⊥)
       → ((nat_le (until_of d.controller.session.state) g ≡ true) × (until_of d.controller.session.state ≤ g))
       ⊎ ((nat_le (until_of d.controller.session.state) g ≡ false) × (g < until_of d.controller.session.state)) → g < until_of d.controller.session.state
   ahead_by d g stands never (inl (test, reached)) = absurd (never (due_then d g (stands_not_closed d stands) reached))
   ahead_by d g stands never (inr (test, below)) = below
 
-  pub ahead_on : (x : CallOf) (g : ℕ) (l : List CallOf) (d : Entry) → (holds d ≡ true → is_device_due g d ≡ true → ⊥) → On (x ∷ l) g d → On l g d
+  pub ahead_on : (x : CallOf) (g : ℕ) (l : List CallOf) (d : Entry) → (holds d ≡ true → is_entry_due g d ≡ true → ⊥) → On (x ∷ l) g d → On l g d
   ahead_on x g l d never on = (
     on.0,
     λ stands.
@@ -181,7 +181,7 @@ module _ (late e : ℕ) (c : ControllerConfig) (more : ℕ) (many : c.sends ≡ 
   )
 
   -- a holder that ticks
-  pub ticked_out : (x : CallOf) (g : ℕ) (l : List CallOf) (d : Entry) → g ≤ e → holds d ≡ true → On (x ∷ l) g d → On l g (device_ticks g d)
+  pub ticked_out : (x : CallOf) (g : ℕ) (l : List CallOf) (d : Entry) → g ≤ e → holds d ≡ true → On (x ∷ l) g d → On l g (entry_ticks g d)
   ticked_out x g l d near stands on =
       let s = d.controller.session in
       let before = on.1 stands in
@@ -258,7 +258,7 @@ module _ (late e : ℕ) (c : ControllerConfig) (more : ℕ) (many : c.sends ≡ 
     on_now : On (x ∷ l) g d
     on_now = on_then endless endless_ended call calls b entry d well there stands owed config phase
 
-    hears_on : (p : Packet) (f : Entry) → On (x ∷ l) g f → On (x ∷ l) g (device_hears p g f)
+    hears_on : (p : Packet) (f : Entry) → On (x ∷ l) g f → On (x ∷ l) g (entry_hears p g f)
     hears_on p f on = heard_on (x ∷ l) g (may_be_busy (call ∷ calls) b) near p f on
 
     abbrev After : Type 0
@@ -278,7 +278,7 @@ module _ (late e : ℕ) (c : ControllerConfig) (more : ℕ) (many : c.sends ≡ 
     by_outcome now is (inr (inl (f, at, (on, never)))) none =
         (f, ap (λ t. device_of entry (after_call t b)) is ∙ at, ahead_on x g l f never on)
     by_outcome now is (inr (inr (f, on, so, due, at))) none =
-        (device_ticks g f, ap (λ t. device_of entry (after_call t b)) is ∙ at, ticked_out x g l f near so on)
+        (entry_ticks g f, ap (λ t. device_of entry (after_call t b)) is ∙ at, ticked_out x g l f near so on)
 
     place_tick : (now : ℕ) → call ≡ Tick now → After
     place_tick now is =
@@ -369,8 +369,8 @@ module _ (late q : ℕ) (end : List CallOf) (ended : (limit : ℕ) → TicksBy l
       let free = is_false (holds d) (λ h. still_free begun.now b begun.free entry d begun.next.due.there h) in
       let ticked = begun_ticked begun.now entry b begun.free begun.next in
       let after : k ≡ (ticks_with entry (Some d) r).bus = ap (λ t. after_call t b) begun.tick ∙ ap (λ (t : BusTicked). t.bus) ticked in
-      let there : device_of entry k ≡ Some (device_ticks r.greatest d) =
-      ap (device_of entry) after ∙ set_here r.devices.entries entry d (device_ticks r.greatest d) begun.next.due.there in
+      let there : device_of entry k ≡ Some (entry_ticks r.greatest d) =
+      ap (device_of entry) after ∙ set_here r.devices.entries entry d (entry_ticks r.greatest d) begun.next.due.there in
       let moment : k.greatest ≡ r.greatest = ap (λ (x : BusState). x.greatest) after in
       let seen_now : k.greatest ≡ max b.greatest begun.now =
       ap (λ t. (after_call t b).greatest) begun.tick ∙ (moments_are_seen b).brought (Tick begun.now) begun.now refl in
@@ -380,16 +380,16 @@ module _ (late q : ℕ) (end : List CallOf) (ended : (limit : ℕ) → TicksBy l
       (began s.state (seen_by r.greatest s) d.controller.waiting free (begins_frame r.greatest d free begun.next.due.due)) in
       let e = k.greatest + whole late sends_of.0 q s.config in
       let is : (after_call_of (TickOf r.greatest) d.controller).session.greatest ≡ max s.greatest r.greatest = tick_at_moment r.greatest d.controller in
-      let holds_then : Holds late e s.config sends_of.0 (Unit {0}) is_outstanding refl begun_calls (device_ticks r.greatest d).controller.session =
+      let holds_then : Holds late e s.config sends_of.0 (Unit {0}) is_outstanding refl begun_calls (entry_ticks r.greatest d).controller.session =
       subst (λ (n : ℕ). Holds late (n + whole late sends_of.0 q s.config) s.config sends_of.0 (Unit {0}) is_outstanding refl begun_calls
-      (device_ticks r.greatest d).controller.session) at first in (
-        device_ticks r.greatest d,
+      (entry_ticks r.greatest d).controller.session) at first in (
+        entry_ticks r.greatest d,
         there,
         (
           omega arith,
           λ so. (
             (holds_then.1 so).0,
-            subst (λ (n : ℕ). Phase late e s.config sends_of.0 (Unit {0}) begun_calls (device_ticks r.greatest d).controller.session.state n) (is ∙ at)
+            subst (λ (n : ℕ). Phase late e s.config sends_of.0 (Unit {0}) begun_calls (entry_ticks r.greatest d).controller.session.state n) (is ∙ at)
                 (holds_then.1 so).1,
           ),
         ),

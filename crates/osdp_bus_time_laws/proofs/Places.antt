@@ -14,9 +14,9 @@ use Rattle.osdp_controller_laws.proofs.Closed.{was_closed}
 use Rattle.osdp_bus.specs.declared.entry.Entry.{Entry}
 use Rattle.osdp_bus.specs.declared.fault.BusFault.{BusFault}
 use Rattle.osdp_bus.specs.Buses.{BusState, Devices, device_of, has_report, holder, is_silent, seen}
-use Rattle.osdp_bus.specs.Entries.{device_hears, device_ticks, holds, is_device_due, is_taken_beside}
+use Rattle.osdp_bus.specs.Entries.{entry_hears, entry_ticks, holds, is_entry_due, is_taken_beside}
 use Rattle.osdp_bus.specs.Hearing.{after_bytes, ends_run, ends_silent, hears_items, hears_with}
-use Rattle.osdp_bus.specs.Machine.{add_refusal, after_add, after_begin_at, after_retarget_at, after_submit_at, begin_refusal_at, begin_refusal_of, bus_fault, changed_unless, changes_device, device_begins, device_retargets, device_submits, device_withdraws, new_device, retarget_refusal_at, retarget_refusal_of, submit_refusal_at}
+use Rattle.osdp_bus.specs.Machine.{add_refusal, after_add, after_begin_at, after_retarget_at, after_submit_at, begin_refusal_at, begin_refusal_of, bus_fault, changed_unless, changes_entry, entry_begins, entry_retargets, entry_submits, entry_withdraws, new_device, retarget_refusal_at, retarget_refusal_of, submit_refusal_at}
 use Rattle.osdp_bus.specs.Ticking.{BusTicked, bus_ticks, is_due_at, is_held_and_due, next_due, stays, ticks_at, ticks_by, ticks_held, ticks_on, ticks_with}
 use Rattle.osdp_bus_laws.specs.Calls.{Call, Add, Begin, Submit, Withdraw, Retarget, OnBytes, OnSilence, Tick, NextReport, after_call}
 use Rattle.osdp_bus_laws.specs.Fairness.{Begins}
@@ -66,7 +66,7 @@ module _ (Q : Entry → Type 0) (entry : ℕ) where
       (e, set_other b.devices.entries at entry (change f) (eqb-false entry at other) ∙ here, is)
 
   pub changed_place : (change : Entry → Entry) (at : ℕ) (b : BusState) → (entry ≡ at → (d : Entry) → device_of at b ≡ Some d → Q d → Q (change d))
-      → At b → At (changes_device at change b)
+      → At b → At (changes_entry at change b)
   changed_place change at b changes place = by_device (device_of at b) refl
     where
       by_device : (o : Option Entry) → device_of at b ≡ o
@@ -85,7 +85,7 @@ module _ (Q : Entry → Type 0) (entry : ℕ) where
 
   pub begin_place : (at now : ℕ) (b : BusState) → Lives b → At b → begin_refusal_at at b ≡ None → At (after_begin_at at now b)
   begin_place at now b lives place accepted =
-      changed_place (device_begins (max b.greatest now)) at (seen now b)
+      changed_place (entry_begins (max b.greatest now)) at (seen now b)
       (λ same d there is. absurd (
       let ok = map_none (begin_refusal d.controller) (sym (ap begin_refusal_of there) ∙ accepted) in
       let closed = ap is_closed (was_closed d.controller.session.state ok) in
@@ -94,7 +94,7 @@ module _ (Q : Entry → Type 0) (entry : ℕ) where
 
   pub retarget_place : (at address : ℕ) (b : BusState) → Lives b → At b → retarget_refusal_at at address b ≡ None → At (after_retarget_at at address b)
   retarget_place at address b lives place accepted =
-      changed_place (device_retargets address) at b
+      changed_place (entry_retargets address) at b
       (λ same d there is. absurd (
       let parts = or_none (option_map bus_fault (retarget_refusal address d.controller))
       (is_taken_beside at address b.devices.entries || has_comset d.controller.waiting)
@@ -104,7 +104,7 @@ module _ (Q : Entry → Type 0) (entry : ℕ) where
       let stands = lives d (ap (λ n. device_of n b) same ∙ there) in
       cc)) place
 
-module _ (g : ℕ) (Q : Entry → Type 0) (heard : (p : Packet) (d : Entry) → Q d → Q (device_hears p g d)) (entry : ℕ) where
+module _ (g : ℕ) (Q : Entry → Type 0) (heard : (p : Packet) (d : Entry) → Q d → Q (entry_hears p g d)) (entry : ℕ) where
   -- ---- what comes in
 
   packet_by : (t : Bool) (p : Packet) (i : ℕ) (d : Entry) (ds : Devices) → nat_eq entry i ≡ t → slice_get ds.entries i ≡ Some d → (e : Entry)
@@ -112,12 +112,12 @@ module _ (g : ℕ) (Q : Entry → Type 0) (heard : (p : Packet) (d : Entry) → 
   packet_by true p i d ds same at e there is =
       let here : entry ≡ i = eqb-true entry i same in
       let one : e ≡ d = one_device (slice_get ds.entries i) e d (sym (ap (slice_get ds.entries) here) ∙ there) at in (
-        device_hears p g d,
-        ap (slice_get (slice_set ds.entries i (device_hears p g d))) here ∙ set_here ds.entries i d (device_hears p g d) at,
+        entry_hears p g d,
+        ap (slice_get (slice_set ds.entries i (entry_hears p g d))) here ∙ set_here ds.entries i d (entry_hears p g d) at,
         heard p d (subst Q one is),
       )
   packet_by false p i d ds other at e there is =
-      (e, set_other ds.entries i entry (device_hears p g d) (eqb-false entry i other) ∙ there, is)
+      (e, set_other ds.entries i entry (entry_hears p g d) (eqb-false entry i other) ∙ there, is)
 
   packet_place : (p : Packet) (i : ℕ) (d : Entry) (ds : Devices) → slice_get ds.entries i ≡ Some d → AtPlace entry Q ds
       → AtPlace entry Q (hears_with p g i (Some d) ds)
@@ -156,9 +156,9 @@ module _ (g : ℕ) (Q : Entry → Type 0) (heard : (p : Packet) (d : Entry) → 
   -- what an accepted order leaves
   abbrev pub Submitted : Call → BusState → Type 0
   Submitted call b = (at : ℕ) (command : Command) → call ≡ Submit at command → entry ≡ at → submit_refusal_at at command b ≡ None → (d : Entry)
-      → device_of at b ≡ Some d → Q d → Q (device_submits command d)
+      → device_of at b ≡ Some d → Q d → Q (entry_submits command d)
 
-  module _ (withdrawn : (d : Entry) → Q d → is_closed d.controller.session.state ≡ false → Q (device_withdraws d)) where
+  module _ (withdrawn : (d : Entry) → Q d → is_closed d.controller.session.state ≡ false → Q (entry_withdraws d)) where
     -- a call that ends no duty: no tick, or one while a report waits
     pub place_then : (call : Call) (b : BusState) → Submitted call b → ends_duty call b ≡ false → (after_call call b).greatest ≡ g → Lives Q entry b → Placed b
         → Placed (after_call call b)
@@ -169,9 +169,9 @@ module _ (g : ℕ) (Q : Entry → Type 0) (heard : (p : Packet) (d : Entry) → 
         unless_place Q entry (begin_refusal_at at b) b (after_begin_at at now b) place (begin_place Q entry at now b lives place)
     place_then (Submit at command) b submitted other moment lives place =
         unless_place Q entry (submit_refusal_at at command b) b (after_submit_at at command b) place
-        (λ ok. changed_place Q entry (device_submits command) at b (λ same d there is. submitted at command refl same ok d there is) place)
+        (λ ok. changed_place Q entry (entry_submits command) at b (λ same d there is. submitted at command refl same ok d there is) place)
     place_then (Withdraw at) b submitted other moment lives place =
-        changed_place Q entry device_withdraws at b (λ same d there is. withdrawn d is (lives d (ap (λ n. device_of n b) same ∙ there))) place
+        changed_place Q entry entry_withdraws at b (λ same d there is. withdrawn d is (lives d (ap (λ n. device_of n b) same ∙ there))) place
     place_then (Retarget at address) b submitted other moment lives place =
         unless_place Q entry (retarget_refusal_at at address b) b (after_retarget_at at address b) place (retarget_place Q entry at address b lives place)
     place_then (OnBytes bytes now) b submitted other moment lives place =
@@ -183,8 +183,8 @@ module _ (g : ℕ) (Q : Entry → Type 0) (heard : (p : Packet) (d : Entry) → 
         (sym (ap (λ t. if t then stays (seen now b) else ticks_on (judged now b)) (is_true (has_report b) other))) place
     place_then NextReport b submitted other moment lives place = place
 
-  module _ (submitted : (command : Command) (d : Entry) → Q d → Q (device_submits command d))
-      (withdrawn : (d : Entry) → Q d → is_closed d.controller.session.state ≡ false → Q (device_withdraws d)) where
+  module _ (submitted : (command : Command) (d : Entry) → Q d → Q (entry_submits command d))
+      (withdrawn : (d : Entry) → Q d → is_closed d.controller.session.state ≡ false → Q (entry_withdraws d)) where
     pub call_place : (call : Call) (b : BusState) → ends_duty call b ≡ false → (after_call call b).greatest ≡ g → Lives Q entry b → Placed b → Placed (after_call call b)
     call_place call b = place_then withdrawn call b (λ at command is same ok d there q. submitted command d q)
 
@@ -193,10 +193,10 @@ module _ (g : ℕ) (Q : Entry → Type 0) (heard : (p : Packet) (d : Entry) → 
   abbrev pub Outcome : ℕ → BusState → BusTicked → Type 0
   Outcome now b t =
       ((k : ℕ) × Begins (Tick now) k b × (k ≢ entry → Placed t.bus))
-      ⊎ ((AtPlace entry (λ d. Q d × (holds d ≡ true → is_device_due g d ≡ true → ⊥)) t.bus.devices)
-      ⊎ ((d : Entry) × Q d × (holds d ≡ true) × (is_device_due g d ≡ true) × (slice_get t.bus.devices.entries entry ≡ Some (device_ticks g d))))
+      ⊎ ((AtPlace entry (λ d. Q d × (holds d ≡ true → is_entry_due g d ≡ true → ⊥)) t.bus.devices)
+      ⊎ ((d : Entry) × Q d × (holds d ≡ true) × (is_entry_due g d ≡ true) × (slice_get t.bus.devices.entries entry ≡ Some (entry_ticks g d))))
 
-  rests : (now : ℕ) (b c : BusState) → Placed c → ((d : Entry) → device_of entry c ≡ Some d → holds d ≡ true → is_device_due g d ≡ true → ⊥)
+  rests : (now : ℕ) (b c : BusState) → Placed c → ((d : Entry) → device_of entry c ≡ Some d → holds d ≡ true → is_entry_due g d ≡ true → ⊥)
       → Outcome now b (stays c)
   rests now b c place never = inr (inl (place.0, place.1, (place.2, λ stands due. never place.0 place.1 stands due)))
 
@@ -229,7 +229,7 @@ module _ (g : ℕ) (Q : Entry → Type 0) (heard : (p : Packet) (d : Entry) → 
         by_device : (o : Option Entry) → Placed (ticks_with k o r).bus
         by_device None = placed_r
         by_device (Some f) =
-            (placed_r.0, set_other r.devices.entries k entry (device_ticks r.greatest f) (λ h. other (sym h)) ∙ placed_r.1, placed_r.2)
+            (placed_r.0, set_other r.devices.entries k entry (entry_ticks r.greatest f) (λ h. other (sym h)) ∙ placed_r.1, placed_r.2)
 
     free_by : holder j ≡ None → has_report r ≡ false → (o : Option ℕ) → next_due r ≡ o → Outcome now b (ticks_at o r)
     free_by free left None is = free_rests (still_nobody j.greatest (items true j.held) j.devices (nobody j free))
@@ -260,9 +260,9 @@ module _ (g : ℕ) (Q : Entry → Type 0) (heard : (p : Packet) (d : Entry) → 
           rests now b j (judged_place now b moment placed)
           (λ d there stands due.
           let same = is_holder d there stands in
-          let is : is_due_at m j ≡ is_device_due g d =
-          ap (λ o. option_map_or (is_device_due j.greatest) o false) (ap (λ n. device_of n j) same ∙ there)
-          ∙ ap (λ n. is_device_due n d) (judged_moment now b moment) in
+          let is : is_due_at m j ≡ is_entry_due g d =
+          ap (λ o. option_map_or (is_entry_due j.greatest) o false) (ap (λ n. device_of n j) same ∙ there)
+          ∙ ap (λ n. is_entry_due n d) (judged_moment now b moment) in
           cc)
 
       still_rests : (has_report r || not (is_held_and_due m r)) ≡ true → Outcome now b (stays r)
@@ -271,10 +271,10 @@ module _ (g : ℕ) (Q : Entry → Type 0) (heard : (p : Packet) (d : Entry) → 
           (λ d there stands due.
           let same = is_holder_then d there stands in
           let here : device_of m r ≡ Some d = ap (λ n. device_of n r) same ∙ there in
-          let due_then : is_device_due r.greatest d ≡ true = ap (λ n. is_device_due n d) at_r ∙ due in
-          let is : is_held_and_due m r ≡ (holds d && is_device_due r.greatest d) =
-          ap (λ o. option_map_or holds o false && option_map_or (is_device_due r.greatest) o false) here in
-          let yes : (holds d && is_device_due r.greatest d) ≡ true = ap (λ t. t && is_device_due r.greatest d) stands ∙ due_then in
+          let due_then : is_entry_due r.greatest d ≡ true = ap (λ n. is_entry_due n d) at_r ∙ due in
+          let is : is_held_and_due m r ≡ (holds d && is_entry_due r.greatest d) =
+          ap (λ o. option_map_or holds o false && option_map_or (is_entry_due r.greatest) o false) here in
+          let yes : (holds d && is_entry_due r.greatest d) ≡ true = ap (λ t. t && is_entry_due r.greatest d) stands ∙ due_then in
           reported (has_report r) (is_held_and_due m r) refl (is ∙ yes) ended d there stands)
         where
           reported : (x y : Bool) → has_report r ≡ x → y ≡ true → (x || not y) ≡ true → (d : Entry) → device_of entry r ≡ Some d → holds d ≡ true → ⊥
@@ -286,7 +286,7 @@ module _ (g : ℕ) (Q : Entry → Type 0) (heard : (p : Packet) (d : Entry) → 
       still_ticks h = by_same (nat_eq m entry) refl (held_there m r h).1
         where
           by_same : (t : Bool) → nat_eq m entry ≡ t
-              → ((d : Entry) × (device_of m r ≡ Some d) × (holds d ≡ true) × (is_device_due r.greatest d ≡ true)) → Outcome now b (ticks_at (Some m) r)
+              → ((d : Entry) × (device_of m r ≡ Some d) × (holds d ≡ true) × (is_entry_due r.greatest d ≡ true)) → Outcome now b (ticks_at (Some m) r)
           by_same true same (d, there, stands, due) =
               let mine : m ≡ entry = eqb-true m entry same in
               let one : placed_r.0 ≡ d = one_device (device_of entry r) placed_r.0 d placed_r.1 (ap (λ n. device_of n r) (sym mine) ∙ there) in
@@ -294,10 +294,10 @@ module _ (g : ℕ) (Q : Entry → Type 0) (heard : (p : Packet) (d : Entry) → 
                 d,
                 subst Q one placed_r.2,
                 stands,
-                ap (λ n. is_device_due n d) (sym at_r) ∙ due,
+                ap (λ n. is_entry_due n d) (sym at_r) ∙ due,
                 ap (λ o. slice_get (ticks_with m o r).bus.devices.entries entry) there
-                    ∙ ap (slice_get (slice_set r.devices.entries m (device_ticks r.greatest d))) (sym mine)
-                    ∙ set_here r.devices.entries m d (device_ticks r.greatest d) there ∙ ap (λ n. Some (device_ticks n d)) at_r,
+                    ∙ ap (slice_get (slice_set r.devices.entries m (entry_ticks r.greatest d))) (sym mine)
+                    ∙ set_here r.devices.entries m d (entry_ticks r.greatest d) there ∙ ap (λ n. Some (entry_ticks n d)) at_r,
               ))
           by_same false other (d, there, stands, due) =
               let apart : m ≢ entry = eqb-false m entry other in
@@ -314,7 +314,7 @@ module _ (g : ℕ) (Q : Entry → Type 0) (heard : (p : Packet) (d : Entry) → 
               unticked : (d : Entry) → device_of m r ≡ Some d → slice_get (ticks_at (Some m) r).bus.devices.entries entry ≡ device_of entry r
               unticked d there =
                   ap (λ o. slice_get (ticks_with m o r).bus.devices.entries entry) there
-                  ∙ set_other r.devices.entries m entry (device_ticks r.greatest d) (λ h. eqb-false m entry other (sym h))
+                  ∙ set_other r.devices.entries m entry (entry_ticks r.greatest d) (λ h. eqb-false m entry other (sym h))
 
       held_outcome : Outcome now b (ticks_by (Some m) j)
       held_outcome =

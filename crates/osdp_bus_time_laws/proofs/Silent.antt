@@ -23,7 +23,7 @@ use Rattle.osdp_time_laws.proofs.Beginnings.{no_busy, whole, whole_is}
 use Rattle.osdp_time_laws.proofs.Phases.{Phase}
 use Rattle.osdp_bus.specs.declared.entry.Entry.{Entry}
 use Rattle.osdp_bus.specs.Buses.{BusState, device_of, waiting_after}
-use Rattle.osdp_bus.specs.Entries.{device_ticks, holds, is_device_due, step_of}
+use Rattle.osdp_bus.specs.Entries.{entry_ticks, holds, is_entry_due, step_of}
 use Rattle.osdp_bus.specs.Settings.{controller_config}
 use Rattle.osdp_bus_laws.specs.Calls.{Call, after_call}
 use Rattle.osdp_bus_laws.specs.Exchanges.{IsOutstandingAt}
@@ -84,7 +84,7 @@ module _ (late e : ℕ) (c : ControllerConfig) (more : ℕ) (many : c.sends ≡ 
         let now = on.1 stands in
         (same.reached, λ so. (same.config ∙ config, subst (λ state. Phase late e c more (Unit {0}) (x ∷ l) state g) (sym same.state) now.1))
 
-    stays_by : (t : Bool) → ends_duty call b ≡ t → (f : Entry) → Same g d f → (ends_duty call b ≡ true → is_device_due g f ≡ true → ⊥)
+    stays_by : (t : Bool) → ends_duty call b ≡ t → (f : Entry) → Same g d f → (ends_duty call b ≡ true → is_entry_due g f ≡ true → ⊥)
         → On late e c more many l g f
     stays_by false other f same never = kept_on late e c more many (ends_duty call b) g l other f (on_same f same)
     stays_by true ends f same never = ahead_on late e c more many x g l f (λ holding. never ends) (on_same f same)
@@ -92,7 +92,7 @@ module _ (late e : ℕ) (c : ControllerConfig) (more : ℕ) (many : c.sends ≡ 
     place_left : Leaves call b entry d → AtPlace entry (On late e c more many l g) (after_call call b).devices
     place_left (inl (f, at, (same, never))) = (f, at, stays_by (ends_duty call b) refl f same never)
     place_left (inr (f, same, due, at, told)) = (
-      device_ticks g f,
+      entry_ticks g f,
       at,
       ticked_out late e c more many x g l f (near_end late e c more many [] no_more call calls b entry d well there stands owed config phase)
           (ap is_outstanding same.state ∙ stands) (on_same f same),
@@ -162,10 +162,10 @@ lost_by call b entry d stands free (inr (f, same, due, at, told)) = by_holds (af
     stands_then : holds f ≡ true
     stands_then = ap is_outstanding same.state ∙ stands
 
-    by_holds : (g : ℕ) → device_of entry (after_call call b) ≡ Some (device_ticks g f)
+    by_holds : (g : ℕ) → device_of entry (after_call call b) ≡ Some (entry_ticks g f)
         → (after_call call b).devices.report ≡ waiting_after entry (step_of g f).report None → IsLost entry (after_call call b)
     by_holds g at told =
-        let ended = is_false (holds (device_ticks g f)) (λ still. free (record { device = device_ticks g f; there = at; outstanding = still })) in
+        let ended = is_false (holds (entry_ticks g f)) (λ still. free (record { device = entry_ticks g f; there = at; outstanding = still })) in
         let lost = gives_lost f.controller.session.state (seen_by g f.controller.session) f.controller.waiting stands_then stands_then ended in
         record {
           cause = lost.0;

@@ -11,7 +11,7 @@ use Rattle.osdp_time_laws.proofs.Duties.{until_of}
 use Rattle.osdp_bus.specs.declared.entry.Entry.{Entry}
 use Rattle.osdp_bus.specs.Buses.{BusState, has_report, holder}
 use Rattle.osdp_bus.specs.Deadlines.{acts}
-use Rattle.osdp_bus.specs.Entries.{address_of, is_device_due}
+use Rattle.osdp_bus.specs.Entries.{address_of, is_entry_due}
 use Rattle.osdp_bus_laws.specs.Calls.{NextReport, Tick, after_call}
 use Rattle.osdp_bus_time_laws.specs.Clock.{KeepsTime}
 use Rattle.osdp_bus_time_laws.specs.Instances.{SilenceIsReached, both_idle, silent_calls}
@@ -56,10 +56,10 @@ idle_until : (b : BusState) (d e : Entry) (at from : ℕ) → b.held ≡ [] → 
     → until_of d.controller.session.state ≡ from → until_of e.controller.session.state ≡ from → acts at b ≡ true → from ≤ max b.greatest at
 idle_until b d e at from none untold free entries rests_d rests_e seen_d seen_e from_d from_e so =
     by_due
-    (either_due (is_device_due (max b.greatest at) d) (is_device_due (max b.greatest at) e)
-    (sym (ap (list_any (is_device_due (max b.greatest at))) entries) ∙ free_due b none untold at so free))
+    (either_due (is_entry_due (max b.greatest at) d) (is_entry_due (max b.greatest at) e)
+    (sym (ap (list_any (is_entry_due (max b.greatest at))) entries) ∙ free_due b none untold at so free))
   where
-    by_due : (is_device_due (max b.greatest at) d ≡ true) ⊎ (is_device_due (max b.greatest at) e ≡ true) → from ≤ max b.greatest at
+    by_due : (is_entry_due (max b.greatest at) d ≡ true) ⊎ (is_entry_due (max b.greatest at) e ≡ true) → from ≤ max b.greatest at
     by_due (inl due) = let reached = reached_of at b d (λ idle. rests_d) seen_d due in omega arith
     by_due (inr due) = let reached = reached_of at b e (λ idle. rests_e) seen_e due in omega arith
 

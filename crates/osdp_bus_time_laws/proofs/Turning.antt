@@ -20,9 +20,9 @@ use Rattle.osdp_time_laws.proofs.Orders.{due_idle}
 use Rattle.osdp_bus.specs.declared.entry.Entry.{Entry}
 use Rattle.osdp_bus.specs.Buses.{BusState, Devices, device_of, has_report, holder, is_silent, seen, waiting_after}
 use Rattle.osdp_bus.specs.Deadlines.{acts}
-use Rattle.osdp_bus.specs.Entries.{device_hears, holds, is_device_due, told_of}
+use Rattle.osdp_bus.specs.Entries.{entry_hears, holds, is_entry_due, told_of}
 use Rattle.osdp_bus.specs.Hearing.{ends_run, hears_items, hears_with}
-use Rattle.osdp_bus.specs.Machine.{device_submits, device_withdraws}
+use Rattle.osdp_bus.specs.Machine.{entry_submits, entry_withdraws}
 use Rattle.osdp_bus.specs.Ticking.{bus_ticks, next_due}
 use Rattle.osdp_bus_laws.specs.Calls.{Call, Add, Begin, Submit, Withdraw, Retarget, OnBytes, OnSilence, Tick, NextReport, after_call}
 use Rattle.osdp_bus_laws.specs.Exchanges.{IsOutstandingAt}
@@ -115,7 +115,7 @@ none_told None h = refl
 none_told (Some report) h = cc
 
 nobody_put : (now : ℕ) (p : Packet) (i : ℕ) (d : Entry) (ds : Devices) → slice_get ds.entries i ≡ Some d → IsNobody ds → (j : ℕ) (f : Entry) → holds f ≡ true
-    → IsAt ds.entries i (device_hears p now d) j f → ⊥
+    → IsAt ds.entries i (entry_hears p now d) j f → ⊥
 nobody_put now p i d ds at free j f stands (inl (here, same)) = free i d at (heard_holds p now d (sym (ap holds same) ∙ stands))
 nobody_put now p i d ds at free j f stands (inr (other, was)) = free j f was stands
 
@@ -123,7 +123,7 @@ nothing_packet : (now : ℕ) (p : Packet) (i : ℕ) (d : Entry) (ds : Devices) �
     → Nothing (hears_with p now i (Some d) ds)
 nothing_packet now p i d ds at nothing =
     let silent = none_told (told_of p now d) (is_false (is_some (told_of p now d)) (λ told. nothing.0 i d at (heard_told p now d told).0)) in (
-      λ j f there stands. nobody_put now p i d ds at nothing.0 j f stands (replaced ds.entries i (device_hears p now d) j f there),
+      λ j f there stands. nobody_put now p i d ds at nothing.0 j f stands (replaced ds.entries i (entry_hears p now d) j f there),
       ap (λ t. is_some (waiting_after i t ds.report)) silent ∙ nothing.1,
     )
 
@@ -157,28 +157,28 @@ abbrev pub Ready : ℕ → ℕ → Entry → Type 0
 Ready from least d = IsReady from least d.controller.session.state (length d.controller.waiting)
 
 due_by : (from least at : ℕ) (d : Entry) → from ≤ at → is_closed d.controller.session.state ≡ false → least ≤ length d.controller.waiting
-    → ((until_of d.controller.session.state ≤ from) ⊎ ((is_idle d.controller.session.state ≡ true) × (1 ≤ least))) → is_device_due at d ≡ true
+    → ((until_of d.controller.session.state ≤ from) ⊎ ((is_idle d.controller.session.state ≡ true) × (1 ≤ least))) → is_entry_due at d ≡ true
 due_by from least at d near lives some (inl before) = due_then d at lives (omega arith)
 due_by from least at d near lives some (inr (idle, one)) =
     due_idle d.controller.session.state (seen_by at d.controller.session) d.controller.waiting idle (omega arith)
 
-pub ready_due : (from least at : ℕ) (d : Entry) → from ≤ at → Ready from least d → is_device_due at d ≡ true
+pub ready_due : (from least at : ℕ) (d : Entry) → from ≤ at → Ready from least d → is_entry_due at d ≡ true
 ready_due from least at d near ready = due_by from least at d near ready.0 ready.2 ready.3
 
 more_waits : (from least wait next : ℕ) (state : State) → wait ≤ next → IsReady from least state wait → IsReady from least state next
 more_waits from least wait next state more ready = (ready.0, ready.1, (let some : least ≤ wait = ready.2 in omega arith), ready.3)
 
-pub ready_heard : (from least g : ℕ) (p : Packet) (d : Entry) → Ready from least d → Ready from least (device_hears p g d)
+pub ready_heard : (from least g : ℕ) (p : Packet) (d : Entry) → Ready from least d → Ready from least (entry_hears p g d)
 ready_heard from least g p d ready =
     let ignored = (frames_in_steps p g d.controller.session).not_outstanding ready.1 in
     subst (λ (h : Heard). IsReady from least h.session.state (length d.controller.waiting)) (sym ignored) ready
 
-ready_submitted : (from least : ℕ) (command : Command) (d : Entry) → Ready from least d → Ready from least (device_submits command d)
+ready_submitted : (from least : ℕ) (command : Command) (d : Entry) → Ready from least d → Ready from least (entry_submits command d)
 ready_submitted from least command d ready =
     more_waits from least (length d.controller.waiting) (length (d.controller.waiting ++ command ∷ [])) d.controller.session.state
     (let both = length-append d.controller.waiting (command ∷ []) in omega arith) ready
 
-ready_withdrawn : (from least : ℕ) (d : Entry) → Ready from least d → is_closed d.controller.session.state ≡ false → Ready from least (device_withdraws d)
+ready_withdrawn : (from least : ℕ) (d : Entry) → Ready from least d → is_closed d.controller.session.state ≡ false → Ready from least (entry_withdraws d)
 ready_withdrawn from least d ready lives =
     subst (λ t. IsReady from least d.controller.session.state (length (if t then drop 1 d.controller.waiting else d.controller.waiting))) (sym lives) ready
 

@@ -15,9 +15,9 @@ use Rattle.osdp_controller.specs.States.{is_closed}
 use Rattle.osdp_controller_laws.proofs.Kept.{hears_at_moment}
 use Rattle.osdp_bus.specs.declared.entry.Entry.{Entry}
 use Rattle.osdp_bus.specs.Buses.{BusState, Devices, device_of, has_report, holder, is_silent, seen, waiting_after}
-use Rattle.osdp_bus.specs.Entries.{address_of, device_hears, device_ticks, first_from, holds, is_at, is_device_due, step_of}
+use Rattle.osdp_bus.specs.Entries.{address_of, entry_hears, entry_ticks, first_from, holds, is_at, is_entry_due, step_of}
 use Rattle.osdp_bus.specs.Hearing.{after_bytes, ends_run, hears_at, hears_item, hears_items, hears_with}
-use Rattle.osdp_bus.specs.Machine.{add_refusal, after_add, after_begin_at, after_retarget_at, after_submit_at, begin_refusal_at, device_submits, device_withdraws, new_device, retarget_refusal_at, submit_refusal_at}
+use Rattle.osdp_bus.specs.Machine.{add_refusal, after_add, after_begin_at, after_retarget_at, after_submit_at, begin_refusal_at, entry_submits, entry_withdraws, new_device, retarget_refusal_at, submit_refusal_at}
 use Rattle.osdp_bus.specs.Ticking.{BusTicked, bus_ticks, is_due_at, is_held_and_due, stays, ticks_at, ticks_by, ticks_held, ticks_on, ticks_with}
 use Rattle.osdp_bus_laws.specs.Calls.{Call, Add, Begin, Submit, Withdraw, Retarget, OnBytes, OnSilence, Tick, NextReport, after_call}
 use Rattle.osdp_bus_laws.specs.Moments.{Brings}
@@ -66,7 +66,7 @@ ignored p now e other =
     (not_from p.reply (nat_eq p.address s.config.address) (not p.block) other)
 
 module _ (g : ℕ) (d : Entry) where
-  same_heard : (p : Packet) (e : Entry) → IsOfAnother (address_of d) p → Same g d e → Same g d (device_hears p g e)
+  same_heard : (p : Packet) (e : Entry) → IsOfAnother (address_of d) p → Same g d e → Same g d (entry_hears p g e)
   same_heard p e other same =
       let s = e.controller.session in
       let address : address_of e ≡ address_of d = ap (λ c. c.address) same.config in
@@ -91,12 +91,12 @@ module _ (g : ℕ) (d : Entry) where
     packet_by true p i f ds none same at e there is =
         let here : entry ≡ i = eqb-true entry i same in
         let one : e ≡ f = one_device (slice_get ds.entries i) e f (sym (ap (slice_get ds.entries) here) ∙ there) at in (
-          device_hears p g f,
-          ap (slice_get (slice_set ds.entries i (device_hears p g f))) here ∙ set_here ds.entries i f (device_hears p g f) at,
+          entry_hears p g f,
+          ap (slice_get (slice_set ds.entries i (entry_hears p g f))) here ∙ set_here ds.entries i f (entry_hears p g f) at,
           same_heard p f none (subst (Same g d) one is),
         )
     packet_by false p i f ds none other at e there is =
-        (e, set_other ds.entries i entry (device_hears p g f) (eqb-false entry i other) ∙ there, is)
+        (e, set_other ds.entries i entry (entry_hears p g f) (eqb-false entry i other) ∙ there, is)
 
     with_here : (p : Packet) (i : ℕ) (o : Option Entry) (ds : Devices) → IsOfAnother (address_of d) p → slice_get ds.entries i ≡ o → Here ds
         → Here (hears_with p g i o ds)
@@ -146,8 +146,8 @@ module _ (g : ℕ) (d : Entry) where
 
     abbrev pub Ticks : BusTicked → Type 0
     Ticks t =
-        AtPlace entry (λ e. Same g d e × (is_device_due g e ≡ true → ⊥)) t.bus.devices
-        ⊎ ((f : Entry) × Same g d f × (is_device_due g f ≡ true) × (slice_get t.bus.devices.entries entry ≡ Some (device_ticks g f))
+        AtPlace entry (λ e. Same g d e × (is_entry_due g e ≡ true → ⊥)) t.bus.devices
+        ⊎ ((f : Entry) × Same g d f × (is_entry_due g f ≡ true) × (slice_get t.bus.devices.entries entry ≡ Some (entry_ticks g f))
         × (t.bus.devices.report ≡ waiting_after entry (step_of g f).report None))
 
     no_report : {X : Type 0} (o : Option X) → is_some o ≡ false → o ≡ None
@@ -183,20 +183,20 @@ module _ (g : ℕ) (d : Entry) where
         (
           at.2,
           λ due.
-              let is : is_due_at entry j ≡ is_device_due g at.0 =
-              ap (λ o. option_map_or (is_device_due j.greatest) o false) at.1 ∙ ap (λ n. is_device_due n at.0) (judged_moment now b moment) in
+              let is : is_due_at entry j ≡ is_entry_due g at.0 =
+              ap (λ o. option_map_or (is_entry_due j.greatest) o false) at.1 ∙ ap (λ n. is_entry_due n at.0) (judged_moment now b moment) in
               cc,
         ),
       )
 
       rests_by : (e : Entry) → device_of entry r ≡ Some e → Same g d e → (x : Bool) → has_report r ≡ x → (x || not (is_held_and_due entry r)) ≡ true
-          → is_device_due g e ≡ true → ⊥
+          → is_entry_due g e ≡ true → ⊥
       rests_by e there same true told h due = let free = sound_r.devices.waits told entry e there in let held = still e same in cc
       rests_by e there same false told h due =
-          let due_then : is_device_due r.greatest e ≡ true = ap (λ n. is_device_due n e) (judged_moment now b moment) ∙ due in
-          let is : is_held_and_due entry r ≡ (holds e && is_device_due r.greatest e) =
-          ap (λ o. option_map_or holds o false && option_map_or (is_device_due r.greatest) o false) there in
-          let yes : (holds e && is_device_due r.greatest e) ≡ true = ap (λ t. t && is_device_due r.greatest e) (still e same) ∙ due_then in
+          let due_then : is_entry_due r.greatest e ≡ true = ap (λ n. is_entry_due n e) (judged_moment now b moment) ∙ due in
+          let is : is_held_and_due entry r ≡ (holds e && is_entry_due r.greatest e) =
+          ap (λ o. option_map_or holds o false && option_map_or (is_entry_due r.greatest) o false) there in
+          let yes : (holds e && is_entry_due r.greatest e) ≡ true = ap (λ t. t && is_entry_due r.greatest e) (still e same) ∙ due_then in
           let both : not (is_held_and_due entry r) ≡ false = ap not (is ∙ yes) in
           cc
 
@@ -211,9 +211,9 @@ module _ (g : ℕ) (d : Entry) where
           inr (
             f,
             subst (Same g d) one at.2,
-            subst (λ (n : ℕ). is_device_due n f ≡ true) moment_r held.1.3,
-            ap (λ o. slice_get (ticks_with entry o r).bus.devices.entries entry) there ∙ set_here r.devices.entries entry f (device_ticks r.greatest f) there
-                ∙ ap (λ n. Some (device_ticks n f)) moment_r,
+            subst (λ (n : ℕ). is_entry_due n f ≡ true) moment_r held.1.3,
+            ap (λ o. slice_get (ticks_with entry o r).bus.devices.entries entry) there ∙ set_here r.devices.entries entry f (entry_ticks r.greatest f) there
+                ∙ ap (λ n. Some (entry_ticks n f)) moment_r,
             ap (λ o. (ticks_with entry o r).bus.devices.report) there ∙ ap (λ n. waiting_after entry (step_of n f).report r.devices.report) moment_r
                 ∙ ap (waiting_after entry (step_of g f).report) untold,
           )
@@ -250,10 +250,10 @@ module _ (g : ℕ) (d : Entry) where
 -- its exchange stands, and a tick that ends a duty comes before it is due; or it ticks
 abbrev pub Leaves : Call → BusState → ℕ → Entry → Type 0
 Leaves call b entry d =
-    AtPlace entry (λ e. Same (after_call call b).greatest d e × (ends_duty call b ≡ true → is_device_due (after_call call b).greatest e ≡ true → ⊥))
+    AtPlace entry (λ e. Same (after_call call b).greatest d e × (ends_duty call b ≡ true → is_entry_due (after_call call b).greatest e ≡ true → ⊥))
     (after_call call b).devices
-    ⊎ ((f : Entry) × Same (after_call call b).greatest d f × (is_device_due (after_call call b).greatest f ≡ true)
-    × (device_of entry (after_call call b) ≡ Some (device_ticks (after_call call b).greatest f))
+    ⊎ ((f : Entry) × Same (after_call call b).greatest d f × (is_entry_due (after_call call b).greatest f ≡ true)
+    × (device_of entry (after_call call b) ≡ Some (entry_ticks (after_call call b).greatest f))
     × ((after_call call b).devices.report ≡ waiting_after entry (step_of (after_call call b).greatest f).report None))
 
 module _ (b : BusState) (entry : ℕ) (d : Entry) (well : Well b) (there : device_of entry b ≡ Some d) (stands : holds d ≡ true) where
@@ -299,12 +299,12 @@ module _ (b : BusState) (entry : ℕ) (d : Entry) (well : Well b) (there : devic
       let g = (after_call (Submit at command) b).greatest in
       plain (Submit at command) refl
       (unless_place (Same g d) entry (submit_refusal_at at command b) b (after_submit_at at command b) (here (Submit at command))
-      (λ ok. changed_place (Same g d) entry (device_submits command) at b
+      (λ ok. changed_place (Same g d) entry (entry_submits command) at b
       (λ same f is so. record { state = so.state; config = so.config; reached = so.reached }) (here (Submit at command))))
   leaves (Withdraw at) nothing =
       let g = (after_call (Withdraw at) b).greatest in
       plain (Withdraw at) refl
-      (changed_place (Same g d) entry device_withdraws at b (λ same f is so. record { state = so.state; config = so.config; reached = so.reached })
+      (changed_place (Same g d) entry entry_withdraws at b (λ same f is so. record { state = so.state; config = so.config; reached = so.reached })
       (here (Withdraw at)))
   leaves (Retarget at address) nothing =
       let g = (after_call (Retarget at address) b).greatest in

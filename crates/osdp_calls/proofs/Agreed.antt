@@ -8,7 +8,7 @@ use Rattle.osdp_controller.specs.Sessions as clocks
 use Rattle.osdp_controller.specs.States.{is_closed}
 use Rattle.osdp_controller.specs.declared.report.Report.{Report}
 use Rattle.osdp_bus.specs.Buses.{BusState, device_of}
-use Rattle.osdp_bus.specs.Entries.{device_ticks, step_of}
+use Rattle.osdp_bus.specs.Entries.{entry_ticks, step_of}
 use Rattle.osdp_bus.specs.Ticking.{ticks_at, ticks_with}
 use Rattle.osdp_bus.specs.declared.entry.Entry.{Entry}
 use Rattle.osdp_bus_laws.specs.Reports.{told_at, told_by_device, told_by_ticking}
@@ -62,7 +62,7 @@ ticking_told k (Some d) o b note = ticking_tells k d o b note
 
 data TickedAt (e k : ℕ) (b : BusState) (next : Entry) : Type 0 where
   OtherThere : k ≢ e → device_of k b ≡ Some next → TickedAt e k b next
-  ItTicks : k ≡ e → (d : Entry) → device_of k b ≡ Some d → device_ticks b.greatest d ≡ next → TickedAt e k b next
+  ItTicks : k ≡ e → (d : Entry) → device_of k b ≡ Some d → entry_ticks b.greatest d ≡ next → TickedAt e k b next
 
 ticked_at : (e k : ℕ) (b : BusState) (next : Entry) → slice_get (ticks_at (Some e) b).bus.devices.entries k ≡ Some next → TickedAt e k b next
 ticked_at e k b next at = by_device (device_of e b) refl
@@ -76,9 +76,9 @@ ticked_at e k b next at = by_device (device_of e b) refl
         elim (eqb_tells k e) [
           | inl equal ↦
               ItTicks equal.1 d (subst (λ i. device_of i b ≡ Some d) (sym equal.1) there)
-              (some_same (device_ticks b.greatest d) next (sym (got_new e (device_ticks b.greatest d) d b.devices.entries there)
-              ∙ subst (λ i. slice_get (Rattle.std.specs.Prelude.slice_set b.devices.entries e (device_ticks b.greatest d)) i ≡ Some next) equal.1 set))
-          | inr differs ↦ OtherThere differs.1 (sym (got_other k e (device_ticks b.greatest d) b.devices.entries differs.1) ∙ set)
+              (some_same (entry_ticks b.greatest d) next (sym (got_new e (entry_ticks b.greatest d) d b.devices.entries there)
+              ∙ subst (λ i. slice_get (Rattle.std.specs.Prelude.slice_set b.devices.entries e (entry_ticks b.greatest d)) i ≡ Some next) equal.1 set))
+          | inr differs ↦ OtherThere differs.1 (sym (got_other k e (entry_ticks b.greatest d) b.devices.entries differs.1) ∙ set)
         ]
 
 module _ {H : Type 0} where
@@ -180,12 +180,12 @@ module _ {H : Type 0} where
       -- of the one that ticks, where no session begins
       it_goes_on : ReadsWhatIsAsked → (d : Entry) → IsOurs e l.stations → device_of e l.bus ≡ Some d → (moves : List (NetMove H)) → Each IsStill moves
           → (begun_of (site_at e l.stations) ≡ None) ⊎ ((ticks_at (Some e) l.bus).sent ≡ None)
-          → Agrees (begun_of (site_at e (ticks_to (Some e) l).stations)) (device_ticks l.bus.greatest d).controller.session.state (notes e)
+          → Agrees (begun_of (site_at e (ticks_to (Some e) l).stations)) (entry_ticks l.bus.greatest d).controller.session.state (notes e)
           (notes_along answer_of after moves n noted e)
       it_goes_on reads d own was moves still why =
-          subst (λ (q : Option ℕ × Note). Agrees q.0 (device_ticks l.bus.greatest d).controller.session.state (notes e) q.1)
+          subst (λ (q : Option ℕ × Note). Agrees q.0 (entry_ticks l.bus.greatest d).controller.session.state (notes e) q.1)
           (λ i. (sym begun i, sym (λ j. still_along answer_of after moves n noted still j e) i))
-          (agrees_next (begun_of (site_at e l.stations)) d.controller.session.state (device_ticks l.bus.greatest d).controller.session.state (notes e) (noted e)
+          (agrees_next (begun_of (site_at e l.stations)) d.controller.session.state (entry_ticks l.bus.greatest d).controller.session.state (notes e) (noted e)
           (ticked_closed l.bus.greatest d.controller.session d.controller.waiting)
           (ticked_next reads l.bus.greatest d.controller.session d.controller.waiting) (agree e d own was))
         where
@@ -198,7 +198,7 @@ module _ {H : Type 0} where
 
       -- .. or one does
       of_it : ReadsWhatIsAsked → (d : Entry) → IsOurs e l.stations → device_of e l.bus ≡ Some d → (moves : List (NetMove H)) → IsTicked answer_of after (Some e) l n moves
-          → Agrees (begun_of (site_at e (ticks_to (Some e) l).stations)) (device_ticks l.bus.greatest d).controller.session.state (notes e)
+          → Agrees (begun_of (site_at e (ticks_to (Some e) l).stations)) (entry_ticks l.bus.greatest d).controller.session.state (notes e)
           (notes_along answer_of after moves n noted e)
       of_it reads d own was moves (IsOfOther j is none are) =
           absurd (let f = sym (ap is_some (subst (λ i. site_at i l.stations ≡ None) (sym (some_same e j is)) none)) ∙ own in cc)
@@ -218,11 +218,11 @@ module _ {H : Type 0} where
           (λ i. opened_along j began l.bus.greatest mid n lost moves noted (each_map IsLoss IsStill loss_still lost losses) runs are i e)
           ∙ ap (λ i. noted_at e (site_at e mid.sites) (Reopen i began) mid (noted e)) mine
           ∙ reopened e began s mid (noted e) (subst (λ i. site_at i mid.sites ≡ Some s) mine there) closed in
-          subst (λ (q : Option ℕ × Note). Agrees q.0 (device_ticks l.bus.greatest d).controller.session.state (notes e) q.1)
+          subst (λ (q : Option ℕ × Note). Agrees q.0 (entry_ticks l.bus.greatest d).controller.session.state (notes e) q.1)
           (λ i. (sym opened i, sym note i))
           (record {
             addresses = old.addresses;
-            begun = same_begun (device_ticks l.bus.greatest d).controller.session.state (notes e).begun true (sym old.begun);
+            begun = same_begun (entry_ticks l.bus.greatest d).controller.session.state (notes e).begun true (sym old.begun);
             opening = λ b. ticked_next reads l.bus.greatest d.controller.session d.controller.waiting (old.opening b);
           })
 

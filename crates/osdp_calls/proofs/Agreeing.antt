@@ -254,7 +254,7 @@ module _ {H : Type 0} where
               ))
               (agree k e own was)
           by_entry (Touched d was here becomes told) =
-              let same_one : devices.device_hears p l.bus.greatest d ≡ e = some_same (devices.device_hears p l.bus.greatest d) e (sym becomes ∙ at) in
+              let same_one : devices.entry_hears p l.bus.greatest d ≡ e = some_same (devices.entry_hears p l.bus.greatest d) e (sym becomes ∙ at) in
               subst (λ (q : Entry × Note × Note). Agrees (begun_of (site_at k l.stations)) q.0.controller.session.state q.1 q.2)
               (λ i. (
                 same_one i,
@@ -282,7 +282,7 @@ module _ {H : Type 0} where
             ∙ told_note_then k (slice_get l.bus.devices.entries k) told more (notes k)
         by_entry (Touched d was here becomes told_so) =
             let told = told_by_item l.bus.greatest (PacketItem p) l.bus.devices in
-            let e = devices.device_hears p l.bus.greatest d in
+            let e = devices.entry_hears p l.bus.greatest d in
             ap (λ o. told_note k o more (told_note k (slice_get l.bus.devices.entries k) told (notes k))) becomes
             ∙ ap (λ o. noted_reports k e more (told_note k o told (notes k))) was
             ∙ same_reports k d e more (noted_reports k d told (notes k)) (λ begun. (

@@ -6,7 +6,7 @@ use Rattle.osdp_frame.specs.Packet.{Packet}
 use Rattle.osdp_frame.specs.Reading.{RunItem, PacketItem, SkippedItem, RefusedItem}
 use Rattle.osdp_controller.specs.declared.report.Report.{Report}
 use Rattle.osdp_bus.specs.Buses.{BusState, Devices, device_of, has_report, holder, is_silent, seen, waiting_after}
-use Rattle.osdp_bus.specs.Entries.{device_ticks, first_from, is_at, step_of}
+use Rattle.osdp_bus.specs.Entries.{entry_ticks, first_from, is_at, step_of}
 use Rattle.osdp_bus.specs.Hearing.{ends_run, ends_silent, hears_items, hears_packet}
 use Rattle.osdp_bus.specs.Ticking.{BusTicked, bus_ticks, is_due_at, is_held_and_due, next_due, stays, ticks_at, ticks_by, ticks_with}
 use Rattle.osdp_bus.specs.declared.entry.Entry.{Entry}
@@ -78,7 +78,7 @@ with_alike : (entry : ℕ) (o : Option Entry) (a b : BusState) → IsAlike a b
 with_alike entry None a b is = (is.devices, refl, refl)
 with_alike entry (Some d) a b is = (
   (λ i. record {
-    entries = slice_set (is.devices i).entries entry (device_ticks (is.greatest i) d);
+    entries = slice_set (is.devices i).entries entry (entry_ticks (is.greatest i) d);
     report = waiting_after entry (step_of (is.greatest i) d).report (is.devices i).report;
   }),
   (λ i. (step_of (is.greatest i) d).frame),

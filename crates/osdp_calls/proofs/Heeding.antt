@@ -12,7 +12,7 @@ use Rattle.osdp_controller.specs.declared.state.State.TheVariants.{Closed}
 use Rattle.osdp_bus.specs.Buses.{BusState, device_of, seen}
 use Rattle.osdp_bus.specs.Entries as devices
 use Rattle.osdp_bus.specs.Machine as bus
-use Rattle.osdp_bus.specs.Machine.{changed_unless, changes_device, new_device}
+use Rattle.osdp_bus.specs.Machine.{changed_unless, changes_entry, new_device}
 use Rattle.osdp_bus.specs.declared.config.BusConfig.{BusConfig}
 use Rattle.osdp_bus.specs.declared.entry.Entry.{Entry}
 use Rattle.osdp_bus.specs.declared.fault.BusFault.{BusFault}
@@ -41,7 +41,7 @@ pub data ChangedAt (k : ℕ) (change : Entry → Entry) (b : BusState) (j : ℕ)
   AsBefore : j ≢ k → device_of j b ≡ Some next → ChangedAt k change b j next
   IsChanged : j ≡ k → (d : Entry) → device_of k b ≡ Some d → change d ≡ next → ChangedAt k change b j next
 
-pub changed_at : (k : ℕ) (change : Entry → Entry) (b : BusState) (j : ℕ) (next : Entry) → device_of j (changes_device k change b) ≡ Some next
+pub changed_at : (k : ℕ) (change : Entry → Entry) (b : BusState) (j : ℕ) (next : Entry) → device_of j (changes_entry k change b) ≡ Some next
     → ChangedAt k change b j next
 changed_at k change b j next at = by_device (device_of k b) refl
   where
@@ -145,7 +145,7 @@ module _ {H : Type 0} where
         let begun : (j : ℕ) → begun_of (site_at j next.stations) ≡ begun_of (site_at j l.stations) = λ j.
         begun_change j k (takes_back (withdrawn (bus.withdrawal_at k l.bus))) l.stations (λ t. refl) in
         all_carried call l next notes noted noted2 agree (λ j. change_keeps j k (takes_back (withdrawn (bus.withdrawal_at k l.bus))) l.stations)
-        (λ j e own at. elim (changed_at k bus.device_withdraws l.bus j e at) [
+        (λ j e own at. elim (changed_at k bus.entry_withdraws l.bus j e at) [
           | AsBefore other was ↦
               as_it_was call l next notes noted noted2 j e e was refl (begun j) refl (λ i. still_along answer_of after moves n noted still i j)
           | IsChanged same d was becomes ↦
@@ -196,7 +196,7 @@ module _ {H : Type 0} where
             let next : InUse H = record l { bus = bus.after_begin_at k now l.bus; stations = change_at k (is_to_begin moment) l.stations } in
             let noted2 = notes_along answer_of after moves n noted in
             all_carried (OfPanel (panel.Begin k now)) l next notes noted noted2 agree (λ j. change_keeps j k (is_to_begin moment) l.stations) (λ j e own at.
-            elim (changed_at k (bus.device_begins moment) (seen now l.bus) j e at) [
+            elim (changed_at k (bus.entry_begins moment) (seen now l.bus) j e at) [
               | AsBefore other was ↦
                   as_it_was (OfPanel (panel.Begin k now)) l next notes noted noted2 j e e was refl (begins_other j k moment l.stations other)
                   (mine None is j e ∙ ap (λ b. cond b (record (notes j) { begun = true }) (notes j)) (is_false k j (λ f. other (sym f)))) (its j)
@@ -228,7 +228,7 @@ module _ {H : Type 0} where
         let noted2 = notes_along answer_of after (Submit k command ∷ []) n noted in
         let begun : (j : ℕ) → begun_of (site_at j next.stations) ≡ begun_of (site_at j l.stations) = λ j. begun_change j k (issues command) l.stations (λ t. refl) in
         all_carried call l next notes noted noted2 agree (λ j. change_keeps j k (issues command) l.stations)
-        (λ j e own at. elim (changed_at k (bus.device_submits command) l.bus j e at) [
+        (λ j e own at. elim (changed_at k (bus.entry_submits command) l.bus j e at) [
           | AsBefore other was ↦
               as_it_was call l next notes noted noted2 j e e was refl (begun j)
               (ap (λ b. cond b (changed_unless (bus.submit_refusal_at k command l.bus) (notes j)
@@ -270,7 +270,7 @@ module _ {H : Type 0} where
         let call : Call H = OfPanel (panel.Retarget k address) in
         let next : InUse H = record l { bus = bus.after_retarget_at k address l.bus } in
         let noted2 = notes_along answer_of after (Retarget k address ∷ []) n noted in
-        all_carried call l next notes noted noted2 agree (λ j. refl) (λ j e own at. elim (changed_at k (bus.device_retargets address) l.bus j e at) [
+        all_carried call l next notes noted noted2 agree (λ j. refl) (λ j e own at. elim (changed_at k (bus.entry_retargets address) l.bus j e at) [
           | AsBefore other was ↦
               as_it_was call l next notes noted noted2 j e e was refl refl
               (ap (λ b. cond b (changed_unless (bus.retarget_refusal_at k address l.bus) (notes j) (also_at (devices.address_of e ∷ []) (notes j))) (notes j))

@@ -9,9 +9,9 @@ use Rattle.osdp_msg.specs.declared.event.Event.{Event}
 use Rattle.osdp_controller.specs.declared.report.Report.{Report}
 use Rattle.osdp_controller.specs.declared.report.Report.TheVariants as report
 use Rattle.osdp_bus.specs.Buses.{BusState, Devices, device_of, seen}
-use Rattle.osdp_bus.specs.Entries.{device_hears, device_ticks, first_from, is_at, step_of, told_of}
+use Rattle.osdp_bus.specs.Entries.{entry_hears, entry_ticks, first_from, is_at, step_of, told_of}
 use Rattle.osdp_bus.specs.Hearing.{hears_at, hears_packet, hears_with}
-use Rattle.osdp_bus.specs.Machine.{add_refusal, after_add, after_begin_at, after_retarget_at, after_submit_at, begin_refusal_at, begin_refusal_of, changed_unless, changes_device, device_begins, device_retargets, device_submits, device_withdraws, new_device, retarget_refusal_at, submit_refusal_at, withdrawal_at}
+use Rattle.osdp_bus.specs.Machine.{add_refusal, after_add, after_begin_at, after_retarget_at, after_submit_at, begin_refusal_at, begin_refusal_of, changed_unless, changes_entry, entry_begins, entry_retargets, entry_submits, entry_withdraws, new_device, retarget_refusal_at, submit_refusal_at, withdrawal_at}
 use Rattle.osdp_bus.specs.Ticking.{bus_ticks, ticks_at, ticks_with}
 use Rattle.osdp_bus.specs.declared.entry.Entry.{Entry}
 use Rattle.osdp_bus.specs.declared.fault.BusFault.{BusFault}
@@ -178,7 +178,7 @@ module _ {H : Type 0} where
             → Tells (hears_with p now i q ds).entries (all_hear (told_with p now i q) ts) (those next k (told_with p now i q) x)
         by_device None none = is
         by_device (Some e) at =
-            told_changes i e (device_hears p now e) (told_of p now e) ds.entries ts x at
+            told_changes i e (entry_hears p now e) (told_of p now e) ds.entries ts x at
             (λ begun all agrees. heard_marks n begun all x p now e.controller.session agrees) is
 
     packets_tell : (now : ℕ) (ps : List Packet) (ds : Devices) (ts : List (Station H)) (x : Told) → Tells ds.entries ts x
@@ -308,7 +308,7 @@ module _ {H : Type 0} where
             → Tells (ticks_with i q b).bus.devices.entries (panel_says (Some i) (ticks_with i q b).sent l).stations (those next k (told_by_device i q b) x)
         by_device None none heard_none = subst (λ us. Tells b.devices.entries us x) (sym heard_none) is
         by_device (Some e) at heard_it =
-            tick_says i (step_of b.greatest e).frame (step_of b.greatest e).report e (device_ticks b.greatest e) l b.devices.entries ts x at heard_it
+            tick_says i (step_of b.greatest e).frame (step_of b.greatest e).report e (entry_ticks b.greatest e) l b.devices.entries ts x at heard_it
             (λ begun all agrees. tick_marks n begun all x b.greatest e.controller.session e.controller.waiting agrees) is
 
     -- ---- calls of the panel
@@ -316,7 +316,7 @@ module _ {H : Type 0} where
     -- an entry changes, and its session is no matter
     device_changes : (i : ℕ) (change : Entry → Entry) (f : Station H → Station H) (b : BusState) (ts : List (Station H)) (x : Told)
         → ((d : Entry) (t : Station H) → Stands d x t → Stands (change d) x (f t)) → ((d : Entry) (t : Station H) → Stands d x t → Stands d x (f t))
-        → Tells b.devices.entries ts x → Tells (changes_device i change b).devices.entries (change_at i f ts) x
+        → Tells b.devices.entries ts x → Tells (changes_entry i change b).devices.entries (change_at i f ts) x
     device_changes i change f b ts x goes stays is = by_device (device_of i b) refl
       where
         either : (q : Bool) → cond q x x ≡ x
@@ -334,7 +334,7 @@ module _ {H : Type 0} where
     -- .. and so is the station
     device_only : (i : ℕ) (change : Entry → Entry) (b : BusState) (ts : List (Station H)) (x : Told)
         → ((d : Entry) (t : Station H) → Stands d x t → Stands (change d) x t) → Tells b.devices.entries ts x
-        → Tells (changes_device i change b).devices.entries ts x
+        → Tells (changes_entry i change b).devices.entries ts x
     device_only i change b ts x goes is = by_device (device_of i b) refl
       where
         by_device : (q : Option Entry) → device_of i b ≡ q
@@ -350,7 +350,7 @@ module _ {H : Type 0} where
         moment : ℕ
         moment = max b.greatest now
 
-        begun : (e : Entry) (t : Station H) → Stands e x t → Stands (device_begins moment e) x (is_to_begin moment t)
+        begun : (e : Entry) (t : Station H) → Stands e x t → Stands (entry_begins moment e) x (is_to_begin moment t)
         begun e t h = record {
           sessions = h.sessions;
           before = h.before;
@@ -371,10 +371,10 @@ module _ {H : Type 0} where
         by_fault e at None =
             subst (λ es. Tells es (change_at entry (is_to_begin moment) ts) x)
             (sym (ap (λ q. (option_map_or (λ d. record (seen now b) {
-              devices = record b.devices { entries = slice_set b.devices.entries entry (device_begins moment d) };
+              devices = record b.devices { entries = slice_set b.devices.entries entry (entry_begins moment d) };
             }) q (seen now b)).devices.entries) at))
-            (subst (Tells (slice_set b.devices.entries entry (device_begins moment e)) (change_at entry (is_to_begin moment) ts)) (either (entry == k))
-            (both_change entry e (device_begins moment e) (is_to_begin moment) b.devices.entries ts x x at (begun e) is))
+            (subst (Tells (slice_set b.devices.entries entry (entry_begins moment e)) (change_at entry (is_to_begin moment) ts)) (either (entry == k))
+            (both_change entry e (entry_begins moment e) (is_to_begin moment) b.devices.entries ts x x at (begun e) is))
 
         by_device : (q : Option Entry) → device_of entry b ≡ q
             → Tells (changed_unless (begin_refusal_at entry b) b (after_begin_at entry now b)).devices.entries
@@ -398,12 +398,12 @@ module _ {H : Type 0} where
     submit_tells : (entry : ℕ) (command : Command) (f : Option BusFault) (b : BusState) (ts : List (Station H)) (x : Told) → Tells b.devices.entries ts x
         → Tells (changed_unless f b (after_submit_at entry command b)).devices.entries (changed_unless f ts (change_at entry (issues command) ts)) x
     submit_tells entry command (Some fault) b ts x is = is
-    submit_tells entry command None b ts x is = device_changes entry (device_submits command) (issues command) b ts x (λ d t h. h) (λ d t h. h) is
+    submit_tells entry command None b ts x is = device_changes entry (entry_submits command) (issues command) b ts x (λ d t h. h) (λ d t h. h) is
 
     retarget_tells : (entry address : ℕ) (f : Option BusFault) (b : BusState) (ts : List (Station H)) (x : Told) → Tells b.devices.entries ts x
         → Tells (changed_unless f b (after_retarget_at entry address b)).devices.entries ts x
     retarget_tells entry address (Some fault) b ts x is = is
-    retarget_tells entry address None b ts x is = device_only entry (device_retargets address) b ts x (λ d t h. h) is
+    retarget_tells entry address None b ts x is = device_only entry (entry_retargets address) b ts x (λ d t h. h) is
 
     -- what is read is heard, and then a controller may tick
     pub call_tells : (call : bus.Call) (places : List ℕ) (l : InUse H) (x : Told) → Tells l.bus.devices.entries l.stations x
@@ -449,7 +449,7 @@ module _ {H : Type 0} where
     call_tells (bus.Submit entry command) places l x is =
         submit_tells entry command (submit_refusal_at entry command l.bus) l.bus l.stations x is
     call_tells (bus.Withdraw entry) places l x is =
-        device_changes entry device_withdraws (takes_back (withdrawn (withdrawal_at entry l.bus))) l.bus l.stations x (λ d t h. h) (λ d t h. h) is
+        device_changes entry entry_withdraws (takes_back (withdrawn (withdrawal_at entry l.bus))) l.bus l.stations x (λ d t h. h) (λ d t h. h) is
     call_tells (bus.Retarget entry address) places l x is =
         retarget_tells entry address (retarget_refusal_at entry address l.bus) l.bus l.stations x is
     call_tells bus.NextReport places l x is = is

@@ -13,7 +13,7 @@ use Rattle.osdp_controller.specs.declared.session.Session.{Session}
 use Rattle.osdp_controller.specs.declared.state.State.{State}
 use Rattle.osdp_controller.specs.declared.state.State.TheVariants.{Closed, Quiet, Idle, Waiting, Pausing}
 use Rattle.osdp_bus.specs.Buses.{Devices}
-use Rattle.osdp_bus.specs.Entries.{address_of, device_hears, first_from, is_at, told_of}
+use Rattle.osdp_bus.specs.Entries.{address_of, entry_hears, first_from, is_at, told_of}
 use Rattle.osdp_bus.specs.Hearing.{hears_at, hears_packet, hears_with}
 use Rattle.osdp_bus.specs.declared.entry.Entry.{Entry}
 use Rattle.osdp_bus_laws.specs.Reports.{told_at, told_by_entry, told_by_item, told_with}
@@ -245,7 +245,7 @@ pub data HeardAt (p : Packet) (now k : ℕ) (ds : Devices) : Type 0 where
       → ((d : Entry) → slice_get ds.entries k ≡ Some d → (address_of d == p.address) ≡ true
       → (j : ℕ) × (e : Entry) × (j ≢ k) × (slice_get ds.entries j ≡ Some e) × ((address_of e == p.address) ≡ true) × (j ≤ k)) → HeardAt p now k ds
   Touched : (d : Entry) → slice_get ds.entries k ≡ Some d → (address_of d == p.address) ≡ true
-      → slice_get (hears_packet p now ds).entries k ≡ Some (device_hears p now d)
+      → slice_get (hears_packet p now ds).entries k ≡ Some (entry_hears p now d)
       → told_by_item now (PacketItem p) ds ≡ told_at k (told_of p now d) → HeardAt p now k ds
 
 pub heard_at : (p : Packet) (now k : ℕ) (ds : Devices) → HeardAt p now k ds
@@ -258,18 +258,18 @@ heard_at p now k ds = by_first (first_at 0 p.address ds.entries)
         (λ d at here. absurd (false_so (sym (all k d at) ∙ here)))
     by_first (OneAt j e some at here) =
         let first : first_from 0 (is_at p.address) ds.entries ≡ Some j = some ∙ ap Some (let f : 0 + j ≡ j = omega arith in f) in
-        let after : (hears_packet p now ds).entries ≡ slice_set ds.entries j (device_hears p now e) =
+        let after : (hears_packet p now ds).entries ≡ slice_set ds.entries j (entry_hears p now e) =
         ap (λ o. (hears_at p now o ds).entries) first ∙ ap (λ o. (hears_with p now j o ds).entries) at in
         let told : told_by_item now (PacketItem p) ds ≡ told_at j (told_of p now e) =
         ap (λ o. told_by_entry p now o ds) first ∙ ap (told_with p now j) at in
         elim (eqb_tells j k) [
           | inl mine ↦
               Touched e (subst (λ i. slice_get ds.entries i ≡ Some e) mine.1 at) here
-              (subst (λ i. slice_get (hears_packet p now ds).entries i ≡ Some (device_hears p now e)) mine.1
-              (ap (λ es. slice_get es j) after ∙ got_new j (device_hears p now e) e ds.entries at))
+              (subst (λ i. slice_get (hears_packet p now ds).entries i ≡ Some (entry_hears p now e)) mine.1
+              (ap (λ es. slice_get es j) after ∙ got_new j (entry_hears p now e) e ds.entries at))
               (subst (λ i. told_by_item now (PacketItem p) ds ≡ told_at i (told_of p now e)) mine.1 told)
           | inr other ↦
-              Untouched (ap (λ es. slice_get es k) after ∙ got_other k j (device_hears p now e) ds.entries (λ f. other.1 (sym f)))
+              Untouched (ap (λ es. slice_get es k) after ∙ got_other k j (entry_hears p now e) ds.entries (λ f. other.1 (sym f)))
               (λ d note. ap (λ xs. noted_reports k d xs note) told ∙ reports_of_other k j d (told_of p now e) note other.1)
               (λ d there same. (j, e, other.1, at, here, let le = first_before p.address 0 j k d ds.entries first there same in omega (arith, le)))
         ]

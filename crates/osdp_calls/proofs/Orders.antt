@@ -17,7 +17,7 @@ use Rattle.osdp_bus.specs.Buses.{BusState, seen}
 use Rattle.osdp_bus.specs.Entries as devices
 use Rattle.osdp_bus.specs.Entries.{reserved_for}
 use Rattle.osdp_bus.specs.Machine as bus
-use Rattle.osdp_bus.specs.Machine.{after_begin_at, after_submit_at, begin_refusal_at, bus_fault, changed_unless, changes_device, device_begins, submit_refusal_at}
+use Rattle.osdp_bus.specs.Machine.{after_begin_at, after_submit_at, begin_refusal_at, bus_fault, changed_unless, changes_entry, entry_begins, submit_refusal_at}
 use Rattle.osdp_bus.specs.declared.entry.Entry.{Entry}
 use Rattle.osdp_bus.specs.declared.fault.BusFault.{BusFault}
 use Rattle.osdp_bus.specs.declared.fault.BusFault.TheVariants.{AddressTaken}
@@ -70,7 +70,7 @@ module _ {H : Type 0} where
   -- the device of an entry and its station change
   changes_one : (k : ℕ) (change : Entry → Entry) (tchange : Station H → Station H) (l : InUse H) (d : Entry) (t : Station H)
       → slice_get l.bus.devices.entries k ≡ Some d → site_at k l.stations ≡ Some t
-      → record l { bus = changes_device k change l.bus; stations = change_at k tchange l.stations }
+      → record l { bus = changes_entry k change l.bus; stations = change_at k tchange l.stations }
       ≡ record l {
         bus = record l.bus { devices = record l.bus.devices { entries = slice_set l.bus.devices.entries k (change d) } };
         stations = changed k (tchange t) l.stations;
@@ -85,7 +85,7 @@ module _ {H : Type 0} where
 
   -- an entry without a station changes
   pub other_changes : (k : ℕ) (change : Entry → Entry) (tchange : Station H → Station H) (l : InUse H) (n : Net H) → IsNetOf l n → site_at k l.stations ≡ None
-      → IsNetOf (record l { bus = changes_device k change l.bus; stations = change_at k tchange l.stations }) n
+      → IsNetOf (record l { bus = changes_entry k change l.bus; stations = change_at k tchange l.stations }) n
   other_changes k change tchange l n h none = by_entry (slice_get l.bus.devices.entries k) refl
     where
       by_device : Option Entry → BusState
@@ -94,7 +94,7 @@ module _ {H : Type 0} where
       }) o l.bus
 
       by_entry : (o : Option Entry) → slice_get l.bus.devices.entries k ≡ o
-          → IsNetOf (record l { bus = changes_device k change l.bus; stations = change_at k tchange l.stations }) n
+          → IsNetOf (record l { bus = changes_entry k change l.bus; stations = change_at k tchange l.stations }) n
       by_entry None is =
           subst (λ m. IsNetOf m n) (λ i. record l { bus = by_device (sym is i); stations = changes_at k tchange (sym none i) l.stations }) h
       by_entry (Some d) is =
@@ -184,7 +184,7 @@ module _ {H : Type 0} where
             })
             by_found (Nobody o a b c) =
                 make_none answer_of after (λ moves. moves ≡ []) (record l { bus = after_begin_at entry now l.bus; stations = change_at entry (is_to_begin (max l.bus.greatest now)) l.stations }) n refl
-                (other_changes entry (device_begins (max l.bus.greatest now)) (is_to_begin (max l.bus.greatest now)) (record l { bus = seen now l.bus }) n (at_seen now l n h) b)
+                (other_changes entry (entry_begins (max l.bus.greatest now)) (is_to_begin (max l.bus.greatest now)) (record l { bus = seen now l.bus }) n (at_seen now l n h) b)
             by_found (Somebody d t s a b c has) =
                 let moment = max l.bus.greatest now in
                 let l1 = record l { bus = seen now l.bus } in
@@ -193,9 +193,9 @@ module _ {H : Type 0} where
                 closed_of d.controller.session.state (some_fault (begin_refusal d.controller) (sym (ap bus.begin_refusal_of a) ∙ is)) in
                 let begun : t.begun ≡ None = not_begun t.begun l.bus.greatest d.controller s.controller has.controller shut in
                 let control : IsSame l.bus.greatest d.controller s.controller = subst (λ o. Controls o l.bus.greatest d.controller s.controller) begun has.controller in
-                let e : Entry = device_begins moment d in
+                let e : Entry = entry_begins moment d in
                 let u : Station H = is_to_begin moment t in
-                subst (Makes answer_of after (λ moves. moves ≡ []) n) (sym (changes_one entry (device_begins moment) (is_to_begin moment) l1 d t a b))
+                subst (Makes answer_of after (λ moves. moves ≡ []) n) (sym (changes_one entry (entry_begins moment) (is_to_begin moment) l1 d t a b))
                 (make_none answer_of after (λ moves. moves ≡ []) (record l1 {
                   bus = record l1.bus { devices = record l1.bus.devices { entries = slice_set l.bus.devices.entries entry e } };
                   stations = changed entry u l.stations;
@@ -240,7 +240,7 @@ module _ {H : Type 0} where
             → StepsTo answer_of after (OfPanel (panel.Submit k command)) l n (record l { bus = after_submit_at k command l.bus; stations = change_at k (issues command) l.stations })
         by_found is (Nobody o a b c) =
             by_other answer_of after k command l n (record l { bus = after_submit_at k command l.bus; stations = change_at k (issues command) l.stations }) c b is fits
-            (other_changes k (bus.device_submits command) (issues command) l n h b)
+            (other_changes k (bus.entry_submits command) (issues command) l n h b)
         by_found is (Somebody d t s a b c has) =
             let taken = bus.is_comset_refused (comset_of command) k d l.bus in
             let accepted = unrefused taken (submit_refusal command d.controller) (sym (ap (λ o. bus.submit_refusal_of k command o l.bus) a) ∙ is) in
@@ -259,9 +259,9 @@ module _ {H : Type 0} where
               sites = changed k (line.keeping (line.reserved_unless f (line.asked_for (comset_of command) s.reserved) s.reserved)
                   (line.left_by s (link.submits f command (line.link_of s [] [])))) n.sites;
             }) same in
-            let e : Entry = bus.device_submits command d in
+            let e : Entry = bus.entry_submits command d in
             let u : Station H = issues command t in
-            subst (StepsTo answer_of after (OfPanel (panel.Submit k command)) l n) (sym (changes_one k (bus.device_submits command) (issues command) l d t a b))
+            subst (StepsTo answer_of after (OfPanel (panel.Submit k command)) l n) (sym (changes_one k (bus.entry_submits command) (issues command) l d t a b))
             (by_submit answer_of after k command s l n (record l {
               bus = record l.bus { devices = record l.bus.devices { entries = slice_set l.bus.devices.entries k e } };
               stations = changed k u l.stations;
@@ -296,12 +296,12 @@ module _ {H : Type 0} where
       where
         by_begun : (d : Entry) (t : Station H) (s : Site H) → slice_get l.bus.devices.entries k ≡ Some d → site_at k l.stations ≡ Some t
             → site_at k n.sites ≡ Some s → Sites l k d t s → (o : Option ℕ) → t.begun ≡ o → StepsTo answer_of after (OfPanel (panel.Withdraw k)) l n (record l {
-              bus = record l.bus { devices = record l.bus.devices { entries = slice_set l.bus.devices.entries k (bus.device_withdraws d) } };
+              bus = record l.bus { devices = record l.bus.devices { entries = slice_set l.bus.devices.entries k (bus.entry_withdraws d) } };
               stations = changed k (takes_back (option_to_list (bus.withdrawn_of d)) t) l.stations;
             })
         by_begun d t s a b c has None begun =
             let control : IsSame l.bus.greatest d.controller s.controller = subst (λ o. Controls o l.bus.greatest d.controller s.controller) begun has.controller in
-            let e : Entry = bus.device_withdraws d in
+            let e : Entry = bus.entry_withdraws d in
             let u : Station H = takes_back (option_to_list (bus.withdrawn_of d)) t in
             let same : controllers.withdrawn_in s.controller.session.state s.controller.waiting ≡ bus.withdrawn_of d =
             ap (λ (x : Machine). controllers.withdrawn_in x.session.state x.waiting) control.same in
@@ -321,7 +321,7 @@ module _ {H : Type 0} where
         by_begun d t s a b c has (Some began) begun =
             let control : IsToOpen began l.bus.greatest d.controller s.controller = subst (λ o. Controls o l.bus.greatest d.controller s.controller) begun has.controller in
             let nothing : bus.withdrawn_of d ≡ None = ap (λ st. controllers.withdrawn_in st d.controller.waiting) control.quiet in
-            let kept : bus.device_withdraws d ≡ d =
+            let kept : bus.entry_withdraws d ≡ d =
             (λ i. record {
               controller = record d.controller { waiting = controllers.kept_in (control.quiet i) d.controller.waiting };
               reserved = bus.reserved_without (nothing i) d.reserved;
@@ -345,13 +345,13 @@ module _ {H : Type 0} where
             let next : InUse H = record l { bus = bus.after_withdraw_at k l.bus; stations = change_at k (takes_back (withdrawn (bus.withdrawal_at k l.bus))) l.stations } in
             by_own answer_of after (OfPanel (panel.Withdraw k)) (Withdraw k) l n next (λ j. refl) (λ j. refl) tt refl (inr (refl, ap begun_of b)) tt
             (subst (IsNetOf next) (sym (ap (λ q. line.change_at k q (line.withdraws answer_of after) n) c))
-            (other_changes k bus.device_withdraws (takes_back (withdrawn (bus.withdrawal_at k l.bus))) l n h b))
+            (other_changes k bus.entry_withdraws (takes_back (withdrawn (bus.withdrawal_at k l.bus))) l n h b))
         by_found (Somebody d t s a b c has) =
             subst (λ o. StepsTo answer_of after (OfPanel (panel.Withdraw k)) l n (record l {
               bus = bus.after_withdraw_at k l.bus;
               stations = change_at k (takes_back (withdrawn (bus.withdrawal_of o))) l.stations;
             })) (sym a)
-            (subst (StepsTo answer_of after (OfPanel (panel.Withdraw k)) l n) (sym (changes_one k bus.device_withdraws (takes_back (option_to_list (bus.withdrawn_of d))) l d t a b))
+            (subst (StepsTo answer_of after (OfPanel (panel.Withdraw k)) l n) (sym (changes_one k bus.entry_withdraws (takes_back (option_to_list (bus.withdrawn_of d))) l d t a b))
             (by_begun d t s a b c has t.begun refl))
 
     -- ---- another address
@@ -381,7 +381,7 @@ module _ {H : Type 0} where
             (λ s2 at2 ok. absurd (let e = sym c ∙ at2 in cc))
             (subst (IsNetOf next) (sym (ap (λ q. line.change_unless (λ u. line.is_retarget_refused k address u n.sites) k q (line.retargets answer_of after address) n) c))
             (subst (λ ts. IsNetOf (record l { bus = bus.after_retarget_at k address l.bus; stations = ts }) n) (ap (λ q. changes_at k (λ (t : Station H). t) q l.stations) b)
-            (other_changes k (bus.device_retargets address) (λ (t : Station H). t) l n h b)))
+            (other_changes k (bus.entry_retargets address) (λ (t : Station H). t) l n h b)))
         by_found is (Somebody d t s a b c has) =
             let taken = devices.is_taken_beside k address l.bus.devices.entries || has_comset d.controller.waiting in
             let accepted = or_taken_none (retarget_refusal address d.controller) taken (sym (ap (λ o. bus.retarget_refusal_of k address o l.bus) a) ∙ is) in
@@ -400,11 +400,11 @@ module _ {H : Type 0} where
             ∙ ap (λ f. record n {
               sites = changed k (line.keeping (line.reserved_unless f None s.reserved) (line.left_by s (link.retargets f address (line.link_of s [] [])))) n.sites;
             }) same in
-            let e : Entry = bus.device_retargets address d in
+            let e : Entry = bus.entry_retargets address d in
             let l1 : InUse H = record l { bus = record l.bus { devices = record l.bus.devices { entries = slice_set l.bus.devices.entries k e } } } in
             subst (λ (o : Option Entry). Makes answer_of after (Retargeted k address l) n (record l {
               bus = Rattle.std.specs.Option.option_map_or (λ (f : Entry). record l.bus {
-                devices = record l.bus.devices { entries = slice_set l.bus.devices.entries k (bus.device_retargets address f) };
+                devices = record l.bus.devices { entries = slice_set l.bus.devices.entries k (bus.entry_retargets address f) };
               }) o l.bus;
             })) (sym a)
             (make_move answer_of after (Retargeted k address l) (Retarget k address) l1 n (inr (is, refl)) tt (λ s2 at2 ok. no_other k address l n h (free t b is))

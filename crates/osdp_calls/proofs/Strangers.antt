@@ -9,7 +9,7 @@ use Rattle.osdp_controller.specs.Hearing.{hears}
 use Rattle.osdp_controller.specs.declared.report.Report.{Report}
 use Rattle.osdp_controller.specs.declared.session.Session.{Session}
 use Rattle.osdp_bus.specs.Buses.{BusState, Devices, is_silent}
-use Rattle.osdp_bus.specs.Entries.{address_of, device_hears, first_from, is_at, told_of}
+use Rattle.osdp_bus.specs.Entries.{address_of, entry_hears, first_from, is_at, told_of}
 use Rattle.osdp_bus.specs.Hearing.{ends_run, ends_silent, hears_at, hears_items, hears_packet, hears_with}
 use Rattle.osdp_bus.specs.declared.entry.Entry.{Entry}
 use Rattle.osdp_bus_laws.specs.Reports.{told_at, told_by_entry, told_with}
@@ -82,7 +82,7 @@ heard_elsewhere p q now m ds off = by_place (first_from 0 (is_at q.address) ds.e
     by_entry : (k : ℕ) (o : Option Entry) → slice_get ds.entries k ≡ o → IsElsewhere m (hears_with q now k o ds).entries p
     by_entry k None is = off
     by_entry k (Some d) is =
-        set_elsewhere p m k (device_hears q now d) ds.entries (λ e at was.
+        set_elsewhere p m k (entry_hears q now d) ds.entries (λ e at was.
         heard_off p.address q now d.controller.session (subst (λ (f : Entry). IsOff p.address f.controller.session) (some_same e d (sym at ∙ is)) was)) off
 
     by_place : (o : Option ℕ) → IsElsewhere m (hears_at q now o ds).entries p
@@ -254,10 +254,10 @@ module _ {H : Type 0} where
         stations = ap (λ q. all_hear (told_with p now j q) l.stations) is ∙ heard_by_none j (told_of p now d) l.stations (none j refl);
         told = subst (λ q. AreOfOthers (told_with p now j q) l.stations) (sym is) (told_of_others j (told_of p now d) l.stations (none j refl));
         entries = λ k t there. ap (λ q. slice_get (hears_with p now j q l.bus.devices).entries k) is
-            ∙ got_other k j (device_hears p now d) l.bus.devices.entries
+            ∙ got_other k j (entry_hears p now d) l.bus.devices.entries
             (λ same. let here = subst (λ i. site_at i l.stations ≡ Some t) same there in absurd (let e = sym (none j refl) ∙ here in cc));
         keeps = λ ss m. subst (λ q. Match (IsSiteOf l.openings l.said l.bus.greatest) 0 (hears_with p now j q l.bus.devices).entries l.stations ss) (sym is)
-            (set_other (IsSiteOf l.openings l.said l.bus.greatest) j (device_hears p now d) l.bus.devices.entries l.stations ss (none j refl) m);
+            (set_other (IsSiteOf l.openings l.said l.bus.greatest) j (entry_hears p now d) l.bus.devices.entries l.stations ss (none j refl) m);
       }
 
   pub others_hear : (p : Packet) (now : ℕ) (l : InUse H) → IsElsewhere (length l.stations) l.bus.devices.entries p

@@ -4,7 +4,7 @@ use Rattle.std.proofs.lemmas.Bool.{leb-true}
 use Rattle.std.proofs.lemmas.Bool.Decides.{eqb_tells}
 use Rattle.std.specs.Prelude.{not, ◌==◌, ◌&&◌, ◌||◌, nat_le}
 use Rattle.std.specs.List.{list_all, list_any}
-use Rattle.osdp_bus.specs.Machine.{most_devices}
+use Rattle.osdp_bus.specs.Machine.{most_entries}
 use Rattle.osdp_link_laws.specs.Link.{new_account}
 use Rattle.osdp_shared_line.specs.Line.{site_at}
 use Rattle.osdp_shared_line.proofs.Sites.{some_same}
@@ -72,7 +72,7 @@ module _ {H : Type 0} where
 
   pub runs_from_a_set_up : RunsFromASetUp H
   runs_from_a_set_up config readers gap set =
-      let within = both (nat_le (length readers) most_devices) (list_all is_reader_in_range readers && are_apart readers) set.each in
+      let within = both (nat_le (length readers) most_entries) (list_all is_reader_in_range readers && are_apart readers) set.each in
       let parts = both (list_all is_reader_in_range readers) (are_apart readers) within.1 in
       record {
         config = config;

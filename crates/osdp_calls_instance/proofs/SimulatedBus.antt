@@ -15,7 +15,7 @@ use Rattle.osdp_frame.specs.Packet.{Packet}
 use Rattle.osdp_frame_laws.proofs.LeftOver.{items_nothing}
 use Rattle.osdp_bus.specs.Buses.{BusState, device_of, new_bus}
 use Rattle.osdp_bus.specs.Ticking.{bus_ticks}
-use Rattle.osdp_bus.specs.Machine.{after_begin_at, after_next_report, after_submit_at, begin_refusal_at, begin_refusal_of, bus_fault, changed_unless, device_begins, new_device, submit_refusal_at}
+use Rattle.osdp_bus.specs.Machine.{after_begin_at, after_next_report, after_submit_at, begin_refusal_at, begin_refusal_of, bus_fault, changed_unless, entry_begins, new_device, submit_refusal_at}
 use Rattle.osdp_bus.specs.declared.config.BusConfig.{BusConfig}
 use Rattle.osdp_bus.specs.declared.entry.Entry.{Entry}
 use Rattle.osdp_bus.specs.declared.fault.BusFault.{BusFault}
@@ -376,14 +376,14 @@ module _ {H : Type 0} (answer_of : H → Command → Answer) (after : H → Comm
 
   one_begins : (config : BusConfig) (before ds : List Entry) (address k : ℕ) → k ≡ length before
       → bus.after_call (bus.Begin k 0) (entries_of config (before ++ new_device address config ∷ ds))
-      ≡ entries_of config (before ++ device_begins 0 (new_device address config) ∷ ds)
+      ≡ entries_of config (before ++ entry_begins 0 (new_device address config) ∷ ds)
   one_begins config before ds address k first =
       let d = new_device address config in
       let b = entries_of config (before ++ d ∷ ds) in
       let at : device_of k b ≡ Some d = ap (λ j. slice_get (before ++ d ∷ ds) j) first ∙ get_first before d ds in
       ap (λ o. changed_unless (begin_refusal_of o) b
-      (option_map_or (λ x. record b { devices = record b.devices { entries = slice_set (before ++ d ∷ ds) k (device_begins 0 x) } }) o b)) at
-      ∙ ap (λ l. entries_of config l) (ap (λ j. slice_set (before ++ d ∷ ds) j (device_begins 0 d)) first ∙ set_first before d (device_begins 0 d) ds)
+      (option_map_or (λ x. record b { devices = record b.devices { entries = slice_set (before ++ d ∷ ds) k (entry_begins 0 x) } }) o b)) at
+      ∙ ap (λ l. entries_of config l) (ap (λ j. slice_set (before ++ d ∷ ds) j (entry_begins 0 d)) first ∙ set_first before d (entry_begins 0 d) ds)
 
   all_begin : (config : BusConfig) (readers : List (Given H)) (before : List Entry) (devices : List (Held H)) (k : ℕ) → k ≡ length before
       → let w : Here = record { panel = entries_of config (before ++ map (λ address. new_device address config) (map address_of readers)); devices = devices } in

@@ -13,7 +13,7 @@ use Rattle.osdp_controller.specs.declared.report.Report.TheVariants as report
 use Rattle.osdp_controller.specs.declared.state.State.{State}
 use Rattle.osdp_controller.specs.declared.state.State.TheVariants.{Closed, Quiet, Idle, Waiting, Pausing}
 use Rattle.osdp_bus.specs.Buses.{Devices, device_of}
-use Rattle.osdp_bus.specs.Entries.{device_hears}
+use Rattle.osdp_bus.specs.Entries.{entry_hears}
 use Rattle.osdp_bus.specs.Hearing.{hears_packet}
 use Rattle.osdp_bus.specs.Machine.{begin_refusal_at, changed_unless, submit_refusal_at, withdrawal_at}
 use Rattle.osdp_bus.specs.Ticking.{bus_ticks}
@@ -119,7 +119,7 @@ one_told now k begun p ds d at is (Untouched same none first) = (d, same ∙ at,
 one_told now k begun p ds d at is (Touched f there here heard_it told) =
     let was = subst (IsTold begun) (some_same d f (sym at ∙ there)) is in
     let h = controllers.hears p now f.controller.session in
-    (device_hears p now f, heard_it, (was.0, after_told h.report was.1, next_told h.report was.2, heard_marks was.0 begun was.1 was.2 p now f.controller.session was.3))
+    (entry_hears p now f, heard_it, (was.0, after_told h.report was.1, next_told h.report was.2, heard_marks was.0 begun was.1 was.2 p now f.controller.session was.3))
 
 hears_told : (now k : ℕ) (begun : Option ℕ) (ps : List Packet) (ds : Devices) (d : Entry) → slice_get ds.entries k ≡ Some d → IsTold begun d
     → (e : Entry) × (slice_get (hears_all now ps ds).entries k ≡ Some e) × IsTold begun e

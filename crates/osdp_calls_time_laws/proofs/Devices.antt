@@ -17,9 +17,9 @@ use Rattle.osdp_controller_laws.proofs.Kept.{hears_at_moment}
 use Rattle.osdp_controller_laws.proofs.OneCall.{keeps_settings}
 use Rattle.osdp_time_laws.proofs.Ends.{tick_at_moment}
 use Rattle.osdp_bus.specs.Buses.{BusState, Devices}
-use Rattle.osdp_bus.specs.Entries.{device_hears, device_ticks}
+use Rattle.osdp_bus.specs.Entries.{entry_hears, entry_ticks}
 use Rattle.osdp_bus.specs.Hearing.{hears_packet}
-use Rattle.osdp_bus.specs.Machine.{begin_refusal_at, device_begins, new_device}
+use Rattle.osdp_bus.specs.Machine.{begin_refusal_at, entry_begins, new_device}
 use Rattle.osdp_bus.specs.declared.config.BusConfig.{BusConfig}
 use Rattle.osdp_bus.specs.declared.entry.Entry.{Entry}
 use Rattle.osdp_bus.specs.declared.fault.BusFault.{BusFault}
@@ -38,19 +38,19 @@ use Rattle.osdp_controller.specs.Sessions as clocks
 
 -- ---- what holds of each device
 
-of_heard : (q g : ℕ) (p : Packet) (d : Entry) → IsOf q g d → IsOf q g (device_hears p g d)
+of_heard : (q g : ℕ) (p : Packet) (d : Entry) → IsOf q g d → IsOf q g (entry_hears p g d)
 of_heard q g p d is =
     let near = hears_at_moment p g d.controller.session in
     let le = is.seen in
     record { seen = omega (arith, near, le); waits = ap (λ (k : ControllerConfig). k.quiet_wait) (keeps_settings (HearOf p g) d.controller) ∙ is.waits }
 
-of_ticked : (q g : ℕ) (d : Entry) → IsOf q g d → IsOf q g (device_ticks g d)
+of_ticked : (q g : ℕ) (d : Entry) → IsOf q g d → IsOf q g (entry_ticks g d)
 of_ticked q g d is =
     let near = tick_at_moment g d.controller in
     let le = is.seen in
     record { seen = omega (arith, near, le); waits = ap (λ (k : ControllerConfig). k.quiet_wait) (keeps_settings (TickOf g) d.controller) ∙ is.waits }
 
-of_begun : (q g now : ℕ) (d : Entry) → now ≤ g → IsOf q g d → IsOf q g (device_begins now d)
+of_begun : (q g now : ℕ) (d : Entry) → now ≤ g → IsOf q g d → IsOf q g (entry_begins now d)
 of_begun q g now d near is = let le = is.seen in record { seen = omega (arith, near, le); waits = is.waits }
 
 pub of_new : (g address : ℕ) (config : BusConfig) → IsOf config.quiet_wait g (new_device address config)
@@ -138,8 +138,8 @@ one_heard k until g config p ds x = by_entry (heard_at p g k ds)
         let near = ap (λ (h : Heard). h.session.greatest) ignored in
         let le = x.seen in
         record {
-          device = device_hears p g x.device;
-          there = next ∙ ap (λ f. Some (device_hears p g f)) mine;
+          device = entry_hears p g x.device;
+          there = next ∙ ap (λ f. Some (entry_hears p g f)) mine;
           state = ap (λ (h : Heard). h.session.state) ignored ∙ x.state;
           same = ap (λ (h : Heard). h.session.config) ignored ∙ x.same;
           seen = omega (arith, near, le);

@@ -126,7 +126,7 @@ module _ {H : Type 0} where
 
     -- one entry changes, and its session stays
     one_changes : (i : ℕ) (change : Entry → Entry) (ts : List (Station H)) (k : ℕ) (e : Entry) (began : ℕ) → ((d : Entry) → (change d).controller.session ≡ d.controller.session)
-        → device_of k (machine.changes_device i change l.bus) ≡ Some e → begun_of (site_at k ts) ≡ Some began → begun_of (site_at k ts) ≡ begun_of (site_at k l.stations)
+        → device_of k (machine.changes_entry i change l.bus) ≡ Some e → begun_of (site_at k ts) ≡ Some began → begun_of (site_at k ts) ≡ begun_of (site_at k l.stations)
         → (d : Entry) × (slice_get l.bus.devices.entries k ≡ Some d) × (begun_of (site_at k l.stations) ≡ Some began) × (address_of d ≡ address_of e)
     one_changes i change ts k e began session entry begun same = elim (changed_at i change l.bus k e entry) [
       | AsBefore other was ↦ (e, was, sym same ∙ begun, refl)
@@ -164,7 +164,7 @@ module _ {H : Type 0} where
               place = last_of places l.place;
             }) r later kept refl refl
             (λ k e began entry begun. elim (eqb_tells k i) [
-              | inr other ↦ elim (changed_at i (machine.device_begins (max l.bus.greatest now)) (seen now l.bus) k e entry) [
+              | inr other ↦ elim (changed_at i (machine.entry_begins (max l.bus.greatest now)) (seen now l.bus) k e entry) [
                 | AsBefore differs was ↦
                     old_waits k e began was (sym (begins_there k i (max l.bus.greatest now) l.stations other.1) ∙ begun)
                 | IsChanged here d was becomes ↦ absurd (other.1 here)
@@ -204,7 +204,7 @@ module _ {H : Type 0} where
               stations = change_at i (issues command) l.stations;
               place = last_of places l.place;
             }) kept refl refl
-            (λ k e began entry begun. one_changes i (machine.device_submits command) (change_at i (issues command) l.stations) k e began (λ d. refl) entry begun
+            (λ k e began entry begun. one_changes i (machine.entry_submits command) (change_at i (issues command) l.stations) k e began (λ d. refl) entry begun
             (begun_change k i (issues command) l.stations (λ u. refl)))
 
     runs_withdraw : (i : ℕ) (places : List ℕ)
@@ -212,7 +212,7 @@ module _ {H : Type 0} where
     runs_withdraw i places =
         let commands = withdrawn (machine.withdrawal_at i l.bus) in
         silent (after_call answer_of after (OfPanel (bus.Withdraw i)) places l) (kept_after (bus.Withdraw i) tt) refl refl
-        (λ k e began entry begun. one_changes i machine.device_withdraws (change_at i (takes_back commands) l.stations) k e began (λ d. refl) entry begun
+        (λ k e began entry begun. one_changes i machine.entry_withdraws (change_at i (takes_back commands) l.stations) k e began (λ d. refl) entry begun
         (begun_change k i (takes_back commands) l.stations (λ u. refl)))
 
     -- an entry whose session is to begin is given no other address
@@ -228,7 +228,7 @@ module _ {H : Type 0} where
             runs_silent w t c l (record l { place = last_of places l.place }) r later kept refl refl old_waits
         by_fault None is kept =
             silent (record l { bus = machine.after_retarget_at i address l.bus; place = last_of places l.place }) kept refl refl
-            (λ k e began entry begun. elim (changed_at i (machine.device_retargets address) l.bus k e entry) [
+            (λ k e began entry begun. elim (changed_at i (machine.entry_retargets address) l.bus k e entry) [
               | AsBefore other was ↦ (e, was, begun, refl)
               | IsChanged here d was becomes ↦
                   let q = is_quiet k began l n h begun in

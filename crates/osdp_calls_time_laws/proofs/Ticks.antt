@@ -6,7 +6,7 @@ use Rattle.osdp_frame.specs.Packet.{Packet}
 use Rattle.osdp_msg.specs.declared.command.Command.{Command}
 use Rattle.osdp_controller.specs.Sessions as clocks
 use Rattle.osdp_bus.specs.Buses.{device_of, waiting_after}
-use Rattle.osdp_bus.specs.Entries.{address_of, device_ticks, step_of}
+use Rattle.osdp_bus.specs.Entries.{address_of, entry_ticks, step_of}
 use Rattle.osdp_bus.specs.Ticking.{ticks_with}
 use Rattle.osdp_bus.specs.declared.entry.Entry.{Entry}
 use Rattle.osdp_bus_laws.specs.Reports.{told_by_device}
@@ -96,24 +96,24 @@ module _ {H : Type 0} where
 
     module _ (e : ℕ) (d : Entry) (is : device_of e l.bus ≡ Some d) where
       -- an entry after it
-      entry_was : (k : ℕ) (f : Entry) → slice_get (slice_set l.bus.devices.entries e (device_ticks l.bus.greatest d)) k ≡ Some f
+      entry_was : (k : ℕ) (f : Entry) → slice_get (slice_set l.bus.devices.entries e (entry_ticks l.bus.greatest d)) k ≡ Some f
           → (f0 : Entry) × (slice_get l.bus.devices.entries k ≡ Some f0) × (address_of f ≡ address_of f0)
       entry_was k f at_k = elim (eqb_tells k e) [
         | inl mine ↦
-            let there = subst (λ i. slice_get (slice_set l.bus.devices.entries e (device_ticks l.bus.greatest d)) i ≡ Some f) mine.1 at_k in
-            let equal : f ≡ device_ticks l.bus.greatest d =
-            some_same f (device_ticks l.bus.greatest d) (sym there ∙ got_new e (device_ticks l.bus.greatest d) d l.bus.devices.entries is) in (
+            let there = subst (λ i. slice_get (slice_set l.bus.devices.entries e (entry_ticks l.bus.greatest d)) i ≡ Some f) mine.1 at_k in
+            let equal : f ≡ entry_ticks l.bus.greatest d =
+            some_same f (entry_ticks l.bus.greatest d) (sym there ∙ got_new e (entry_ticks l.bus.greatest d) d l.bus.devices.entries is) in (
               d,
               subst (λ i. slice_get l.bus.devices.entries i ≡ Some d) (sym mine.1) is,
               ap address_of equal
                   ∙ ap (λ (c : _). c.address) (ticks_config d.controller.session.state (clocks.seen l.bus.greatest d.controller.session) d.controller.waiting),
             )
         | inr other ↦
-            (f, sym (got_other k e (device_ticks l.bus.greatest d) l.bus.devices.entries other.1) ∙ at_k, refl)
+            (f, sym (got_other k e (entry_ticks l.bus.greatest d) l.bus.devices.entries other.1) ∙ at_k, refl)
       ]
 
       -- what still waits
-      waits_on : (k began : ℕ) (f : Entry) → slice_get (slice_set l.bus.devices.entries e (device_ticks l.bus.greatest d)) k ≡ Some f
+      waits_on : (k began : ℕ) (f : Entry) → slice_get (slice_set l.bus.devices.entries e (entry_ticks l.bus.greatest d)) k ≡ Some f
           → begun_of (site_at k l.stations) ≡ Some began → Waits w l.said stamps k (address_of f) (start + began)
       waits_on k began f at_k begun =
           let f0 = entry_was k f at_k in
@@ -127,15 +127,15 @@ module _ {H : Type 0} where
             subst (λ o. IfSome o (λ q. q.address ≡ address_of d)) sent
             (frames_to d.controller.session.state (clocks.seen l.bus.greatest d.controller.session) d.controller.waiting)
 
-        not_mine : (k : ℕ) (f : Entry) → IsOurs e l.stations → IsOurs k l.stations → k ≢ e → slice_get (slice_set l.bus.devices.entries e (device_ticks l.bus.greatest d)) k ≡ Some f
+        not_mine : (k : ℕ) (f : Entry) → IsOurs e l.stations → IsOurs k l.stations → k ≢ e → slice_get (slice_set l.bus.devices.entries e (entry_ticks l.bus.greatest d)) k ≡ Some f
             → concerns (of_entry k (address_of f)) (from_panel e p) ≡ false
         not_mine k f own mine other at_k =
-            let there : device_of k l.bus ≡ Some f = sym (got_other k e (device_ticks l.bus.greatest d) l.bus.devices.entries other) ∙ at_k in
+            let there : device_of k l.bus ≡ Some f = sym (got_other k e (entry_ticks l.bus.greatest d) l.bus.devices.entries other) ∙ at_k in
             ap (λ x. x || (p.address == address_of f)) (is_false e k (λ i. other (sym i)))
             ∙ is_false p.address (address_of f) (λ i. differ e k d f own mine (λ j. other (sym j)) is there (sym to_device ∙ i))
 
         -- what waits beside it
-        others_wait : (k began : ℕ) (f : Entry) → IsOurs e l.stations → k ≢ e → slice_get (slice_set l.bus.devices.entries e (device_ticks l.bus.greatest d)) k ≡ Some f
+        others_wait : (k began : ℕ) (f : Entry) → IsOurs e l.stations → k ≢ e → slice_get (slice_set l.bus.devices.entries e (entry_ticks l.bus.greatest d)) k ≡ Some f
             → begun_of (site_at k l.stations) ≡ Some began
             → Waits w (l.said ++ from_panel e p ∷ []) (stamped at (l.said ++ from_panel e p ∷ []) stamps) k (address_of f) (start + began)
         others_wait k began f own other at_k begun =
@@ -189,7 +189,7 @@ module _ {H : Type 0} where
       line_with o = panel_says (Some e) o (record l {
         bus = record l.bus {
           devices = record {
-            entries = slice_set l.bus.devices.entries e (device_ticks l.bus.greatest d);
+            entries = slice_set l.bus.devices.entries e (entry_ticks l.bus.greatest d);
             report = waiting_after e (step_of l.bus.greatest d).report l.bus.devices.report;
           };
           first = e + 1;
@@ -202,7 +202,7 @@ module _ {H : Type 0} where
 
       silent_here : HasTicked w start at stamps (line_with None)
       silent_here =
-          let both = silent (slice_set l.bus.devices.entries e (device_ticks l.bus.greatest d)) (all_hear (told_by_device e (Some d) l.bus) l.stations)
+          let both = silent (slice_set l.bus.devices.entries e (entry_ticks l.bus.greatest d)) (all_hear (told_by_device e (Some d) l.bus) l.stations)
           (λ k f began at_k begun. waits_on k began f at_k (sym (heard_same k) ∙ begun)) in
           record { waits = both.0; opened = both.1 }
 
@@ -224,7 +224,7 @@ module _ {H : Type 0} where
             opened = old_past;
           }
           by_begun own (Some began) begun =
-              let ws = waiting_of (slice_get (slice_set l.bus.devices.entries e (device_ticks l.bus.greatest d)) e) in
+              let ws = waiting_of (slice_get (slice_set l.bus.devices.entries e (entry_ticks l.bus.greatest d)) e) in
               let ts = all_hear (told_by_device e (Some d) l.bus) l.stations in
               record {
                 waits = λ k f began2 at_k begun2.

@@ -11,8 +11,8 @@ use Rattle.osdp_controller_laws.proofs.Ticks.{takes_front}
 use Rattle.osdp_time_laws.proofs.Orders.{lives}
 use Rattle.osdp_bus.specs.declared.entry.Entry.{Entry}
 use Rattle.osdp_bus.specs.Buses.{BusState, device_of, has_report}
-use Rattle.osdp_bus.specs.Entries.{device_ticks, holds}
-use Rattle.osdp_bus.specs.Machine.{device_submits, device_withdraws, submit_refusal_at}
+use Rattle.osdp_bus.specs.Entries.{entry_ticks, holds}
+use Rattle.osdp_bus.specs.Machine.{entry_submits, entry_withdraws, submit_refusal_at}
 use Rattle.osdp_bus.specs.Ticking.{bus_ticks}
 use Rattle.osdp_bus_laws.specs.Calls.{Call, Submit, Tick, after_call}
 use Rattle.osdp_bus_laws.specs.Fairness.{Begins}
@@ -62,11 +62,11 @@ begun_takes entry call b under begun = by_waiting under.device.controller.waitin
 abbrev Most : ℕ → Entry → Type 0
 Most most d = length d.controller.waiting ≤ most
 
-most_withdrawn : (most : ℕ) (d : Entry) → Most most d → is_closed d.controller.session.state ≡ false → Most most (device_withdraws d)
+most_withdrawn : (most : ℕ) (d : Entry) → Most most d → is_closed d.controller.session.state ≡ false → Most most (entry_withdraws d)
 most_withdrawn most d some stands =
     subst (λ t. length (if t then drop 1 d.controller.waiting else d.controller.waiting) ≤ most) (sym stands) some
 
-most_ticked : (most g : ℕ) (d : Entry) → holds d ≡ true → Most most d → Most most (device_ticks g d)
+most_ticked : (most g : ℕ) (d : Entry) → holds d ≡ true → Most most d → Most most (entry_ticks g d)
 most_ticked most g d stands some =
     let stay = (takes_front g d.controller.session d.controller.waiting).stay (not_idle d.controller.session.state stands) in
     subst (λ (w : List Command). length w ≤ most) (sym stay) some
@@ -90,7 +90,7 @@ module _ (entry : ℕ) (call : Call) (b : BusState) (well : Well b) (under : IsU
   placed = let is = waiting_is entry b under.device under.there in (under.device, under.there, omega arith)
 
   submitted : (at : ℕ) (command : Command) → call ≡ Submit at command → entry ≡ at → submit_refusal_at at command b ≡ None → (d : Entry) → device_of at b ≡ Some d
-      → Most most d → Most most (device_submits command d)
+      → Most most d → Most most (entry_submits command d)
   submitted at command is same ok d there some =
       one_more (waiting_at entry b) (accepts call entry b) (length d.controller.waiting) (length (d.controller.waiting ++ command ∷ []))
       (waiting_is entry b d (ap (λ n. device_of n b) same ∙ there)) (ap (λ c. accepts c entry b) is ∙ one_accepted entry at command b same ok)
@@ -104,7 +104,7 @@ module _ (entry : ℕ) (call : Call) (b : BusState) (well : Well b) (under : IsU
       by_same true same = absurd (not (subst (λ c. Begins c entry b) (sym is) (subst (λ n. Begins (Tick now) n b) (eqb-true k entry same) begun)))
       by_same false other = others (eqb-false k entry other)
   by_outcome now is (inr (inl (f, at, (some, never)))) = (f, at, some)
-  by_outcome now is (inr (inr (f, some, stands, due, at))) = (device_ticks g_then f, at, most_ticked most g_then f stands some)
+  by_outcome now is (inr (inr (f, some, stands, due, at))) = (entry_ticks g_then f, at, most_ticked most g_then f stands some)
 
   by_tick : (now : ℕ) → call ≡ Tick now → has_report b ≡ false → AtPlace entry (Most most) (after_call call b).devices
   by_tick now is none =

@@ -5,7 +5,7 @@ use Rattle.osdp_frame.specs.Items.{items, left_over, whole_packets}
 use Rattle.osdp_controller.specs.declared.report.Report.{Report}
 use Rattle.osdp_bus.specs.Buses.{BusState, Devices, device_of, has_report, holder, is_silent, seen, waiting_after}
 use Rattle.osdp_bus.specs.Remembering.{Remembered}
-use Rattle.osdp_bus.specs.Entries.{device_ticks, holds, is_device_due, step_of}
+use Rattle.osdp_bus.specs.Entries.{entry_ticks, holds, is_entry_due, step_of}
 use Rattle.osdp_bus.specs.Hearing.{after_bytes, ends_run, ends_silent, hears_bytes}
 use Rattle.osdp_bus.specs.Ticking.{BusTicked, asks_free, asks_holder, bus_ticks, is_due_at, is_held_and_due, next_due, stays, ticks_at, ticks_by, ticks_free, ticks_held, ticks_on, ticks_with}
 use Rattle.osdp_bus.specs.declared.entry.Entry.{Entry}
@@ -77,18 +77,18 @@ due_same : (ads : List ℕ) (ms : List Remembered) (k : ℕ) (gs : List Entry) (
 due_same ads ms k gs b all = by_place (at_place k b.devices.entries gs)
   where
     by_place : AtPlace k b.devices.entries gs → is_due_at k (idle_bus gs ms b) ≡ is_due_at k b
-    by_place (IsEntry d is also) = (λ i. option_map_or (is_device_due b.greatest) ((also ∙ sym is) i) false)
+    by_place (IsEntry d is also) = (λ i. option_map_or (is_entry_due b.greatest) ((also ∙ sym is) i) false)
     by_place (IsIdleOne x g at none got here) =
-        ap (λ o. option_map_or (is_device_due b.greatest) o false) got ∙ idle_due x g here ∙ ap (λ o. option_map_or (is_device_due b.greatest) o false) (sym none)
+        ap (λ o. option_map_or (is_entry_due b.greatest) o false) got ∙ idle_due x g here ∙ ap (λ o. option_map_or (is_entry_due b.greatest) o false) (sym none)
       where
-        idle_due : (x : ℕ) (g : Entry) → slice_get gs x ≡ Some g → is_device_due b.greatest g ≡ false
-        idle_due x g here = fails_got (is_device_due b.greatest) x g gs (none_due b.greatest ads gs all) here
+        idle_due : (x : ℕ) (g : Entry) → slice_get gs x ≡ Some g → is_entry_due b.greatest g ≡ false
+        idle_due x g here = fails_got (is_entry_due b.greatest) x g gs (none_due b.greatest ads gs all) here
           where
             fails_got : (test : Entry → Bool) (x : ℕ) (g : Entry) (hs : List Entry) → Fails test hs → slice_get hs x ≡ Some g → test g ≡ false
             fails_got test x g [] fails is = absurd (let e = is in cc)
             fails_got test zero g (h ∷ hs) fails is = let same : h ≡ g = cc in subst (λ (d : Entry). test d ≡ false) same fails.0
             fails_got test (suc x) g (h ∷ hs) fails is = fails_got test x g hs fails.1 is
-    by_place (IsNobody none also) = (λ i. option_map_or (is_device_due b.greatest) ((also ∙ sym none) i) false)
+    by_place (IsNobody none also) = (λ i. option_map_or (is_entry_due b.greatest) ((also ∙ sym none) i) false)
 
 held_same : (ads : List ℕ) (ms : List Remembered) (k : ℕ) (gs : List Entry) (b : BusState) → AreIdleAt ads gs
     → option_map_or holds (device_of k (idle_bus gs ms b)) false ≡ option_map_or holds (device_of k b) false
@@ -127,7 +127,7 @@ ticked_at ads ms (Some k) gs b all (d, is) =
       are = all;
       same = ap (λ o. (ticks_with k o (idle_bus gs ms b)).bus) front
           ∙ (λ i. record b {
-            devices = record { entries = set_front k b.devices.entries gs d (device_ticks b.greatest d) is i; report = waiting_after k (step_of b.greatest d).report b.devices.report };
+            devices = record { entries = set_front k b.devices.entries gs d (entry_ticks b.greatest d) is i; report = waiting_after k (step_of b.greatest d).report b.devices.report };
             first = k + 1;
             remembered = ms;
           })
@@ -138,7 +138,7 @@ ticked_at ads ms (Some k) gs b all (d, is) =
 
 -- nobody holds the line
 next_same : (ads : List ℕ) (ms : List Remembered) (gs : List Entry) (b : BusState) → AreIdleAt ads gs → next_due (idle_bus gs ms b) ≡ next_due b
-next_same ads ms gs b all = around_same (is_device_due b.greatest) b.first b.devices.entries gs (none_due b.greatest ads gs all)
+next_same ads ms gs b all = around_same (is_entry_due b.greatest) b.first b.devices.entries gs (none_due b.greatest ads gs all)
 
 next_there : (o : Option ℕ) (b : BusState) → next_due b ≡ o → IsThere o b
 next_there None b is = tt
@@ -180,10 +180,10 @@ holder_same ads ms k gs b all =
     by_place goes (IsEntry d is also) = (d, is)
     by_place goes (IsIdleOne x g at none got here) =
         absurd (or_true (has_report b)
-        (sym (ap (λ o. has_report b || not (option_map_or holds o false && option_map_or (is_device_due b.greatest) o false)) none) ∙ goes))
+        (sym (ap (λ o. has_report b || not (option_map_or holds o false && option_map_or (is_entry_due b.greatest) o false)) none) ∙ goes))
     by_place goes (IsNobody none also) =
         absurd (or_true (has_report b)
-        (sym (ap (λ o. has_report b || not (option_map_or holds o false && option_map_or (is_device_due b.greatest) o false)) none) ∙ goes))
+        (sym (ap (λ o. has_report b || not (option_map_or holds o false && option_map_or (is_entry_due b.greatest) o false)) none) ∙ goes))
 
     by_test : (x : Bool) → has_report b || not (is_held_and_due k b) ≡ x
         → SameTicked ads ms (cond x (stays (idle_bus gs ms b)) (ticks_at (Some k) (idle_bus gs ms b))) (cond x (stays b) (ticks_at (Some k) b))

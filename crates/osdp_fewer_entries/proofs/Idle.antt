@@ -12,7 +12,7 @@ use Rattle.osdp_controller.specs.declared.report.Report.{Report}
 use Rattle.osdp_controller.specs.declared.session.Session.{Session}
 use Rattle.osdp_controller.specs.declared.state.State.TheVariants.{Closed}
 use Rattle.osdp_bus.specs.Buses.{Devices, waiting_after}
-use Rattle.osdp_bus.specs.Entries.{address_of, device_hears, first_around, first_from, holds, is_at, is_device_due, reserved_after, told_of}
+use Rattle.osdp_bus.specs.Entries.{address_of, entry_hears, first_around, first_from, holds, is_at, is_entry_due, reserved_after, told_of}
 use Rattle.osdp_bus.specs.Hearing.{hears_at, hears_items, hears_packet, hears_with}
 use Rattle.osdp_bus.specs.declared.entry.Entry.{Entry}
 use Rattle.osdp_bus_laws.specs.Reports.{told_at, told_by_entry, told_by_item, told_by_items, told_with}
@@ -36,7 +36,7 @@ pub record IsIdleAt (a : ℕ) (g : Entry) : Type 0 where
   pub idle : IsIdle g
   pub address : address_of g ≡ a
 
-idle_hears : (p : Packet) (now a : ℕ) (g : Entry) → IsIdleAt a g → IsIdleAt a (device_hears p now g)
+idle_hears : (p : Packet) (now a : ℕ) (g : Entry) → IsIdleAt a g → IsIdleAt a (entry_hears p now g)
 idle_hears p now a g is =
     let quiet = ignored p now g.controller.session is.idle.closed in
     record {
@@ -86,9 +86,9 @@ fails_of test (a ∷ ads) (g ∷ gs) f all = (f g all.0.idle, fails_of test ads 
 pub none_holds : (ads : List ℕ) (gs : List Entry) → AreIdleAt ads gs → Fails holds gs
 none_holds ads gs all = fails_of holds ads gs (λ g is. ap is_outstanding is.closed) all
 
-pub none_due : (now : ℕ) (ads : List ℕ) (gs : List Entry) → AreIdleAt ads gs → Fails (is_device_due now) gs
+pub none_due : (now : ℕ) (ads : List ℕ) (gs : List Entry) → AreIdleAt ads gs → Fails (is_entry_due now) gs
 none_due now ads gs all =
-    fails_of (is_device_due now) ads gs
+    fails_of (is_entry_due now) ads gs
     (λ g is. ap (λ st. acts (ticks_in st (seen now g.controller.session) g.controller.waiting).step) is.closed) all
 
 -- ---- the first that passes a test
@@ -255,7 +255,7 @@ packet_same ads p now gs ds all = by_first (first_of (is_at p.address) 0 ds.entr
           idle = gs;
           are = all;
           same = ap (λ o. hears_with p now j o (and_idle gs ds)) (get_front j ds.entries gs d here)
-              ∙ (λ i. record { entries = set_front j ds.entries gs d (device_hears p now d) here i; report = waiting_after j (told_of p now d) ds.report })
+              ∙ (λ i. record { entries = set_front j ds.entries gs d (entry_hears p now d) here i; report = waiting_after j (told_of p now d) ds.report })
               ∙ ap (λ o. and_idle gs (hears_with p now j o ds)) (sym here);
           told = ap (told_with p now j) (get_front j ds.entries gs d here) ∙ ap (told_with p now j) (sym here);
         }
@@ -269,10 +269,10 @@ packet_same ads p now gs ds all = by_first (first_of (is_at p.address) 0 ds.entr
             let there : slice_get (ds.entries ++ gs) j ≡ Some g = get_back j x ds.entries gs at ∙ got in
             let quiet = told_nothing p now g idle in
             record {
-              idle = slice_set gs x (device_hears p now g);
-              are = set_idle ads gs x g (device_hears p now g) got (λ a is. idle_hears p now a g is) all;
+              idle = slice_set gs x (entry_hears p now g);
+              are = set_idle ads gs x g (entry_hears p now g) got (λ a is. idle_hears p now a g is) all;
               same = ap (λ o. hears_with p now j o (and_idle gs ds)) there
-                  ∙ (λ i. record { entries = set_back j x (device_hears p now g) ds.entries gs at i; report = waiting_after j (quiet i) ds.report });
+                  ∙ (λ i. record { entries = set_back j x (entry_hears p now g) ds.entries gs at i; report = waiting_after j (quiet i) ds.report });
               told = ap (told_with p now j) there ∙ ap (told_at j) quiet;
             }
 

@@ -5,9 +5,9 @@ use Rattle.osdp_frame.specs.Items.{items}
 use Rattle.osdp_frame.specs.Packet.{Packet}
 use Rattle.osdp_frame.specs.Reading.{RunItem, PacketItem, SkippedItem, RefusedItem}
 use Rattle.osdp_bus.specs.Buses.{BusState, Devices, device_of, has_report, holder, is_silent, seen}
-use Rattle.osdp_bus.specs.Entries.{first_from, is_at, device_ticks, device_hears}
+use Rattle.osdp_bus.specs.Entries.{first_from, is_at, entry_ticks, entry_hears}
 use Rattle.osdp_bus.specs.Hearing.{after_bytes, ends_run, ends_silent, hears_at, hears_items, hears_packet, hears_with}
-use Rattle.osdp_bus.specs.Machine.{begin_refusal_at, changed_unless, changes_device, device_begins, device_retargets, device_submits, device_withdraws, retarget_refusal_at, submit_refusal_at, after_submit_at, after_begin_at, after_retarget_at}
+use Rattle.osdp_bus.specs.Machine.{begin_refusal_at, changed_unless, changes_entry, entry_begins, entry_retargets, entry_submits, entry_withdraws, retarget_refusal_at, submit_refusal_at, after_submit_at, after_begin_at, after_retarget_at}
 use Rattle.osdp_bus.specs.Ticking.{BusTicked, bus_ticks, is_due_at, is_held_and_due, next_due, stays, ticks_at, ticks_by, ticks_on, ticks_with, ticks_held}
 use Rattle.osdp_bus.specs.declared.entry.Entry.{Entry}
 use Rattle.osdp_bus.specs.declared.fault.BusFault.{BusFault}
@@ -27,7 +27,7 @@ packet_many p now ds = by_first (first_from 0 (is_at p.address) ds.entries)
   where
     by_entry : (k : ℕ) (o : Option Entry) → length (hears_with p now k o ds).entries ≡ length ds.entries
     by_entry k None = refl
-    by_entry k (Some d) = set_many k (device_hears p now d) ds.entries
+    by_entry k (Some d) = set_many k (entry_hears p now d) ds.entries
 
     by_first : (o : Option ℕ) → length (hears_at p now o ds).entries ≡ length ds.entries
     by_first None = refl
@@ -61,7 +61,7 @@ at_many (Some k) b = by_entry (device_of k b)
   where
     by_entry : (o : Option Entry) → many (ticks_with k o b).bus ≡ many b
     by_entry None = refl
-    by_entry (Some d) = set_many k (device_ticks b.greatest d) b.devices.entries
+    by_entry (Some d) = set_many k (entry_ticks b.greatest d) b.devices.entries
 
 either_many : (x : Bool) (t u : BusTicked) (n : ℕ) → many t.bus ≡ n → many u.bus ≡ n → many (cond x t u).bus ≡ n
 either_many true t u n first second = first
@@ -81,7 +81,7 @@ tick_many now b =
     let c = ends_silent (seen now b) in
     either_many (has_report b) (stays (seen now b)) (ticks_on c) (many b) refl (by_many (holder c) c ∙ silent_many (seen now b))
 
-changes_many : (k : ℕ) (change : Entry → Entry) (b : BusState) → many (changes_device k change b) ≡ many b
+changes_many : (k : ℕ) (change : Entry → Entry) (b : BusState) → many (changes_entry k change b) ≡ many b
 changes_many k change b = by_entry (device_of k b)
   where
     by_entry : (o : Option Entry)
@@ -100,12 +100,12 @@ IsNoAdd _ = Unit {0}
 pub call_many : (call : bus.Call) (b : BusState) → IsNoAdd call → many (bus.after_call call b) ≡ many b
 call_many (bus.Add address) b none = absurd none
 call_many (bus.Begin k now) b none =
-    unless_many (begin_refusal_at k b) b (after_begin_at k now b) (changes_many k (device_begins (max b.greatest now)) (seen now b))
+    unless_many (begin_refusal_at k b) b (after_begin_at k now b) (changes_many k (entry_begins (max b.greatest now)) (seen now b))
 call_many (bus.Submit k command) b none =
-    unless_many (submit_refusal_at k command b) b (after_submit_at k command b) (changes_many k (device_submits command) b)
-call_many (bus.Withdraw k) b none = changes_many k device_withdraws b
+    unless_many (submit_refusal_at k command b) b (after_submit_at k command b) (changes_many k (entry_submits command) b)
+call_many (bus.Withdraw k) b none = changes_many k entry_withdraws b
 call_many (bus.Retarget k address) b none =
-    unless_many (retarget_refusal_at k address b) b (after_retarget_at k address b) (changes_many k (device_retargets address) b)
+    unless_many (retarget_refusal_at k address b) b (after_retarget_at k address b) (changes_many k (entry_retargets address) b)
 call_many (bus.OnBytes bytes now) b none = bytes_many bytes now b
 call_many (bus.OnSilence now) b none = end_many (seen now b)
 call_many (bus.Tick now) b none = tick_many now b

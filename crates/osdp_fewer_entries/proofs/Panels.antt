@@ -4,7 +4,7 @@ use Rattle.std.specs.Option.{option_map_or}
 use Rattle.osdp_frame.specs.Packet.{Packet}
 use Rattle.osdp_msg.specs.declared.command.Command.{Command}
 use Rattle.osdp_bus.specs.Buses.{BusState, device_of, seen}
-use Rattle.osdp_bus.specs.Machine.{after_begin_at, after_retarget_at, after_submit_at, begin_refusal_at, begin_refusal_of, changed_unless, changes_device, device_begins, device_retargets, device_submits, device_withdraws, remembered_after, retarget_refusal_at, retarget_refusal_of, submit_refusal_at, submit_refusal_of, withdrawal_of}
+use Rattle.osdp_bus.specs.Machine.{after_begin_at, after_retarget_at, after_submit_at, begin_refusal_at, begin_refusal_of, changed_unless, changes_entry, entry_begins, entry_retargets, entry_submits, entry_withdraws, remembered_after, retarget_refusal_at, retarget_refusal_of, submit_refusal_at, submit_refusal_of, withdrawal_of}
 use Rattle.osdp_bus.specs.Remembering.{Remembered}
 use Rattle.osdp_bus.specs.Ticking.{bus_ticks}
 use Rattle.osdp_bus.specs.declared.entry.Entry.{Entry}
@@ -47,7 +47,7 @@ alike_of (Some x) (Some y) fewer same = Both x y refl refl
 
 -- the entry of a call changes
 changes_same : (k : ℕ) (d : Entry) (change : Entry → Entry) (gs : List Entry) (ms : List Remembered) (b : BusState) → device_of k b ≡ Some d
-    → changes_device k change (idle_bus gs ms b) ≡ idle_bus gs ms (changes_device k change b)
+    → changes_entry k change (idle_bus gs ms b) ≡ idle_bus gs ms (changes_entry k change b)
 changes_same k d change gs ms b is =
     ap by_whole (get_front k b.devices.entries gs d is)
     ∙ (λ i. record b { devices = record b.devices { entries = set_front k b.devices.entries gs d (change d) is i }; remembered = ms })
@@ -115,7 +115,7 @@ module _ {H : Type 0} where
     panel_same answer_of after (bus.Add address) range free there = absurd range
     panel_same answer_of after (bus.Begin k now) range free (d, is) =
         let refusal = ap begin_refusal_of (front k d is) in
-        let change = device_begins (max l.bus.greatest now) in
+        let change = entry_begins (max l.bus.greatest now) in
         record {
           idle = gs;
           memory = ms;
@@ -141,7 +141,7 @@ module _ {H : Type 0} where
           are = left.idle;
           same = unless_alike whole part (idle_bus gs ms l.bus) (after_submit_at k command (idle_bus gs ms l.bus)) alike
               ∙ unless_same part gs ms l.bus (after_submit_at k command l.bus) (after_submit_at k command (idle_bus gs ms l.bus))
-              (changes_same k d (device_submits command) gs ms l.bus is);
+              (changes_same k d (entry_submits command) gs ms l.bus is);
           notes = unless_alike whole part l.stations (change_at k (issues command) l.stations) alike;
           told = refl;
           accepted = λ i. accepted_same i k command whole part alike;
@@ -154,7 +154,7 @@ module _ {H : Type 0} where
       idle = gs;
       memory = ms;
       are = left.idle;
-      same = changes_same k d device_withdraws gs ms l.bus is;
+      same = changes_same k d entry_withdraws gs ms l.bus is;
       notes = ap (λ w. change_at k (takes_back (withdrawn w)) l.stations) (ap withdrawal_of (front k d is));
       told = refl;
       accepted = λ i. refl;
@@ -172,7 +172,7 @@ module _ {H : Type 0} where
           are = left.idle;
           same = unless_alike whole part (idle_bus gs ms l.bus) (after_retarget_at k address (idle_bus gs ms l.bus)) alike
               ∙ unless_same part gs ms l.bus (after_retarget_at k address l.bus) (after_retarget_at k address (idle_bus gs ms l.bus))
-              (changes_same k d (device_retargets address) gs ms l.bus is);
+              (changes_same k d (entry_retargets address) gs ms l.bus is);
           notes = refl;
           told = refl;
           accepted = λ i. refl;
@@ -329,7 +329,7 @@ module _ {H : Type 0} where
       let here : device_of i l.bus ≡ None = ap (λ j. device_of j l.bus) (let e : i ≡ k = cc in e) ∙ none in
       (λ j. record l {
         bus = option_map_or (λ (e : Entry). record l.bus {
-          devices = record l.bus.devices { entries = slice_set l.bus.devices.entries i (device_withdraws e) };
+          devices = record l.bus.devices { entries = slice_set l.bus.devices.entries i (entry_withdraws e) };
         }) (here j) l.bus;
         stations = change_at i (takes_back (withdrawn (withdrawal_of (here j)))) l.stations;
         place = place j;

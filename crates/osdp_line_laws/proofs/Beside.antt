@@ -8,7 +8,7 @@ use Rattle.osdp_bus.specs.declared.entry.Entry.{Entry}
 use Rattle.osdp_bus.specs.declared.fault.BusFault.{BusFault}
 use Rattle.osdp_bus.specs.Buses.{BusState, device_of, seen}
 use Rattle.osdp_bus.specs.Hearing.{after_bytes, ends_run}
-use Rattle.osdp_bus.specs.Machine.{add_refusal, after_begin_at, after_next_report, begin_refusal_at, changed_unless, device_retargets, device_submits, leads_nowhere, retarget_refusal_at, submit_refusal_at}
+use Rattle.osdp_bus.specs.Machine.{add_refusal, after_begin_at, after_next_report, begin_refusal_at, changed_unless, entry_retargets, entry_submits, leads_nowhere, retarget_refusal_at, submit_refusal_at}
 use Rattle.osdp_bus.specs.Settings.{IsBusConfig}
 use Rattle.osdp_bus.specs.Ticking.{bus_ticks}
 use Rattle.osdp_bus_laws.specs.Calls.{Call, Add as AddCall, Begin as BeginCall, Submit as SubmitCall, Withdraw as WithdrawCall, Retarget as RetargetCall, OnBytes, Tick as TickCall, NextReport, after_call, after_calls}
@@ -159,10 +159,10 @@ agrees (Submit entry command) s opened sound agree = by_test (leads_nowhere (com
   where
     by_test : (t : Bool) → Agree opened (after_calls (if t then [] else SubmitCall entry command ∷ []) s.bus).devices
     by_test true = agree
-    by_test false = agree_submit opened entry s.bus (submit_refusal_at entry command s.bus) (device_submits command) (λ d. refl) agree
+    by_test false = agree_submit opened entry s.bus (submit_refusal_at entry command s.bus) (entry_submits command) (λ d. refl) agree
 agrees (Withdraw entry) s opened sound agree = agree_withdraw opened entry s.bus agree
 agrees (Retarget entry address) s opened sound agree =
-    agree_submit opened entry s.bus (retarget_refusal_at entry address s.bus) (device_retargets address) (λ d. refl) agree
+    agree_submit opened entry s.bus (retarget_refusal_at entry address s.bus) (entry_retargets address) (λ d. refl) agree
 agrees (Bytes list) s opened sound agree = agree_bytes opened list.items s.now s.bus sound agree
 agrees Silence s opened sound agree = agree_silence opened s.now s.bus sound agree
 agrees Tick s opened sound agree = agree_tick opened s.now s.bus sound agree

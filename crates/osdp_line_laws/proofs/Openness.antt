@@ -16,9 +16,9 @@ use Rattle.osdp_bus.specs.declared.entry.Entry.{Entry}
 use Rattle.osdp_bus.specs.declared.fault.BusFault.{BusFault}
 use Rattle.osdp_bus.specs.declared.fault.BusFault.TheVariants.{TooMany, AddressTaken, OutOfRange}
 use Rattle.osdp_bus.specs.Buses.{BusState, Devices, device_of, has_report, holder, is_silent, seen, waiting_after}
-use Rattle.osdp_bus.specs.Entries.{device_hears, device_ticks, is_taken, step_of, told_of}
+use Rattle.osdp_bus.specs.Entries.{entry_hears, entry_ticks, is_taken, step_of, told_of}
 use Rattle.osdp_bus.specs.Hearing.{after_bytes, ends_run, ends_silent, hears_items, hears_with}
-use Rattle.osdp_bus.specs.Machine.{add_refusal, after_add, after_begin_at, after_next_report, begin_refusal_at, begin_refusal_of, changed_unless, changes_device, device_begins, device_withdraws, most_devices, new_device}
+use Rattle.osdp_bus.specs.Machine.{add_refusal, after_add, after_begin_at, after_next_report, begin_refusal_at, begin_refusal_of, changed_unless, changes_entry, entry_begins, entry_withdraws, most_entries, new_device}
 use Rattle.osdp_bus.specs.Ticking.{BusTicked, bus_ticks, is_due_at, next_due, stays, ticks_at, ticks_by, ticks_free, ticks_held, ticks_on, ticks_with}
 use Rattle.osdp_bus_laws.proofs.Calling.{map_none, unless_taken}
 use Rattle.osdp_bus_laws.proofs.Changing.{Sound}
@@ -118,7 +118,7 @@ agree_packet : (opened : List Bool) (now : ℕ) (p : Packet) (i : ℕ) (d : Entr
     → AgreeSoundly opened (hears_with p now i (Some d) ds)
 agree_packet opened now p i d ds at (sound, agree) = (
   sound_packet now p i d ds at sound,
-  agree_set opened ds i d (device_hears p now d) (told_of p now d) at (heard_as p now d.controller.session)
+  agree_set opened ds i d (entry_hears p now d) (told_of p now d) at (heard_as p now d.controller.session)
       (λ some. none_told (told_of p now d)
       (is_false (is_some (told_of p now d)) (λ h. let stands = (heard_told p now d h).0 in let none = sound.waits some i d at in cc)))
       agree,
@@ -156,7 +156,7 @@ module _ (opened : List Bool) where
   agree_ticks_with : (i : ℕ) (o : Option Entry) (b : BusState) → device_of i b ≡ o → has_report b ≡ false → AgreeBus b → TickAgrees (ticks_with i o b)
   agree_ticks_with i None b at none agree = agree
   agree_ticks_with i (Some d) b at none agree =
-      agree_set opened b.devices i d (device_ticks b.greatest d) (step_of b.greatest d).report at
+      agree_set opened b.devices i d (entry_ticks b.greatest d) (step_of b.greatest d).report at
       (ticked_as b.greatest d.controller.session d.controller.waiting) (λ some. absurd cc) agree
 
   agree_ticks_at : (o : Option ℕ) (b : BusState) → has_report b ≡ false → AgreeBus b → TickAgrees (ticks_at o b)
@@ -185,7 +185,7 @@ module _ (opened : List Bool) where
   -- ---- the calls of its user
 
   agree_changes : (entry : ℕ) (change : Entry → Entry) (b : BusState)
-      → ((d : Entry) → device_of entry b ≡ Some d → open_of (Some (change d)) ≡ open_of (Some d)) → AgreeBus b → AgreeBus (changes_device entry change b)
+      → ((d : Entry) → device_of entry b ≡ Some d → open_of (Some (change d)) ≡ open_of (Some d)) → AgreeBus b → AgreeBus (changes_entry entry change b)
   agree_changes entry change b same agree = by_device (device_of entry b) refl
     where
       by_device : (o : Option Entry) → device_of entry b ≡ o
@@ -197,7 +197,7 @@ module _ (opened : List Bool) where
       → AgreeBus (changed_unless f b (after_begin_at entry now b))
   agree_begin entry now (Some fault) b refused agree = agree
   agree_begin entry now None b ok agree =
-      agree_changes entry (device_begins (max b.greatest now)) (seen now b)
+      agree_changes entry (entry_begins (max b.greatest now)) (seen now b)
       (λ d at. sym (ap open_in (was_closed d.controller.session.state (map_none (begin_refusal d.controller) (sym (ap begin_refusal_of at) ∙ ok)))))
       agree
 
@@ -206,12 +206,12 @@ module _ (opened : List Bool) where
   agree_unless (Some fault) b c before after = before
 
   pub agree_submit : (entry : ℕ) (b : BusState) (f : Option BusFault) (change : Entry → Entry)
-      → ((d : Entry) → open_of (Some (change d)) ≡ open_of (Some d)) → AgreeBus b → AgreeBus (changed_unless f b (changes_device entry change b))
+      → ((d : Entry) → open_of (Some (change d)) ≡ open_of (Some d)) → AgreeBus b → AgreeBus (changed_unless f b (changes_entry entry change b))
   agree_submit entry b f change same agree =
-      agree_unless f b (changes_device entry change b) agree (agree_changes entry change b (λ d at. same d) agree)
+      agree_unless f b (changes_entry entry change b) agree (agree_changes entry change b (λ d at. same d) agree)
 
-  pub agree_withdraw : (entry : ℕ) (b : BusState) → AgreeBus b → AgreeBus (changes_device entry device_withdraws b)
-  agree_withdraw entry b agree = agree_changes entry device_withdraws b (λ d at. refl) agree
+  pub agree_withdraw : (entry : ℕ) (b : BusState) → AgreeBus b → AgreeBus (changes_entry entry entry_withdraws b)
+  agree_withdraw entry b agree = agree_changes entry entry_withdraws b (λ d at. refl) agree
 
   -- a device comes after them all, where fewer than sixteen are there
   open_added : (ds : List Entry) (e : Entry) (j : ℕ) → open_of (Some e) ≡ false → open_at j (ds ++ e ∷ []) ≡ open_at j ds
@@ -224,9 +224,9 @@ module _ (opened : List Bool) where
       → AgreeBus (changed_unless f b (after_add address b))
   agree_add address (Some fault) b refused agree = agree
   agree_add address None b ok agree =
-      let more = unless_taken (nat_le most_devices (length b.devices.entries)) TooMany
+      let more = unless_taken (nat_le most_entries (length b.devices.entries)) TooMany
       (if nat_lt address 127 then (if is_taken address b.devices.entries then Some AddressTaken else None) else Some OutOfRange) ok in
-      let below = leb-false most_devices (length b.devices.entries) more.0 in
+      let below = leb-false most_entries (length b.devices.entries) more.0 in
       let longer = length-append b.devices.entries (new_device address b.config ∷ []) in record {
         are = λ j. open_added b.devices.entries (new_device address b.config) j refl ∙ agree.are j;
         few = omega (arith, longer, below);

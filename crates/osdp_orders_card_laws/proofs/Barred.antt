@@ -16,7 +16,7 @@ use Rattle.osdp_time_laws.specs.Orders.{is_under_way}
 use Rattle.osdp_bus.specs.declared.entry.Entry.{Entry}
 use Rattle.osdp_bus.specs.declared.fault.BusFault.{BusFault}
 use Rattle.osdp_bus.specs.Buses.{BusState, device_of}
-use Rattle.osdp_bus.specs.Machine.{after_begin_at, after_submit_at, begin_refusal_at, changed_unless, device_submits, leads_nowhere, submit_refusal_at}
+use Rattle.osdp_bus.specs.Machine.{after_begin_at, after_submit_at, begin_refusal_at, changed_unless, entry_submits, leads_nowhere, submit_refusal_at}
 use Rattle.osdp_bus.specs.Ticking.{BusTicked, bus_ticks}
 use Rattle.osdp_bus_laws.specs.Calls.{Call, Add, Begin, Submit, Withdraw, Retarget, OnBytes, OnSilence, Tick, NextReport, orders}
 use Rattle.osdp_bus_laws.specs.Calls.{after_call as after_bus_call, after_calls as after_bus_calls}
@@ -249,18 +249,18 @@ module _ (entry : ℕ) where
   -- ---- the orders that follow a tick leave what is asked
 
   set_asks : (t : Bool) (k : ℕ) (c : Command) (b : BusState) (f : Entry) → nat_eq entry k ≡ t → device_of k b ≡ Some f
-      → asked_of (slice_get (slice_set b.devices.entries k (device_submits c f)) entry) ≡ asked_of (device_of entry b)
+      → asked_of (slice_get (slice_set b.devices.entries k (entry_submits c f)) entry) ≡ asked_of (device_of entry b)
   set_asks true k c b f same at =
       let here : entry ≡ k = eqb-true entry k same in
-      ap (λ n. asked_of (slice_get (slice_set b.devices.entries k (device_submits c f)) n)) here
-      ∙ ap asked_of (set_here b.devices.entries k f (device_submits c f) at) ∙ sym (ap asked_of (ap (λ n. device_of n b) here ∙ at))
-  set_asks false k c b f other at = ap asked_of (set_other b.devices.entries k entry (device_submits c f) (eqb-false entry k other))
+      ap (λ n. asked_of (slice_get (slice_set b.devices.entries k (entry_submits c f)) n)) here
+      ∙ ap asked_of (set_here b.devices.entries k f (entry_submits c f) at) ∙ sym (ap asked_of (ap (λ n. device_of n b) here ∙ at))
+  set_asks false k c b f other at = ap asked_of (set_other b.devices.entries k entry (entry_submits c f) (eqb-false entry k other))
 
   submit_asks : (k : ℕ) (c : Command) (b : BusState) → asked_of (device_of entry (after_submit_at k c b)) ≡ asked_of (device_of entry b)
   submit_asks k c b = by_device (device_of k b) refl
     where
       by_device : (o : Option Entry) → device_of k b ≡ o
-          → asked_of (device_of entry (option_map_or (λ d. record b { devices = record b.devices { entries = slice_set b.devices.entries k (device_submits c d) } }) o b))
+          → asked_of (device_of entry (option_map_or (λ d. record b { devices = record b.devices { entries = slice_set b.devices.entries k (entry_submits c d) } }) o b))
           ≡ asked_of (device_of entry b)
       by_device None at = refl
       by_device (Some f) at = set_asks (nat_eq entry k) k c b f refl at

@@ -21,7 +21,7 @@ use Rattle.osdp_controller_laws.proofs.Endings.{frame_ends}
 use Rattle.osdp_time_laws.specs.Orders.{is_under_way}
 use Rattle.osdp_bus.specs.declared.entry.Entry.{Entry}
 use Rattle.osdp_bus.specs.Buses.{BusState, Devices, device_of, waiting_after}
-use Rattle.osdp_bus.specs.Entries.{device_hears, device_ticks, told_of}
+use Rattle.osdp_bus.specs.Entries.{entry_hears, entry_ticks, told_of}
 use Rattle.osdp_bus.specs.Hearing.{hears_with}
 use Rattle.osdp_bus.specs.Ticking.{BusTicked}
 use Rattle.osdp_bus_laws.specs.Calls.{Call, after_call}
@@ -59,12 +59,12 @@ module _ (entry : ℕ) (c : Command) where
     here same None is asks = absurd cc
     here same (Some x) is asks = by_end (frame_ends x p g d.controller.session is)
       where
-        there : slice_get after.entries entry ≡ Some (device_hears p g d)
-        there = ap (slice_get (slice_set ds.entries i (device_hears p g d))) same ∙ set_here ds.entries i d (device_hears p g d) at
+        there : slice_get after.entries entry ≡ Some (entry_hears p g d)
+        there = ap (slice_get (slice_set ds.entries i (entry_hears p g d))) same ∙ set_here ds.entries i d (entry_hears p g d) at
 
         by_end : GoesOn x (hears p g d.controller.session).session.state (hears p g d.controller.session).report
             ⊎ IsAnswered x (hears p g d.controller.session).session.state (hears p g d.controller.session).report → AsksOrTold after
-        by_end (inl on) = inl (device_hears p g d, there, ap command_of on.outstanding ∙ asks)
+        by_end (inl on) = inl (entry_hears p g d, there, ap command_of on.outstanding ∙ asks)
         by_end (inr answered) = inr (told_now i (told_of p g d) ds.report (answered.told ∙ asks))
 
     packet_asks : AsksOrTold ds → AsksOrTold after
@@ -76,7 +76,7 @@ module _ (entry : ℕ) (c : Command) where
             let is : entry ≡ i = eqb-true entry i same in
             let one : place.0 ≡ d = one_device (slice_get ds.entries i) place.0 d (sym (ap (slice_get ds.entries) is) ∙ place.1) at in
             here is (exchange_in (state_of d)) refl (subst Asks one place.2)
-        by_same false other = inl (place.0, set_other ds.entries i entry (device_hears p g d) (eqb-false entry i other) ∙ place.1, place.2)
+        by_same false other = inl (place.0, set_other ds.entries i entry (entry_hears p g d) (eqb-false entry i other) ∙ place.1, place.2)
 
   asks_then : (now : ℕ) (b : BusState) → AsksOrTold b.devices → AsksOrTold (asking now b).devices
   asks_then now b is = asking_keeps AsksOrTold (λ g p i d ds at. packet_asks g p i d ds at) now b is
@@ -123,7 +123,7 @@ opening_begins call entry b d begun at never =
     let kept = asking_keeps (There entry (state_of d)) (packet_leaves entry (state_of d)) n b (d, at, leaves_same (state_of d)) in
     let one : kept.0 ≡ f = one_device (device_of entry r) kept.0 f kept.1 begun.next.due.there in
     let unopened : is_under_way (state_of f) ≡ false = ap (λ (e : Entry). is_under_way (state_of e)) (sym one) ∙ kept.2.unopened never in
-    let after : device_of entry (after_call call b) ≡ Some (device_ticks r.greatest f) =
+    let after : device_of entry (after_call call b) ≡ Some (entry_ticks r.greatest f) =
     ap (λ c. device_of entry (after_call c b)) begun.tick ∙ ap (λ (t : BusTicked). device_of entry t.bus) (begun_ticked n entry b begun.free begun.next)
-    ∙ set_here r.devices.entries entry f (device_ticks r.greatest f) begun.next.due.there in
+    ∙ set_here r.devices.entries entry f (entry_ticks r.greatest f) begun.next.due.there in
     ap asked_of after ∙ opens_first (state_of f) (seen_by r.greatest f.controller.session) f.controller.waiting unopened refl

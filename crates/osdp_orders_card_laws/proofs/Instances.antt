@@ -13,7 +13,7 @@ use Rattle.osdp_time_laws.proofs.Duties.{until_of}
 use Rattle.osdp_bus.specs.declared.entry.Entry.{Entry}
 use Rattle.osdp_bus.specs.Buses.{BusState, has_report, holder}
 use Rattle.osdp_bus.specs.Deadlines.{acts}
-use Rattle.osdp_bus.specs.Entries.{is_device_due}
+use Rattle.osdp_bus.specs.Entries.{is_entry_due}
 use Rattle.osdp_bus_laws.specs.Calls.{Call, NextReport, OnBytes, Submit, Tick, after_call}
 use Rattle.osdp_bus_laws.specs.Exchanges.{IsOutstandingAt}
 use Rattle.osdp_bus_laws.specs.Fairness.{Begins}
@@ -76,8 +76,8 @@ rests_until : (b : BusState) (d : Entry) (at : ℕ) → b.held ≡ [] → has_re
     → d.controller.waiting ≡ [] → d.controller.session.greatest ≤ b.greatest → acts at b ≡ true → until_of d.controller.session.state ≤ max b.greatest at
 rests_until b d at none untold free entries rests seen so =
     reached_of at b d (λ idle. rests) seen
-    (either_false (is_device_due (max b.greatest at) d)
-    (sym (ap (list_any (is_device_due (max b.greatest at))) entries) ∙ free_due b none untold at so free))
+    (either_false (is_entry_due (max b.greatest at) d)
+    (sym (ap (list_any (is_entry_due (max b.greatest at))) entries) ∙ free_due b none untold at so free))
 
 abbrev From : List Call → BusState → Type 0
 From calls b = KeepsTime 1 calls b

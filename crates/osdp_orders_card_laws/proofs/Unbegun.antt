@@ -22,9 +22,9 @@ use Rattle.osdp_controller_laws.proofs.Stepwise.{frames_in_steps}
 use Rattle.osdp_time_laws.specs.Orders.{is_under_way}
 use Rattle.osdp_bus.specs.declared.entry.Entry.{Entry}
 use Rattle.osdp_bus.specs.Buses.{BusState, Devices, has_report, is_silent, seen}
-use Rattle.osdp_bus.specs.Entries.{device_hears, device_ticks, holds}
+use Rattle.osdp_bus.specs.Entries.{entry_hears, entry_ticks, holds}
 use Rattle.osdp_bus.specs.Hearing.{after_bytes, ends_run, hears_with}
-use Rattle.osdp_bus.specs.Machine.{add_refusal, after_add, after_begin_at, after_retarget_at, after_submit_at, begin_refusal_at, changes_device, device_begins, device_retargets, device_submits, device_withdraws, new_device, retarget_refusal_at, submit_refusal_at}
+use Rattle.osdp_bus.specs.Machine.{add_refusal, after_add, after_begin_at, after_retarget_at, after_submit_at, begin_refusal_at, changes_entry, entry_begins, entry_retargets, entry_submits, entry_withdraws, new_device, retarget_refusal_at, submit_refusal_at}
 use Rattle.osdp_bus.specs.Ticking.{BusTicked, bus_ticks, stays, ticks_on}
 use Rattle.osdp_bus_laws.specs.Calls.{Call, Add, Begin, Submit, Withdraw, Retarget, OnBytes, OnSilence, Tick, NextReport, after_call}
 use Rattle.osdp_bus_laws.specs.Fairness.{Begins}
@@ -122,13 +122,13 @@ module _ (entry : ℕ) (first : State) where
   abbrev pub There : Devices → Type 0
   There ds = AtPlace entry Left ds
 
-  heard : (g : ℕ) (p : Packet) (d : Entry) → Left d → Left (device_hears p g d)
+  heard : (g : ℕ) (p : Packet) (d : Entry) → Left d → Left (entry_hears p g d)
   heard g p d left =
-      leaves_then first (state_of d) (state_of (device_hears p g d)) left (heard_by (exchange_in (state_of d)) p g d.controller.session refl)
+      leaves_then first (state_of d) (state_of (entry_hears p g d)) left (heard_by (exchange_in (state_of d)) p g d.controller.session refl)
 
-  ticked : (g : ℕ) (d : Entry) → holds d ≡ true → Left d → Left (device_ticks g d)
+  ticked : (g : ℕ) (d : Entry) → holds d ≡ true → Left d → Left (entry_ticks g d)
   ticked g d stands left =
-      leaves_then first (state_of d) (state_of (device_ticks g d)) left
+      leaves_then first (state_of d) (state_of (entry_ticks g d)) left
       (ticked_by (exchange_in (state_of d)) g d.controller.session d.controller.waiting refl stands)
 
   packet_by : (t : Bool) (g : ℕ) (p : Packet) (i : ℕ) (d : Entry) (ds : Devices) → nat_eq entry i ≡ t → slice_get ds.entries i ≡ Some d → There ds
@@ -136,12 +136,12 @@ module _ (entry : ℕ) (first : State) where
   packet_by true g p i d ds same at there =
       let here : entry ≡ i = eqb-true entry i same in
       let one : there.0 ≡ d = one_device (slice_get ds.entries i) there.0 d (sym (ap (slice_get ds.entries) here) ∙ there.1) at in (
-        device_hears p g d,
-        ap (slice_get (slice_set ds.entries i (device_hears p g d))) here ∙ set_here ds.entries i d (device_hears p g d) at,
+        entry_hears p g d,
+        ap (slice_get (slice_set ds.entries i (entry_hears p g d))) here ∙ set_here ds.entries i d (entry_hears p g d) at,
         heard g p d (subst Left one there.2),
       )
   packet_by false g p i d ds other at there =
-      (there.0, set_other ds.entries i entry (device_hears p g d) (eqb-false entry i other) ∙ there.1, there.2)
+      (there.0, set_other ds.entries i entry (entry_hears p g d) (eqb-false entry i other) ∙ there.1, there.2)
 
   pub packet_leaves : (g : ℕ) (p : Packet) (i : ℕ) (d : Entry) (ds : Devices) → slice_get ds.entries i ≡ Some d → There ds → There (hears_with p g i (Some d) ds)
   packet_leaves g p i d ds at there = packet_by (nat_eq entry i) g p i d ds refl at there
@@ -152,11 +152,11 @@ module _ (entry : ℕ) (first : State) where
   ThereIn b = There b.devices
 
   changed : (change : Entry → Entry) (at : ℕ) (b : BusState) → ((d : Entry) → Leaves (state_of d) (state_of (change d))) → ThereIn b
-      → ThereIn (changes_device at change b)
+      → ThereIn (changes_entry at change b)
   changed change at b changes there =
       changed_place Left entry change at b (λ same d is left. leaves_then first (state_of d) (state_of (change d)) left (changes d)) there
 
-  begins_quiet : (g : ℕ) (d : Entry) → Leaves (state_of d) (state_of (device_begins g d))
+  begins_quiet : (g : ℕ) (d : Entry) → Leaves (state_of d) (state_of (entry_begins g d))
   begins_quiet g d = record { polls = λ h. absurd cc; unopened = λ never. refl }
 
   -- ---- a tick
@@ -169,7 +169,7 @@ module _ (entry : ℕ) (first : State) where
       by_same true same = absurd (not (subst (λ n. Begins (Tick now) n b) (eqb-true k entry same) begun))
       by_same false other = others (eqb-false k entry other)
   by_outcome now g b not (inr (inl (d, there, (left, never)))) = (d, there, left)
-  by_outcome now g b not (inr (inr (d, left, stands, due, there))) = (device_ticks g d, there, ticked g d stands left)
+  by_outcome now g b not (inr (inr (d, left, stands, due, there))) = (entry_ticks g d, there, ticked g d stands left)
 
   tick_leaves : (now : ℕ) (b : BusState) → SoundBus b → (Begins (Tick now) entry b → ⊥) → ThereIn b → ThereIn (bus_ticks now b).bus
   tick_leaves now b sound not there = by_report (has_report b) refl
@@ -189,14 +189,14 @@ module _ (entry : ℕ) (first : State) where
       (λ ok. (there.0, in_front b.devices.entries (new_device address b.config) entry there.0 there.1, there.2))
   call_leaves (Begin at now) b sound not there =
       unless_place Left entry (begin_refusal_at at b) b (after_begin_at at now b) there
-      (λ ok. changed (device_begins (max b.greatest now)) at (seen now b) (begins_quiet (max b.greatest now)) there)
+      (λ ok. changed (entry_begins (max b.greatest now)) at (seen now b) (begins_quiet (max b.greatest now)) there)
   call_leaves (Submit at command) b sound not there =
       unless_place Left entry (submit_refusal_at at command b) b (after_submit_at at command b) there
-      (λ ok. changed (device_submits command) at b (λ d. leaves_same (state_of d)) there)
-  call_leaves (Withdraw at) b sound not there = changed device_withdraws at b (λ d. leaves_same (state_of d)) there
+      (λ ok. changed (entry_submits command) at b (λ d. leaves_same (state_of d)) there)
+  call_leaves (Withdraw at) b sound not there = changed entry_withdraws at b (λ d. leaves_same (state_of d)) there
   call_leaves (Retarget at address) b sound not there =
       unless_place Left entry (retarget_refusal_at at address b) b (after_retarget_at at address b) there
-      (λ ok. changed (device_retargets address) at b (λ d. leaves_same (state_of d)) there)
+      (λ ok. changed (entry_retargets address) at b (λ d. leaves_same (state_of d)) there)
   call_leaves (OnBytes bytes now) b sound not there = bytes_keep There packet_leaves bytes now b there
   call_leaves (OnSilence now) b sound not there = run_keeps There packet_leaves (seen now b) there
   call_leaves (Tick now) b sound not there = tick_leaves now b sound not there

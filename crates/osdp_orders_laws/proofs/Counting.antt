@@ -7,9 +7,9 @@ use Rattle.osdp_controller.proofs.Choices.{either_way}
 use Rattle.osdp_bus.specs.declared.entry.Entry.{Entry}
 use Rattle.osdp_bus.specs.declared.fault.BusFault.{BusFault}
 use Rattle.osdp_bus.specs.Buses.{BusState, Devices, device_of, has_report, holder, is_silent, seen}
-use Rattle.osdp_bus.specs.Entries.{device_hears}
+use Rattle.osdp_bus.specs.Entries.{entry_hears}
 use Rattle.osdp_bus.specs.Hearing.{after_bytes, ends_run, ends_silent}
-use Rattle.osdp_bus.specs.Machine.{after_begin_at, after_retarget_at, after_submit_at, begin_refusal_at, changed_unless, changes_device, device_begins, device_retargets, device_submits, device_withdraws, retarget_refusal_at, submit_refusal_at}
+use Rattle.osdp_bus.specs.Machine.{after_begin_at, after_retarget_at, after_submit_at, begin_refusal_at, changed_unless, changes_entry, entry_begins, entry_retargets, entry_submits, entry_withdraws, retarget_refusal_at, submit_refusal_at}
 use Rattle.osdp_bus.specs.Ticking.{BusTicked, bus_ticks, is_due_at, is_held_and_due, next_due, stays, ticks_at, ticks_by, ticks_held, ticks_on, ticks_with}
 use Rattle.osdp_bus_laws.specs.Calls.{Call, Add, Begin, Submit, Withdraw, Retarget, OnBytes, OnSilence, Tick, NextReport, after_call}
 use Rattle.osdp_bus_laws.proofs.Hearing.{items_keep}
@@ -43,7 +43,7 @@ module _ (n : ℕ) where
   Counts b = Long b.devices
 
   run : (b : BusState) → Counts b → Counts (ends_run b)
-  run b is = items_keep b.greatest Long (λ p i d ds at long. set_length ds.entries i (device_hears p b.greatest d) ∙ long) (items true b.held) b.devices is
+  run b is = items_keep b.greatest Long (λ p i d ds at long. set_length ds.entries i (entry_hears p b.greatest d) ∙ long) (items true b.held) b.devices is
 
   silent : (b : BusState) → Counts b → Counts (ends_silent b)
   silent b is = either_way Counts (is_silent b) (ends_run b) b (λ h. run b is) (λ h. is)
@@ -52,7 +52,7 @@ module _ (n : ℕ) where
   bytes_come [] now b is = is
   bytes_come (byte ∷ bytes) now b is =
       let e = ends_silent (seen now b) in
-      items_keep e.greatest Long (λ p i d ds at long. set_length ds.entries i (device_hears p e.greatest d) ∙ long) (items false (e.held ++ (byte ∷ bytes))) e.devices
+      items_keep e.greatest Long (λ p i d ds at long. set_length ds.entries i (entry_hears p e.greatest d) ∙ long) (items false (e.held ++ (byte ∷ bytes))) e.devices
       (silent (seen now b) is)
 
   abbrev CountsTicked : BusTicked → Type 0
@@ -81,7 +81,7 @@ module _ (n : ℕ) where
       let e = ends_silent (seen now b) in
       either_way CountsTicked (has_report b) (stays (seen now b)) (ticks_on e) (λ h. is) (λ h. by_holder (holder e) e (silent (seen now b) is))
 
-  pub changes : (entry : ℕ) (change : Entry → Entry) (b : BusState) → Counts b → Counts (changes_device entry change b)
+  pub changes : (entry : ℕ) (change : Entry → Entry) (b : BusState) → Counts b → Counts (changes_entry entry change b)
   changes entry change b is = by_device (device_of entry b)
     where
       by_device : (o : Option Entry)
@@ -100,12 +100,12 @@ module _ (n : ℕ) where
   pub counts : (call : Call) (b : BusState) → AddsNone call → length b.devices.entries ≡ n → length (after_call call b).devices.entries ≡ n
   counts (Add address) b none is = absurd none
   counts (Begin entry now) b none is =
-      unless (begin_refusal_at entry b) b (after_begin_at entry now b) is (changes entry (device_begins (max b.greatest now)) (seen now b) is)
+      unless (begin_refusal_at entry b) b (after_begin_at entry now b) is (changes entry (entry_begins (max b.greatest now)) (seen now b) is)
   counts (Submit entry command) b none is =
-      unless (submit_refusal_at entry command b) b (after_submit_at entry command b) is (changes entry (device_submits command) b is)
-  counts (Withdraw entry) b none is = changes entry device_withdraws b is
+      unless (submit_refusal_at entry command b) b (after_submit_at entry command b) is (changes entry (entry_submits command) b is)
+  counts (Withdraw entry) b none is = changes entry entry_withdraws b is
   counts (Retarget entry address) b none is =
-      unless (retarget_refusal_at entry address b) b (after_retarget_at entry address b) is (changes entry (device_retargets address) b is)
+      unless (retarget_refusal_at entry address b) b (after_retarget_at entry address b) is (changes entry (entry_retargets address) b is)
   counts (OnBytes bytes now) b none is = bytes_come bytes now b is
   counts (OnSilence now) b none is = run (seen now b) is
   counts (Tick now) b none is = tick now b is

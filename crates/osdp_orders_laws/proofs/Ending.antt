@@ -17,9 +17,9 @@ use Rattle.osdp_time_laws.proofs.Orders.{lives}
 use Rattle.osdp_bus.specs.declared.entry.Entry.{Entry}
 use Rattle.osdp_bus.specs.declared.fault.BusFault.{BusFault}
 use Rattle.osdp_bus.specs.Buses.{BusState, Devices, device_of, has_report, holder, is_silent, seen, waiting_after}
-use Rattle.osdp_bus.specs.Entries.{device_hears, device_ticks, holds, step_of, told_of}
+use Rattle.osdp_bus.specs.Entries.{entry_hears, entry_ticks, holds, step_of, told_of}
 use Rattle.osdp_bus.specs.Hearing.{after_bytes, ends_run, hears_items, hears_with}
-use Rattle.osdp_bus.specs.Machine.{add_refusal, after_add, after_begin_at, after_retarget_at, after_submit_at, begin_refusal_at, changed_unless, changes_device, device_begins, device_retargets, device_submits, device_withdraws, new_device, retarget_refusal_at, submit_refusal_at}
+use Rattle.osdp_bus.specs.Machine.{add_refusal, after_add, after_begin_at, after_retarget_at, after_submit_at, begin_refusal_at, changed_unless, changes_entry, entry_begins, entry_retargets, entry_submits, entry_withdraws, new_device, retarget_refusal_at, submit_refusal_at}
 use Rattle.osdp_bus.specs.Ticking.{BusTicked, bus_ticks, is_due_at, is_held_and_due, next_due, stays, ticks_at, ticks_by, ticks_held, ticks_on, ticks_with}
 use Rattle.osdp_bus_laws.specs.Calls.{Call, Add, Begin, Submit, Withdraw, Retarget, OnBytes, OnSilence, Tick, NextReport, after_call, after_calls}
 use Rattle.osdp_bus_laws.specs.Turns.{judged}
@@ -48,16 +48,16 @@ ends_by : (b : Bool) (o : Option Report) → b ≡ tells_end o → b ≡ true �
 ends_by b None is over = absurd cc
 ends_by b (Some r) is over = (r, refl, sym is ∙ over)
 
-heard_end : (p : Packet) (now : ℕ) (d : Entry) → closed d ≡ false → closed (device_hears p now d) ≡ true
+heard_end : (p : Packet) (now : ℕ) (d : Entry) → closed d ≡ false → closed (entry_hears p now d) ≡ true
     → (r : Report) × (told_of p now d ≡ Some r) × (tells_end (Some r) ≡ true)
 heard_end p now d stands over =
-    ends_by (closed (device_hears p now d)) (told_of p now d)
+    ends_by (closed (entry_hears p now d)) (told_of p now d)
     ((tells_ends now d.controller.session).closed_by_frame p ∙ ap (λ t. t || tells_end (told_of p now d)) stands) over
 
-ticked_end : (now : ℕ) (d : Entry) → closed d ≡ false → closed (device_ticks now d) ≡ true
+ticked_end : (now : ℕ) (d : Entry) → closed d ≡ false → closed (entry_ticks now d) ≡ true
     → (r : Report) × ((step_of now d).report ≡ Some r) × (tells_end (Some r) ≡ true)
 ticked_end now d stands over =
-    ends_by (closed (device_ticks now d)) (step_of now d).report
+    ends_by (closed (entry_ticks now d)) (step_of now d).report
     ((tells_ends now d.controller.session).closed_by_tick d.controller.waiting ∙ ap (λ t. t || tells_end (step_of now d).report) stands) over
 
 over_holds : (state : State) → is_closed state ≡ true → is_outstanding state ≡ true → ⊥
@@ -94,9 +94,9 @@ module _ (entry : ℕ) where
     after = hears_with p now i (Some d) ds
 
     was_held : (j : ℕ) (f : Entry) → slice_get after.entries j ≡ Some f → holds f ≡ true → (g : Entry) × (slice_get ds.entries j ≡ Some g) × (holds g ≡ true)
-    was_held j f there stands = by_place (replaced ds.entries i (device_hears p now d) j f there)
+    was_held j f there stands = by_place (replaced ds.entries i (entry_hears p now d) j f there)
       where
-        by_place : IsAt ds.entries i (device_hears p now d) j f → (g : Entry) × (slice_get ds.entries j ≡ Some g) × (holds g ≡ true)
+        by_place : IsAt ds.entries i (entry_hears p now d) j f → (g : Entry) × (slice_get ds.entries j ≡ Some g) × (holds g ≡ true)
         by_place (inl (here, same)) = (d, ap (slice_get ds.entries) here ∙ at, heard_holds p now d (sym (ap holds same) ∙ stands))
         by_place (inr (other, was)) = (f, was, stands)
 
@@ -114,11 +114,11 @@ module _ (entry : ℕ) where
           λ j f there stands. (let before = was_held j f there stands in nobody j before.0 before.1 before.2),
         )
 
-    ends_here : Alone ds → closed d ≡ false → entry ≡ i → (t : Bool) → closed (device_hears p now d) ≡ t → Ends after
+    ends_here : Alone ds → closed d ≡ false → entry ≡ i → (t : Bool) → closed (entry_hears p now d) ≡ t → Ends after
     ends_here alone stands same false on =
         inl (
-          device_hears p now d,
-          ap (slice_get (slice_set ds.entries i (device_hears p now d))) same ∙ set_here ds.entries i d (device_hears p now d) at,
+          entry_hears p now d,
+          ap (slice_get (slice_set ds.entries i (entry_hears p now d))) same ∙ set_here ds.entries i d (entry_hears p now d) at,
           on,
         )
     ends_here alone stands same true over =
@@ -129,8 +129,8 @@ module _ (entry : ℕ) where
           λ j f there so.
               (let before = was_held j f there so in
               let place : i ≡ j = alone i j d before.0 at held before.1 before.2 in
-              let one = one_device (slice_get after.entries i) f (device_hears p now d) (ap (slice_get after.entries) place ∙ there)
-              (set_here ds.entries i d (device_hears p now d) at) in
+              let one = one_device (slice_get after.entries i) f (entry_hears p now d) (ap (slice_get after.entries) place ∙ there)
+              (set_here ds.entries i d (entry_hears p now d) at) in
               over_holds f.controller.session.state (ap closed one ∙ over) so),
         )
 
@@ -142,8 +142,8 @@ module _ (entry : ℕ) where
         by_same true is =
             let same : entry ≡ i = eqb-true entry i is in
             let one : e ≡ d = one_device (slice_get ds.entries i) e d (sym (ap (slice_get ds.entries) same) ∙ there) at in
-            ends_here alone (sym (ap closed one) ∙ stands) same (closed (device_hears p now d)) refl
-        by_same false other = inl (e, set_other ds.entries i entry (device_hears p now d) (eqb-false entry i other) ∙ there, stands)
+            ends_here alone (sym (ap closed one) ∙ stands) same (closed (entry_hears p now d)) refl
+        by_same false other = inl (e, set_other ds.entries i entry (entry_hears p now d) (eqb-false entry i other) ∙ there, stands)
 
   -- all that comes in
   ends_items : (now : ℕ) (ended : Bool) (held : List ℕ) (ds : Devices) → Both ds → Both (hears_items now (items ended held) ds)
@@ -178,11 +178,11 @@ module _ (entry : ℕ) where
   with_device k None b at place = inl place
   with_device k (Some d) b at (e, there, stands) = by_same (nat_eq entry k) refl
     where
-      by_end : entry ≡ k → closed d ≡ false → (t : Bool) → closed (device_ticks b.greatest d) ≡ t → Ticks (ticks_with k (Some d) b)
+      by_end : entry ≡ k → closed d ≡ false → (t : Bool) → closed (entry_ticks b.greatest d) ≡ t → Ticks (ticks_with k (Some d) b)
       by_end same on false still =
           inl (
-            device_ticks b.greatest d,
-            ap (slice_get (slice_set b.devices.entries k (device_ticks b.greatest d))) same ∙ set_here b.devices.entries k d (device_ticks b.greatest d) at,
+            entry_ticks b.greatest d,
+            ap (slice_get (slice_set b.devices.entries k (entry_ticks b.greatest d))) same ∙ set_here b.devices.entries k d (entry_ticks b.greatest d) at,
             still,
           )
       by_end same on true over =
@@ -193,8 +193,8 @@ module _ (entry : ℕ) where
       by_same true is =
           let same : entry ≡ k = eqb-true entry k is in
           let one : e ≡ d = one_device (device_of k b) e d (sym (ap (λ n. device_of n b) same) ∙ there) at in
-          by_end same (sym (ap closed one) ∙ stands) (closed (device_ticks b.greatest d)) refl
-      by_same false other = inl (e, set_other b.devices.entries k entry (device_ticks b.greatest d) (eqb-false entry k other) ∙ there, stands)
+          by_end same (sym (ap closed one) ∙ stands) (closed (entry_ticks b.greatest d)) refl
+      by_same false other = inl (e, set_other b.devices.entries k entry (entry_ticks b.greatest d) (eqb-false entry k other) ∙ there, stands)
 
   ticks_entry : (o : Option ℕ) (b : BusState) → has_report b ≡ false → Of b → Ticks (ticks_at o b)
   ticks_entry None b none both = rests b both
@@ -227,12 +227,12 @@ module _ (entry : ℕ) where
   Stands b = AtPlace entry (λ d. closed d ≡ false) b.devices
 
   changed : (change : Entry → Entry) → ((d : Entry) → closed d ≡ false → closed (change d) ≡ false) → (at : ℕ) (b : BusState) → Stands b
-      → Stands (changes_device at change b)
+      → Stands (changes_entry at change b)
   changed change keeps at b (d, there, stands) = by_same (nat_eq entry at) refl
     where
-      by_same : (t : Bool) → nat_eq entry at ≡ t → Stands (changes_device at change b)
+      by_same : (t : Bool) → nat_eq entry at ≡ t → Stands (changes_entry at change b)
       by_same true same =
-          (change d, ap (λ n. device_of entry (changes_device n change b)) (sym (eqb-true entry at same)) ∙ changed_here entry change d b there, keeps d stands)
+          (change d, ap (λ n. device_of entry (changes_entry n change b)) (sym (eqb-true entry at same)) ∙ changed_here entry change d b there, keeps d stands)
       by_same false other = (d, changed_there entry at change b (eqb-false entry at other) ∙ there, stands)
 
   unless : (f : Option BusFault) (b c : BusState) → Stands b → Stands c → Stands (changed_unless f b c)
@@ -267,19 +267,19 @@ module _ (entry : ℕ) where
           (stands.0, in_front b.devices.entries (new_device address b.config) entry stands.0 stands.1, stands.2))
       by_call (Begin at now) =
           inl (unless (begin_refusal_at at b) b (after_begin_at at now b) stands
-          (changed (device_begins (max b.greatest now)) (λ d h. refl) at (seen now b) stands))
+          (changed (entry_begins (max b.greatest now)) (λ d h. refl) at (seen now b) stands))
       by_call (Submit at command) =
-          inl (unless (submit_refusal_at at command b) b (after_submit_at at command b) stands (changed (device_submits command) (λ d h. h) at b stands))
-      by_call (Withdraw at) = inl (changed device_withdraws (λ d h. h) at b stands)
+          inl (unless (submit_refusal_at at command b) b (after_submit_at at command b) stands (changed (entry_submits command) (λ d h. h) at b stands))
+      by_call (Withdraw at) = inl (changed entry_withdraws (λ d h. h) at b stands)
       by_call (Retarget at address) =
-          inl (unless (retarget_refusal_at at address b) b (after_retarget_at at address b) stands (changed (device_retargets address) (λ d h. h) at b stands))
+          inl (unless (retarget_refusal_at at address b) b (after_retarget_at at address b) stands (changed (entry_retargets address) (λ d h. h) at b stands))
       by_call (OnBytes bytes now) = of_ends (after_bytes bytes now b) (bytes_end bytes now b at_first)
       by_call (OnSilence now) = of_ends (ends_run (seen now b)) (run (seen now b) at_first)
       by_call (Tick now) = tick_end now b at_first
       by_call NextReport = inl stands
 
   -- orders that come after it leave that as it is
-  same_report : (at : ℕ) (change : Entry → Entry) (b : BusState) → (changes_device at change b).devices.report ≡ b.devices.report
+  same_report : (at : ℕ) (change : Entry → Entry) (b : BusState) → (changes_entry at change b).devices.report ≡ b.devices.report
   same_report at change b = by_device (device_of at b)
     where
       by_device : (o : Option Entry)
@@ -292,8 +292,8 @@ module _ (entry : ℕ) where
     where
       by_fault : (f : Option BusFault) → Result b → Result (changed_unless f b (after_submit_at at c b))
       by_fault (Some fault) result = result
-      by_fault None (inl stands) = inl (changed (device_submits c) (λ d h. h) at b stands)
-      by_fault None (inr (r, waits, ends)) = inr (r, same_report at (device_submits c) b ∙ waits, ends)
+      by_fault None (inl stands) = inl (changed (entry_submits c) (λ d h. h) at b stands)
+      by_fault None (inr (r, waits, ends)) = inr (r, same_report at (entry_submits c) b ∙ waits, ends)
 
   orders_keep : (cs : List Call) (b : BusState) → AreOrders cs → Result b → Result (after_calls cs b)
   orders_keep [] b are result = result

@@ -15,7 +15,7 @@ use Rattle.osdp_bus.specs.declared.config.BusConfig.{BusConfig}
 use Rattle.osdp_bus.specs.declared.entry.Entry.{Entry}
 use Rattle.osdp_bus.specs.Buses.{BusState, device_of, new_bus, seen}
 use Rattle.osdp_bus.specs.Entries.{address_of, first_from, is_at}
-use Rattle.osdp_bus.specs.Machine.{after_begin_at, begin_refusal_of, changed_unless, device_begins, device_submits, order_refusal_at}
+use Rattle.osdp_bus.specs.Machine.{after_begin_at, begin_refusal_of, changed_unless, entry_begins, entry_submits, order_refusal_at}
 use Rattle.osdp_bus.specs.Ticking.{bus_ticks}
 use Rattle.osdp_bus.proofs.Waiting.{IsFound, found}
 use Rattle.osdp_bus_laws.specs.Calls.{Call, Begin, Tick}
@@ -100,8 +100,8 @@ module _ (config : BusConfig) (entry : ℕ) (d : Entry) (q : Queue) (x : PanelSt
 
   goes_there : (bytes : List ℕ) → waits d ≡ [] → NextAfter (goes_unless None entry (command_kept bytes) q x.bus)
   goes_there bytes empty =
-      one_waits entry (device_submits (command_kept bytes) d) (gone_to entry x.orders (goes_unless None entry (command_kept bytes) q x.bus))
-      (changed_here entry (device_submits (command_kept bytes)) d x.bus at.device) (command_kept bytes) [] (ap (λ w. w ++ command_kept bytes ∷ []) empty)
+      one_waits entry (entry_submits (command_kept bytes) d) (gone_to entry x.orders (goes_unless None entry (command_kept bytes) q x.bus))
+      (changed_here entry (entry_submits (command_kept bytes)) d x.bus at.device) (command_kept bytes) [] (ap (λ w. w ++ command_kept bytes ∷ []) empty)
 
   pub good_goes : (bytes : List ℕ) (rest : List (List ℕ)) → waits d ≡ [] → q.held.items ≡ bytes ∷ rest → order_refusal_at entry (command_kept bytes) x.bus ≡ None
   good_goes bytes rest empty items =
@@ -198,8 +198,8 @@ module _ (config : BusConfig) (x : PanelState) (inv : Inv x) (reached : Reached 
           let there = q.1 in
           let b = after_begin_at entry a.now x.bus in
           let is : after_bus_call (Begin entry a.now) x.bus ≡ b = ap (λ f. changed_unless f x.bus b) a.accepted in
-          next_is config entry (device_begins (max x.bus.greatest a.now) d) q.0 (both x.orders b)
-          (record { device = changed_here entry (device_begins (max x.bus.greatest a.now)) d (seen a.now x.bus) at; queue = there.queue })
+          next_is config entry (entry_begins (max x.bus.greatest a.now) d) q.0 (both x.orders b)
+          (record { device = changed_here entry (entry_begins (max x.bus.greatest a.now)) d (seen a.now x.bus) at; queue = there.queue })
           (subst SoundBus is (sound_call (Begin entry a.now) x.bus inv.sound)) (subst (Reached config) is (reached_after config (Begin entry a.now) x.bus reached))
           (fit.1 entry q.0 there.queue)
 

@@ -12,7 +12,7 @@ use Rattle.osdp_ring.specs.Ring.{popped}
 use Rattle.osdp_bus.specs.declared.entry.Entry.{Entry}
 use Rattle.osdp_bus.specs.declared.fault.BusFault.{BusFault}
 use Rattle.osdp_bus.specs.Buses.{BusState, device_of, seen}
-use Rattle.osdp_bus.specs.Machine.{add_refusal, after_begin_at, after_retarget_at, after_submit_at, after_withdraw_at, begin_refusal_at, begin_refusal_of, changed_unless, changes_device, device_begins, device_retargets, device_submits, device_withdraws, is_withdrawn_at, is_withdrawn_of, new_device, order_refusal_at, retarget_refusal_at, withdrawal_of, withdrawn_of}
+use Rattle.osdp_bus.specs.Machine.{add_refusal, after_begin_at, after_retarget_at, after_submit_at, after_withdraw_at, begin_refusal_at, begin_refusal_of, changed_unless, changes_entry, entry_begins, entry_retargets, entry_submits, entry_withdraws, is_withdrawn_at, is_withdrawn_of, new_device, order_refusal_at, retarget_refusal_at, withdrawal_of, withdrawn_of}
 use Rattle.osdp_bus.specs.Hearing.{after_bytes, ends_run}
 use Rattle.osdp_bus.specs.Ticking.{bus_ticks}
 use Rattle.osdp_bus_laws.specs.Calls.{Call, Add, Begin, Submit, Withdraw, Retarget, OnBytes, OnSilence, Tick, NextReport}
@@ -43,12 +43,12 @@ pub record Goes (entry : ℕ) (d : Entry) (q : Queue) (new back : Option Command
 
 -- ---- one device or one queue is changed
 
-pub changed_here : (entry : ℕ) (change : Entry → Entry) (d : Entry) (b : BusState) → device_of entry b ≡ Some d → device_of entry (changes_device entry change b) ≡ Some (change d)
+pub changed_here : (entry : ℕ) (change : Entry → Entry) (d : Entry) (b : BusState) → device_of entry b ≡ Some d → device_of entry (changes_entry entry change b) ≡ Some (change d)
 changed_here entry change d b at =
     ap (λ o. device_of entry (option_map_or (λ d. record b { devices = record b.devices { entries = slice_set b.devices.entries entry (change d) } }) o b)) at
     ∙ set_same b.devices.entries entry d (change d) at
 
-pub changed_there : (entry other : ℕ) (change : Entry → Entry) (b : BusState) → (entry ≡ other → ⊥) → device_of entry (changes_device other change b) ≡ device_of entry b
+pub changed_there : (entry other : ℕ) (change : Entry → Entry) (b : BusState) → (entry ≡ other → ⊥) → device_of entry (changes_entry other change b) ≡ device_of entry b
 changed_there entry other change b apart = by_device (device_of other b)
   where
     by_device : (o : Option Entry)
@@ -63,7 +63,7 @@ queue_there entry other r o apart = set_apart o.queues other entry r apart
 
 gone_there : (f : Option BusFault) (entry other : ℕ) (c : Command) (q : Queue) (b : BusState) → (entry ≡ other → ⊥)
     → device_of entry (goes_unless f other c q b).bus ≡ device_of entry b
-gone_there None entry other c q b apart = changed_there entry other (device_submits c) b apart
+gone_there None entry other c q b apart = changed_there entry other (entry_submits c) b apart
 gone_there (Some fault) entry other c q b apart = refl
 
 first_there : (o : Option Command) (entry other : ℕ) (q : Queue) (b : BusState) → (entry ≡ other → ⊥) → device_of entry (goes_first other o q b).bus ≡ device_of entry b
@@ -108,9 +108,9 @@ module _ (entry : ℕ) (first d : Entry) (q : Queue) (x : PanelState) (at : At e
       steps = steps;
     }
     by_fault None bytes rest items = record {
-      device = device_submits (command_kept bytes) d;
+      device = entry_submits (command_kept bytes) d;
       queue = record { held = popped q.held; may_go = false };
-      at = record { device = changed_here entry (device_submits (command_kept bytes)) d x.bus at.device; queue = queue_here (record { held = popped q.held; may_go = false }) };
+      at = record { device = changed_here entry (entry_submits (command_kept bytes)) d x.bus at.device; queue = queue_here (record { held = popped q.held; may_go = false }) };
       steps = let_first first d q steps let_go bytes rest empty items;
     }
 
@@ -175,13 +175,13 @@ module _ (entry : ℕ) (d : Entry) (q : Queue) (x : PanelState) (at : At entry d
 
     begins_here : entry ≡ at_entry → begin_refusal_at at_entry x.bus ≡ None → Stays (lets_go_of at_entry (queue_of at_entry x.orders) (both x.orders begun))
     begins_here same ok =
-        let e = device_begins (max x.bus.greatest now) d in
+        let e = entry_begins (max x.bus.greatest now) d in
         let none = out_none (asked d) (asked e) (inr refl) in
         let refused = map_none (begin_refusal d.controller) (sym (ap begin_refusal_of (ap (λ n. device_of n x.bus) (sym same) ∙ at.device)) ∙ ok) in
         let over : closed d ≡ true = ap is_closed (was_closed d.controller.session.state refused) in
         let there : device_of entry begun ≡ Some e =
-        ap (λ n. device_of entry (changes_device n (device_begins (max x.bus.greatest now)) (seen now x.bus))) (sym same)
-        ∙ changed_here entry (device_begins (max x.bus.greatest now)) d (seen now x.bus) at.device in
+        ap (λ n. device_of entry (changes_entry n (entry_begins (max x.bus.greatest now)) (seen now x.bus))) (sym same)
+        ∙ changed_here entry (entry_begins (max x.bus.greatest now)) d (seen now x.bus) at.device in
         subst (λ n. Stays (lets_go_of n (queue_of n x.orders) (both x.orders begun))) same
         (let_here entry d e q (both x.orders begun) (record { device = there; queue = at.queue })
         (stills d e q paced (record { waiting = refl; asks = inr refl })) (inr ((λ owes. let stands = owes.stands in cc), none)))
@@ -189,7 +189,7 @@ module _ (entry : ℕ) (d : Entry) (q : Queue) (x : PanelState) (at : At entry d
     begins_there : (entry ≡ at_entry → ⊥) → Stays (lets_go_of at_entry (queue_of at_entry x.orders) (both x.orders begun))
     begins_there apart =
         same_at _ (let_there (queue_of at_entry x.orders) entry at_entry d q (both x.orders begun) apart
-        (record { device = changed_there entry at_entry (device_begins (max x.bus.greatest now)) (seen now x.bus) apart ∙ at.device; queue = at.queue }))
+        (record { device = changed_there entry at_entry (entry_begins (max x.bus.greatest now)) (seen now x.bus) apart ∙ at.device; queue = at.queue }))
 
     begins_by : (f : Option BusFault) → begin_refusal_at at_entry x.bus ≡ f → Stays (begins_in f at_entry now x)
     begins_by (Some fault) refused = here_again
@@ -202,13 +202,13 @@ module _ (entry : ℕ) (d : Entry) (q : Queue) (x : PanelState) (at : At entry d
   -- ordering
 
   submits_there : (o : Option Queue) (other : ℕ) (c : Command) → (entry ≡ other → ⊥) → At entry d q (after_submit_in other c o x)
-  submits_there None other c apart = record { device = changed_there entry other (device_submits c) x.bus apart ∙ at.device; queue = at.queue }
+  submits_there None other c apart = record { device = changed_there entry other (entry_submits c) x.bus apart ∙ at.device; queue = at.queue }
   submits_there (Some r) other c apart =
       either_at r.may_go entry d q (both (with_queue other (after_hold c r) x.orders) x.bus)
       (both (with_queue other (record r { may_go = false }) x.orders) (after_submit_at other c x.bus))
       (record { device = at.device; queue = queue_there entry other (after_hold c r) x.orders apart ∙ at.queue })
       (record {
-        device = changed_there entry other (device_submits c) x.bus apart ∙ at.device;
+        device = changed_there entry other (entry_submits c) x.bus apart ∙ at.device;
         queue = queue_there entry other (record r { may_go = false }) x.orders apart ∙ at.queue;
       })
 
@@ -219,10 +219,10 @@ module _ (entry : ℕ) (d : Entry) (q : Queue) (x : PanelState) (at : At entry d
   submits_here : (c : Command) → (t : Bool) → q.may_go ≡ t
       → Goes entry d q (Some c) None (if t then both (with_queue entry (record q { may_go = false }) x.orders) (after_submit_at entry c x.bus) else both (with_queue entry (after_hold c q) x.orders) x.bus)
   submits_here c true may = record {
-    device = device_submits c d;
+    device = entry_submits c d;
     queue = record q { may_go = false };
     at = record {
-      device = changed_here entry (device_submits c) d x.bus at.device;
+      device = changed_here entry (entry_submits c) d x.bus at.device;
       queue = set_same x.orders.queues entry q (record q { may_go = false }) at.queue;
     };
     steps = ordered d q c paced may;
@@ -261,8 +261,8 @@ module _ (entry : ℕ) (d : Entry) (q : Queue) (x : PanelState) (at : At entry d
   none_of [] is = refl
   none_of (c ∷ rest) is = absurd cc
 
-  withdrawn_here : device_of entry (after_withdraw_at entry x.bus) ≡ Some (device_withdraws d)
-  withdrawn_here = changed_here entry device_withdraws d x.bus at.device
+  withdrawn_here : device_of entry (after_withdraw_at entry x.bus) ≡ Some (entry_withdraws d)
+  withdrawn_here = changed_here entry entry_withdraws d x.bus at.device
 
   abbrev Back : Option Command → PanelState → Type 0
   Back back y = Goes entry d q None back y
@@ -278,13 +278,13 @@ module _ (entry : ℕ) (d : Entry) (q : Queue) (x : PanelState) (at : At entry d
       ∙ ap (λ t. if t then without_first entry (queue_of entry x.orders) x.orders else x.orders) is
       ∙ ap (λ o. if over then without_first entry o x.orders else x.orders) at.queue
 
-  waits_then : (over : Bool) → closed d ≡ over → waits (device_withdraws d) ≡ (if over then drop 1 (waits d) else waits d)
+  waits_then : (over : Bool) → closed d ≡ over → waits (entry_withdraws d) ≡ (if over then drop 1 (waits d) else waits d)
   waits_then over is = ap (λ t. if t then drop 1 (waits d) else waits d) is
 
   -- the order in the controller
   takes_waiting : (c : Command) (rest : List Command) → closed d ≡ true → waits d ≡ c ∷ rest → Back (Some c) (both x.orders (after_withdraw_at entry x.bus))
   takes_waiting c rest over front =
-      let e = device_withdraws d in
+      let e = entry_withdraws d in
       let left : waits e ≡ rest = waits_then true over ∙ ap (λ w. drop 1 w) front in
       let few : length (c ∷ rest) ≤ 1 = subst (λ (w : List Command). length w ≤ 1) front paced.one in record {
         device = e;
@@ -299,7 +299,7 @@ module _ (entry : ℕ) (d : Entry) (q : Queue) (x : PanelState) (at : At entry d
   takes_held : (items : List (List ℕ)) → q.held.items ≡ items → closed d ≡ true → waits d ≡ []
       → Back (first_held q) (both (with_queue entry (record q { held = popped q.held }) x.orders) (after_withdraw_at entry x.bus))
   takes_held items is over none =
-      let e = device_withdraws d in
+      let e = entry_withdraws d in
       let r : Queue = record q { held = popped q.held } in
       let left : waits e ≡ [] = waits_then true over ∙ ap (λ w. drop 1 w) none in
       record {
@@ -329,15 +329,15 @@ module _ (entry : ℕ) (d : Entry) (q : Queue) (x : PanelState) (at : At entry d
   by_withdrawn None is false over =
       subst (λ o. Back (given (or_held (Ok None) o)) (both (withdraws_held entry x) (after_withdraw_at entry x.bus))) (sym (held_is false over))
       (subst (λ s. Back None (both s (after_withdraw_at entry x.bus))) (sym (orders_are false over))
-      (still (device_withdraws d) _ (record { device = withdrawn_here; queue = at.queue }) (record { waiting = waits_then false over; asks = inl refl })))
+      (still (entry_withdraws d) _ (record { device = withdrawn_here; queue = at.queue }) (record { waiting = waits_then false over; asks = inl refl })))
 
   withdraws_there : (r : Result Bool BusFault) (other : ℕ) → (entry ≡ other → ⊥) → At entry d q (after_withdraw_by r other x)
-  withdraws_there (Ok true) other apart = record { device = changed_there entry other device_withdraws x.bus apart ∙ at.device; queue = at.queue }
-  withdraws_there (Err fault) other apart = record { device = changed_there entry other device_withdraws x.bus apart ∙ at.device; queue = at.queue }
+  withdraws_there (Ok true) other apart = record { device = changed_there entry other entry_withdraws x.bus apart ∙ at.device; queue = at.queue }
+  withdraws_there (Err fault) other apart = record { device = changed_there entry other entry_withdraws x.bus apart ∙ at.device; queue = at.queue }
   withdraws_there (Ok false) other apart = either_held (is_closed_in (device_of other x.bus)) (queue_of other x.orders)
     where
       device_there : device_of entry (after_withdraw_at other x.bus) ≡ Some d
-      device_there = changed_there entry other device_withdraws x.bus apart ∙ at.device
+      device_there = changed_there entry other entry_withdraws x.bus apart ∙ at.device
 
       either_held : (t : Bool) (o : Option Queue)
           → At entry d q (both (if t then without_first other o x.orders else x.orders) (after_withdraw_at other x.bus))
@@ -365,13 +365,13 @@ module _ (entry : ℕ) (d : Entry) (q : Queue) (x : PanelState) (at : At entry d
     where
       by_same : (t : Bool) → nat_eq entry other ≡ t → Stays (both x.orders (after_retarget_at other address x.bus))
       by_same true same =
-          still (device_retargets address d) _
+          still (entry_retargets address d) _
           (record {
-            device = ap (λ n. device_of entry (changes_device n (device_retargets address) x.bus)) (sym (eqb-true entry other same)) ∙ changed_here entry (device_retargets address) d x.bus at.device;
+            device = ap (λ n. device_of entry (changes_entry n (entry_retargets address) x.bus)) (sym (eqb-true entry other same)) ∙ changed_here entry (entry_retargets address) d x.bus at.device;
             queue = at.queue;
           }) (record { waiting = refl; asks = inl refl })
       by_same false apart =
-          same_at _ (record { device = changed_there entry other (device_retargets address) x.bus (eqb-false entry other apart) ∙ at.device; queue = at.queue })
+          same_at _ (record { device = changed_there entry other (entry_retargets address) x.bus (eqb-false entry other apart) ∙ at.device; queue = at.queue })
 
   hears : (g : ℕ) (b : BusState) → Hears g entry d b.devices → Stays (both x.orders b)
   hears g b h = still h.device (both x.orders b) (record { device = h.there; queue = at.queue }) (stills_heard g entry d b.devices h)

@@ -17,7 +17,7 @@ use Rattle.osdp_controller_laws.proofs.InOrder.{none_outstanding}
 use Rattle.osdp_controller_laws.proofs.Stepwise.{frames_in_steps}
 use Rattle.osdp_bus.specs.declared.entry.Entry.{Entry}
 use Rattle.osdp_bus.specs.Buses.{BusState, Devices, is_silent, seen, waiting_after}
-use Rattle.osdp_bus.specs.Entries.{device_hears, told_of}
+use Rattle.osdp_bus.specs.Entries.{entry_hears, told_of}
 use Rattle.osdp_bus.specs.Hearing.{after_bytes, ends_run, hears_items, hears_with}
 use Rattle.osdp_bus_laws.specs.Turns.{asking, judged}
 use Rattle.osdp_bus_laws.proofs.Hearing.{items_keep}
@@ -78,20 +78,20 @@ module _ (g : ℕ) (entry : ℕ) (first : Entry) where
       let here : entry ≡ i = eqb-true entry i same in
       let one : h.device ≡ d = one_device (slice_get ds.entries i) h.device d (sym (ap (slice_get ds.entries) here) ∙ h.there) at in
       record {
-        device = device_hears p g d;
-        there = ap (slice_get (slice_set ds.entries i (device_hears p g d))) here ∙ set_here ds.entries i d (device_hears p g d) at;
+        device = entry_hears p g d;
+        there = ap (slice_get (slice_set ds.entries i (entry_hears p g d))) here ∙ set_here ds.entries i d (entry_hears p g d) at;
         waiting = sym (ap waits one) ∙ h.waiting;
         asks = by_ends (by_exchange (exchange_in d.controller.session.state) p g d refl) (subst (λ e. (asked e ≡ asked first) ⊎ ((asked e ≡ None) × (is_some ds.report ≡ true))) one h.asks);
       }
     where
       by_ends : Ends (asked d) (hears p g d.controller.session) → (asked d ≡ asked first) ⊎ ((asked d ≡ None) × (is_some ds.report ≡ true))
-          → (asked (device_hears p g d) ≡ asked first) ⊎ ((asked (device_hears p g d) ≡ None) × (is_some (waiting_after i (told_of p g d) ds.report) ≡ true))
+          → (asked (entry_hears p g d) ≡ asked first) ⊎ ((asked (entry_hears p g d) ≡ None) × (is_some (waiting_after i (told_of p g d) ds.report) ≡ true))
       by_ends (inr (none, told)) before = inr (none, some_told i (told_of p g d) ds.report told)
       by_ends (inl still) (inl was) = inl (still ∙ was)
       by_ends (inl still) (inr (none, some)) = inr (still ∙ none, some_after i (told_of p g d) ds.report some)
   packet_by false p i d ds other at h = record {
     device = h.device;
-    there = set_other ds.entries i entry (device_hears p g d) (eqb-false entry i other) ∙ h.there;
+    there = set_other ds.entries i entry (entry_hears p g d) (eqb-false entry i other) ∙ h.there;
     waiting = h.waiting;
     asks = by_before h.asks;
   }
@@ -140,11 +140,11 @@ stills_heard g entry first ds h = record { waiting = h.waiting; asks = by_asks h
     by_asks (inl same) = inl same
     by_asks (inr (none, some)) = inr none
 
-pub stills_hears : (p : Packet) (g : ℕ) (d e : Entry) → Stills d e → Stills d (device_hears p g e)
+pub stills_hears : (p : Packet) (g : ℕ) (d e : Entry) → Stills d e → Stills d (entry_hears p g e)
 stills_hears p g d e s = record { waiting = s.waiting; asks = by_end (by_exchange (exchange_in e.controller.session.state) p g e refl) s.asks }
   where
     by_end : Ends (asked e) (hears p g e.controller.session) → (asked e ≡ asked d) ⊎ (asked e ≡ None)
-        → (asked (device_hears p g e) ≡ asked d) ⊎ (asked (device_hears p g e) ≡ None)
+        → (asked (entry_hears p g e) ≡ asked d) ⊎ (asked (entry_hears p g e) ≡ None)
     by_end (inr (none, told)) before = inr none
     by_end (inl still) (inl same) = inl (still ∙ same)
     by_end (inl still) (inr none) = inr (still ∙ none)

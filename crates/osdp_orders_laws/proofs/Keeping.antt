@@ -10,7 +10,7 @@ use Rattle.osdp_bus.specs.declared.config.BusConfig.{BusConfig}
 use Rattle.osdp_bus.specs.declared.entry.Entry.{Entry}
 use Rattle.osdp_bus.specs.declared.fault.BusFault.{BusFault}
 use Rattle.osdp_bus.specs.Buses.{BusState, device_of, seen}
-use Rattle.osdp_bus.specs.Machine.{add_refusal, after_begin_at, after_submit_at, after_withdraw_at, begin_refusal_at, changed_unless, device_begins, device_submits, device_withdraws, is_withdrawn_at, new_device, order_refusal_at}
+use Rattle.osdp_bus.specs.Machine.{add_refusal, after_begin_at, after_submit_at, after_withdraw_at, begin_refusal_at, changed_unless, entry_begins, entry_submits, entry_withdraws, is_withdrawn_at, new_device, order_refusal_at}
 use Rattle.osdp_bus.specs.Settings.{IsBusConfig}
 use Rattle.osdp_bus.specs.Ticking.{bus_ticks}
 use Rattle.osdp_bus_laws.specs.Calls.{Call, Add, Begin, Submit, Withdraw, Retarget, OnBytes, OnSilence, Tick, NextReport}
@@ -55,7 +55,7 @@ with_queue_same : (entry : ℕ) (q : Queue) (x : PanelState) (b : BusState) → 
 with_queue_same entry q x b is = record { on = refl; queues = set_length x.orders.queues entry q; devices = is }
 
 submitted_same : (entry : ℕ) (c : Command) (b : BusState) → length (after_submit_at entry c b).devices.entries ≡ length b.devices.entries
-submitted_same entry c b = changes (length b.devices.entries) entry (device_submits c) b refl
+submitted_same entry c b = changes (length b.devices.entries) entry (entry_submits c) b refl
 
 unless_gone : (f : Option BusFault) (entry : ℕ) (c : Command) (q : Queue) (b : BusState) → length (goes_unless f entry c q b).bus.devices.entries ≡ length b.devices.entries
 unless_gone None entry c q b = submitted_same entry c b
@@ -80,7 +80,7 @@ begins_same (Some fault) entry now x = same x
 begins_same None entry now x =
     let b = after_begin_at entry now x.bus in
     same_then x (both x.orders b) (begins_in None entry now x)
-    (of_bus x b (changes (length x.bus.devices.entries) entry (device_begins (max x.bus.greatest now)) (seen now x.bus) refl))
+    (of_bus x b (changes (length x.bus.devices.entries) entry (entry_begins (max x.bus.greatest now)) (seen now x.bus) refl))
     (let_same (queue_of entry x.orders) entry (both x.orders b))
 
 submits_same : (o : Option Queue) (entry : ℕ) (c : Command) (x : PanelState) → Same x (after_submit_in entry c o x)
@@ -93,7 +93,7 @@ withdraws_same : (r : Result Bool BusFault) (entry : ℕ) (x : PanelState) → S
 withdraws_same r entry x = by_result r
   where
     bus : length (after_withdraw_at entry x.bus).devices.entries ≡ length x.bus.devices.entries
-    bus = changes (length x.bus.devices.entries) entry device_withdraws x.bus refl
+    bus = changes (length x.bus.devices.entries) entry entry_withdraws x.bus refl
 
     held : (t : Bool) (o : Option Queue) → Same x (both (if t then without_first entry o x.orders else x.orders) (after_withdraw_at entry x.bus))
     held false o = of_bus x (after_withdraw_at entry x.bus) bus

@@ -10,8 +10,8 @@ use Rattle.osdp_time_laws.specs.Orders.{is_under_way}
 use Rattle.osdp_bus.specs.declared.entry.Entry.{Entry}
 use Rattle.osdp_bus.specs.declared.fault.BusFault.{BusFault}
 use Rattle.osdp_bus.specs.Buses.{BusState, device_of, has_report}
-use Rattle.osdp_bus.specs.Entries.{device_hears, device_ticks, holds}
-use Rattle.osdp_bus.specs.Machine.{after_submit_at, changed_unless, device_submits, device_withdraws, submit_refusal_at}
+use Rattle.osdp_bus.specs.Entries.{entry_hears, entry_ticks, holds}
+use Rattle.osdp_bus.specs.Machine.{after_submit_at, changed_unless, entry_submits, entry_withdraws, submit_refusal_at}
 use Rattle.osdp_bus.specs.Ticking.{bus_ticks}
 use Rattle.osdp_bus_laws.specs.Calls.{Call, Submit, Tick, after_call, after_calls}
 use Rattle.osdp_bus_laws.specs.Exchanges.{IsOutstandingAt}
@@ -49,19 +49,19 @@ keeps_still d e f k s = record { more = k.more; waiting = s.waiting ∙ k.waitin
     by_asks (inl same) (inl was) = inl (same ∙ was)
     by_asks (inl same) (inr none) = inr (same ∙ none)
 
-keeps_heard : (g : ℕ) (d : Entry) (p : Packet) (e : Entry) → Keeps d e → Keeps d (device_hears p g e)
-keeps_heard g d p e k = keeps_still d e (device_hears p g e) k (stills_hears p g e e (same_stills e))
+keeps_heard : (g : ℕ) (d : Entry) (p : Packet) (e : Entry) → Keeps d e → Keeps d (entry_hears p g e)
+keeps_heard g d p e k = keeps_still d e (entry_hears p g e) k (stills_hears p g e e (same_stills e))
 
-keeps_submitted : (d : Entry) (c : Command) (e : Entry) → Keeps d e → Keeps d (device_submits c e)
+keeps_submitted : (d : Entry) (c : Command) (e : Entry) → Keeps d e → Keeps d (entry_submits c e)
 keeps_submitted d c e k = record {
   more = k.more ++ c ∷ [];
   waiting = ap (λ w. w ++ c ∷ []) k.waiting ∙ append_assoc (waits d) k.more (c ∷ []);
   asks = k.asks;
 }
 
-keeps_withdrawn : (d e : Entry) → Keeps d e → closed e ≡ false → Keeps d (device_withdraws e)
+keeps_withdrawn : (d e : Entry) → Keeps d e → closed e ≡ false → Keeps d (entry_withdraws e)
 keeps_withdrawn d e k stands =
-    keeps_still d e (device_withdraws e) k (record { waiting = ap (λ t. if t then drop 1 (waits e) else waits e) stands; asks = inl refl })
+    keeps_still d e (entry_withdraws e) k (record { waiting = ap (λ t. if t then drop 1 (waits e) else waits e) stands; asks = inl refl })
 
 module _ (entry : ℕ) (call : Call) (b : BusState) (sound : SoundBus b) (d : Entry) (at : device_of entry b ≡ Some d) (stands : closed d ≡ false)
     (not : Begins call entry b → ⊥) where
@@ -84,7 +84,7 @@ module _ (entry : ℕ) (call : Call) (b : BusState) (sound : SoundBus b) (d : En
       by_same false other = others (eqb-false k entry other)
   by_outcome now is (inr (inl (f, there, (kept, never)))) = (f, there, kept)
   by_outcome now is (inr (inr (f, kept, so, due, there))) =
-      (device_ticks g_then f, there, keeps_still d f (device_ticks g_then f) kept (holder_ticks g_then f so))
+      (entry_ticks g_then f, there, keeps_still d f (entry_ticks g_then f) kept (holder_ticks g_then f so))
 
   by_tick : (now : ℕ) → call ≡ Tick now → has_report b ≡ false → AtPlace entry (Keeps d) (after_call call b).devices
   by_tick now is none =
@@ -145,11 +145,11 @@ submits None entry at c d b there = by_same (nat_eq entry at) refl
     by_same : (t : Bool) → nat_eq entry at ≡ t → Leads entry d (after_submit_at at c b)
     by_same true same =
         let is : entry ≡ at = eqb-true entry at same in (
-          device_submits c d,
-          ap (λ n. device_of entry (after_submit_at n c b)) (sym is) ∙ changed_here entry (device_submits c) d b there,
+          entry_submits c d,
+          ap (λ n. device_of entry (after_submit_at n c b)) (sym is) ∙ changed_here entry (entry_submits c) d b there,
           record { session = refl; more = c ∷ []; waiting = refl },
         )
-    by_same false other = stays_there entry d (after_submit_at at c b) (changed_there entry at (device_submits c) b (eqb-false entry at other) ∙ there)
+    by_same false other = stays_there entry d (after_submit_at at c b) (changed_there entry at (entry_submits c) b (eqb-false entry at other) ∙ there)
 
 one_order : (entry : ℕ) (call : Call) → IsOrder call → (d : Entry) (b : BusState) → device_of entry b ≡ Some d → Leads entry d (after_call call b)
 one_order entry call (at, c, is) d b there =

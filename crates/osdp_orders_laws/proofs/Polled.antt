@@ -13,7 +13,7 @@ use Rattle.osdp_bus.specs.declared.config.BusConfig.{BusConfig}
 use Rattle.osdp_bus.specs.declared.entry.Entry.{Entry}
 use Rattle.osdp_bus.specs.declared.fault.BusFault.{BusFault}
 use Rattle.osdp_bus.specs.Buses.{BusState, device_of}
-use Rattle.osdp_bus.specs.Machine.{after_submit_at, changed_unless, device_submits, leads_nowhere, submit_refusal_at}
+use Rattle.osdp_bus.specs.Machine.{after_submit_at, changed_unless, entry_submits, leads_nowhere, submit_refusal_at}
 use Rattle.osdp_bus.specs.Ticking.{bus_ticks}
 use Rattle.osdp_bus_laws.specs.Calls.{Call, Add, Begin, Submit, Withdraw, Retarget, OnBytes, OnSilence, Tick, NextReport}
 use Rattle.osdp_bus_laws.specs.Calls.{after_call as after_bus_call, after_calls as after_bus_calls}
@@ -172,9 +172,9 @@ module _ (config : BusConfig) (entry now : ℕ) (x : PanelState) (holds : Holds 
         record {
           goes = subst (λ (s : BusState). BeginsBy (s.greatest + (0 + 1) * turns_of time late n) zero entry rest s) (sym after)
               (subst (λ (g : ℕ). BeginsBy (g + (0 + 1) * turns_of time late n) zero entry rest (after_bus_call (Submit entry c) b)) (sym moment) goes);
-          device = device_submits c k.device;
+          device = entry_submits c k.device;
           there = ap (device_of entry) after ∙ ap (λ f. device_of entry (changed_unless f b (after_submit_at entry c b))) k.accepted
-              ∙ changed_here entry (device_submits c) k.device b k.there;
+              ∙ changed_here entry (entry_submits c) k.device b k.there;
           order = c;
           one = ap (λ w. w ++ c ∷ []) k.empty;
         }

@@ -23,7 +23,7 @@ use Rattle.osdp_controller_laws.specs.Commands.{asked_in}
 use Rattle.osdp_controller_laws.specs.Laws.{exchange_in}
 use Rattle.osdp_bus.specs.declared.entry.Entry.{Entry}
 use Rattle.osdp_bus.specs.Buses.{BusState, device_of, has_report, holder, seen}
-use Rattle.osdp_bus.specs.Entries.{address_of, device_ticks, first_from, holds, is_at}
+use Rattle.osdp_bus.specs.Entries.{address_of, entry_ticks, first_from, holds, is_at}
 use Rattle.osdp_bus.specs.Hearing.{ends_run}
 use Rattle.osdp_bus.specs.Ticking.{BusTicked, bus_ticks, is_due_at, is_held_and_due, next_due, stays, ticks_at, ticks_by, ticks_held, ticks_on, ticks_with}
 use Rattle.osdp_bus.proofs.Waiting.{IsFound, found}
@@ -66,7 +66,7 @@ none_asked (Idle due) free = refl
 none_asked (Waiting until sends o) free = absurd cc
 none_asked (Pausing until o) free = absurd cc
 
-pub begun : (g : ℕ) (d : Entry) → holds d ≡ false → Begun d (device_ticks g d)
+pub begun : (g : ℕ) (d : Entry) → holds d ≡ false → Begun d (entry_ticks g d)
 begun g d free =
     begun_in d.controller.session.state (seen_by g d.controller.session) d.controller.waiting free (none_asked d.controller.session.state free)
 
@@ -86,7 +86,7 @@ stills_in (Waiting until sends o) s w stands same =
 stills_in (Pausing until o) s w stands same =
     either_way (StillsIn (submitted_command o.exchange) w) (nat_le until s.greatest) (sends_frame 1 o s w) (stays_in s w) (λ b. (refl, inl refl)) (λ b. (refl, inl same))
 
-pub holder_ticks : (g : ℕ) (d : Entry) → holds d ≡ true → Stills d (device_ticks g d)
+pub holder_ticks : (g : ℕ) (d : Entry) → holds d ≡ true → Stills d (entry_ticks g d)
 holder_ticks g d stands =
     let is = stills_in d.controller.session.state (seen_by g d.controller.session) d.controller.waiting stands refl in
     record { waiting = is.0; asks = is.1 }
@@ -99,7 +99,7 @@ IsSomeones t = (p : Packet) → t.sent ≡ Some p → (k : ℕ) × ((d : Entry) 
 sent_with : (k : ℕ) (o : Option Entry) (b : BusState) → device_of k b ≡ o → IsSomeones (ticks_with k o b)
 sent_with k None b at p h = absurd cc
 sent_with k (Some d) b at p h =
-    (k, (device_ticks b.greatest d, set_here b.devices.entries k d (device_ticks b.greatest d) at, frame_sent b.greatest d p h))
+    (k, (entry_ticks b.greatest d, set_here b.devices.entries k d (entry_ticks b.greatest d) at, frame_sent b.greatest d p h))
 
 sent_at : (o : Option ℕ) (b : BusState) → IsSomeones (ticks_at o b)
 sent_at None b p h = absurd cc

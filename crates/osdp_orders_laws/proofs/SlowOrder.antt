@@ -16,7 +16,7 @@ use Rattle.osdp_bus.specs.Buses.{BusState, device_of, has_report, holder, new_bu
 use Rattle.osdp_bus.specs.Deadlines.{acts}
 use Rattle.osdp_bus.specs.Machine.{new_device}
 use Rattle.osdp_bus.specs.Remembering.{Remembered}
-use Rattle.osdp_bus.specs.Entries.{holds, is_device_due}
+use Rattle.osdp_bus.specs.Entries.{holds, is_entry_due}
 use Rattle.osdp_bus_laws.specs.Calls.{Begin, Call, NextReport, OnBytes, Submit, Tick, after_call}
 use Rattle.osdp_bus_time_laws.specs.Clock.{DoneBy, IsOwed, KeepsTime}
 use Rattle.osdp_bus_time_laws.specs.Instances.{ack_bytes, pd_id_bytes, short_line}
@@ -62,22 +62,22 @@ held_until call b entry at until g d none untold held there stands seen now is o
 -- and one of two that hold no line
 free_until : (call : Call) (b : BusState) (at until g : ℕ) (d e : Entry) → b.held ≡ [] → has_report b ≡ false → holder b ≡ None → b.devices.entries ≡ d ∷ e ∷ []
     → b.greatest ≡ g → g < until
-    → (is_device_due (max b.greatest at) d ≡ true → until ≤ max b.greatest at) → (is_device_due (max b.greatest at) e ≡ true → until ≤ max b.greatest at)
+    → (is_entry_due (max b.greatest at) d ≡ true → until ≤ max b.greatest at) → (is_entry_due (max b.greatest at) e ≡ true → until ≤ max b.greatest at)
     → IsOwed at call b → until ≤ at
 free_until call b at until g d e none untold free are now later first other owed =
-    by_due (is_device_due (max b.greatest at) d) (is_device_due (max b.greatest at) e) refl refl
-    (sym (ap (λ l. list_any (is_device_due (max b.greatest at)) l) are)
+    by_due (is_entry_due (max b.greatest at) d) (is_entry_due (max b.greatest at) e) refl refl
+    (sym (ap (λ l. list_any (is_entry_due (max b.greatest at)) l) are)
     ∙ free_due b none untold at (either_acts (has_report b) (acts at b) untold owed.due) free)
   where
-    by_due : (x y : Bool) → is_device_due (max b.greatest at) d ≡ x → is_device_due (max b.greatest at) e ≡ y
-        → (is_device_due (max b.greatest at) d || (is_device_due (max b.greatest at) e || false)) ≡ true → until ≤ at
+    by_due : (x y : Bool) → is_entry_due (max b.greatest at) d ≡ x → is_entry_due (max b.greatest at) e ≡ y
+        → (is_entry_due (max b.greatest at) d || (is_entry_due (max b.greatest at) e || false)) ≡ true → until ≤ at
     by_due true y due other_due so = let reached : until ≤ max b.greatest at = first due in omega (arith, reached, now, later)
     by_due false true due other_due so = let reached : until ≤ max b.greatest at = other other_due in omega (arith, reached, now, later)
     by_due false false due other_due so = absurd cc
 
 -- a controller with no command that waits
 waits_until : (at until : ℕ) (b : BusState) (d : Entry) → (is_idle d.controller.session.state ≡ true → d.controller.waiting ≡ [])
-    → d.controller.session.greatest ≤ b.greatest → until_of d.controller.session.state ≡ until → is_device_due (max b.greatest at) d ≡ true → until ≤ max b.greatest at
+    → d.controller.session.greatest ≤ b.greatest → until_of d.controller.session.state ≡ until → is_entry_due (max b.greatest at) d ≡ true → until ≤ max b.greatest at
 waits_until at until b d rests seen is due = let reached = reached_of at b d rests seen due in omega (arith, reached, is)
 
 less : (g h k l : ℕ) → g ≡ k → h ≡ l → k ≤ l → g ≤ h
@@ -203,7 +203,7 @@ module _ (remembered : List Remembered) where
     (two other_asked refl, (two other_answered refl, (two last_taken refl, two (after_call (Tick 21) last_taken) refl))),
   )
 
-never : (d : Entry) (now until : ℕ) → is_device_due now d ≡ false → is_device_due now d ≡ true → until ≤ now
+never : (d : Entry) (now until : ℕ) → is_entry_due now d ≡ false → is_entry_due now d ≡ true → until ≤ now
 never d now until none due = absurd cc
 
 -- ---- from the moment on at which the order before it has been answered

@@ -9,7 +9,7 @@ use Rattle.osdp_controller_laws.specs.Laws.{exchange_in}
 use Rattle.osdp_controller.proofs.Waiting.{map_push}
 use Rattle.osdp_ring.specs.Ring.{popped}
 use Rattle.osdp_bus.specs.declared.entry.Entry.{Entry}
-use Rattle.osdp_bus.specs.Machine.{device_submits}
+use Rattle.osdp_bus.specs.Machine.{entry_submits}
 use Rattle.osdp_bus_laws.proofs.Places.{both_false}
 use Rattle.osdp_orders.specs.declared.queue.Queue.{Queue}
 use Rattle.osdp_orders.specs.Queues.{after_hold, kept_as}
@@ -164,9 +164,9 @@ module _ (d e : Entry) (q : Queue) (steps : Steps d q e q None None) (let_go : L
 
   -- one is
   pub let_first : (bytes : List ℕ) (rest : List (List ℕ)) → waits e ≡ [] → q.held.items ≡ bytes ∷ rest
-      → Steps d q (device_submits (command_kept bytes) e) (record { held = popped q.held; may_go = false }) None None
+      → Steps d q (entry_submits (command_kept bytes) e) (record { held = popped q.held; may_go = false }) None None
   let_first bytes rest empty first =
-      let f = device_submits (command_kept bytes) e in
+      let f = entry_submits (command_kept bytes) e in
       let r : Queue = record { held = popped q.held; may_go = false } in
       let one : waits f ≡ command_kept bytes ∷ [] = ap (λ w. w ++ command_kept bytes ∷ []) empty in
       let same : orders f r ≡ orders e q =
@@ -181,9 +181,9 @@ module _ (d e : Entry) (q : Queue) (steps : Steps d q e q None None) (let_go : L
 
 -- ---- an order is accepted
 
-pub ordered : (d : Entry) (q : Queue) (c : Command) → Paced d q → q.may_go ≡ true → Steps d q (device_submits c d) (record q { may_go = false }) (Some c) None
+pub ordered : (d : Entry) (q : Queue) (c : Command) → Paced d q → q.may_go ≡ true → Steps d q (entry_submits c d) (record q { may_go = false }) (Some c) None
 ordered d q c paced may =
-    let e = device_submits c d in
+    let e = entry_submits c d in
     let free = paced.free may in
     let one : waits e ≡ c ∷ [] = ap (λ w. w ++ c ∷ []) free.0 in
     let none = out_none (asked d) (asked e) (inl refl) in record {
@@ -199,7 +199,7 @@ ordered d q c paced may =
     }
   where
     why : ((waits d ≡ []) × (q.may_go ≡ false)) ⊎ (polls d ≡ true)
-        → ((waits (device_submits c d) ≡ []) × (false ≡ false)) ⊎ (polls (device_submits c d) ≡ true)
+        → ((waits (entry_submits c d) ≡ []) × (false ≡ false)) ⊎ (polls (entry_submits c d) ≡ true)
     why (inl (empty, bound)) = absurd cc
     why (inr p) = inr p
 

@@ -4,7 +4,7 @@ use Rattle.std.specs.Prelude.{◌⊎◌, if◌then◌else◌, is_some, nat_eq}
 use Rattle.std.proofs.lemmas.Bool.{eqb-true, eqb-false}
 use Rattle.osdp_bus.specs.declared.entry.Entry.{Entry}
 use Rattle.osdp_bus.specs.Buses.{BusState, device_of, has_report, seen}
-use Rattle.osdp_bus.specs.Entries.{device_ticks, holds}
+use Rattle.osdp_bus.specs.Entries.{entry_ticks, holds}
 use Rattle.osdp_bus.specs.Ticking.{BusTicked, bus_ticks, stays, ticks_on, ticks_with}
 use Rattle.osdp_bus_laws.specs.Calls.{Tick}
 use Rattle.osdp_bus_laws.specs.Fairness.{Begins}
@@ -40,7 +40,7 @@ module _ (now entry : ℕ) (b : BusState) (d : Entry) (q : Queue) (sound : Sound
       let n = begins.now in
       let r = asking n b in
       let f = begins.next.due.device in
-      let e = device_ticks r.greatest f in
+      let e = entry_ticks r.greatest f in
       let same : now ≡ n = (let tick = begins.tick in cc) in
       let free = is_false (holds f) (λ h. still_free n b begins.free entry f begins.next.due.there h) in
       let after : bus_ticks now b ≡ ticks_with entry (Some f) r = ap (λ m. bus_ticks m b) same ∙ begun_ticked n entry b begins.free begins.next in
@@ -68,8 +68,8 @@ module _ (now entry : ℕ) (b : BusState) (d : Entry) (q : Queue) (sound : Sound
       by_same false apart = let place = other (eqb-false k entry apart) in still_there (bus_ticks now b) place.0 place.1 place.2
   by_outcome (inr (inl (e, there, (s, never)))) = still_there (bus_ticks now b) e there s
   by_outcome (inr (inr (e, s, stands, due, there))) =
-      still_there (bus_ticks now b) (device_ticks (max b.greatest now) e) there
-      (both_stills d e (device_ticks (max b.greatest now) e) s (holder_ticks (max b.greatest now) e stands))
+      still_there (bus_ticks now b) (entry_ticks (max b.greatest now) e) there
+      (both_stills d e (entry_ticks (max b.greatest now) e) s (holder_ticks (max b.greatest now) e stands))
 
   pub ticks_device : Ticks (bus_ticks now b)
   ticks_device = by_report (has_report b) refl

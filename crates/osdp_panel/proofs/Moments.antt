@@ -8,7 +8,7 @@ use Rattle.osdp_controller.proofs.Choices.{either_way}
 use Rattle.osdp_bus.specs.declared.entry.Entry.{Entry}
 use Rattle.osdp_bus.specs.Buses.{BusState, device_of, has_report, holder, seen}
 use Rattle.osdp_bus.specs.Hearing.{ends_run, ends_silent}
-use Rattle.osdp_bus.specs.Machine.{after_next_report, device_submits, order_refusal_at}
+use Rattle.osdp_bus.specs.Machine.{after_next_report, entry_submits, order_refusal_at}
 use Rattle.osdp_bus.specs.Ticking.{BusTicked, is_due_at, is_held_and_due, next_due, stays, ticks_at, ticks_by, ticks_held, ticks_on, ticks_with}
 use Rattle.osdp_orders.specs.declared.queue.Queue.{Queue}
 use Rattle.osdp_orders.specs.Orders.{PanelState, both, gone_to, is_empty_in, lets_go_after, lets_go_of, polled_by, queue_of}
@@ -52,7 +52,7 @@ over_by (Some i) b h =
 
 orders_held : (o : Option Entry) (entry : ℕ) (c : Command) (b : BusState)
     → (option_map_or (λ d. record b {
-      devices = record b.devices { entries = slice_set b.devices.entries entry (device_submits c d) };
+      devices = record b.devices { entries = slice_set b.devices.entries entry (entry_submits c d) };
     }) o b).held ≡ b.held
 orders_held None entry c b = refl
 orders_held (Some d) entry c b = refl

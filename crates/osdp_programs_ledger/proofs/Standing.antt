@@ -6,7 +6,7 @@ use Rattle.std.specs.List.{list_all, list_any}
 use Rattle.std.specs.Prelude.{not, ◌==◌, ◌&&◌, ◌||◌, nat_le, nat_lt}
 use Rattle.osdp_bus.specs.Buses.{new_bus}
 use Rattle.osdp_bus.specs.Entries.{takes_up}
-use Rattle.osdp_bus.specs.Machine.{most_devices, new_device}
+use Rattle.osdp_bus.specs.Machine.{most_entries, new_device}
 use Rattle.osdp_bus.specs.declared.config.BusConfig.{BusConfig}
 use Rattle.osdp_bus.specs.declared.fault.BusFault.TheVariants.{AddressTaken, OutOfRange, TooMany}
 use Rattle.osdp_link_laws.proofs.Stages.{Each}
@@ -55,7 +55,7 @@ module _ {H : Type 0} where
       by_test true is rest = absurd (let e = is in cc)
       by_test false is rest = rest
 
-  none_refused : (config : BusConfig) (readers : List (Given H)) (before : List ℕ) → length before + length readers ≤ most_devices
+  none_refused : (config : BusConfig) (readers : List (Given H)) (before : List ℕ) → length before + length readers ≤ most_entries
       → list_all is_reader_in_range readers ≡ true → are_apart readers ≡ true → Each (IsFree readers) before
       → NoneRefused (map address_of readers) (bus_with config before)
   none_refused config [] before few ranges apart free = tt
@@ -65,9 +65,9 @@ module _ {H : Type 0} where
       let parts = both (not (list_any (is_at (address_of given)) readers)) (are_apart readers) apart in
       let count = count_devices config before in
       let longer = length-append before (address_of given ∷ []) in (
-        no_refusal (nat_le most_devices (length (map (λ a. new_device a config) before))) (nat_lt (address_of given) 127)
+        no_refusal (nat_le most_entries (length (map (λ a. new_device a config) before))) (nat_lt (address_of given) 127)
             (list_any (takes_up (address_of given)) (map (λ a. new_device a config) before))
-            (lt-leb most_devices (length (map (λ a. new_device a config) before)) (omega (arith, count, few))) (lt-ltb (address_of given) 127 (omega (arith, low)))
+            (lt-leb most_entries (length (map (λ a. new_device a config) before)) (omega (arith, count, few))) (lt-ltb (address_of given) 127 (omega (arith, low)))
             (none_takes config given readers before free),
         subst (NoneRefused (map address_of readers)) (sym (added config before (address_of given)))
             (none_refused config readers (before ++ address_of given ∷ []) (omega (arith, longer, few)) range.1 parts.1
@@ -77,7 +77,7 @@ module _ {H : Type 0} where
 
   pub entries_stand : (config : BusConfig) (readers : List (Given H)) → AreSettings config readers → NoneRefused (map address_of readers) (new_bus config)
   entries_stand config readers settings =
-      let within = both (nat_le (length readers) most_devices) (list_all is_reader_in_range readers && are_apart readers) settings.each in
+      let within = both (nat_le (length readers) most_entries) (list_all is_reader_in_range readers && are_apart readers) settings.each in
       let parts = both (list_all is_reader_in_range readers) (are_apart readers) within.1 in
-      let few = leb-true (length readers) most_devices within.0 in
+      let few = leb-true (length readers) most_entries within.0 in
       none_refused config readers [] (omega (arith, few)) parts.0 parts.1 tt

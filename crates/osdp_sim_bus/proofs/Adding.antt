@@ -4,7 +4,7 @@ use Rattle.std.specs.Prelude.{slice_get, slice_set}
 use Rattle.std.specs.Option.{option_map_or}
 use Rattle.std.proofs.lemmas.List.{append-nil, append_assoc}
 use Rattle.osdp_bus.specs.Buses.{BusState, new_bus}
-use Rattle.osdp_bus.specs.Machine.{after_add, after_begin_at, begin_refusal_at, begin_refusal_of, device_begins, new_device}
+use Rattle.osdp_bus.specs.Machine.{after_add, after_begin_at, begin_refusal_at, begin_refusal_of, entry_begins, new_device}
 use Rattle.osdp_bus.specs.declared.config.BusConfig.{BusConfig}
 use Rattle.osdp_bus.specs.declared.entry.Entry.{Entry}
 use Rattle.osdp_sim_bus.specs.State.{Given, address_of, begun_bus, begun_device, bus_with}
@@ -29,8 +29,8 @@ pub begins_added : {H : Type 0} (config : BusConfig) (devices : List Entry) (giv
 begins_added config devices given =
     let new = new_device (address_of given) config in
     let added = after_add (address_of given) (bus_with config devices) in
-    ap (λ o. option_map_or (λ d. record added { devices = record added.devices { entries = slice_set (devices ++ new ∷ []) (length devices) (device_begins 0 d) } }) o added) (last_there devices new)
-    ∙ ap (bus_with config) (last_set devices new (device_begins 0 new))
+    ap (λ o. option_map_or (λ d. record added { devices = record added.devices { entries = slice_set (devices ++ new ∷ []) (length devices) (entry_begins 0 d) } }) o added) (last_there devices new)
+    ∙ ap (bus_with config) (last_set devices new (entry_begins 0 new))
 
 -- a device for each of the readers so far
 pub record HaveBegun {H : Type 0} (config : BusConfig) (all left : List (Given H)) (b : BusState) : Type 0 where

@@ -7,7 +7,7 @@ use Rattle.osdp_msg.specs.declared.command.Command.{Command}
 use Rattle.osdp_controller.specs.declared.report.Report.{Report}
 use Rattle.osdp_reader.specs.declared.handler.Answer.{Answer}
 use Rattle.osdp_bus.specs.Buses.{BusState, device_of, seen}
-use Rattle.osdp_bus.specs.Machine.{after_next_report, device_begins, device_submits, submit_refusal_at}
+use Rattle.osdp_bus.specs.Machine.{after_next_report, entry_begins, entry_submits, submit_refusal_at}
 use Rattle.osdp_bus.specs.declared.entry.Entry.{Entry}
 use Rattle.osdp_bus.specs.declared.fault.BusFault.{BusFault}
 use Rattle.std.specs.Prelude.{max}
@@ -36,7 +36,7 @@ module _ {H : Type 0} (answer_of : H → Command → Answer) (after : H → Comm
 
   issued_told : (fault : Option BusFault) (place : ℕ) (command : Command) (s : LineState H) → IsTold s → IsTold (issued fault place command s)
   issued_told (Some fault) place command s h = h
-  issued_told None place command s h = changed_told place (device_submits command) s.bus (device_of place s.bus) h
+  issued_told None place command s h = changed_told place (entry_submits command) s.bus (device_of place s.bus) h
 
   told_told : (report : Option (ℕ × Report)) (s : LineState H) → IsTold s → IsTold (report_told report s)
   told_told None s h = h
@@ -61,7 +61,7 @@ module _ {H : Type 0} (answer_of : H → Command → Answer) (after : H → Comm
       told_told t.bus.devices.report (record t { bus = after_next_report t.bus }) refl
   step_told (Reopen number) s h =
       let b = seen s.clock s.bus in
-      where_told (is_there number s) _ s h (changed_told (number - 1) (device_begins (max s.bus.greatest s.clock)) b (device_of (number - 1) b) h)
+      where_told (is_there number s) _ s h (changed_told (number - 1) (entry_begins (max s.bus.greatest s.clock)) b (device_of (number - 1) b) h)
 
   run_told : (steps : List SimStep) (s : LineState H) → IsTold s → IsTold (run answer_of after steps s)
   run_told [] s h = h

@@ -5,7 +5,7 @@ use Rattle.std.specs.List.{list_all, list_any}
 use Rattle.osdp_msg.specs.Limits.{most_waiting}
 use Rattle.osdp_msg.specs.declared.command.Command.{Command}
 use Rattle.osdp_reader.specs.declared.handler.Answer.{Answer}
-use Rattle.osdp_bus.specs.Machine.{most_devices}
+use Rattle.osdp_bus.specs.Machine.{most_entries}
 use Rattle.osdp_bus.specs.Settings.{IsBusConfig}
 use Rattle.osdp_bus.specs.declared.config.BusConfig.{BusConfig}
 use Rattle.osdp_sim.specs.Account.{Account, lists_of}
@@ -40,7 +40,7 @@ module _ {H : Type 0} where
   -- there are no more than a bus has place for, each is in its range, and no two are at one address ..
   abbrev pub are_readers : List (Given H) → Bool
   are_readers readers =
-      nat_le (length readers) most_devices && (list_all is_reader_in_range readers && are_apart readers)
+      nat_le (length readers) most_entries && (list_all is_reader_in_range readers && are_apart readers)
 
   -- .. and the bus's settings are in their ranges
   pub record AreSettings (config : BusConfig) (readers : List (Given H)) : Type 0 where

@@ -3,7 +3,7 @@ use Rattle.std.specs.Prelude.{ℕ, All, List, [], map}
 use Rattle.osdp_reader.specs.declared.config.ReaderConfig.{ReaderConfig}
 use Rattle.osdp_reader.specs.State.{ReaderState, new_reader}
 use Rattle.osdp_bus.specs.Buses.{BusState, new_bus}
-use Rattle.osdp_bus.specs.Machine.{device_begins, new_device}
+use Rattle.osdp_bus.specs.Machine.{entry_begins, new_device}
 use Rattle.osdp_bus.specs.declared.config.BusConfig.{BusConfig}
 use Rattle.osdp_bus.specs.declared.entry.Entry.{Entry}
 use Rattle.osdp_sim.specs.Account.{Account, empty_account, with_session}
@@ -39,7 +39,7 @@ module _ {H : Type 0} where
 
   -- the panel's device for a reader: its first session begins at moment 0
   abbrev pub begun_device : BusConfig → Given H → Entry
-  begun_device config given = device_begins 0 (new_device (address_of given) config)
+  begun_device config given = entry_begins 0 (new_device (address_of given) config)
 
   abbrev pub new_site : Given H → ReaderSite H
   new_site given = record { reader = new_reader given.0 given.2 (room_for given.1); account = with_session empty_account }

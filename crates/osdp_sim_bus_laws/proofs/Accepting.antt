@@ -16,7 +16,7 @@ use Rattle.osdp_controller.specs.declared.fault.ControllerFault.TheVariants.{Ful
 use Rattle.osdp_reader.specs.Queue.{lacks_room}
 use Rattle.osdp_reader.specs.declared.handler.Answer.{Answer}
 use Rattle.osdp_bus.specs.Buses.{device_of}
-use Rattle.osdp_bus.specs.Machine.{after_submit_at, bus_fault, device_submits, is_comset_refused, submit_refusal_at, submit_refusal_of}
+use Rattle.osdp_bus.specs.Machine.{after_submit_at, bus_fault, entry_submits, is_comset_refused, submit_refusal_at, submit_refusal_of}
 use Rattle.osdp_bus.specs.declared.config.BusConfig.{BusConfig}
 use Rattle.osdp_bus.specs.declared.entry.Entry.{Entry}
 use Rattle.osdp_bus.specs.declared.fault.BusFault.{BusFault}
@@ -86,10 +86,10 @@ module _ {H : Type 0} (answer_of : H → Command → Answer) (after : H → Comm
   told_by_bus (Some fault) refused is = absurd cc
 
   submitted_there : (k : ℕ) (c : Command) (s : LineState H) (d : Entry) → device_of k s.bus ≡ Some d
-      → slice_get (after_submit_at k c s.bus).devices.entries k ≡ Some (device_submits c d)
+      → slice_get (after_submit_at k c s.bus).devices.entries k ≡ Some (entry_submits c d)
   submitted_there k c s d at =
-      ap (λ o. slice_get (option_map_or (λ x. record s.bus { devices = record s.bus.devices { entries = slice_set s.bus.devices.entries k (device_submits c x) } }) o s.bus).devices.entries k) at
-      ∙ get_set k d (device_submits c d) s.bus.devices.entries at
+      ap (λ o. slice_get (option_map_or (λ x. record s.bus { devices = record s.bus.devices { entries = slice_set s.bus.devices.entries k (entry_submits c x) } }) o s.bus).devices.entries k) at
+      ∙ get_set k d (entry_submits c d) s.bus.devices.entries at
 
   module _ (k : ℕ) (c : Command) (list : List SimStep) (rest : RestAccepts k list) (n : ℕ) (s : LineState H) (d : Entry) (u : ReaderSite H)
       (at : device_of k s.bus ≡ Some d) (sited : slice_get s.sites k ≡ Some u) (few : ShortCommands n d.controller) (fits : CommandFits c) (fit : Each OrderFits list) where
@@ -99,7 +99,7 @@ module _ {H : Type 0} (answer_of : H → Command → Answer) (after : H → Comm
     put : Each IsNoComset (commands_for (suc k) list) → Goal (c ∷ []) None
     put none =
         let next = issued None k c s in
-        let last = rest (n + 1) next (device_submits c d) (site_issues c u) (submitted_there k c s d at) (get_changed k (site_issues c) u s.sites sited)
+        let last = rest (n + 1) next (entry_submits c d) (site_issues c u) (submitted_there k c s d at) (get_changed k (site_issues c) u s.sites sited)
         (one_more_command n c d.controller fits few) fit none in
         record {
           site = last.site;
@@ -212,7 +212,7 @@ module _ {H : Type 0} (answer_of : H → Command → Answer) (after : H → Comm
     some_put : (fault : Option BusFault) → Among (c ∷ []) fault
     some_put None =
         let next = issued None k c s in
-        let last = rest next (device_submits c d) (site_issues c u) (submitted_there k c s d at) (get_changed k (site_issues c) u s.sites sited) in
+        let last = rest next (entry_submits c d) (site_issues c u) (submitted_there k c s d at) (get_changed k (site_issues c) u s.sites sited) in
         record {
           site = last.site;
           there = last.there;

@@ -4,7 +4,7 @@ use Rattle.std.proofs.lemmas.Bool.{leb-true}
 use Rattle.std.specs.Prelude.{nat_le, slice_get}
 use Rattle.std.specs.List.{list_all, list_any}
 use Rattle.osdp_reader.specs.State.{new_reader}
-use Rattle.osdp_bus.specs.Machine.{most_devices}
+use Rattle.osdp_bus.specs.Machine.{most_entries}
 use Rattle.osdp_bus.specs.Settings.{controller_config}
 use Rattle.osdp_bus.specs.declared.config.BusConfig.{BusConfig}
 use Rattle.osdp_link_laws.specs.Headline.{Begins}
@@ -148,7 +148,7 @@ module _ {H : Type 0} where
   }
     where
       both : (list_all is_reader_in_range readers && are_apart readers) ≡ true
-      both = rest_of (nat_le (length readers) most_devices) (list_all is_reader_in_range readers && are_apart readers) settings.each
+      both = rest_of (nat_le (length readers) most_entries) (list_all is_reader_in_range readers && are_apart readers) settings.each
 
       all : list_all is_reader_in_range readers ≡ true
       all = first_of (list_all is_reader_in_range readers) (are_apart readers) both

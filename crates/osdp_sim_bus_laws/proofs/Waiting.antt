@@ -9,9 +9,9 @@ use Rattle.osdp_msg.specs.declared.command.Command.{Command}
 use Rattle.osdp_controller.proofs.Choices.{either_way}
 use Rattle.osdp_bus.specs.declared.entry.Entry.{Entry}
 use Rattle.osdp_bus.specs.Buses.{BusState, Devices, device_of, has_report, holder, is_silent, seen}
-use Rattle.osdp_bus.specs.Entries.{device_hears, device_ticks, first_from, is_at}
+use Rattle.osdp_bus.specs.Entries.{entry_hears, entry_ticks, first_from, is_at}
 use Rattle.osdp_bus.specs.Hearing.{after_bytes, ends_run, ends_silent, hears_at, hears_item, hears_items, hears_with}
-use Rattle.osdp_bus.specs.Machine.{after_begin_at, after_submit_at, changes_device, device_begins, device_submits}
+use Rattle.osdp_bus.specs.Machine.{after_begin_at, after_submit_at, changes_entry, entry_begins, entry_submits}
 use Rattle.osdp_bus.specs.Ticking.{BusTicked, bus_ticks, is_due_at, is_held_and_due, next_due, stays, ticks_at, ticks_by, ticks_held, ticks_on, ticks_with}
 use Rattle.osdp_sim_bus.specs.Steps.{hears_run}
 use Rattle.osdp_sim_laws.proofs.Room.{FewCommands, fewer_commands, same_commands, tick_few}
@@ -46,7 +46,7 @@ keeps_with : (k : ℕ) (p : Packet) (now i : ℕ) (o : Option Entry) (ds : Devic
     → Keeps k ds.entries (hears_with p now i o ds).entries
 keeps_with k p now i None ds at = keeps_all k ds.entries
 keeps_with k p now i (Some d) ds at =
-    keeps_set k i d (device_hears p now d) ds.entries at (record { waiting = omega arith; bytes = omega arith; capacity = refl; room = refl })
+    keeps_set k i d (entry_hears p now d) ds.entries at (record { waiting = omega arith; bytes = omega arith; capacity = refl; room = refl })
 
 keeps_at : (k : ℕ) (p : Packet) (now : ℕ) (o : Option ℕ) (ds : Devices) → Keeps k ds.entries (hears_at p now o ds).entries
 keeps_at k p now None ds = keeps_all k ds.entries
@@ -95,7 +95,7 @@ keeps_ticks_with : (k i : ℕ) (o : Option Entry) (b : BusState) → device_of i
 keeps_ticks_with k i None b at = keeps_all k b.devices.entries
 keeps_ticks_with k i (Some d) b at =
     let few = tick_few d.controller.session.state _ d.controller.waiting in
-    keeps_set k i d (device_ticks b.greatest d) b.devices.entries at
+    keeps_set k i d (entry_ticks b.greatest d) b.devices.entries at
     (record { waiting = few.0; bytes = few.1; capacity = refl; room = refl })
 
 keeps_ticks_at : (k : ℕ) (o : Option ℕ) (b : BusState) → TickKeeps k b (ticks_at o b)
@@ -122,7 +122,7 @@ keeps_tick k now b =
 
 -- ---- calls for one device
 
-keeps_changes : (k entry : ℕ) (change : Entry → Entry) (b : BusState) → ((d : Entry) → IsFewer d (change d)) → BusKeeps k b (changes_device entry change b)
+keeps_changes : (k entry : ℕ) (change : Entry → Entry) (b : BusState) → ((d : Entry) → IsFewer d (change d)) → BusKeeps k b (changes_entry entry change b)
 keeps_changes k entry change b is = by_device (device_of entry b) refl
   where
     by_device : (o : Option Entry) → device_of entry b ≡ o
@@ -132,13 +132,13 @@ keeps_changes k entry change b is = by_device (device_of entry b) refl
 
 pub keeps_begin : (k entry now : ℕ) (b : BusState) → BusKeeps k b (after_begin_at entry now b)
 keeps_begin k entry now b =
-    keeps_changes k entry (device_begins (max b.greatest now)) (seen now b) (λ d. record { waiting = omega arith; bytes = omega arith; capacity = refl; room = refl })
+    keeps_changes k entry (entry_begins (max b.greatest now)) (seen now b) (λ d. record { waiting = omega arith; bytes = omega arith; capacity = refl; room = refl })
 
 -- a command for another device
 pub keeps_other : (k entry : ℕ) (command : Command) (b : BusState) → (k ≡ entry → ⊥) → BusKeeps k b (after_submit_at entry command b)
 keeps_other k entry command b other = by_device (device_of entry b)
   where
     by_device : (o : Option Entry)
-        → BusKeeps k b (option_map_or (λ d. record b { devices = record b.devices { entries = slice_set b.devices.entries entry (device_submits command d) } }) o b)
+        → BusKeeps k b (option_map_or (λ d. record b { devices = record b.devices { entries = slice_set b.devices.entries entry (entry_submits command d) } }) o b)
     by_device None = keeps_all k b.devices.entries
-    by_device (Some d) = set_other IsFewer as_before k entry (device_submits command d) b.devices.entries other
+    by_device (Some d) = set_other IsFewer as_before k entry (entry_submits command d) b.devices.entries other
