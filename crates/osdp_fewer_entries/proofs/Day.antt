@@ -3,13 +3,10 @@ use Rattle.std.proofs.Common.{◌≡◌, ◌≤◌, ℕ, zero, suc, Bool, true, 
 use Rattle.std.proofs.lemmas.Bool.{and_parts}
 use Rattle.osdp_frame.specs.Held.{decided}
 use Rattle.osdp_frame.specs.Items.{items, left_over}
-use Rattle.osdp_frame.specs.declared.check_kind.CheckKind.TheVariants.{Sum}
 use Rattle.osdp_msg.specs.CommandTable.{command_at, command_fault, command_of}
 use Rattle.osdp_msg.specs.ReplyFields.{CapabilityFits}
 use Rattle.osdp_msg.specs.ReplyTable.{reply_at, reply_fault, reply_of}
 use Rattle.osdp_msg.specs.declared.command.Command.{Command}
-use Rattle.osdp_bus.specs.Settings.{IsBusConfig}
-use Rattle.osdp_bus.proofs.Defaults.{bus_in_range}
 use Rattle.osdp_link_laws.proofs.Lines.{each_all}
 use Rattle.osdp_reader.specs.declared.handler.Answer.{Answer}
 use Rattle.osdp_shared_line.specs.Line.{site_at}
@@ -18,15 +15,12 @@ use Rattle.osdp_calls.specs.Calls.{NewPanel, Step, after_call}
 use Rattle.osdp_calls.specs.Lines.{InUse, Station}
 use Rattle.osdp_calls.specs.Premises.{AllKeep}
 use Rattle.osdp_premises.specs.Deciding.{is_fair}
-use Rattle.osdp_premises.specs.LongDay.{calls, first_line, four, twice}
+use Rattle.osdp_premises.specs.LongDay.{calls, first_line, twice}
 use Rattle.osdp_premises.proofs.Exactly.{fair_keep}
-use Rattle.osdp_premises.proofs.LongDay.{RangeOf, all_range, id_fits, is_set_up, keep_at}
+use Rattle.osdp_premises.proofs.LongDay.{RangeOf, all_range, id_fits, is_set_up, keep_at, twice_fits}
 use Rattle.osdp_fewer_entries.specs.Day.{LeftOutAndBack, day}
 use Rattle.osdp_fewer_entries.specs.FewerEntries.{AllKeepWithFewer, StaysThere, whole}
 use Rattle.osdp_fewer_entries.proofs.Stations.{place, places}
-
-twice_fits : IsBusConfig twice
-twice_fits = bus_in_range Sum four 2 ((omega arith, omega arith), omega arith, omega arith) (omega arith, omega arith)
 
 -- two lists of addresses are the same
 abbrev are_same : List ℕ → List ℕ → Bool

@@ -33,7 +33,7 @@ use Rattle.osdp_premises.specs.LongDay.{LongDayKeeps, RestartHappens, RestartsHa
 use Rattle.osdp_premises.proofs.Exactly.{fair_keep}
 use Rattle.osdp_premises.proofs.Leaving.{leaving_exact}
 
-twice_fits : IsBusConfig twice
+pub twice_fits : IsBusConfig twice
 twice_fits = bus_in_range Sum four 2 ((omega arith, omega arith), omega arith, omega arith) (omega arith, omega arith)
 
 pub room_fits : AreRoom four.messages four.bytes
@@ -61,7 +61,7 @@ key_bytes (suc i) = omega arith
 pub no_bytes : (i : ℕ) → slice_index [] i < 256
 no_bytes i = omega arith
 
-key_fits : KeypadFits (record { reader = 0; digits = record { items = 49 ∷ [] } })
+pub key_fits : KeypadFits (record { reader = 0; digits = record { items = 49 ∷ [] } })
 key_fits = record { reader = omega arith; room = omega arith; digits = key_bytes }
 
 pub is_the_one : {A : Type 0} (x y : A) → Some x ≡ Some y → x ≡ y
