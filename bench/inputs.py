@@ -5,26 +5,10 @@ import pathlib
 import random
 import sys
 
+from packets import packet
+
 folder = pathlib.Path(sys.argv[1])
 size = int(sys.argv[2]) * 1000 * 1000
-
-
-def crc(data):
-    state = 0x1D0F
-    for byte in data:
-        state ^= byte << 8
-        for _ in range(8):
-            state = ((state << 1) ^ 0x1021 if state & 0x8000 else state << 1) & 0xFFFF
-    return state
-
-
-def packet(address, control, body):
-    length = 5 + len(body) + (2 if control & 4 else 1)
-    front = bytes([0x53, address, length % 256, length // 256, control]) + body
-    if control & 4:
-        return front + crc(front).to_bytes(2, "little")
-    return front + bytes([-sum(front) % 256])
-
 
 chance = random.Random(2026)
 small = [packet(n % 126, n % 3 + 1 + kind, b"\x60") for n in range(64) for kind in (0, 4)]

@@ -11,30 +11,18 @@ import sys
 import tempfile
 from pathlib import Path
 
+from packets import packet
+
 OSDP = Path(__file__).resolve().parent.parent / "crates/osdp/out/osdp"
 ROUNDS = int(sys.argv[2]) if len(sys.argv) > 2 else 8
 SIZE = (int(sys.argv[1]) if len(sys.argv) > 1 else 24) * 1_000_000
 PROGRAM = Path(sys.argv[3]) if len(sys.argv) > 3 else OSDP
 
 
-def crc(data):
-    state = 0x1D0F
-    for byte in data:
-        state ^= byte << 8
-        for _ in range(8):
-            state = ((state << 1) ^ 0x1021 if state & 0x8000 else state << 1) & 0xFFFF
-    return state
-
-
-def packet(address, number, code):
-    front = bytes([0x53, address, 8, 0, number + 4, code])
-    return (front + crc(front).to_bytes(2, "little")).hex().upper()
-
-
 def capture():
     """Lines with moments, as many as have the size."""
     made, size, turn = [], 0, 0
-    packets = {(address, number, code): packet(address, number, code) for device in range(16) for number in range(4)
+    packets = {(address, number, code): packet(address, number + 4, bytes([code])).hex().upper() for device in range(16) for number in range(4)
                for address, code in ((device, 0x60), (device + 128, 0x40))}
     while size < SIZE:
         device, number, moment = turn % 16, (turn // 16 - 1) % 3 + 1 if turn >= 16 else 0, 1000 + 50 * turn
