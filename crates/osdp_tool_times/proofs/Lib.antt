@@ -2,3 +2,4 @@ pub mod Numbers
 pub mod Steps
 pub mod Exchanges
 pub mod Rows
+pub mod Comments

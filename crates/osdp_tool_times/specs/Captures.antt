@@ -1,9 +1,9 @@
 -- A capture of lines of digits, some of which stand below a comment with their moment.
-use Rattle.std.specs.Prelude.{ℕ, ◌==◌, if◌then◌else◌, false, List, [], ◌∷◌, drop, replicate, slice_index_or, Option, None, Some}
+use Rattle.std.specs.Prelude.{ℕ, ◌==◌, not, ◌&&◌, Bool, if◌then◌else◌, false, List, [], ◌∷◌, drop, replicate, slice_index_or, Option, None, Some}
 use Rattle.memchr.specs.Find.{first_of, is_byte, places}
 use Rattle.osdp_frame.specs.Held.{by_itself, decided}
 use Rattle.osdp_frame.specs.Reading.{RunItem, PacketItem, SkippedItem, RefusedItem}
-use Rattle.osdp_tool_streams.specs.Line.{kept, line_bytes}
+use Rattle.osdp_tool_streams.specs.Line.{is_blank, kept, line_bytes}
 use Rattle.osdp_tool_times.specs.Moments.{moment_in}
 use Rattle.osdp_tool_times.specs.Times.{all_after, no_times, packet_told}
 use Rattle.osdp_tool_times.specs.declared.capture.Timed.{Timed}
@@ -83,3 +83,12 @@ after_lines h (line ∷ lines) = after_lines (after_line h line) lines
 
 abbrev pub heard_of : Timed → Heard
 heard_of t = record { moment = t.moment; times = t.times.items }
+
+-- what the last line said, as `line_bytes` has it
+abbrev pub last_said : Timed → Option (List ℕ)
+last_said t = if t.good then Some t.bytes.items else None
+
+-- a line begins with a character that counts, and is no comment
+abbrev pub begins : List ℕ → Bool
+begins [] = false
+begins (first ∷ rest) = not (is_blank first) && not (first == 35)

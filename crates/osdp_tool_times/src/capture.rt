@@ -1,8 +1,10 @@
 //! A capture of lines of digits, with moments.
 
-ghost use Rattle.std.specs.Prelude.{◌≡◌, ◌++◌, IfOk, OnOk, length, string_bytes};
+ghost use Rattle.std.specs.Prelude.{◌≡◌, ◌++◌, ◌∷◌, [], Option, IfOk, IsTrue, OnOk, length, option_copied, string_bytes};
+ghost use Rattle.osdp_tool_streams.specs.Line.{line_bytes};
 
-use crate::moment::moment_after;
+use crate::line::begins;
+use crate::moment::{comment_moment, moment_after, moment_or};
 use crate::object::push_objects;
 use crate::run::from_start;
 use crate::table::Times;
@@ -23,12 +25,14 @@ pub struct Timed {
     times: Vec<Times>,
     digits: Digits,
     characters: Vec<u8>,
+    /// Whether the last line was no bad one, and what it said then.
+    good: bool,
     bytes: Vec<u8>,
     ghost addresses: { length times.items ≡ 128 },
 }
 
 impl Timed {
-    ghost use Rattle.osdp_tool_times.specs.Captures.{after_line, heard_of, line_told, nothing_heard, run_after, run_told};
+    ghost use Rattle.osdp_tool_times.specs.Captures.{after_line, begins, bytes_after, bytes_told, heard_of, last_said, line_told, nothing_heard, run_after, run_told};
     ghost use Rattle.osdp_tool_times.specs.Text.{times_objects, times_text};
 
     /// Nothing was heard.
@@ -40,8 +44,19 @@ impl Timed {
             times: vec![in alloc; Times::NONE; ADDRESSES]?,
             digits: Digits::new(),
             characters: Vec::new(alloc),
+            good: true,
             bytes: Vec::new(alloc),
         })
+    }
+
+    /// What the last line said, where it was no bad one: the bytes of its digits.
+    pub fn said(&self) -> Option<&[u8]>
+        ensures { option_copied result ≡ last_said self.now }
+    {
+        if !self.good {
+            return None;
+        }
+        Some(&self.bytes)
     }
 
     /// The bytes of a line came at this moment. What they tell.
@@ -49,6 +64,7 @@ impl Timed {
         ensures told { result ≡ run_told self.old.bytes.items moment self.old.times.items }
         ensures times { self.new.times.items ≡ run_after self.old.bytes.items moment self.old.times.items }
         ensures moment { self.new.moment ≡ self.old.moment }
+        ensures said { last_said self.new ≡ last_said self.old }
     {
         let bytes = from_start(&self.bytes);
         if let Some(Item::Packet(packet)) = whole_item(bytes) {
@@ -58,19 +74,73 @@ impl Timed {
         Told::Nothing
     }
 
-    /// A line of the capture comes, without its end. What it tells, where it is a reply. A bad line, which is no line of digits, is passed over.
-    pub fn hear_line(&mut self, line: &[u8]) -> Result<Told, AllocError>
+    /// A comment comes, with these characters after the #. It is read where it stands.
+    fn hear_comment(&mut self, text: &[u8]) -> Result<Told, AllocError>
+        ensures told { IfOk result (λ told. told ≡ line_told (heard_of self.old) (35 ∷ text.now)) }
+        ensures after { OnOk result (heard_of self.new ≡ after_line (heard_of self.old) (35 ∷ text.now)) }
+        ensures said { OnOk result (last_said self.new ≡ Option.Some []) }
+    {
+        let moment = self.moment;
+        self.moment = moment_or(comment_moment(text, &mut self.characters)?, moment);
+        self.good = true;
+        self.bytes.clear();
+        Ok(Told::Nothing)
+    }
+
+    /// What a line said comes at this moment. What it tells.
+    fn hear_said(&mut self, moment: Option<u64>) -> Told
+        ensures told { result ≡ bytes_told (last_said self.old) moment self.old.times.items }
+        ensures times { self.new.times.items ≡ bytes_after (last_said self.old) moment self.old.times.items }
+        ensures moment { self.new.moment ≡ self.old.moment }
+        ensures said { last_said self.new ≡ last_said self.old }
+    {
+        if !self.good {
+            return Told::Nothing;
+        }
+        self.hear_bytes(moment)
+    }
+
+    /// A line comes that begins with a digit, or as one may. It is read where it stands.
+    fn hear_digits(&mut self, line: &[u8]) -> Result<Told, AllocError>
+        requires { IsTrue (begins line.now) }
         ensures told { IfOk result (λ told. told ≡ line_told (heard_of self.old) line.now) }
         ensures after { OnOk result (heard_of self.new ≡ after_line (heard_of self.old) line.now) }
+        ensures said { OnOk result (last_said self.new ≡ line_bytes line.now) }
+    {
+        let moment = self.moment;
+        self.moment = None;
+        self.characters.clear();
+        self.good = read_line(&self.digits, &mut self.characters, line, &mut self.bytes)?;
+        Ok(self.hear_said(moment))
+    }
+
+    /// Any line comes: the characters that count are kept first.
+    fn hear_any(&mut self, line: &[u8]) -> Result<Told, AllocError>
+        ensures told { IfOk result (λ told. told ≡ line_told (heard_of self.old) line.now) }
+        ensures after { OnOk result (heard_of self.new ≡ after_line (heard_of self.old) line.now) }
+        ensures said { OnOk result (last_said self.new ≡ line_bytes line.now) }
     {
         self.characters.clear();
         keep(&mut self.characters, line)?;
         let moment = self.moment;
         self.moment = moment_after(&self.characters, moment);
-        if read_line(&self.digits, &mut self.characters, &[], &mut self.bytes)? {
-            return Ok(self.hear_bytes(moment));
+        self.good = read_line(&self.digits, &mut self.characters, &[], &mut self.bytes)?;
+        Ok(self.hear_said(moment))
+    }
+
+    /// A line of the capture comes, without its end. What it tells, where it is a reply. A bad line, which is no line of digits, is passed over.
+    pub fn hear_line(&mut self, line: &[u8]) -> Result<Told, AllocError>
+        ensures told { IfOk result (λ told. told ≡ line_told (heard_of self.old) line.now) }
+        ensures after { OnOk result (heard_of self.new ≡ after_line (heard_of self.old) line.now) }
+        ensures said { OnOk result (last_said self.new ≡ line_bytes line.now) }
+    {
+        if let [b'#', text @ ..] = line {
+            return self.hear_comment(text);
         }
-        Ok(Told::Nothing)
+        if begins(line) {
+            return self.hear_digits(line);
+        }
+        self.hear_any(line)
     }
 
     /// Writes what was heard: lines for each address that has answered.

@@ -3,6 +3,7 @@
 
 mod capture;
 pub mod laws;
+mod line;
 mod moment;
 mod object;
 mod run;

@@ -1,10 +1,14 @@
 //! The moments that the comments of a capture tell.
 
-ghost use Rattle.std.specs.Prelude.{◌≡◌, ◌+◌, ◌<◌, ◌^◌, length, IfSome};
-ghost use Rattle.osdp_tool_times.specs.Captures.{moment_after};
+ghost use Rattle.std.specs.Prelude.{◌≡◌, ◌+◌, ◌<◌, ◌^◌, length, IfOk, IfSome};
+ghost use Rattle.osdp_tool_streams.specs.Line.{kept};
+ghost use Rattle.osdp_tool_times.specs.Captures.{moment_after, moment_or};
 ghost use Rattle.osdp_tool_times.specs.Moments.{clock_in, date_in, days, days_by_march, has_date, is_decimal, milliseconds, minutes_in, moment_in, moment_of_day, next_number, number_at, number_from, point_in, rest_in, seconds_in, stamp_in, thousandths, way_length};
 
+use crate::line::{after_blank, before_blank};
 use memchr::memchr;
+use osdp_tool_streams::keep;
+use std::alloc::AllocError;
 
 /// As great a number takes no more digits.
 const MOST: u64 = 1_000_000_000_000_000;
@@ -212,16 +216,41 @@ fn moment_in(text: &[u8]) -> Option<u64>
     stamp_in(&text[..text.len().saturating_sub(way)])
 }
 
+/// The moment that the characters after the # of a comment tell, by those that count. These are put together in `characters` where blanks stand inside of the stamp.
+pub(crate) fn comment_moment(
+    text: &[u8],
+    characters: &mut Vec<u8>,
+) -> Result<Option<u64>, AllocError>
+    ensures { IfOk result (λ moment. moment ≡ moment_in (kept text.now)) }
+{
+    let text = before_blank(text);
+    let way = way_length(text);
+    let stamp = after_blank(before_blank(&text[..text.len().saturating_sub(way)]));
+    characters.clear();
+    keep(characters, stamp)?;
+    if way == 0 {
+        return Ok(moment_in(characters));
+    }
+    Ok(stamp_in(characters))
+}
+
+/// The moment of the next line of digits after a comment that tells this one.
+pub(crate) fn moment_or(told: Option<u64>, moment: Option<u64>) -> Option<u64>
+    ensures { result ≡ moment_or told moment }
+{
+    match told {
+        Some(other) => Some(other),
+        None => moment,
+    }
+}
+
 /// The moment of the next line of digits after a line with these characters that count.
 pub(crate) fn moment_after(characters: &[u8], moment: Option<u64>) -> Option<u64>
     ensures { result ≡ moment_after characters.now moment }
 {
     match characters {
         [] => moment,
-        [b'#', rest @ ..] => match moment_in(rest) {
-            Some(other) => Some(other),
-            None => moment,
-        },
+        [b'#', rest @ ..] => moment_or(moment_in(rest), moment),
         [_, ..] => None,
     }
 }
