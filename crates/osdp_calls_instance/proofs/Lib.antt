@@ -2,8 +2,8 @@ mod Keeping
 mod TwoCalls
 mod RuleKept
 pub mod OwnCalls
-mod LinePrograms
-mod CPrograms
+pub mod LinePrograms
+pub mod CPrograms
 pub mod SimulatedLists
 pub mod SimulatedEnds
 pub mod SimulatedBus

@@ -1,0 +1,4 @@
+mod Days
+mod Fitting
+mod InC
+mod ByLines

@@ -1,0 +1,59 @@
+-- That day by lines: which lines a panel of `osdp panel` and two devices of `osdp reader` are given. Each line of a call comes after one of its moment.
+use Rattle.std.specs.Prelude.{ℕ, false, List, [], ◌∷◌, flat_map, Some}
+use Rattle.osdp_device.specs.Status.{new_status, status_after, status_answer}
+use Rattle.osdp_line_calls.specs.PanelSessions as panel_sessions
+use Rattle.osdp_line_calls.specs.ReaderSessions as device_sessions
+use Rattle.osdp_line_calls.specs.declared.panel_call.PanelCall.{PanelCall}
+use Rattle.osdp_line_calls.specs.declared.panel_call.PanelCall.TheVariants as to_panel
+use Rattle.osdp_line_calls.specs.declared.reader_absence.Absence.{Absence}
+use Rattle.osdp_line_calls.specs.declared.reader_call.ReaderCall.{ReaderCall}
+use Rattle.osdp_line_calls.specs.declared.reader_call.ReaderCall.TheVariants as to_device
+use Rattle.osdp_calls_instance.specs.LinePrograms.{DeviceAnew, PanelAnew, SaysToDevice, SaysToPanel, after_adds, line_device, line_panel}
+use Rattle.osdp_calls_instance.specs.OwnCalls.{AtDevice, AtPanel, Programs}
+use Rattle.osdp_premises.specs.LongDay.{device_at, key, twice}
+use Rattle.osdp_program_days.specs.Days.{DayKeeps, Made}
+use Rattle.osdp_program_days.specs.Happening.{Begins, DeviceDoes, DeviceHears, DeviceIsMadeAnew, Happening, HasOutput, Hears, IsBusy, IsMadeAnew, KeyIsPressed, Orders, SeesSilence, Sends, TakesBack, day}
+
+-- no event grows too old, and nothing is told of the panel
+abbrev pub as_always : Absence
+as_always = record { expire = 0; told = false }
+
+-- a panel whose third entry is a device of another make, and two devices
+abbrev pub programs : Programs line_panel line_device
+programs = record {
+  panel = after_adds (3 ∷ 4 ∷ 20 ∷ []) (panel_sessions.new_session twice);
+  devices = device_sessions.new_session (device_at 3) 4 20 as_always ∷ device_sessions.new_session (device_at 4) 4 20 as_always ∷ [];
+}
+
+abbrev pub panel : PanelCall → List ℕ → Made line_panel line_device
+panel call places = record { own = AtPanel (SaysToPanel (Some call)); places = places }
+
+abbrev pub device : ℕ → ReaderCall → List ℕ → Made line_panel line_device
+device k call places = record { own = AtDevice k (SaysToDevice (Some call)); places = places }
+
+abbrev pub panel_at : ℕ → PanelCall → List ℕ → List (Made line_panel line_device)
+panel_at now call places = panel (to_panel.At now) [] ∷ panel call places ∷ []
+
+abbrev pub device_at_moment : ℕ → ℕ → ReaderCall → List ℕ → List (Made line_panel line_device)
+device_at_moment now k call places = device k (to_device.At now) [] ∷ device k call places ∷ []
+
+abbrev pub by_lines : Happening → List (Made line_panel line_device)
+by_lines (Begins entry now) = panel_at now (to_panel.Begin entry) []
+by_lines (Orders entry command) = panel (to_panel.Submit entry command) [] ∷ []
+by_lines (TakesBack entry) = panel (to_panel.Withdraw entry) [] ∷ []
+by_lines (Sends now) = panel_at now to_panel.Tick []
+by_lines (Hears bytes now places) = panel_at now (to_panel.Bytes (record { items = bytes })) places
+by_lines (IsMadeAnew addresses) = record { own = AtPanel (PanelAnew twice addresses); places = [] } ∷ []
+by_lines (HasOutput k) = device k (to_device.Outputs (record { items = 0 ∷ [] })) [] ∷ []
+by_lines (DeviceHears k bytes now places) = device_at_moment now k (to_device.Bytes (record { items = bytes })) places
+by_lines (DeviceDoes k bytes now places) = device_at_moment now k (to_device.Bytes (record { items = bytes })) places
+by_lines (SeesSilence k now) = device_at_moment now k to_device.Silence []
+by_lines (KeyIsPressed k) = device k (to_device.Event key) [] ∷ []
+by_lines (IsBusy k busy) = device k (to_device.Busy busy) [] ∷ []
+by_lines (DeviceIsMadeAnew k address) = record { own = AtDevice k (DeviceAnew (device_at address) 4 20); places = [] } ∷ []
+
+abbrev pub day_by_lines : List (Made line_panel line_device)
+day_by_lines = flat_map by_lines day
+
+abbrev pub DayByLinesKeeps : Type 0
+DayByLinesKeeps = DayKeeps line_panel line_device status_answer status_after day_by_lines programs new_status

@@ -1,0 +1,147 @@
+-- What happens on a day of a panel's program and of the programs of its devices, whatever language they are written in.
+use Rattle.std.specs.Prelude.{ℕ, Bool, List, [], ◌∷◌, ◌++◌, take, drop, true, false}
+use Rattle.osdp_msg.specs.declared.command.Command.{Command}
+use Rattle.osdp_msg.specs.declared.command.Command.TheVariants.{Cap, Output}
+use Rattle.osdp_msg.specs.declared.outputs.OutputRecord.{OutputRecord}
+use Rattle.osdp_premises.specs.LongDay.{answers, asks, away}
+
+-- Moments are milliseconds. Where an end reads, the places stand in what was said on the line: those of the packets that it reads.
+pub data Happening : Type 0 where
+  -- the panel begins a session of an entry at a moment; orders; takes an order back; sends what is due at a moment; hears bytes at a moment; and is made anew
+  -- with entries at these addresses
+  Begins : ℕ → ℕ → Happening
+  Orders : ℕ → Command → Happening
+  TakesBack : ℕ → Happening
+  Sends : ℕ → Happening
+  Hears : List ℕ → ℕ → List ℕ → Happening
+  IsMadeAnew : List ℕ → Happening
+  -- the device of an entry has one output, which is off; hears bytes at a moment; hears an order that its program decides, and does it; sees the line silent;
+  -- a key is pressed there; it is busy from now on, or isn't any more; and it is made anew at an address
+  HasOutput : ℕ → Happening
+  DeviceHears : ℕ → List ℕ → ℕ → List ℕ → Happening
+  DeviceDoes : ℕ → List ℕ → ℕ → List ℕ → Happening
+  SeesSilence : ℕ → ℕ → Happening
+  KeyIsPressed : ℕ → Happening
+  IsBusy : ℕ → Bool → Happening
+  DeviceIsMadeAnew : ℕ → ℕ → Happening
+
+-- what a device says of itself, and an order: output 0 on, for good
+abbrev pub identity : List ℕ
+identity = 69 ∷ 1 ∷ 2 ∷ 3 ∷ 4 ∷ 5 ∷ 6 ∷ 0 ∷ 0 ∷ 0 ∷ 7 ∷ 8 ∷ 9 ∷ []
+
+abbrev pub on : OutputRecord
+on = record { output = 0; control = 2; timer = 0 }
+
+abbrev pub ordered_on : List ℕ
+ordered_on = 104 ∷ 0 ∷ 2 ∷ 0 ∷ 0 ∷ []
+
+-- Sessions of both devices open. The first opening ID comes to its device in two pieces, and its answer to the panel.
+abbrev pub opening : List Happening
+opening =
+    Begins 0 0
+    ∷ Begins 1 0
+    ∷ Sends 400
+    ∷ DeviceHears 0 (take 5 (asks 3 0 (97 ∷ 0 ∷ []))) 401 []
+    ∷ DeviceHears 0 (drop 5 (asks 3 0 (97 ∷ 0 ∷ []))) 402 (0 ∷ [])
+    ∷ DeviceHears 1 (asks 3 0 (97 ∷ 0 ∷ [])) 402 (0 ∷ [])
+    ∷ Hears (take 9 (answers 3 0 identity)) 405 []
+    ∷ Hears (drop 9 (answers 3 0 identity)) 405 (1 ∷ [])
+    ∷ Sends 406
+    ∷ DeviceHears 1 (asks 4 0 (97 ∷ 0 ∷ [])) 407 (2 ∷ [])
+    ∷ Hears (answers 4 0 identity) 410 (3 ∷ [])
+    ∷ []
+
+-- An order comes damaged, and is sent again. The device does it. The answer is lost, and the line says the order once more: the device gives the kept
+-- answer, and the order is settled.
+abbrev pub order : List Happening
+order =
+    HasOutput 0
+    ∷ Orders 0 (Output (on ∷ []))
+    ∷ Sends 411
+    ∷ DeviceHears 0 (83 ∷ 3 ∷ 11 ∷ 0 ∷ 1 ∷ 104 ∷ 0 ∷ 2 ∷ 0 ∷ 0 ∷ 0 ∷ []) 412 []
+    ∷ SeesSilence 0 413
+    ∷ Sends 611
+    ∷ DeviceDoes 0 (asks 3 1 ordered_on) 612 (5 ∷ [])
+    ∷ DeviceHears 0 (asks 3 1 ordered_on) 614 (5 ∷ [])
+    ∷ Hears (answers 3 1 (64 ∷ [])) 615 (7 ∷ [])
+    ∷ []
+
+-- A key is pressed while the device is busy. It is told as soon as the device isn't.
+abbrev pub busy : List Happening
+busy =
+    KeyIsPressed 0
+    ∷ IsBusy 0 true
+    ∷ Sends 616
+    ∷ DeviceHears 1 (asks 4 1 (96 ∷ [])) 617 (8 ∷ [])
+    ∷ Hears (answers 4 1 (64 ∷ [])) 618 (9 ∷ [])
+    ∷ Sends 665
+    ∷ DeviceHears 0 (asks 3 2 (96 ∷ [])) 666 (10 ∷ [])
+    ∷ Hears (answers 3 0 (121 ∷ [])) 667 (11 ∷ [])
+    ∷ IsBusy 0 false
+    ∷ Sends 717
+    ∷ DeviceHears 0 (asks 3 2 (96 ∷ [])) 718 (12 ∷ [])
+    ∷ Hears (answers 3 2 (83 ∷ 0 ∷ 1 ∷ 49 ∷ [])) 720 (13 ∷ [])
+    ∷ []
+
+-- The next POLL is lost twice, and the session has ended. An order is taken back.
+abbrev pub lost : List Happening
+lost =
+    Sends 769
+    ∷ DeviceHears 1 (asks 4 2 (96 ∷ [])) 769 (14 ∷ [])
+    ∷ Hears (answers 4 2 (64 ∷ [])) 769 (15 ∷ [])
+    ∷ Sends 770
+    ∷ Sends 970
+    ∷ Sends 1170
+    ∷ Orders 0 (Cap 0)
+    ∷ TakesBack 0
+    ∷ []
+
+-- The other device loses power, and is made anew. It refuses the number of the next POLL.
+abbrev pub restart : List Happening
+restart =
+    Begins 0 1171
+    ∷ Sends 1172
+    ∷ DeviceIsMadeAnew 1 4
+    ∷ DeviceHears 1 (asks 4 3 (96 ∷ [])) 1173 (18 ∷ [])
+    ∷ Hears (answers 4 3 (65 ∷ 4 ∷ [])) 1174 (19 ∷ [])
+    ∷ []
+
+-- The next session begins, and the key is told again.
+abbrev pub again : List Happening
+again =
+    Sends 1571
+    ∷ DeviceHears 0 (asks 3 0 (97 ∷ 0 ∷ [])) 1572 (20 ∷ [])
+    ∷ Hears (answers 3 0 identity) 1574 (21 ∷ [])
+    ∷ Sends 1624
+    ∷ DeviceHears 0 (asks 3 1 (96 ∷ [])) 1625 (22 ∷ [])
+    ∷ Hears (answers 3 1 (83 ∷ 0 ∷ 1 ∷ 49 ∷ [])) 1627 (23 ∷ [])
+    ∷ []
+
+-- A COMSET is settled: the device goes to 5, and the next session opens there.
+abbrev pub move : List Happening
+move =
+    Orders 0 (away 5)
+    ∷ Sends 1628
+    ∷ DeviceHears 0 (asks 3 2 (110 ∷ 5 ∷ 128 ∷ 37 ∷ 0 ∷ 0 ∷ [])) 1629 (24 ∷ [])
+    ∷ Hears (answers 3 2 (84 ∷ 5 ∷ 128 ∷ 37 ∷ 0 ∷ 0 ∷ [])) 1631 (25 ∷ [])
+    ∷ Begins 0 1632
+    ∷ Sends 2032
+    ∷ DeviceHears 0 (asks 5 0 (97 ∷ 0 ∷ [])) 2033 (26 ∷ [])
+    ∷ Hears (answers 5 0 identity) 2035 (27 ∷ [])
+    ∷ []
+
+-- An order is acted on, and the panel is made anew before its answer comes. The next session begins without it.
+abbrev pub panel_restart : List Happening
+panel_restart =
+    Orders 0 (Cap 0)
+    ∷ Sends 2036
+    ∷ DeviceHears 0 (asks 5 1 (98 ∷ 0 ∷ [])) 2037 (28 ∷ [])
+    ∷ IsMadeAnew (5 ∷ 4 ∷ 20 ∷ [])
+    ∷ Begins 0 2040
+    ∷ Sends 2440
+    ∷ DeviceHears 0 (asks 5 0 (97 ∷ 0 ∷ [])) 2441 (30 ∷ [])
+    ∷ Hears (answers 5 0 identity) 2443 (31 ∷ [])
+    ∷ []
+
+abbrev pub day : List Happening
+day = opening ++ order ++ busy ++ lost ++ restart ++ again ++ move ++ panel_restart

@@ -1,0 +1,4 @@
+pub mod Days
+pub mod Happening
+pub mod InC
+pub mod ByLines

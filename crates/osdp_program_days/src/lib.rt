@@ -1,0 +1,18 @@
+//! A day of makers' programs: calls for C, and lines, that keep the premises of the theorem of any calls. So the laws of programs speak of what programs do.
+//! The functions do nothing: their contracts are laws.
+#![tactic(auto)]
+
+ghost use Rattle.osdp_program_days.specs.ByLines.{DayByLinesKeeps};
+ghost use Rattle.osdp_program_days.specs.InC.{DayInCKeeps};
+
+/// One day's calls for C keep all premises, with losses, damage, a busy device, a COMSET and losses of power at both ends among them. So what is promised of
+/// programs in C holds of it. An order whose packet came damaged and whose answer was lost is acted on once, and settled. A key is told again in the next
+/// session. A COMSET is settled. The panel is made anew while an order is on the wire.
+pub fn a_day_in_c_keeps_the_premises()
+    ensures { DayInCKeeps }
+{}
+
+/// The lines of that day to `osdp panel` and `osdp reader` keep all premises too, and come to the same.
+pub fn a_day_by_lines_keeps_the_premises()
+    ensures { DayByLinesKeeps }
+{}
