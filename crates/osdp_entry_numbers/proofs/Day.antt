@@ -1,0 +1,206 @@
+-- The day of a panel with an entry of another make between ours, which is made anew in another order: by the tests of each call.
+use Rattle.std.proofs.Common.{◌≡◌, ℕ, zero, suc, Bool, true, ◌&&◌, List, [], ◌∷◌, refl, ap, arith}
+use Rattle.std.proofs.lemmas.Bool.{and_parts}
+use Rattle.osdp_frame.specs.Held.{decided}
+use Rattle.osdp_frame.specs.Items.{items, left_over}
+use Rattle.osdp_msg.specs.CommandTable.{command_at, command_fault, command_of}
+use Rattle.osdp_msg.specs.ReplyFields.{CapabilityFits}
+use Rattle.osdp_msg.specs.ReplyTable.{reply_at, reply_fault, reply_of}
+use Rattle.osdp_msg.specs.declared.command.Command.{Command}
+use Rattle.osdp_bus.specs.Buses.{BusState}
+use Rattle.osdp_bus.specs.Entries.{address_of}
+use Rattle.osdp_bus.specs.declared.entry.Entry.{Entry}
+use Rattle.osdp_link_laws.proofs.Lines.{each_all}
+use Rattle.osdp_reader.specs.declared.handler.Answer.{Answer}
+use Rattle.osdp_shared_line.specs.Line.{site_at}
+use Rattle.osdp_calls.specs.Premises.{IsSetUp, Keeps}
+use Rattle.osdp_calls.specs.Calls.{NewPanel}
+use Rattle.osdp_premises.specs.Deciding.{is_fair}
+use Rattle.osdp_premises.specs.LongDay.{twice}
+use Rattle.osdp_premises.proofs.Exactly.{fair_keep}
+use Rattle.osdp_premises.proofs.LongDay.{RangeOf, all_range, id_fits, is_set_up, key_fits, twice_fits}
+use Rattle.osdp_entry_numbers.specs.Day.{BetweenAndTurned, around, back, between, day, exchanged, noon, onward, own_line}
+use Rattle.osdp_entry_numbers.specs.Numbers.{AreNumbers, IsNewPanel}
+use Rattle.osdp_entry_numbers.specs.OwnOrder.{AllOwnKeep, Fits, OwnLine, OwnStep, after_own, ordered_step, turned}
+
+-- ---- the numbers
+
+exchanged_back : (i : ℕ) → exchanged (exchanged i) ≡ i
+exchanged_back zero = refl
+exchanged_back (suc zero) = refl
+exchanged_back (suc (suc zero)) = refl
+exchanged_back (suc (suc (suc i))) = refl
+
+between_are : AreNumbers between
+between_are = record { back = exchanged_back; forth = exchanged_back }
+
+between_sorted : (i : ℕ) → site_at {A = ℕ} (exchanged i) (3 ∷ 4 ∷ 20 ∷ []) ≡ site_at {A = ℕ} i (3 ∷ 20 ∷ 4 ∷ [])
+between_sorted zero = refl
+between_sorted (suc zero) = refl
+between_sorted (suc (suc zero)) = refl
+between_sorted (suc (suc (suc i))) = refl
+
+back_onward : (i : ℕ) → back (onward i) ≡ i
+back_onward zero = refl
+back_onward (suc zero) = refl
+back_onward (suc (suc zero)) = refl
+back_onward (suc (suc (suc i))) = refl
+
+onward_back : (k : ℕ) → onward (back k) ≡ k
+onward_back zero = refl
+onward_back (suc zero) = refl
+onward_back (suc (suc zero)) = refl
+onward_back (suc (suc (suc k))) = refl
+
+around_are : AreNumbers around
+around_are = record { back = back_onward; forth = onward_back }
+
+around_sorted : (i : ℕ) → site_at {A = ℕ} (onward i) (3 ∷ 4 ∷ 20 ∷ []) ≡ site_at {A = ℕ} i (4 ∷ 20 ∷ 3 ∷ [])
+around_sorted zero = refl
+around_sorted (suc zero) = refl
+around_sorted (suc (suc zero)) = refl
+around_sorted (suc (suc (suc i))) = refl
+
+at_first : IsNewPanel twice (3 ∷ 20 ∷ 4 ∷ []) (3 ∷ 4 ∷ 20 ∷ []) between
+at_first = record { settings = twice_fits; none_refused = (refl, (refl, (refl, tt))); numbers = between_are; sorted = between_sorted }
+
+at_noon : IsNewPanel twice (4 ∷ 20 ∷ 3 ∷ []) (3 ∷ 4 ∷ 20 ∷ []) around
+at_noon = record { settings = twice_fits; none_refused = (refl, (refl, (refl, tt))); numbers = around_are; sorted = around_sorted }
+
+abbrev address_at : ℕ → List Entry → ℕ
+address_at k [] = 0
+address_at zero (d ∷ ds) = address_of d
+address_at (suc k) (d ∷ ds) = address_at k ds
+
+module _ {H : Type 0} (answer_of : H → Command → Answer) (after : H → Command → H) where
+  -- each call is fair
+  abbrev all_fair : List (OwnStep H) → OwnLine H → Bool
+  all_fair [] a = true
+  all_fair (step ∷ steps) a = is_fair (ordered_step step a) (turned step.call a) && all_fair steps (after_own answer_of after step a)
+
+  -- values are in their ranges, and a panel that is made anew fits
+  abbrev AllFit : List (OwnStep H) → OwnLine H → Type 0
+  AllFit [] a = Unit {0}
+  AllFit (step ∷ steps) a =
+      (RangeOf answer_of after (ordered_step step a).call (turned step.call a) × Fits step.call step.ordered step.numbers)
+      × AllFit steps (after_own answer_of after step a)
+
+  keep_all : (steps : List (OwnStep H)) (a : OwnLine H) → all_fair steps a ≡ true → AllFit steps a → AllOwnKeep answer_of after steps a
+  keep_all [] a fair fits = tt
+  keep_all (step ∷ steps) a fair fits =
+      let next = after_own answer_of after step a in
+      let l = turned step.call a in
+      let both = and_parts (is_fair (ordered_step step a) l) (all_fair steps next) fair in
+      let one = ordered_step step a ∷ [] in (
+        record {
+          keeps = (fair_keep answer_of after one l (λ i. both.0 i && true) (all_range answer_of after one l (fits.0.0, tt))).0;
+          fits = fits.0.1;
+        },
+        keep_all steps next both.1 fits.1,
+      )
+
+  not_before : (handler : H) → IsSetUp (record (own_line handler).line { bus = (own_line handler).bus }) → ⊥
+  not_before handler up =
+      let same : 20 ≡ 4 = ap (λ (b : BusState). address_at 1 b.devices.entries) up.bus in absurd (omega (arith, same))
+
+  not_turned : (handler : H) → Keeps answer_of after (record { call = NewPanel twice (4 ∷ 20 ∷ 3 ∷ []); places = [] }) (noon answer_of after handler).line → ⊥
+  unfolding items left_over decided reply_of reply_fault reply_at command_of command_fault command_at
+  not_turned handler keeps = keeps.addresses.there 1 0 4 _ _ (λ same. absurd (let e : 1 ≡ 0 = same in omega (arith, e))) refl refl refl refl
+
+  pub between_and_turned : (handler : H) → BetweenAndTurned answer_of after handler
+  unfolding items left_over decided reply_of reply_fault reply_at command_of command_fault command_at
+  between_and_turned handler = record {
+    up = record {
+      up = is_set_up handler;
+      config = twice;
+      addresses = 3 ∷ 20 ∷ 4 ∷ [];
+      ordered = 3 ∷ 4 ∷ 20 ∷ [];
+      panel = at_first;
+      own = refl;
+      same = refl;
+    };
+    keep = keep_all day (own_line handler) refl (
+      (tt, tt),
+      (
+        (tt, tt),
+        (
+          (omega arith, tt),
+          (
+            (tt, tt),
+            (
+              (tt, tt),
+              (
+                (tt, tt),
+                (
+                  (tt, tt),
+                  (
+                    (tt, tt),
+                    (
+                      ((id_fits, tt), tt),
+                      (
+                        (tt, tt),
+                        (
+                          (tt, tt),
+                          (
+                            (tt, tt),
+                            (
+                              ((twice_fits, (omega arith, (omega arith, (omega arith, tt))), omega arith), at_noon),
+                              (
+                                (tt, tt),
+                                (
+                                  (((omega arith, each_all CapabilityFits [] tt), tt), tt),
+                                  (
+                                    (tt, tt),
+                                    (
+                                      (tt, tt),
+                                      (
+                                        (tt, tt),
+                                        (
+                                          (tt, tt),
+                                          (
+                                            (tt, tt),
+                                            (
+                                              ((id_fits, tt), tt),
+                                              (
+                                                (tt, tt),
+                                                (
+                                                  (tt, tt),
+                                                  (
+                                                    (tt, tt),
+                                                    (
+                                                      (tt, tt),
+                                                      (
+                                                        ((key_fits, tt), tt),
+                                                        ((tt, tt), tt),
+                                                      ),
+                                                    ),
+                                                  ),
+                                                ),
+                                              ),
+                                            ),
+                                          ),
+                                        ),
+                                      ),
+                                    ),
+                                  ),
+                                ),
+                              ),
+                            ),
+                          ),
+                        ),
+                      ),
+                    ),
+                  ),
+                ),
+              ),
+            ),
+          ),
+        ),
+      ),
+    );
+    between = not_before handler;
+    turned = not_turned handler;
+    asks = refl;
+    would_ask = refl;
+    steps = refl;
+  }

@@ -1,0 +1,184 @@
+-- The ledger of each device, read off a panel whose entries stand in an order of its own, is that of its link.
+use Rattle.std.proofs.Common.{◌≡◌, ◌+◌, ℕ, false, List, [], ◌∷◌, ◌++◌, map, refl, sym, subst, ap, ◌∙◌}
+use Rattle.std.specs.Prelude.{is_some, option_to_list}
+use Rattle.osdp_msg.specs.declared.command.Command.{Command}
+use Rattle.osdp_msg.specs.declared.event.Event.{Event}
+use Rattle.osdp_bus.specs.Buses.{BusState}
+use Rattle.osdp_reader.specs.State.{ReaderState}
+use Rattle.osdp_reader.specs.declared.handler.Answer.{Answer}
+use Rattle.osdp_ledger.specs.Ledger as ledger
+use Rattle.osdp_ledger.specs.Ledger.{Ledger, Order, RestartPanel, after, new_ledger}
+use Rattle.osdp_ledger.specs.History.{AreAllowed, History, new_history, noted, runs, steps_on}
+use Rattle.osdp_ledger.specs.Laws.{EventsHold, OrdersHold, TellsInTurn}
+use Rattle.osdp_link_ledger.specs.Steps.{after_steps, all_steps, queued_before}
+use Rattle.osdp_link_ledger.proofs.Ties.{runs_after}
+use Rattle.osdp_line_ledger.specs.Laws as lines
+use Rattle.osdp_shared_line.specs.Addresses.{NetMovesFit, NoTwoAreTogether, NobodyElseHears}
+use Rattle.osdp_shared_line.specs.Line.{Net, NetMove, RestartPanel as RestartsPanel, after_net, site_at}
+use Rattle.osdp_shared_line.specs.Runs.{moves_of}
+use Rattle.osdp_shared_line.specs.Views.{EachMoveIsItsOwn, view}
+use Rattle.osdp_shared_line.proofs.Sites.{some_same}
+use Rattle.osdp_calls.proofs.Counting.{all_heard}
+use Rattle.osdp_calls.proofs.Holding.{its_site}
+use Rattle.osdp_calls.proofs.Lasting.{call_keeps}
+use Rattle.osdp_calls.proofs.Powers.{outstanding_same, waiting_too}
+use Rattle.osdp_calls.proofs.Same.{Controls, IsNetOf}
+use Rattle.osdp_calls.proofs.Setting.{first_net, first_site, first_there, starts}
+use Rattle.osdp_calls_ledger.proofs.Calling.{call_shown, call_shows}
+use Rattle.osdp_calls_ledger.proofs.Keeping.{IsBefore}
+use Rattle.osdp_calls_ledger.proofs.Seen.{in_turn, seen, seen_at, seen_of_link}
+use Rattle.osdp_calls_ledger.proofs.Shows.{Shown, Shows, shows_as, then_shows}
+use Rattle.osdp_entry_numbers.specs.OwnOrder.{AllOwnKeep, OwnLine, OwnStep, after_all_own, after_own, in_order, turned}
+use Rattle.osdp_entry_numbers.specs.Promises.{OwnOrderDoesTheSame, OwnOrderKeepsApart, OwnOrderKeepsLedger, own_along, own_steps, own_steps_from}
+use Rattle.osdp_entry_numbers.proofs.Entries.{own_there}
+use Rattle.osdp_entry_numbers.proofs.Following.{Follows, does_the_same, set_up_follows, still_follows}
+use Rattle.osdp_entry_numbers.proofs.Reading.{own_commands, own_events, own_exits}
+
+-- ---- a panel that is switched on before anything has happened forgets nothing
+
+before_still : (place : ℕ) (es : List Event) (h : History) → IsBefore h → IsBefore (runs (queued_before place es) h)
+before_still place [] h is = is
+before_still place (e ∷ es) h is =
+    let step = ledger.Queue (record { place = place; event = e }) in
+    before_still (place + 1) es (steps_on step h) (record { ahead = is.ahead; closed = is.closed; ended = is.ended })
+
+switched_on : (h : History) → IsBefore h → steps_on (RestartPanel false) h ≡ h
+switched_on h is =
+    (λ i. record (noted (RestartPanel false) (record h { ended = is.ended i; ledger = record h.ledger { ahead = is.ahead i; is_open = is.closed i } })) {
+      ledger = after (RestartPanel false) (record h.ledger { ahead = is.ahead i; is_open = is.closed i });
+    })
+    ∙ (λ i. record h { ended = sym is.ended i; ledger = record h.ledger { ahead = sym is.ahead i; is_open = sym is.closed i } })
+
+-- steps without one that changes nothing
+allowed_without : (xs ys : List ledger.Step) (step : ledger.Step) (h : History) → steps_on step (runs xs h) ≡ runs xs h
+    → AreAllowed (xs ++ step ∷ ys) h → AreAllowed (xs ++ ys) h
+allowed_without [] ys step h same all = subst (AreAllowed ys) same all.1
+allowed_without (x ∷ xs) ys step h same all = (all.0, allowed_without xs ys step (steps_on x h) same all.1)
+
+runs_without : (xs ys : List ledger.Step) (step : ledger.Step) (h : History) → steps_on step (runs xs h) ≡ runs xs h
+    → runs (xs ++ step ∷ ys) h ≡ runs (xs ++ ys) h
+runs_without [] ys step h same = ap (runs ys) same
+runs_without (x ∷ xs) ys step h same = runs_without xs ys step (steps_on x h) same
+
+module _ {H : Type 0} (answer_of : H → Command → Answer) (after_command : H → Command → H) where
+  -- ---- a list of calls
+
+  own_keep : (k : ℕ) (steps : List (OwnStep H)) (a : OwnLine H)
+      → is_some (site_at k (after_all_own answer_of after_command steps a).line.stations) ≡ is_some (site_at k a.line.stations)
+  own_keep k [] a = refl
+  own_keep k (step ∷ steps) a =
+      own_keep k steps (after_own answer_of after_command step a)
+      ∙ call_keeps k answer_of after_command (in_order step.call step.ordered a.numbers) step.places (turned step.call a)
+
+  abbrev along : List (OwnStep H) → OwnLine H → Shown
+  along steps a k g = own_along answer_of after_command k steps a g
+
+  abbrev here : OwnStep H → OwnLine H → Shown
+  here step a k g = own_steps answer_of after_command k step.call a g
+
+  -- whose turn it is is nothing to the net
+  turned_net : (step : OwnStep H) (a : OwnLine H) (n : Net H) → IsNetOf a.line n → IsNetOf (turned step.call a) n
+  turned_net step a n h = record { sites = h.sites; to_panel = h.to_panel; place = h.place; openings = h.openings; said = h.said }
+
+  own_shows : (steps : List (OwnStep H)) (a : OwnLine H) (n : Net H) → IsNetOf a.line n → Follows a → AllOwnKeep answer_of after_command steps a
+      → Shows answer_of after_command (along steps a) n (after_all_own answer_of after_command steps a).line
+  own_shows [] a n h f keep = record { net = n; moves = []; fit = tt; run = refl; same = h; shows = λ heard k g own. refl }
+  own_shows (step ∷ steps) a n h f keep =
+      let next = after_own answer_of after_command step a in
+      let call = in_order step.call step.ordered a.numbers in
+      let l = turned step.call a in
+      let k = keep.0.keeps in
+      let still = still_follows answer_of after_command step.call step.places step.ordered step.numbers a f keep.0 in
+      then_shows answer_of after_command (here step a) (along steps next) n next.line
+      (after_all_own answer_of after_command steps next).line (λ i. own_keep i steps next)
+      (shows_as answer_of after_command (call_shown answer_of after_command call l) (here step a) n next.line (λ i g own. still.shown i g)
+      (call_shows answer_of after_command l n (turned_net step a n h) call step.places k.in_order k.quiet_opening k.addresses k.in_range))
+      (λ m h1. own_shows steps next m h1 still.follows keep.1)
+
+  -- the line follows to the end
+  all_follow : (steps : List (OwnStep H)) (a : OwnLine H) → Follows a → AllOwnKeep answer_of after_command steps a
+      → Follows (after_all_own answer_of after_command steps a)
+  all_follow [] a f keep = f
+  all_follow (step ∷ steps) a f keep =
+      all_follow steps (after_own answer_of after_command step a)
+      (still_follows answer_of after_command step.call step.places step.ordered step.numbers a f keep.0).follows keep.1
+
+  -- ---- the ledger of a site is that of its device
+
+  pub own_ledger : EachMoveIsItsOwn answer_of after_command → NobodyElseHears answer_of after_command → lines.EachKeepsLedger answer_of after_command → TellsInTurn
+      → OwnOrderKeepsLedger answer_of after_command
+  own_ledger own nobody each in_turn_told a steps up keep k first last d is there entry =
+      let l = a.line in
+      let s = starts answer_of after_command l up.up in
+      let n0 = first_net s.config l.stations in
+      let restart : NetMove H = RestartsPanel s.settings in
+      let n1 = after_net answer_of after_command restart n0 in
+      let follows = set_up_follows a up in
+      let shown = own_shows steps a n1 s.same follows keep in
+      let moves = restart ∷ shown.moves in
+      let fit : NetMovesFit answer_of after_command moves n0 = (s.fits, shown.fit) in
+      let end = after_all_own answer_of after_command steps a in
+      let ls = end.line in
+      let at = its_site answer_of after_command k last ls shown.net shown.same there in
+      let f = first_site s.config first in
+      let from = first_there s.config k first l.stations is in
+      let kept = each n0 moves s.is_set_up fit k f at.site from (ap (λ (m : Net H). site_at k m.sites) shown.run ∙ at.there) in
+      let heard = all_heard answer_of after_command nobody n0 s.is_set_up [] moves fit in
+      let before = queued_before 0 first.reader.queue.events in
+      let g0 = after_steps before new_ledger in
+      let rest = own_along answer_of after_command k steps a g0 in
+      let h0 = runs before new_history in
+      let quiet = switched_on h0 (before_still 0 first.reader.queue.events new_history (record { ahead = refl; closed = refl; ended = refl })) in
+      let g1 : after (RestartPanel false) g0 ≡ g0 =
+      (λ i. after (RestartPanel false) (sym (runs_after before new_history) i)) ∙ ap (λ (h : History). h.ledger) quiet ∙ runs_after before new_history in
+      let seen_all : all_steps answer_of after_command (moves_of answer_of after_command k moves n0) (view k f n0) g0 ≡ RestartPanel false ∷ rest =
+      seen_of_link answer_of after_command own k moves n0 f heard fit from g0
+      ∙ ap (λ o. in_turn (seen_at answer_of after_command k o restart n0) (seen answer_of after_command k shown.moves n1) g0) from
+      ∙ ap (λ xs. RestartPanel false ∷ xs)
+      (shown.shows heard.1 k (after (RestartPanel false) g0) (ap is_some there) ∙ ap (λ g. own_along answer_of after_command k steps a g) g1) in
+      let same : lines.steps_at answer_of after_command k f moves n0 ≡ before ++ RestartPanel false ∷ rest = ap (λ xs. before ++ xs) seen_all in
+      let ends : runs (lines.steps_at answer_of after_command k f moves n0) new_history ≡ runs (before ++ rest) new_history =
+      ap (λ xs. runs xs new_history) same ∙ runs_without before rest (RestartPanel false) new_history quiet in
+      let allowed : AreAllowed (own_steps_from answer_of after_command k first steps a) new_history =
+      allowed_without before rest (RestartPanel false) new_history quiet (subst (λ xs. AreAllowed xs new_history) same kept.allowed) in
+      let last_follows = all_follow steps a follows keep in
+      let mine = at.is_entry in
+      let one : at.entry ≡ d = some_same at.entry d
+      (sym (mine) ∙ ap (λ (b : BusState). Rattle.osdp_bus.specs.Buses.device_of k b) last_follows.same
+      ∙ sym (own_there end.numbers last_follows.numbers end.bus.devices.entries last_follows.devices.entries last_follows.under.entries k) ∙ entry) in
+      let control : Controls last.begun ls.bus.greatest d.controller at.site.controller =
+      subst (λ e. Controls last.begun ls.bus.greatest e.controller at.site.controller) one at.controller in (
+        allowed,
+        record {
+          accepted = sym (own_commands answer_of after_command k first steps a);
+          queued = sym (own_events answer_of after_command k first steps a);
+          ahead = ap (λ (h : History). map (λ (o : Order). o.command) h.ledger.ahead) (sym ends) ∙ kept.ledger.ahead
+              ∙ (λ i. option_to_list (outstanding_same last.begun ls.bus.greatest d.controller at.site.controller control i)
+              ++ waiting_too last.begun ls.bus.greatest d.controller at.site.controller control i);
+          waiting = ap (λ (h : History). map (λ (c : ledger.Card). c.event) h.ledger.cards) (sym ends) ∙ kept.ledger.cards
+              ∙ ap (λ (r : ReaderState H). r.queue.events) at.reader;
+          orders = subst OrdersHold ends kept.orders;
+          cards = subst EventsHold ends kept.events;
+          exits = own_exits answer_of after_command k first steps a;
+          untold = in_turn_told (own_steps_from answer_of after_command k first steps a) allowed;
+        },
+      )
+
+  pub own_same : OwnOrderDoesTheSame answer_of after_command
+  own_same a steps up keep = does_the_same (after_all_own answer_of after_command steps a) (all_follow steps a (set_up_follows a up) keep)
+
+  -- ---- no two devices are at one address
+
+  pub own_apart_all : NoTwoAreTogether answer_of after_command → OwnOrderKeepsApart answer_of after_command
+  own_apart_all apart a steps up keep j k s t other at there e =
+      let start = starts answer_of after_command a.line up.up in
+      let n0 = first_net start.config a.line.stations in
+      let restart : NetMove H = RestartsPanel start.settings in
+      let n1 = after_net answer_of after_command restart n0 in
+      let shown = own_shows steps a n1 start.same (set_up_follows a up) keep in
+      let ls = (after_all_own answer_of after_command steps a).line in
+      let x = its_site answer_of after_command j s ls shown.net shown.same at in
+      let y = its_site answer_of after_command k t ls shown.net shown.same there in
+      apart n0 (restart ∷ shown.moves) start.is_set_up (start.fits, shown.fit) j k x.site y.site other
+      (ap (λ (m : Net H). site_at j m.sites) shown.run ∙ x.there) (ap (λ (m : Net H). site_at k m.sites) shown.run ∙ y.there)
+      (ap (λ (r : ReaderState H). r.config.address) x.reader ∙ e ∙ sym (ap (λ (r : ReaderState H). r.config.address) y.reader))

@@ -1,0 +1,269 @@
+-- What the steps of a device's ledger accept, read off the panel's own bus: the commands and events of the calls. By none of them an event lapses.
+use Rattle.std.proofs.Common.{◌≡◌, ℕ, ◌+◌, Bool, true, false, cond, List, [], ◌∷◌, ◌++◌, map, Option, Some, None, refl, ap, ◌∙◌, inl, inr}
+use Rattle.std.specs.Prelude.{All, ◌==◌}
+use Rattle.std.proofs.lemmas.List.Elements.{All-append, All-cons, All-nil, All-push}
+use Rattle.osdp_msg.specs.declared.command.Command.{Command}
+use Rattle.osdp_msg.specs.declared.event.Event.{Event}
+use Rattle.osdp_bus.specs.Buses.{BusState, device_of}
+use Rattle.osdp_bus.specs.Machine.{changed_unless, submit_refusal_at, withdrawal_at}
+use Rattle.osdp_bus.specs.Ticking.{bus_ticks}
+use Rattle.osdp_bus.specs.declared.entry.Entry.{Entry}
+use Rattle.osdp_bus.specs.declared.fault.BusFault.{BusFault}
+use Rattle.osdp_bus_laws.specs.Calls as bus
+use Rattle.osdp_bus_laws.specs.Reports.{told_in}
+use Rattle.osdp_device.specs.Telling.{items_of}
+use Rattle.osdp_ledger.specs.History.{History, ThrownAway, new_history, runs, steps_on}
+use Rattle.osdp_ledger.specs.Ledger as ledger
+use Rattle.osdp_ledger.specs.Ledger.{Card, Ledger, new_ledger}
+use Rattle.osdp_link_laws.proofs.Lines.{both, each_append, each_map}
+use Rattle.osdp_link_laws.proofs.Stages.{Each}
+use Rattle.osdp_link_ledger.specs.Steps.{after_steps, queued_before, queues, submits, withdraws, withdraws_event}
+use Rattle.osdp_link_ledger.proofs.Lists.{commands, events}
+use Rattle.osdp_link_ledger.proofs.Plain.{IsDone}
+use Rattle.osdp_reader.specs.Queue.{lacks_room, never_offered}
+use Rattle.osdp_reader.specs.declared.handler.Answer.{Answer}
+use Rattle.osdp_shared_line.specs.Line.{site_at}
+use Rattle.osdp_calls.specs.Accepted.{queued_by}
+use Rattle.osdp_calls.specs.Calls.{Call, NewDevice, NewPanel, Next, OfPanel, Pending, SetBusy, SetHandler, Silence, SubmitEvent, Take, TickDevice, WithdrawEvent, asked_at, first_answered, read_up_to}
+use Rattle.osdp_calls.specs.Handing.{heard}
+use Rattle.osdp_calls.specs.Lines.{InUse, Station}
+use Rattle.osdp_calls_ledger.specs.Promises.{LeftSo}
+use Rattle.osdp_calls_ledger.specs.Steps.{answered, device_steps, given_back, opening, panel_restarts, panel_steps, reported, steps_at}
+use Rattle.osdp_calls_ledger.proofs.Accepted.{call_commands, call_events, commands_in, events_in, runs_accepted, runs_queued}
+use Rattle.osdp_calls_ledger.proofs.Allowing.{answered_done, opening_open, reported_done}
+use Rattle.osdp_entry_numbers.specs.OwnOrder.{OwnLine, OwnStep, after_own}
+use Rattle.osdp_entry_numbers.specs.Promises.{all_own_accepted, all_own_queued, own_accepted, own_along, own_steps, own_steps_from}
+
+-- ---- commands and events, one list after the other
+
+commands_more : (xs ys : List ledger.Step) → commands_in (xs ++ ys) ≡ commands_in xs ++ commands_in ys
+commands_more [] ys = refl
+commands_more (ledger.Submit order ∷ xs) ys = ap (λ cs. order.command ∷ cs) (commands_more xs ys)
+commands_more (_ ∷ xs) ys = commands_more xs ys
+
+events_more : (xs ys : List ledger.Step) → events_in (xs ++ ys) ≡ events_in xs ++ events_in ys
+events_more [] ys = refl
+events_more (ledger.Queue card ∷ xs) ys = ap (λ es. card.event ∷ es) (events_more xs ys)
+events_more (_ ∷ xs) ys = events_more xs ys
+
+before_commands : (place : ℕ) (es : List Event) → commands_in (queued_before place es) ≡ []
+before_commands place [] = refl
+before_commands place (e ∷ es) = before_commands (place + 1) es
+
+before_events : (place : ℕ) (es : List Event) → events_in (queued_before place es) ≡ es
+before_events place [] = refl
+before_events place (e ∷ es) = ap (λ xs. e ∷ xs) (before_events (place + 1) es)
+
+-- ---- no event lapses
+
+abbrev NoLapse : ledger.Step → Type 0
+NoLapse (ledger.Lapse card) = ⊥
+NoLapse _ = Unit {0}
+
+done_so : (step : ledger.Step) → IsDone step → NoLapse step
+done_so (ledger.Lapse card) done = absurd done
+done_so _ done = tt
+
+runs_exits : (steps : List ledger.Step) (h : History) → Each NoLapse steps → All LeftSo h.left → All LeftSo (runs steps h).left
+runs_exits [] h none all = all
+runs_exits (ledger.Lapse card ∷ steps) h none all = absurd none.0
+runs_exits (ledger.Leave card ∷ steps) h none all =
+    runs_exits steps (steps_on (ledger.Leave card) h) none.1 (All-push LeftSo h.left _ all (inl refl))
+runs_exits (ledger.WithdrawEvent card ∷ steps) h none all =
+    runs_exits steps (steps_on (ledger.WithdrawEvent card) h) none.1 (All-push LeftSo h.left _ all (inr (inl refl)))
+runs_exits (ledger.RestartDevice ∷ steps) h none all =
+    runs_exits steps (steps_on ledger.RestartDevice h) none.1 (All-append LeftSo h.left _ all (thrown h.ledger.cards))
+  where
+    thrown : (cards : List Card) → All LeftSo (map (λ c. record { session = h.sessions; card = c; why = ThrownAway }) cards)
+    thrown [] = All-nil LeftSo
+    thrown (c ∷ cs) = All-cons LeftSo _ _ (inr (inr refl)) (thrown cs)
+runs_exits (step ∷ steps) h none all = runs_exits steps (steps_on step h) none.1 all
+
+submits_none : (f : Option BusFault) (command : Command) (g : Ledger) → Each NoLapse (changed_unless f [] (submits None command g))
+submits_none None command g = (tt, tt)
+submits_none (Some fault) command g = tt
+
+withdraws_none : (o : Option Command) (g : Ledger) → Each NoLapse (withdraws o g)
+withdraws_none None g = tt
+withdraws_none (Some command) g = (tt, tt)
+
+queues_none : (full : Bool) (event : Event) (g : Ledger) → Each NoLapse (queues full event g)
+queues_none true event g = tt
+queues_none false event g = (tt, tt)
+
+withdraws_event_none : (o : Option Event) (ever : Bool) (g : Ledger) → Each NoLapse (withdraws_event o ever g)
+withdraws_event_none None ever g = tt
+withdraws_event_none (Some event) ever g = (tt, tt)
+
+restarts_none : (o : Option Entry) → Each NoLapse (panel_restarts o)
+restarts_none None = tt
+restarts_none (Some d) = (tt, tt)
+
+before_none : (place : ℕ) (es : List Event) → Each NoLapse (queued_before place es)
+before_none place [] = tt
+before_none place (e ∷ es) = (tt, before_none (place + 1) es)
+
+done_none : (steps : List ledger.Step) → Each IsDone steps → Each NoLapse steps
+done_none steps done = each_map IsDone NoLapse done_so steps done
+
+panel_none : (k : ℕ) (call : bus.Call) (b : BusState) (g : Ledger) → Each NoLapse (panel_steps k call b g)
+panel_none k (bus.Submit i command) b g =
+    both (Each NoLapse) (i == k) (changed_unless (submit_refusal_at i command b) [] (submits None command g)) [] (submits_none (submit_refusal_at i command b) command g) tt
+panel_none k (bus.Withdraw i) b g =
+    both (Each NoLapse) (i == k) (withdraws (given_back (withdrawal_at i b)) g) [] (withdraws_none (given_back (withdrawal_at i b)) g) tt
+panel_none k (bus.Tick now) b g =
+    let reports = reported k (told_in (bus.Tick now) b) g in
+    let opens = opening k (asked_at now b) (bus_ticks now b).sent (device_of k (heard (bus.Tick now) now b)) in
+    each_append NoLapse reports opens (done_none reports (reported_done k (told_in (bus.Tick now) b) g))
+    (opening_open NoLapse tt k (asked_at now b) (bus_ticks now b).sent (device_of k (heard (bus.Tick now) now b)))
+panel_none k (bus.OnBytes bytes now) b g = done_none (reported k (told_in (bus.OnBytes bytes now) b) g) (reported_done k (told_in (bus.OnBytes bytes now) b) g)
+panel_none k (bus.OnSilence now) b g = done_none (reported k (told_in (bus.OnSilence now) b) g) (reported_done k (told_in (bus.OnSilence now) b) g)
+panel_none k (bus.Add address) b g = tt
+panel_none k (bus.Begin i now) b g = tt
+panel_none k (bus.Retarget i address) b g = tt
+panel_none k bus.NextReport b g = tt
+
+module _ {H : Type 0} (answer_of : H → Command → Answer) (after : H → Command → H) (k : ℕ) where
+  -- ---- of a device
+
+  device_none : (call : Call H) (t : Station H) (g : Ledger) → Each NoLapse (device_steps answer_of after call t g)
+  device_none (SubmitEvent i event) t g = queues_none (lacks_room event t.reader.queue) event g
+  device_none (WithdrawEvent i) t g = withdraws_event_none (never_offered t.reader.queue) t.reader.queue.ever_offered g
+  device_none (Next i) t g =
+      let o = first_answered t.reader (read_up_to t.reader (items_of t.line.held)) in
+      done_none (answered answer_of after o t.reader g) (answered_done answer_of after o t.reader g)
+  device_none (NewDevice i config handler room gap) t g = (tt, tt)
+  device_none _ t g = tt
+
+  at_none : (call : Call H) (o : Option (Station H)) (g : Ledger) → Each NoLapse (steps_at answer_of after call o g)
+  at_none call None g = tt
+  at_none call (Some t) g = device_none call t g
+
+  if_none : (i : ℕ) (call : Call H) (a : OwnLine H) (g : Ledger)
+      → Each NoLapse (cond (i == k) (steps_at answer_of after call (site_at k a.line.stations) g) [])
+  if_none i call a g =
+      both (Each NoLapse) (i == k) (steps_at answer_of after call (site_at k a.line.stations) g) [] (at_none call (site_at k a.line.stations) g) tt
+
+  -- ---- of any call
+
+  abbrev own_view : OwnLine H → InUse H
+  own_view a = record a.line { bus = a.bus }
+
+  pub record Reads (call : Call H) (a : OwnLine H) (g : Ledger) : Type 0 where
+    pub accepted : commands_in (own_steps answer_of after k call a g) ≡ own_accepted k call a
+    pub queued : events_in (own_steps answer_of after k call a g) ≡ queued_by k call a.line
+    pub none : Each NoLapse (own_steps answer_of after k call a g)
+
+  reads : (call : Call H) (a : OwnLine H) (g : Ledger) → Reads call a g
+  reads (OfPanel call) a g = record {
+    accepted = call_commands answer_of after (a.numbers.own k) (OfPanel call) (own_view a) g;
+    queued = call_events answer_of after (a.numbers.own k) (OfPanel call) (own_view a) g;
+    none = panel_none (a.numbers.own k) call a.bus g;
+  }
+  reads (NewPanel config xs) a g = record {
+    accepted = call_commands answer_of after (a.numbers.own k) (NewPanel config xs) (own_view a) g;
+    queued = call_events answer_of after (a.numbers.own k) (NewPanel config xs) (own_view a) g;
+    none = restarts_none (device_of (a.numbers.own k) a.bus);
+  }
+  reads (SubmitEvent i event) a g = record {
+    accepted = call_commands answer_of after k (SubmitEvent i event) a.line g;
+    queued = call_events answer_of after k (SubmitEvent i event) a.line g;
+    none = if_none i (SubmitEvent i event) a g;
+  }
+  reads (SetBusy i busy) a g = record {
+    accepted = call_commands answer_of after k (SetBusy i busy) a.line g;
+    queued = call_events answer_of after k (SetBusy i busy) a.line g;
+    none = if_none i (SetBusy i busy) a g;
+  }
+  reads (SetHandler i handler) a g = record {
+    accepted = call_commands answer_of after k (SetHandler i handler) a.line g;
+    queued = call_events answer_of after k (SetHandler i handler) a.line g;
+    none = if_none i (SetHandler i handler) a g;
+  }
+  reads (WithdrawEvent i) a g = record {
+    accepted = call_commands answer_of after k (WithdrawEvent i) a.line g;
+    queued = call_events answer_of after k (WithdrawEvent i) a.line g;
+    none = if_none i (WithdrawEvent i) a g;
+  }
+  reads (Take i bytes now) a g = record {
+    accepted = call_commands answer_of after k (Take i bytes now) a.line g;
+    queued = call_events answer_of after k (Take i bytes now) a.line g;
+    none = if_none i (Take i bytes now) a g;
+  }
+  reads (TickDevice i now) a g = record {
+    accepted = call_commands answer_of after k (TickDevice i now) a.line g;
+    queued = call_events answer_of after k (TickDevice i now) a.line g;
+    none = if_none i (TickDevice i now) a g;
+  }
+  reads (Silence i now) a g = record {
+    accepted = call_commands answer_of after k (Silence i now) a.line g;
+    queued = call_events answer_of after k (Silence i now) a.line g;
+    none = if_none i (Silence i now) a g;
+  }
+  reads (Next i) a g = record {
+    accepted = call_commands answer_of after k (Next i) a.line g;
+    queued = call_events answer_of after k (Next i) a.line g;
+    none = if_none i (Next i) a g;
+  }
+  reads (Pending i) a g = record {
+    accepted = call_commands answer_of after k (Pending i) a.line g;
+    queued = call_events answer_of after k (Pending i) a.line g;
+    none = if_none i (Pending i) a g;
+  }
+  reads (NewDevice i config handler room gap) a g = record {
+    accepted = call_commands answer_of after k (NewDevice i config handler room gap) a.line g;
+    queued = call_events answer_of after k (NewDevice i config handler room gap) a.line g;
+    none = if_none i (NewDevice i config handler room gap) a g;
+  }
+
+  -- ---- of a list of calls
+
+  along_commands : (steps : List (OwnStep H)) (a : OwnLine H) (g : Ledger)
+      → commands_in (own_along answer_of after k steps a g) ≡ all_own_accepted answer_of after k steps a
+  along_commands [] a g = refl
+  along_commands (step ∷ steps) a g =
+      let now = own_steps answer_of after k step.call a g in
+      let next = after_own answer_of after step a in
+      commands_more now (own_along answer_of after k steps next (after_steps now g))
+      ∙ (λ i. (reads step.call a g).accepted i ++ along_commands steps next (after_steps now g) i)
+
+  along_events : (steps : List (OwnStep H)) (a : OwnLine H) (g : Ledger)
+      → events_in (own_along answer_of after k steps a g) ≡ all_own_queued answer_of after k steps a
+  along_events [] a g = refl
+  along_events (step ∷ steps) a g =
+      let now = own_steps answer_of after k step.call a g in
+      let next = after_own answer_of after step a in
+      events_more now (own_along answer_of after k steps next (after_steps now g))
+      ∙ (λ i. (reads step.call a g).queued i ++ along_events steps next (after_steps now g) i)
+
+  along_none : (steps : List (OwnStep H)) (a : OwnLine H) (g : Ledger) → Each NoLapse (own_along answer_of after k steps a g)
+  along_none [] a g = tt
+  along_none (step ∷ steps) a g =
+      let now = own_steps answer_of after k step.call a g in
+      let next = after_own answer_of after step a in
+      each_append NoLapse now (own_along answer_of after k steps next (after_steps now g)) (reads step.call a g).none (along_none steps next (after_steps now g))
+
+  -- ---- from the set-up on
+
+  module _ (first : Station H) (steps : List (OwnStep H)) (a : OwnLine H) where
+    abbrev before : List ledger.Step
+    before = queued_before 0 first.reader.queue.events
+
+    abbrev rest : List ledger.Step
+    rest = own_along answer_of after k steps a (after_steps before new_ledger)
+
+    pub own_commands : commands (runs (own_steps_from answer_of after k first steps a) new_history).accepted ≡ all_own_accepted answer_of after k steps a
+    own_commands =
+        runs_accepted (before ++ rest) new_history ∙ commands_more before rest
+        ∙ (λ i. before_commands 0 first.reader.queue.events i ++ along_commands steps a (after_steps before new_ledger) i)
+
+    pub own_events : events (runs (own_steps_from answer_of after k first steps a) new_history).queued
+        ≡ first.reader.queue.events ++ all_own_queued answer_of after k steps a
+    own_events =
+        runs_queued (before ++ rest) new_history ∙ events_more before rest
+        ∙ (λ i. before_events 0 first.reader.queue.events i ++ along_events steps a (after_steps before new_ledger) i)
+
+    pub own_exits : All LeftSo (runs (own_steps_from answer_of after k first steps a) new_history).left
+    own_exits =
+        runs_exits (before ++ rest) new_history
+        (each_append NoLapse before rest (before_none 0 first.reader.queue.events) (along_none steps a (after_steps before new_ledger))) (All-nil LeftSo)

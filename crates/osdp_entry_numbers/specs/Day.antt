@@ -1,0 +1,108 @@
+-- A list of calls of a panel with an entry of another make between two of ours, which is made anew with its entries in another order.
+use Rattle.std.specs.Prelude.{◌≡◌, ℕ, zero, suc, true, [], ◌∷◌, List, Some, take}
+use Rattle.osdp_msg.specs.declared.command.Command.{Command}
+use Rattle.osdp_msg.specs.declared.command.Command.TheVariants.{Cap}
+use Rattle.osdp_msg.specs.declared.reply.Reply.TheVariants as reply
+use Rattle.osdp_bus_laws.specs.Calls as bus
+use Rattle.osdp_ledger.specs.Ledger as ledger
+use Rattle.osdp_ledger.specs.Ledger.{Card, Order}
+use Rattle.osdp_reader.specs.declared.handler.Answer.{Answer}
+use Rattle.osdp_calls.specs.Calls.{Call, NewPanel, Next, OfPanel, SubmitEvent, Take, asked_at}
+use Rattle.osdp_calls.specs.Lines.{bus_with}
+use Rattle.osdp_calls.specs.Premises.{IsSetUp, Keeps}
+use Rattle.osdp_premises.specs.LongDay.{answers, asks, device_at, first_line, key, station_at, twice}
+use Rattle.osdp_entry_numbers.specs.Numbers.{Numbers}
+use Rattle.osdp_entry_numbers.specs.OwnOrder.{AllOwnKeep, IsOwnSetUp, OwnLine, OwnStep, after_all_own}
+use Rattle.osdp_entry_numbers.specs.Promises.{own_steps_from}
+
+abbrev pub order : Order
+order = record { place = 0; command = Cap 0 }
+
+abbrev pub card : Card
+card = record { place = 0; event = key }
+
+-- the entry of another make is the second of three, and the last in the order of devices
+abbrev pub exchanged : ℕ → ℕ
+exchanged zero = 0
+exchanged (suc zero) = 2
+exchanged (suc (suc zero)) = 1
+exchanged (suc (suc (suc i))) = suc (suc (suc i))
+
+abbrev pub between : Numbers
+between = record { ordered = exchanged; own = exchanged }
+
+-- .. and ours are turned: the first is that of the second device, and the third that of the first
+abbrev pub onward : ℕ → ℕ
+onward zero = 1
+onward (suc zero) = 2
+onward (suc (suc zero)) = 0
+onward (suc (suc (suc i))) = suc (suc (suc i))
+
+abbrev pub back : ℕ → ℕ
+back zero = 2
+back (suc zero) = 0
+back (suc (suc zero)) = 1
+back (suc (suc (suc i))) = suc (suc (suc i))
+
+abbrev pub around : Numbers
+around = record { ordered = onward; own = back }
+
+module _ {H : Type 0} where
+  abbrev pub does : Call H → List ℕ → OwnStep H
+  does call places = record { call = call; places = places; ordered = []; numbers = between }
+
+  -- devices at 3 and 4, and an entry for 20 between theirs
+  abbrev pub own_line : H → OwnLine H
+  own_line handler = record { bus = bus_with twice (3 ∷ 20 ∷ 4 ∷ []); numbers = between; line = first_line handler }
+
+  -- Sessions of the device of another make and of that at 4 begin, in the panel's order. An order to the device at 4 goes out, and the panel is made anew with its
+  -- entries in another order. The device reads the order, acts on it, and queues an event. The next session opens, and the event is reported.
+  abbrev pub day : List (OwnStep H)
+  day =
+      does (OfPanel (bus.Begin 1 0)) []
+      ∷ does (OfPanel (bus.Begin 2 0)) []
+      ∷ does (OfPanel (bus.Submit 2 (Cap 0))) []
+      ∷ does (OfPanel (bus.Tick 400)) []
+      ∷ does (OfPanel (bus.OnBytes (answers 20 0 (69 ∷ 1 ∷ 2 ∷ 3 ∷ 4 ∷ 5 ∷ 6 ∷ 0 ∷ 0 ∷ 0 ∷ 7 ∷ 8 ∷ 9 ∷ [])) 401)) []
+      ∷ does (OfPanel bus.NextReport) []
+      ∷ does (OfPanel (bus.Tick 402)) []
+      ∷ does (Take 1 (asks 4 0 (97 ∷ 0 ∷ [])) 403) []
+      ∷ does (Next 1) (0 ∷ [])
+      ∷ does (OfPanel (bus.OnBytes (answers 4 0 (69 ∷ 1 ∷ 2 ∷ 3 ∷ 4 ∷ 5 ∷ 6 ∷ 0 ∷ 0 ∷ 0 ∷ 7 ∷ 8 ∷ 9 ∷ [])) 405)) (1 ∷ [])
+      ∷ does (OfPanel bus.NextReport) []
+      ∷ does (OfPanel (bus.Tick 406)) []
+      ∷ record { call = NewPanel twice (4 ∷ 20 ∷ 3 ∷ []); places = []; ordered = 3 ∷ 4 ∷ 20 ∷ []; numbers = around }
+      ∷ does (Take 1 (asks 4 1 (98 ∷ 0 ∷ [])) 407) []
+      ∷ does (Next 1) (2 ∷ [])
+      ∷ does (SubmitEvent 1 key) []
+      ∷ does (OfPanel (bus.OnBytes (answers 4 1 (70 ∷ [])) 409)) (3 ∷ [])
+      ∷ does (OfPanel (bus.Begin 0 410)) []
+      ∷ does (OfPanel (bus.Tick 810)) []
+      ∷ does (Take 1 (asks 4 0 (97 ∷ 0 ∷ [])) 811) []
+      ∷ does (Next 1) (4 ∷ [])
+      ∷ does (OfPanel (bus.OnBytes (answers 4 0 (69 ∷ 1 ∷ 2 ∷ 3 ∷ 4 ∷ 5 ∷ 6 ∷ 0 ∷ 0 ∷ 0 ∷ 7 ∷ 8 ∷ 9 ∷ [])) 813)) (5 ∷ [])
+      ∷ does (OfPanel bus.NextReport) []
+      ∷ does (OfPanel (bus.Tick 863)) []
+      ∷ does (Take 1 (asks 4 1 (96 ∷ [])) 864) []
+      ∷ does (Next 1) (6 ∷ [])
+      ∷ does (OfPanel (bus.OnBytes (answers 4 1 (83 ∷ 0 ∷ 1 ∷ 49 ∷ [])) 866)) (7 ∷ [])
+      ∷ []
+
+  module _ (answer_of : H → Command → Answer) (after : H → Command → H) where
+    -- before the panel is made anew
+    abbrev pub noon : H → OwnLine H
+    noon handler = after_all_own answer_of after (take 12 day) (own_line handler)
+
+    pub record BetweenAndTurned (handler : H) : Type 0 where
+      pub up : IsOwnSetUp (own_line handler)
+      pub keep : AllOwnKeep answer_of after day (own_line handler)
+      -- what was asked before: others come after ours, and the panel is made anew with ours in the same order
+      pub between : IsSetUp (record (own_line handler).line { bus = (own_line handler).bus }) → ⊥
+      pub turned : Keeps answer_of after (record { call = NewPanel twice (4 ∷ 20 ∷ 3 ∷ []); places = [] }) (noon handler).line → ⊥
+      -- the first session that opens is that of the second entry; with our entries first it would be that of the second of these
+      pub asks : asked_at 400 (after_all_own answer_of after (take 3 day) (own_line handler)).bus ≡ Some 1
+      pub would_ask : asked_at 400 (after_all_own answer_of after (take 3 day) (own_line handler)).line.bus ≡ Some 1
+      -- the ledger of the device at 4
+      pub steps : own_steps_from answer_of after 1 (station_at 4 handler) day (own_line handler)
+          ≡ ledger.Submit order ∷ ledger.Open ∷ ledger.RestartPanel true ∷ ledger.Act order (reply.PdCap (record { capabilities = (device_at 4).caps })) ∷ ledger.Queue card ∷ ledger.Open
+          ∷ ledger.Offers card ∷ ledger.Report card ∷ []

@@ -1,0 +1,4 @@
+pub mod Numbers
+pub mod OwnOrder
+pub mod Promises
+pub mod Day
