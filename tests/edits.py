@@ -5,7 +5,7 @@ import sys
 TOP = os.path.dirname(os.path.dirname(os.path.realpath(__file__)))
 sys.dont_write_bytecode = True
 sys.path.insert(0, f"{TOP}/tools")
-from operators import code_operators, code_special, definition_operators, definitions, donors, items, pairs, pinned, shadows, short, spelling  # noqa: E402
+from operators import code_operators, code_special, definition_operators, definitions, donors, generated, items, pairs, pinned, shadows, short, spelling  # noqa: E402
 from operators.facts import Facts  # noqa: E402
 
 CODE = """/// Whether a < b.
@@ -68,6 +68,8 @@ EQUATIONS = {
     "result ≡ f self.old": "result", "f self.old ≡ self.new.items": "self.new.items", "OnOk result (string_bytes text.new ≡ f text.old)": "OnOk: string_bytes text.new",
     "IfOk result (λ made. made.items ≡ f words.now)": "IfOk made: made.items", "IsTrue result ↔ Fits self.now": "result", "(command : Command) → result ≡ f command": "result",
     "result ≤ f self.old": None, "self.old ≡ [] → result ≡ None": None, "IsRead self.old result self.new": None, "result ≡ f self.new": None, "(result ≡ a) ⊎ (result ≡ b)": None,
+    "(result ≡ true) ↔ Fits self.now": "result", "SomeIff result (f value < 128) value": "result", "OnOk result (Spells (f packet.now) out.new.items)": "OnOk: out.new.items",
+    "IsWritten (f self.old) out.old.items out.new.items": "out.new.items", "IsWritten (f self.new) out.old.items out.new.items": None, "SomeIff result (self.new ≡ []) value": None,
     "IfOk result (λ made. f made ≡ g made)": None, "OnOk result (a ≡ b)": None,
 }
 GIVEN = """pub fn takes(&mut self, place: &mut Place<'_>) -> Result<u8, Fault>
@@ -82,6 +84,23 @@ fn bounds(a: u8) -> u8
     ensures { result ≤ 7 }
 {
     a
+}
+
+fn by_case(&mut self) -> bool
+    requires { IsLine self.old }
+    ensures answer { (result ≡ true) ↔ Fits self.old }
+    ensures taken { result ≡ true → self.new ≡ f self.old }
+    ensures left { result ≡ false → self.new ≡ self.old }
+    ensures line { IsLine self.new }
+{
+    true
+}
+
+fn one_case(&mut self) -> bool
+    ensures answer { (result ≡ true) ↔ Fits self.old }
+    ensures taken { result ≡ true → self.new ≡ f self.old }
+{
+    true
 }
 """
 
@@ -129,7 +148,10 @@ def main():
     assert {it: pinned.left_side(it) for it in EQUATIONS} == EQUATIONS, f"left sides: { {it: pinned.left_side(it) for it in EQUATIONS} }"
     given = pinned.functions(GIVEN)
     assert given["takes"].left_sides() == ["self.new", "OnOk: place.new.items"] and given["takes"].results() == ["result", "self.new", "place.new"], "a contract of equations"
-    assert given["bounds"].left_sides() is None, "a bound leaves values"
+    assert given["bounds"].left_sides() is None and given["one_case"].left_sides() is None, "a bound, or a case, leaves values"
+    assert given["by_case"].left_sides() == ["result", "either: self.new", "either: self.new"], "two cases give a value"
+    answers = pinned.functions(generated.read("crates/osdp_door/src/door.rt"))["answer"]
+    assert answers.left_sides() == ["result", "self.new"], "a function of a trait has no contract"
 
     file = items.File(CHANGING)
     made = lines_of(CHANGING, [*code_special.Special(file, file.units[1], Facts([file], [])).make()])
