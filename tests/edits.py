@@ -5,7 +5,7 @@ import sys
 TOP = os.path.dirname(os.path.dirname(os.path.realpath(__file__)))
 sys.dont_write_bytecode = True
 sys.path.insert(0, f"{TOP}/tools")
-from operators import code_operators, code_special, definition_operators, definitions, donors, generated, items, pairs, pinned, shadows, short, spelling  # noqa: E402
+from operators import code_operators, code_special, contracts, definition_operators, definitions, donors, generated, items, pairs, pinned, premises, shadows, short, spelling  # noqa: E402
 from operators.facts import Facts  # noqa: E402
 
 CODE = """/// Whether a < b.
@@ -163,6 +163,19 @@ def main():
     path = "crates/osdp_reader_laws/specs/Steps.antt"
     taken = next(it for it in shadows.of_file(path, ("osdp_reader", "osdp_msg", "osdp_frame")) if it.name_of == "hears" and it.case == "Taken")
     assert "Table as otherwise\n" in taken.texts()[path] and "wrong Taken r p o = record o {" in taken.texts()[path], "laws take a definition otherwise"
+
+    made = {it.lines()[1]: it for it in contracts.of_crate("osdp_msg_laws", ("osdp_msg",))}
+    one = next((it for line, it in made.items() if "HasLongestText ReplyFits reply_text 5730" in line), None)
+    assert one and contracts.made(one.path, one.text(), items.File(one.text()), ("osdp_msg",)) is not None, "a law's contract isn't changed"
+
+    found = {it.name(): it for it in premises.of_crate("osdp_calls")}
+    told = found["specs/Premises.antt InRange (SetHandler)"].texts()["crates/osdp_calls/specs/Premises.antt"]
+    assert "    InRange (SetHandler _ _) l = ⊥\n    InRange _ l = Unit {0}\n" in told and ", SetHandler}" in told, "a case of a premise isn't made false"
+    told = found["specs/Premises.antt IsSetUp.read"].texts()["crates/osdp_calls/specs/Premises.antt"]
+    assert "pub read : ⊥\n" in told and len(found) == len(premises.of_crate("osdp_calls")), "a field of a premise isn't made false"
+    assert not any(name.startswith("specs/Premises.antt IsSetUp.others") for name in found), "what is no statement is made false"
+    more = generated.read("crates/osdp_calls/specs/Premises.antt").replace("    pub openings : l.openings ≡ []\n", "    pub openings : l.openings ≡ []\n    pub none : ⊥\n")
+    assert premises.made({"crates/osdp_calls/specs/Premises.antt": more}).part.startswith("IsSetUp."), "a false field more is another premise"
 
     assert same("a < 1", "a == 0", "(a) <= 0") and same("let _ = a; f(b)", "f((b))") and same("!(a == b)", "b != a"), "one meaning has two forms"
     assert same("a < 1 && b == 2", "b == 2 && a == 0") and not same("f(a) && g(b)", "g(b) && f(a)"), "the order tells where something is done, and there alone"

@@ -6,7 +6,7 @@ from types import SimpleNamespace
 TOP = os.path.dirname(os.path.dirname(os.path.realpath(__file__)))
 sys.dont_write_bytecode = True
 sys.path.insert(0, f"{TOP}/tools")
-from operators import generated, trial, variants  # noqa: E402
+from operators import chains, generated, trial, variants  # noqa: E402
 
 SAID = """checked low_v1::reader::takes, 1 of 3
 ../low_v1/specs/Table.antt:7:3: error: expected `ℕ`
@@ -33,6 +33,12 @@ def main():
     assert not variants.is_proved(three + "\nproofs/Table.antt:1:1: error: `lemma`: refused"), "a refused lemma counts as proved"
     assert not variants.is_proved("only=1 proved=1") and not variants.is_proved("fn low::takes: proved"), "nothing said counts as proved"
     assert of("low").split(SAID, ["low"]) == [SAID], "a crate under its own name is changed"
+
+    chain = chains.Chain.__new__(chains.Chain)
+    chain.crates = ("low", "high")
+    told = SAID.replace("low_v1::reader::takes: not proved", "high_v1::laws::holds: not proved")
+    assert "fn high::laws::holds: not proved" in chain.said_of(told, "_v1") and "low::reader::takes: proved" not in chain.said_of(told, "_v1"), "a copy of a chain has another's"
+    assert "fn low::reader::takes: proved" in chain.said_of(told, "_v3") and "high" not in chain.said_of(told, "_v3"), "a copy of a chain lacks what was said of it"
 
     edits = [SimpleNamespace(path="a", unit=SimpleNamespace(start=it)) for it in (1, 1, 2)]
     loads, rest = trial.Trial.spread(None, edits, 1)

@@ -5,7 +5,7 @@ import os
 import re
 from collections import Counter, defaultdict
 
-from . import code, code_special, definitions, donors, generated, items, pairs, pinned, shadows
+from . import code, code_special, contracts, definitions, donors, generated, items, pairs, pinned, premises, shadows
 from .spelling import code_form, term_form
 
 # words by which forms differ though they mean the same
@@ -87,8 +87,11 @@ def made(edits, below, with_special=False):
     Special cases are asked only where told: their lists are so long that these edits would hardly be tried again."""
     waiting, kept = defaultdict(list), []
     for edit in edits:
+        if one := premises.made(edit.texts()):
+            yield edit, one
+            continue
         found = changes(edit)
-        if found is None and (one := shadow(edit, below)) is not None:
+        if found is None and (one := shadow(edit, below) or contract(edit, below)) is not None:
             yield edit, one
             continue
         if found is None or any(it.form == generated.form_of(it.path, it.unit) for it in found):
@@ -121,6 +124,17 @@ def shadow(edit, below):
         return None
     wanted = shadows.kept_as(path, texts[path])
     return wanted and next((it for it in shadows.of_file(path, tuple(below(path.split("/")[1]))) if it.key() == wanted.key()), None)
+
+
+def contract(edit, below):
+    """Returns what says a law's contract otherwise as a kept edit does."""
+    [(path, new), *others] = edit.texts().items()
+    if others or "/src/" not in path:
+        return None
+    try:
+        return contracts.made(path, new, items.File(new), tuple(below(path.split("/")[1])))
+    except (code.Unread, KeyError, IndexError, RecursionError):
+        return None
 
 
 def told_shortly(change, below):

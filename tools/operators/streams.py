@@ -1,9 +1,9 @@
 """What operators make in so great a number that it is made one after the other: listed whole, and tried as a sample."""
 import random
 
-from . import generated, pairs, shadows
+from . import contracts, generated, pairs, shadows
 
-KINDS = ("--laws", "--pairs", "--short", "--special")
+KINDS = ("--contracts", "--laws", "--pairs", "--short", "--special")
 # of which there are so many that a sample alone is tried
 LONG = ("--laws", "--pairs", "--special")
 
@@ -12,6 +12,9 @@ def all_of(kind, crate, below, is_wide):
     """Yields the edits of one of these kinds, of a crate."""
     if kind == "--pairs":
         yield from pairs.of_crate(crate, below, is_wide)
+        return
+    if kind == "--contracts":
+        yield from contracts.of_crate(crate, below)
         return
     if kind == "--laws":
         for path in generated.paths_of(crate, "specs") if crate.endswith("_laws") else ():

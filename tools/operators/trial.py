@@ -248,6 +248,8 @@ class Trial:
     def likely(self, edit, step=0):
         """Returns the functions that are asked of an edit, first few and then more: what refused others of its definition, or those whose contracts cite it, the
         shortest proofs first."""
+        if hasattr(edit.unit, "law"):
+            return [it for it in self.variants.functions if it.rpartition("::")[2] == edit.unit.law] if step == 0 else []
         known = self.refusers.get((edit.path, edit.unit.name))
         if known and step == 0:
             return [max(known, key=lambda it: (known[it], -self.size(it)))]
@@ -365,7 +367,7 @@ class Trial:
 
     def above(self, edit):
         """A definition that its own crate lets through is asked of the crates above that cite it, those of laws first."""
-        if not edit.is_definition() or edit.operator == shadows.OPERATOR:
+        if not edit.is_definition() or edit.operator == shadows.OPERATOR or hasattr(edit.unit, "law"):
             self.say(edit, SURVIVED)
             return
         module = edit.path.split("/specs/")[1].removesuffix(".antt").replace("/", ".")

@@ -7,7 +7,7 @@ import signal
 import subprocess
 import sys
 
-from . import generated, streams, variants
+from . import chains, generated, premises, streams, variants
 from .trial import BY_CODE, EQUAL, NOT_TRIED, REFUSED, SURVIVED, Trial, key_of
 from .variants import Budget
 
@@ -65,9 +65,10 @@ class Log:
 
     def key(self, edit):
         if id(edit) not in self.names:
-            name = edit.name()
-            self.seen[edit.crate(), name] += 1
-            self.names[id(edit)] = (edit.crate(), f"{name} #{self.seen[edit.crate(), name]}")
+            # a kept edit has a name and a crate, which an edit that is made works out
+            name, crate = (it() if callable(it) else it for it in (edit.name, edit.crate))
+            self.seen[crate, name] += 1
+            self.names[id(edit)] = (crate, f"{name} #{self.seen[crate, name]}")
         return self.names[id(edit)]
 
     def add(self, edit, result, why):
@@ -175,6 +176,11 @@ def main(tools, words):
             del words[place:place + 2]
     most, seed, log = given["--most"] and int(given["--most"]), given["--seed"], Log(given["--log"])
     budget = Budget(60 * float(given["--minutes"]) if given["--minutes"] else None)
+    copies = given["--copies"] and int(given["--copies"])
+    if kind == "--premises":
+        return premises.main(tools, words, budget, log, copies)
+    if kind == "--asked":
+        return chains.main(tools, words, budget, log, copies)
     only, is_wide, asks_runs = "--list" in words, "--wide" in words, "--runs" in words
     kind = next((it for it in streams.KINDS if it in words), None)
     words = [it.strip("/").removeprefix("crates/") for it in words if it not in ("--list", "--wide", "--runs", *streams.KINDS)]
@@ -187,7 +193,7 @@ def main(tools, words):
         if only:
             show(tools, crate, most, seed, is_wide, kind)
             continue
-        failed += try_crate(tools, crate, most, seed, budget, is_wide, kind, asks_runs, log, given["--copies"] and int(given["--copies"])).get(SURVIVED, 0)
+        failed += try_crate(tools, crate, most, seed, budget, is_wide, kind, asks_runs, log, copies).get(SURVIVED, 0)
     return 1 if failed else 0
 
 

@@ -61,7 +61,8 @@ def uses_of(crate):
 
 def with_edits(edits):
     """Returns the texts of the files with these edits, each of another unit, and the first and last line of each edit's unit then."""
-    if not hasattr(edits[0], "start"):
+    # what brings in names by itself has a variant to itself
+    if not hasattr(edits[0], "start") or hasattr(edits[0].unit, "law"):
         return edits[0].texts(), {edits[0]: (0, 0)}
     texts, places = {}, {}
     for path in {it.path for it in edits}:

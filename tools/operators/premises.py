@@ -1,0 +1,264 @@
+"""Makes each premise of the theory of calls false, one after the other, and asks the laws that say when it holds.
+
+A law whose premise nothing keeps speaks of nothing, and is proved all the same. So each part of a premise becomes `⊥`: a field of a record, a clause of a
+definition, and each case that a last clause takes together with others. A law of the same crate, or of the one that builds upon it, must refuse it."""
+import os
+import re
+
+from . import generated, variants
+from .chains import Chain
+from .definition_operators import groups, split_arrows
+from .short import sort_of
+from .trial import BY_CODE, NOT_TRIED, REFUSED, SURVIVED
+
+# Of each crate: the crates that are asked, lowest first, the laws in the order in which they are, and the definitions of what is asked of calls and of moves.
+ASKED = {
+    "osdp_calls": (
+        ("osdp_calls", "osdp_premises"),
+        (("osdp_premises::premises_are_exact", "osdp_premises::rule_is_exact", "osdp_premises::leaving_is_exact", "osdp_premises::order_spares_others"),
+         ("osdp_premises::a_long_day_keeps_the_premises", "osdp_calls::calls_rule_suffices", "osdp_calls::ends_go_by_their_own_calls", "osdp_calls::others_are_passed_over")),
+        {"Premises": None, "Programs": ("IsKnown", "PanelKeepsRule", "KeepsRule", "KeepsByRule", "AllKeepRule"), "Ends": ("KeepsPanel", "CanStand"), "OneDevice": ("KeepsHandler",),
+         "Restarts": ("KeepsDevice", "IsBeforeAndAfter"), "Undisturbed": ("IsOrdinaryOf", "LeavesCommandsOf")},
+    ),
+    "osdp_shared_line": (
+        ("osdp_shared_line", "osdp_calls"),
+        (("osdp_calls::calls_rule_suffices", "osdp_shared_line::programs::rule_suffices"), ("osdp_calls::calls_keep_apart", "osdp_shared_line::promises::each_is_a_link")),
+        {"Addresses": None, "Programs": ("IsKnown", "KeepsRule", "KeepRule", "RestFits"), "Views": ("OpensQuietly",),
+         "Restarts": ("KeepsDeviceOf", "KeepsReaderOf", "IsOrdinaryOf", "IsBeforeAndAfter"), "Progress": ("IsReady", "IsEmpty", "AreRounds")},
+    ),
+    "osdp_link_laws": (
+        ("osdp_link_laws", "osdp_shared_line"),
+        (("osdp_shared_line::promises::each_is_a_link",), ("osdp_shared_line::restarts::each_restart_costs", "osdp_link_laws::comes_through")),
+        {"Headline": ("MaySubmit", "SaysWhatFits", "SaysWhatFitsIf", "MoveFits", "MovesFit", "Begins"), "Addresses": ("SetsNoOther",), "OneHandler": ("KeepsHandler", "KeepsDevice", "KeepHandler"),
+         "Ordinary": ("IsOrdinary", "IsSteady"), "Refusals": ("KeepsReader", "IsNoRefusal"), "Lapses": ("KeepsSession", "KeepSession"), "LapsingRuns": ("LeavesRoom", "LapsingFits", "AllFit"),
+         "Progress": ("IsClear", "AreClear", "SetsNoAddress", "NoComset", "HearsOn")},
+    ),
+    "osdp_calls_instance": (
+        ("osdp_calls_instance",),
+        (("osdp_calls_instance::laws_speak_of_programs", "osdp_calls_instance::stands_on_calls"), ("osdp_calls_instance::calls_for_c_are_calls", "osdp_calls_instance::lines_are_calls", "osdp_calls_instance::run_keeps_order")),
+        {"LinePrograms": ("IsWithdrawn", "PanelLineFits", "DeviceLineFits"), "OwnCalls": ("OwnFits", "FitsAt", "AllFit"), "SimulatedOrder": ("IsOrdered", "AllOrdered", "IsTaken", "AllRuled"),
+         "SimulatedBus": ("BurstFits", "HandsBytes"), "SimulatedPremises": ("OrdersNoComset", "HandsShort")},
+    ),
+    "osdp_programs_ledger": (("osdp_programs_ledger",), (("osdp_programs_ledger::c_programs_hold_once", "osdp_programs_ledger::line_programs_hold_once", "osdp_programs_ledger::runs_hold_once"),),
+                             {"Programs": ("AreTheirCalls",)}),
+}
+
+
+class Falsehood:
+    """A definition of which one part is `⊥`."""
+
+    operator = "a false premise"
+
+    def __init__(self, path, unit, part, start, end, new, taken=None):
+        self.path, self.unit, self.part, self.at, self.new, self.taken = path, unit, part, (start, end), new, taken
+
+    def crate(self):
+        return self.path.split("/")[1]
+
+    def is_definition(self):
+        return True
+
+    def name(self):
+        return f"{self.path.split('/', 2)[2]} {self.part}"
+
+    def lines(self):
+        return self.part, generated.squeezed(self.new)
+
+    def texts(self):
+        text = generated.read(self.path)
+        text = text[:self.at[0]] + self.new + text[self.at[1]:]
+        return {self.path: taking(text, *self.taken) if self.taken else text}
+
+
+def taking(text, word, path):
+    """Takes a constructor from the file that declares it, where the file of definitions takes others of there and not this one."""
+    crate, module = path.split("/")[1], path.split("/specs/")[1].removesuffix(".antt").replace("/", ".")
+    line = re.search(rf"^ *use Rattle\.{crate}\.specs\.{re.escape(module)}\.\{{([^}}]*)\}}", text, re.M)
+    if not line or word in re.split(r"[\s,]+", line[1]):
+        return text
+    return text[:line.end(1)] + f", {word}" + text[line.end(1):]
+
+
+def constructors_beside(path, pattern):
+    """Returns how a file names the type's constructors, these with the types of each, and the file that declares them, for a pattern of one of them; or None."""
+    named = re.match(r"\(?((?:\w+\.)?)([A-Z]\w*)$", pattern)
+    if not named:
+        return None
+    prefix, name = named[1], named[2]
+    for of in [path, *taken_by(path, prefix[:-1])]:
+        for found in generated.parsed(of).constructors.values():
+            if name in found:
+                return prefix, found, of
+    return None
+
+
+def taken_by(path, alias):
+    """Returns the files of definitions of which a file takes names, or that it has under this one."""
+    ending = rf" as {alias}$" if alias else r"\.\{"
+    for crate, module in re.findall(rf"^ *use Rattle\.(\w+)\.specs\.([\w.]+?)(?:\.TheConstructors)?{ending}", generated.read(path), re.M):
+        of = f"crates/{crate}/specs/{module.replace('.', '/')}.antt"
+        if os.path.isfile(f"{generated.TOP}/{of}"):
+            yield of
+
+
+def told_apart(path, units):
+    """Yields a false clause for each case that the last clause of a definition takes together with others."""
+    last, text = units[-1], generated.read(path)
+    patterns = [groups(it.patterns) for it in units]
+    start = text.rfind("\n", 0, text.rindex(last.name, 0, last.start)) + 1
+    for i, one in enumerate(patterns[-1]):
+        if one != ["_"]:
+            continue
+        heads = [(it[i][1] if it[i][0] == "(" else it[i][0]) for it in patterns[:-1] if i < len(it)]
+        beside = next((found for it in heads if (found := constructors_beside(path, it))), None)
+        if not beside:
+            continue
+        prefix, cases, declared = beside
+        for name, kind in cases.items():
+            if prefix + name in heads:
+                continue
+            arguments = len([it for it in split_arrows(kind) if not it.startswith("{")]) - 1
+            given = f"({prefix}{name}{' _' * arguments})" if arguments else prefix + name
+            words = [given if j == i else "".join(it) if len(it) == 1 else spelled(it) for j, it in enumerate(patterns[-1])]
+            pad = re.match(r" *", text[start:])[0]
+            yield Falsehood(path, last, f"{last.name} ({prefix}{name})", start, start, f"{pad}{last.name} {' '.join(words)} = ⊥\n", None if prefix else (name, declared))
+
+
+def spelled(words):
+    return re.sub(r"\( | (?=\))", lambda it: it[0].strip(), " ".join(words))
+
+
+def of_crate(crate):
+    """Returns what makes a premise of a crate false, in the order of its files."""
+    found = []
+    for module, names in ASKED[crate][2].items():
+        path = f"crates/{crate}/specs/{module}.antt"
+        file = generated.parsed(path)
+        by_name = {}
+        for it in file.units:
+            by_name.setdefault(it.name, []).append(it)
+        for name, units in by_name.items():
+            own = name.partition(".")[0]
+            if names is not None and own not in names or units[0].tree is None:
+                continue
+            if units[0].kind == "field":
+                if sort_of(units[0].tree) == "statement" and not re.match(r"(List|Option) ", generated.read(path)[units[0].start:units[0].end]):
+                    found.append(Falsehood(path, units[0], name, units[0].start, units[0].end, "⊥"))
+                continue
+            if not file.types.get(name, "").endswith("Type 0"):
+                continue
+            cases = list(told_apart(path, units)) if len(units) > 1 else []
+            for i, it in enumerate(units if not cases else units[:-1]):
+                of = f" ({' '.join(spelled(one) for one in groups(it.patterns))})" if len(units) > 1 else ""
+                found.append(Falsehood(path, it, name + of, it.start, it.end, "⊥"))
+            found += cases
+    return [it for it in found if it.at[0] == it.at[1] or generated.read(it.path)[it.at[0]:it.at[1]] != "⊥"]
+
+
+class Asking:
+    def __init__(self, tools, crate, budget, log, copies):
+        self.tools, self.crate, self.budget, self.log, self.copies = tools, crate, budget, log, copies
+        self.crates, self.stages, _ = ASKED[crate]
+        self.results = {}
+
+    def run(self, edits):
+        last = self.crates[-1]
+        copy = self.tools.Copy({last, *self.tools.below(last)})
+        try:
+            self.chain = Chain(copy, self.crates, self.budget)
+            # what is asked must be proved without any edit
+            said = self.chain.ask([None], [it for stage in self.stages for it in stage])
+            if said is None or not variants.is_proved(said[0]):
+                self.tools.stop(f"{self.crate}: not proved without any edit, so no edit shows anything:\n{(said or [''])[0][-2000:]}")
+            waiting = list(edits)
+            for i, laws in enumerate(self.stages):
+                waiting = self.stage(waiting, laws, i == len(self.stages) - 1)
+        finally:
+            copy.remove()
+
+    def stage(self, waiting, laws, is_last):
+        left = []
+        while waiting and self.budget.left() > 0:
+            batch, waiting = waiting[:self.copies], waiting[self.copies:]
+            left += self.asked(batch, laws, is_last)
+        return left
+
+    def asked(self, batch, laws, is_last):
+        """Asks laws of some edits, and returns those that all of them let through."""
+        saids = self.chain.ask(batch, laws)
+        if saids is None:
+            return []
+        if not variants.is_reached(saids[0]) and len(batch) > 1:
+            half = len(batch) // 2
+            return self.asked(batch[:half], laws, is_last) + self.asked(batch[half:], laws, is_last)
+        return [edit for edit, said in zip(batch, saids) if not self.is_judged(edit, said, is_last)]
+
+    def is_judged(self, edit, said, is_last):
+        if variants.is_proved(said):
+            if is_last:
+                self.say(edit, SURVIVED, "")
+            return is_last
+        try:
+            why = self.tools.refusal(said, [edit.path.split("/", 2)[2]])
+        except self.tools.Bad as it:
+            self.say(edit, NOT_TRIED, str(it))
+            return True
+        laws = re.findall(r"^fn (\S+): (?:not proved|no proof)", said, re.M)
+        laws = [it for it in laws if it in [one for stage in self.stages for one in stage]]
+        self.say(edit, REFUSED if laws else BY_CODE, f"{', '.join(it.rpartition('::')[2] for it in laws)}: {why}")
+        return True
+
+    def say(self, edit, result, why):
+        self.results[edit.name()] = result
+        self.log.add(edit, result, why)
+        print(f"{self.crate}: {result}: {edit.name()}: {why[:300]}", flush=True)
+
+
+def made(texts):
+    """Returns what makes a premise false as a kept edit does, or None. A record of which any field is false is false, so a false field more is the same."""
+    [(path, new), *others] = texts.items()
+    if others or path.split("/")[1] not in ASKED or "/specs/" not in path:
+        return None
+    more = re.search(r"^ *pub \w+ : ⊥\n", new, re.M)
+    for it in of_crate(path.split("/")[1]):
+        if it.path != path:
+            continue
+        if plain(it.texts()[path]) == plain(new):
+            return it
+        if it.unit.kind == "field" and more and record_at(new, more.start()) == it.unit.name.partition(".")[0] and plain(new[:more.start()] + new[more.end():]) == plain(generated.read(path)):
+            return it
+    return None
+
+
+def record_at(text, at):
+    heads = [it[1] for it in re.finditer(r"^ *pub record (\S+)", text, re.M) if it.start() < at]
+    return heads[-1] if heads else ""
+
+
+def plain(text):
+    """A text without spaces, comments and what it takes, where a false clause doesn't name what it is given."""
+    text = re.sub(r"^ *use [^\n]*\n|--[^\n]*", "", text, flags=re.M)
+    text = re.sub(r"^( *\w+ )(.*)( = ⊥)$", lambda it: it[1] + re.sub(r"(?<![\w.])[a-z_]\w*(?![\w.])", "_", it[2]) + it[3], text, flags=re.M)
+    # a clause of a case may stand before or after that of another
+    return "".join(sorted(re.sub(r"\s+", "", it) for it in text.split("\n")))
+
+
+def main(tools, words, budget, log, copies):
+    """Tries the premises of these crates, or those that a word names, or all; prints what came of each, and how many of each result there were."""
+    is_list = "--list" in words
+    wanted = [it.partition("/")[::2] for it in words if it.partition("/")[0] in ASKED] or [(it, "") for it in ASKED]
+    failed = 0
+    for crate in dict.fromkeys(it for it, _ in wanted):
+        edits = [it for it in of_crate(crate) if any(of == crate and it.part.startswith(part) for of, part in wanted)]
+        for it in edits if is_list else ():
+            print(it.name())
+        if not is_list:
+            left = [it for it in edits if log.key(it) not in log.results]
+            asking = Asking(tools, crate, budget, log, copies or 8)
+            if left:
+                asking.run(left)
+        counts = [log.results.get(log.key(it), "not asked") for it in edits]
+        told = {it: counts.count(it) for it in dict.fromkeys(counts)}
+        print(f"{crate}: {len(edits)} premises made false" + ("" if is_list else ": " + ", ".join(f"{n} {it}" for it, n in told.items())), flush=True)
+        failed += told.get(SURVIVED, 0) + told.get(BY_CODE, 0) if not is_list else 0
+    return 1 if failed else 0
