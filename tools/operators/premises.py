@@ -22,13 +22,14 @@ ASKED = {
     ),
     "osdp_shared_line": (
         ("osdp_shared_line", "osdp_calls"),
-        (("osdp_calls::calls_rule_suffices", "osdp_shared_line::programs::rule_suffices"), ("osdp_calls::calls_keep_apart", "osdp_shared_line::promises::each_is_a_link")),
+        (("osdp_shared_line::programs::rule_suffices", "osdp_calls::calls_keep_apart"), ("osdp_calls::calls_rule_suffices", "osdp_shared_line::each_is_a_link")),
         {"Addresses": None, "Programs": ("IsKnown", "KeepsRule", "KeepRule", "RestFits"), "Views": ("OpensQuietly",),
          "Restarts": ("KeepsDeviceOf", "KeepsReaderOf", "IsOrdinaryOf", "IsBeforeAndAfter"), "Progress": ("IsReady", "IsEmpty", "AreRounds")},
     ),
     "osdp_link_laws": (
         ("osdp_link_laws", "osdp_shared_line"),
-        (("osdp_shared_line::promises::each_is_a_link",), ("osdp_shared_line::restarts::each_restart_costs", "osdp_link_laws::comes_through")),
+        (("osdp_shared_line::each_is_a_link", "osdp_shared_line::restarts::each_of_one_handler_holds_once", "osdp_shared_line::restarts::each_ordinary_is_undisturbed"),
+         ("osdp_shared_line::restarts::each_restart_costs", "osdp_shared_line::progress::each_comes_through", "osdp_link_laws::comes_through", "osdp_link_laws::lapses::holds_once_with_lapses")),
         {"Headline": ("MaySubmit", "SaysWhatFits", "SaysWhatFitsIf", "MoveFits", "MovesFit", "Begins"), "Addresses": ("SetsNoOther",), "OneHandler": ("KeepsHandler", "KeepsDevice", "KeepHandler"),
          "Ordinary": ("IsOrdinary", "IsSteady"), "Refusals": ("KeepsReader", "IsNoRefusal"), "Lapses": ("KeepsSession", "KeepSession"), "LapsingRuns": ("LeavesRoom", "LapsingFits", "AllFit"),
          "Progress": ("IsClear", "AreClear", "SetsNoAddress", "NoComset", "HearsOn")},
