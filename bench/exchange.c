@@ -209,7 +209,7 @@ static void print_depths(void)
     print_depth("osdp_panel_next_deadline", next_deadline, 4096);
     message = answer.command;
     demand(report.kind == OSDP_REPORT_SETTLED && message.code == 0x68, "the order was not settled");
-    print_depth("osdp_command_text", text, 6200);
+    print_depth("osdp_command_text", text, 4096);
     print_depth("osdp_monitor_new", new_monitor, 6000);
     print_depth("osdp_monitor_bytes", monitor_bytes, 4096);
     print_depth("osdp_monitor_silence", monitor_silence, 4096);
@@ -239,7 +239,7 @@ int main(int count, char **words)
         return 0;
     }
     print_line("osdp_panel_new and add", panel_depth, 6000);
-    print_line("osdp_device_new", reader_depth, 17000);
+    print_line("osdp_device_new", reader_depth, 10500);
     exchange();
     print_depths();
     return 0;

@@ -223,10 +223,25 @@ static void text_fits(text_call *call, uint8_t code, const uint8_t *data, size_t
     demand(is_pattern(text + wanted + 1, sizeof text - wanted - 1));
 }
 
+/* The same text in each room up to two bytes more: it is written whole, or none of it is. */
+static void text_is(text_call *call, uint8_t code, const uint8_t *data, size_t length, const char *wanted)
+{
+    char text[64];
+    size_t told = 0, most = strlen(wanted);
+    for (size_t room = 0; room <= most + 2; room++) {
+        size_t written = room < most ? 0 : room == most ? most : most + 1;
+        memset(text, pattern, sizeof text);
+        demand(call(code, data, length, text, room, &told) == (room < most ? OSDP_TOO_SMALL : OSDP_OK) && told == most);
+        demand(memcmp(text, wanted, written) == 0 && is_pattern(text + written, sizeof text - written));
+    }
+}
+
 static void texts(void)
 {
     static uint8_t data[1432];
-    const uint8_t keys[] = { 0, 2, '4', '2' };
+    const uint8_t keys[] = { 0, 2, '4', '2' }, outputs[] = { 0, 5, 30, 0, 1, 2, 255, 255 }, device[] = { 1, 2, 255, 3, 4, 4, 3, 2, 1, 5, 6, 7 };
+    text_is(osdp_command_text, 0x68, outputs, 8, "OUT 0:5:30 1:2:65535");
+    text_is(osdp_reply_text, 0x45, device, 12, "PDID 0102FF 3 4 16909060 5 6 7");
     text_fits(osdp_command_text, 0x60, keys, 0, 4);
     text_fits(osdp_reply_text, 0x53, keys, 4, 13);
     memset(data, 255, sizeof data);

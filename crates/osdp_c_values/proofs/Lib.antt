@@ -2,5 +2,6 @@ pub mod AllTold
 pub mod Putting
 mod SlotForms
 mod Slots
+pub mod Texts
 pub mod Turns
 pub mod Words

@@ -20,7 +20,7 @@ use Rattle.osdp_msg.specs.declared.reply.Reply.{Reply}
 use Rattle.osdp_msg.specs.declared.reply.Reply.TheVariants as reply
 use Rattle.osdp_msg.specs.Events.{event_reply}
 use Rattle.osdp_msg.specs.ReplyTable.{reply_of}
-use Rattle.osdp_msg.specs.Limits.{AreRoom, most_data, most_maker_bytes}
+use Rattle.osdp_msg.specs.Limits.{AreRoom, most_data, most_maker_bytes, room_for}
 use Rattle.osdp_msg.specs.NakReasons.{reason_of}
 use Rattle.osdp_frame.specs.Packed.{packed}
 use Rattle.osdp_frame.specs.Packet.{Packet}
@@ -43,7 +43,7 @@ use Rattle.osdp_c_values.specs.declared.status.Status.TheVariants as status
 use Rattle.osdp_c_values.specs.declared.message.MessageStruct.{MessageStruct}
 use Rattle.osdp_c_values.specs.Answers.{turn_struct}
 use Rattle.osdp_c_values.specs.Structs.{command_struct, reply_struct}
-use Rattle.osdp_c_values.specs.Settings.{default_room, id_of, limit_of, room_for}
+use Rattle.osdp_c_values.specs.Settings.{default_room, id_of, limit_of}
 use Rattle.osdp_c_values.specs.Statuses.{number}
 use Rattle.osdp_c_values.specs.Calls.{Done}
 use Rattle.osdp_c_values.specs.declared.states.StateList.{StateList}

@@ -1,9 +1,9 @@
 -- The settings of machines as structs of plain fields.
-use Rattle.std.specs.Prelude.{ℕ, ◌+◌, ◌*◌, Bool, not, ◌==◌, ◌&&◌, nat_le, if◌then◌else◌, Option, None, Some}
+use Rattle.std.specs.Prelude.{ℕ, Bool, not, ◌==◌, ◌&&◌, nat_le, if◌then◌else◌, Option, None, Some}
 use Rattle.osdp_bus.specs.declared.config.BusConfig.{BusConfig}
 use Rattle.osdp_frame.specs.declared.check_kind.CheckKind.{CheckKind}
 use Rattle.osdp_frame.specs.declared.check_kind.CheckKind.TheVariants.{Sum, Crc}
-use Rattle.osdp_msg.specs.Limits.{most_data, most_waiting}
+use Rattle.osdp_msg.specs.Limits.{most_waiting, room_for}
 use Rattle.osdp_msg.specs.declared.limits.Room.{Room}
 use Rattle.osdp_msg.specs.declared.reply_fields.PdId.{PdId}
 use Rattle.osdp_c_values.specs.declared.settings.PanelSettings.{PanelSettings}
@@ -13,11 +13,7 @@ use Rattle.osdp_c_values.specs.declared.settings.ReaderSettings.{ReaderSettings}
 abbrev pub check_of : ℕ → CheckKind
 check_of number = if number == 0 then Sum else Crc
 
--- room for so many messages, however long each is
-abbrev pub room_for : ℕ → Room
-room_for count = record { messages = count; bytes = count * (1 + most_data) }
-
--- .. where so many may wait
+-- room for so many messages, however long each is, where so many may wait
 abbrev pub default_room : ℕ → Option Room
 default_room count = if nat_le count most_waiting then Some (room_for count) else None
 

@@ -1,8 +1,8 @@
 //! What crosses to C and back: handles of machines, statuses, texts, and structs of plain fields with arrays inside.
 //!
 //! A handle is a machine on the heap at a pointer without a type, which C owns. All zeros is none. `take` moves the machine out of a
-//! handle, and `put` moves one in. A text is put together in a room that holds the longest of them, so that it never fails, where a
-//! `fmt` may.
+//! handle, and `put` moves one in. The pieces of a text are counted first. Then they are put into the caller's room, if it has a place for
+//! all of them.
 //!
 //! A struct is written whole but for its arrays: of an array as many bytes as its length says are written, and the others stay as they
 //! were. `include/osdp.h` has the same structs for C.
@@ -41,7 +41,6 @@ mod told;
 pub use answer::AnswerStruct;
 pub use arrays::BurstStruct;
 pub use clock::Clock;
-pub use command_texts::read_command_text;
 pub use fields::{KeypadStruct, NakStruct, OutputStruct, PdIdStruct, RawStruct, StatesStruct};
 pub use machine::{PanelMachine, ReaderMachine};
 pub use making::{BuzzerStruct, LedState, LedStruct, TextStruct};
@@ -54,7 +53,6 @@ pub use panel_handle::PanelHandle;
 pub use pieces::MAX_TEXT;
 pub use place::Place;
 pub use reader_handle::DeviceHandle;
-pub use reply_texts::read_reply_text;
 pub use report::ReportStruct;
 pub use settings::{PanelSettings, ProductStruct, ReaderSettings, default_room};
 pub use shared::{CommunicationStruct, MakerStruct};

@@ -3,7 +3,8 @@
 ghost use Rattle.std.specs.Prelude.{◌≡◌, Some};
 ghost use Rattle.osdp_bus.specs.Settings.{default_config};
 ghost use Rattle.osdp_frame.specs.declared.check_kind.CheckKind.TheVariants.{Crc};
-ghost use Rattle.osdp_c_values.specs.Settings.{bus_config_in, bus_config_of, bus_config_with, check_of, day, default_room, id_of, limit_of, polls_between, room_for};
+ghost use Rattle.osdp_msg.specs.Limits.{room_for};
+ghost use Rattle.osdp_c_values.specs.Settings.{bus_config_in, bus_config_of, bus_config_with, check_of, day, default_room, id_of, limit_of, polls_between};
 
 use osdp_bus::BusConfig;
 use osdp_frame::CheckKind;

@@ -1,14 +1,23 @@
 //! Texts of messages.
 
-ghost use Rattle.std.specs.Prelude.{◌≡◌, ◌≤◌, length};
+ghost use Rattle.std.specs.Prelude.{◌≡◌, ◌≤◌, length, set};
 ghost use Rattle.osdp_c_values.specs.Structs.{filled};
-ghost use Rattle.osdp_c_values.specs.Texts.{CommandTextEnds, IsTold, ReplyTextEnds, ended_text};
+ghost use Rattle.osdp_c_values.specs.Texts.{CommandTextEnds, ReplyTextEnds, ended_text};
 
 use crate::arrays::fill;
-use crate::command_texts::read_command_text;
-use crate::reply_texts::read_reply_text;
+use crate::command_texts::put_command;
+use crate::reply_texts::put_reply;
 use crate::status::Status;
-use arrayvec::ArrayString;
+use osdp_msg::{Command, Reply};
+
+/// Writes a zero after so many bytes, where there is room for one.
+fn end_text(out: &mut [u8], count: usize)
+    ensures { out.new ≡ set out.old count 0 }
+{
+    if count < out.len() {
+        out[count] = 0;
+    }
+}
 
 /// Writes a text, and a zero after it where there is room for one.
 pub(crate) fn fill_text(text: &[u8], out: &mut [u8])
@@ -16,31 +25,29 @@ pub(crate) fn fill_text(text: &[u8], out: &mut [u8])
     ensures { out.new ≡ filled (ended_text text.now out.old) out.old }
 {
     fill(out, text);
-    if text.len() < out.len() {
-        out[text.len()] = 0;
-    }
+    end_text(out, text.len());
 }
 
-/// Writes a text and its length, or the length alone where there is no room for it.
-fn tell_text(text: &str, out: &mut [u8], count: &mut usize) -> Status
-    ensures { IsTold text.now result out.old out.new count.new }
-{
-    *count = text.len();
-    if text.len() > out.len() {
-        return Status::TooSmall;
-    }
-    fill_text(text.as_bytes(), out);
-    Status::Done
-}
-
-/// Writes the text that a function reads of a code and data, and its length.
+/// Writes the text that is put of what was read, and its length, or the length alone where there is no room for it. A first pass, without room,
+/// counts it.
 macro_rules! told_text {
-    ($read:ident, $code:ident, $body:ident, $out:ident, $count:ident) => {{
-        let mut room = ArrayString::new();
-        match $read($code, $body, &mut room) {
-            Ok(()) => tell_text(room.as_str(), $out, $count),
-            Err(fault) => Status::Message(fault),
+    ($read:expr, $put:ident, $out:ident, $count:ident) => {{
+        let message = match $read {
+            Ok(message) => message,
+            Err(fault) => return Status::Message(fault),
+        };
+        let Ok(length) = $put(&mut [], 0, &message) else {
+            unreachable!()
+        };
+        *$count = length;
+        if length > $out.len() {
+            return Status::TooSmall;
         }
+        let Ok(end) = $put($out, 0, &message) else {
+            unreachable!()
+        };
+        end_text($out, end);
+        Status::Done
     }};
 }
 
@@ -48,12 +55,12 @@ macro_rules! told_text {
 pub fn write_command_text(code: u8, body: &[u8], out: &mut [u8], count: &mut usize) -> Status
     ensures { CommandTextEnds code body.now result out.old out.new count.old count.new }
 {
-    told_text!(read_command_text, code, body, out, count)
+    told_text!(Command::read(code, body), put_command, out, count)
 }
 
 /// Writes the text of the reply that a code and data stand for, and its length.
 pub fn write_reply_text(code: u8, body: &[u8], out: &mut [u8], count: &mut usize) -> Status
     ensures { ReplyTextEnds code body.now result out.old out.new count.old count.new }
 {
-    told_text!(read_reply_text, code, body, out, count)
+    told_text!(Reply::read(code, body), put_reply, out, count)
 }

@@ -1,8 +1,8 @@
-use Rattle.std.proofs.Common.{◌≡◌, ◌++◌, drop}
+use Rattle.std.proofs.Common.{take}
 use Rattle.std.specs.List.{flat_map}
-use Rattle.osdp_c_values.specs.Pieces.{two_digits}
+use Rattle.osdp_c_values.specs.Pieces.{IsAt, two_digits}
 use Rattle.osdp_c_values.proofs.pieces.put_digits.Given as goal
 
--- what is put and what is to come are the whole
+-- the bytes before the place have been put
 abbrev pub invariant-loop-byte : goal.invariant-loop-byte
-invariant-loop-byte l = l.room.bytes ++ flat_map two_digits (drop l.byte-index l.list) ≡ l.initial.room.bytes ++ flat_map two_digits l.list
+invariant-loop-byte l = IsAt l.initial.at l.initial.out l.end l.out (flat_map two_digits (take l.byte-index l.list))

@@ -1,8 +1,9 @@
-use Rattle.std.proofs.Common.{◌≡◌, ◌++◌, drop}
-use Rattle.std.specs.List.{flat_map}
+use Rattle.std.proofs.Common.{◌++◌, take}
 use Rattle.std.specs.Fmt.{decimal}
+use Rattle.std.specs.List.{flat_map}
+use Rattle.osdp_c_values.specs.Pieces.{IsAt}
 use Rattle.osdp_c_values.proofs.pieces.put_numbers.Given as goal
 
--- what is put and what is to come are the whole
+-- the numbers before the place have been put
 abbrev pub invariant-loop-one : goal.invariant-loop-one
-invariant-loop-one l = l.room.bytes ++ flat_map (λ n. l.before ++ decimal n) (drop l.one-index l.numbers) ≡ l.initial.room.bytes ++ flat_map (λ n. l.before ++ decimal n) l.numbers
+invariant-loop-one l = IsAt l.initial.at l.initial.out l.end l.out (flat_map (λ n. l.before ++ decimal n) (take l.one-index l.numbers))

@@ -5,5 +5,5 @@ use Rattle.osdp_c_values.proofs.pieces.put_plain.Goals as goal
 
 pub returns : goal.returns
 returns c =
-    put_then _ c.args.room.now c.put.new.room c.put_numbers.new.room c.put_numbers.result c.args.name.now _ _ c.in_ok-put.ensures
+    put_then _ c.put_numbers.result c.put_numbers.new.out _ _ c.in_ok-first.ensures
     (ap (λ l. c.args.name.now ++ l) (sym (words_following number c.args.numbers.now))) c.put_numbers.ensures

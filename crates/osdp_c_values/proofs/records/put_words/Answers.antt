@@ -1,27 +1,34 @@
-use Rattle.std.proofs.Common.{◌≡◌, ◌++◌, ◌∷◌, List, ℕ, codes, ap, sym, ◌∙◌, append-nil}
+use Rattle.std.proofs.Common.{◌≡◌, ◌++◌, [], ◌∷◌, List, ℕ, codes, ap, subst, sym, refl, ◌∙◌, append_assoc, append-nil}
 use Rattle.std.specs.List.{flat_map}
 use Rattle.osdp_words.specs.Word.{printed}
-use Rattle.osdp_c_values.proofs.Putting.{failed, next_piece, next_without_room}
+use Rattle.osdp_c_values.specs.Pieces.{IsAt}
+use Rattle.osdp_c_values.proofs.Putting.{failed, next_piece, next_without_room, nothing_put}
 use Rattle.osdp_c_values.proofs.records.put_words.Goals as goal
+
+pub records-init : goal.records-init
+records-init g c = ([], refl, nothing_put c.args.at c.args.out.now)
 
 pub records-preserved : goal.records-preserved
 records-preserved g c =
     let put : g.row.R.Denot → List ℕ = λ r. codes " " ++ printed (g.R.Recorded.put_as r) in
     let x = c.in-Some.record in
+    let done = c.records.invariant.0 in
     let next : c.records.left ≡ x ∷ c.next.new.self = rw c.in-Some.is at c.next.ensures.steps in
-    next_piece put _ c.records.room.bytes c.put_word.new.room.bytes x c.next.new.self (ap (λ left. c.records.room.bytes ++ flat_map put left) (sym next) ∙ c.records.invariant)
-    c.in_ok-put_word.ensures
+    let all : (done ++ x ∷ []) ++ c.next.new.self ≡ c.args.records = append_assoc done (x ∷ []) c.next.new.self ∙ ap (λ left. done ++ left) (sym next) ∙ c.records.invariant.1 in
+    (done ++ x ∷ [], all, next_piece put done x c.records.invariant.2 c.in_ok-end.ensures)
 
-pub returns-in_err-put_word : goal.returns-in_err-put_word
-returns-in_err-put_word g c =
+pub returns-in_err-end : goal.returns-in_err-end
+returns-in_err-end g c =
     let put : g.row.R.Denot → List ℕ = λ r. codes " " ++ printed (g.R.Recorded.put_as r) in
     let x = c.in-Some.record in
     let next : c.records.left ≡ x ∷ c.next.new.self = rw c.in-Some.is at c.next.ensures.steps in
-    failed _ c.args.room.now c.put_word.new.room c.from_residual.result _ c.from_residual.ensures.0
-    (next_without_room put _ c.args.room.now.bytes c.records.room.bytes x c.next.new.self c.args.records (ap (λ left. c.records.room.bytes ++ flat_map put left) (sym next) ∙ c.records.invariant) c.in_err-put_word.ensures)
+    let all : c.records.invariant.0 ++ (x ∷ c.next.new.self) ≡ c.args.records = ap (λ left. c.records.invariant.0 ++ left) (sym next) ∙ c.records.invariant.1 in
+    failed _ c.args.at c.args.out.now c.from_residual.result _ _ c.from_residual.ensures.0
+    (next_without_room put _ c.records.invariant.0 x c.next.new.self c.args.records all c.records.invariant.2 c.in_err-end.ensures)
 
 pub returns : goal.returns
 returns g c =
     let put : g.row.R.Denot → List ℕ = λ r. codes " " ++ printed (g.R.Recorded.put_as r) in
     let end = (rw c.in_default.is at c.next.ensures.steps).0 in
-    sym (append-nil c.records.room.bytes) ∙ ap (λ left. c.records.room.bytes ++ flat_map put left) (sym end) ∙ c.records.invariant
+    let all : c.records.invariant.0 ≡ c.args.records = sym (append-nil c.records.invariant.0) ∙ ap (λ left. c.records.invariant.0 ++ left) (sym end) ∙ c.records.invariant.1 in
+    subst (λ (l : List g.row.R.Denot). IsAt c.args.at c.args.out.now c.records.end c.records.out (flat_map put l)) all c.records.invariant.2

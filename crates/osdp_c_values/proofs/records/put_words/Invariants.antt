@@ -1,11 +1,14 @@
-use Rattle.std.proofs.Common.{◌≡◌, ◌++◌, codes, length}
+use Rattle.std.proofs.Common.{◌≡◌, ◌++◌, List, codes, length}
 use Rattle.std.specs.List.{flat_map}
 use Rattle.osdp_words.specs.Word.{printed}
+use Rattle.osdp_c_values.specs.Pieces.{IsAt}
 use Rattle.osdp_c_values.proofs.records.put_words.Given as goal
 
--- what is put and what is to come are the whole
+-- the records before those that are left have been put
 abbrev pub invariant-records : goal.invariant-records
-invariant-records g l = l.room.bytes ++ flat_map (λ r. codes " " ++ printed (g.R.Recorded.put_as r)) l.left ≡ l.initial.room.bytes ++ flat_map (λ r. codes " " ++ printed (g.R.Recorded.put_as r)) l.fn.records
+invariant-records g l =
+    (done : List g.row.R.Denot) × (done ++ l.left ≡ l.fn.records)
+    × IsAt l.initial.at l.initial.out l.end l.out (flat_map (λ r. codes " " ++ printed (g.R.Recorded.put_as r)) done)
 
 abbrev pub decreases-records : goal.decreases-records
 decreases-records g l = length l.left
