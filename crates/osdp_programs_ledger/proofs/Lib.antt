@@ -1,5 +1,5 @@
 mod Accepted
 mod Entries
-mod Programs
+pub mod Programs
 mod Standing
 mod Schedules
