@@ -77,11 +77,11 @@ class Chain(Variants):
 
 
 def crates_of(tools, edit):
-    """Returns the crates that a kept edit changes, and those between them and the one of its laws, lowest first."""
+    """Returns the crates that a kept edit changes or of which there is no library, and those between them and the one of its laws, lowest first."""
     last = {name for name, _, _ in edit.targets()}
-    changed = {it.split("/")[1] for it in edit.texts()}
     reached = {it for name in last for it in [*tools.below(name), name]}
-    return tuple(it for it in tools.USES if it in reached and (it in changed or changed & {*tools.below(it)}))
+    first = {it.split("/")[1] for it in edit.texts()} | {it for it in reached if not os.path.exists(f"{generated.TOP}/crates/{it}/out/rlib/{it}.rlib")}
+    return tuple(it for it in tools.USES if it in reached and (it in first or first & {*tools.below(it)}))
 
 
 def main(tools, words, budget, log, copies):
