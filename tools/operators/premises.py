@@ -15,8 +15,8 @@ from .trial import BY_CODE, NOT_TRIED, REFUSED, SURVIVED
 ASKED = {
     "osdp_calls": (
         ("osdp_calls", "osdp_premises"),
-        (("osdp_premises::premises_are_exact", "osdp_premises::rule_is_exact", "osdp_premises::leaving_is_exact", "osdp_premises::order_spares_others"),
-         ("osdp_premises::a_long_day_keeps_the_premises", "osdp_calls::calls_rule_suffices", "osdp_calls::ends_go_by_their_own_calls", "osdp_calls::others_are_passed_over")),
+        (("osdp_premises::premises_are_exact", "osdp_premises::rule_is_exact", "osdp_premises::leaving_is_exact", "osdp_premises::a_long_day_keeps_the_premises"),
+         ("osdp_premises::order_spares_others", "osdp_calls::calls_rule_suffices", "osdp_calls::ends_go_by_their_own_calls", "osdp_calls::others_are_passed_over")),
         {"Premises": None, "Programs": ("IsKnown", "PanelKeepsRule", "KeepsRule", "KeepsByRule", "AllKeepRule"), "Ends": ("KeepsPanel", "CanStand"), "OneDevice": ("KeepsHandler",),
          "Restarts": ("KeepsDevice", "IsBeforeAndAfter"), "Undisturbed": ("IsOrdinaryOf", "LeavesCommandsOf")},
     ),

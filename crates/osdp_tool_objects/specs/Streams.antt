@@ -1,7 +1,11 @@
 -- The lines of `monitor` as they are written, and the objects that are written for them.
-use Rattle.std.specs.Prelude.{◌&&◌, ◌||◌, ◌+◌, ℕ, Bool, true, false, if◌then◌else◌, List, [], ◌∷◌, ◌++◌, flat_map, length, map, Option, None, Some}
+use Rattle.std.specs.Prelude.{◌≡◌, ◌⊎◌, ◌&&◌, ◌+◌, ℕ, Bool, true, false, if◌then◌else◌, List, [], ◌∷◌, ◌++◌, flat_map, length, map, Option, None, Some}
+use Rattle.std.specs.Io.KnownBytes.{Keeps}
 use Rattle.std.specs.Str.{bytes_eq}
 use Rattle.osdp_tool_streams.specs.Cut.{ended_after, unended_after}
+use Rattle.osdp_tool_streams.specs.Watched.{AppendsPart}
+use Rattle.osdp_tool_streams.specs.declared.fault.ToolFault.{ToolFault}
+use Rattle.osdp_tool_streams.specs.declared.fault.ToolFault.TheVariants.{NoMemory, WriteFailed}
 use Rattle.osdp_tool_objects.specs.Objects.{object_of}
 
 -- the objects of lines without a stamp, one after the other
@@ -15,6 +19,11 @@ written_after held bytes = objects_of (ended_after held bytes)
 -- what stands then of a line that has not ended
 abbrev pub held_after : List ℕ → List ℕ → List ℕ
 held_after held bytes = unended_after held bytes
+
+-- Why not all of a text is written, and how much is: without memory nothing, and no write has failed since. Where a write has, a beginning of it.
+abbrev pub StopsWriting : List ℕ → Option (List ℕ) → Option (List ℕ) → Bool → Bool → ToolFault → Type 0
+StopsWriting text before after was_failed failed fault =
+    ((fault ≡ NoMemory) × Keeps before after × (failed ≡ was_failed)) ⊎ ((fault ≡ WriteFailed) × AppendsPart before after text × (failed ≡ true))
 
 -- ---- an output of lines, whose objects are written to another output
 

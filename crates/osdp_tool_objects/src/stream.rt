@@ -1,11 +1,11 @@
 //! An output that takes the lines of `monitor`, and writes an object of JSON for each.
 
-ghost use Rattle.std.specs.Prelude.{◌≡◌, ◌++◌, ◌≤◌, [], length, IfOk, OnOk};
+ghost use Rattle.std.specs.Prelude.{◌≡◌, ◌++◌, ◌≤◌, [], length, IfErr, IfOk, OnOk, Some};
 ghost use Rattle.std.specs.Io.{WritesAtMost};
 ghost use Rattle.std.specs.Io.KnownBytes.{Appends, Keeps, WriteAppends};
-ghost use Rattle.osdp_tool_streams.specs.Watched.{inner_of};
+ghost use Rattle.osdp_tool_streams.specs.Watched.{has_failed, inner_of};
 ghost use Rattle.osdp_tool_objects.specs.Objects.{object_of};
-ghost use Rattle.osdp_tool_objects.specs.Streams.{held_after, noted, written_after};
+ghost use Rattle.osdp_tool_objects.specs.Streams.{StopsWriting, held_after, noted, written_after};
 
 use crate::object::push_object;
 use http_server::Log;
@@ -83,6 +83,9 @@ fn write_objects<W: Write>(
 ) -> Result<(), ToolFault>
     ensures written { OnOk result (Appends (W.contents (inner_of output.old)) (W.contents (inner_of output.new)) (written_after held.old.items bytes.now)) }
     ensures held { OnOk result (held.new.items ≡ held_after held.old.items bytes.now) }
+    ensures well { OnOk result (has_failed output.new ≡ has_failed output.old) }
+    ensures stops { IfErr result (λ fault. StopsWriting (written_after held.old.items bytes.now) (W.contents (inner_of output.old)) (W.contents (inner_of output.new))
+        (has_failed output.old) (has_failed output.new) fault) }
 {
     let mut text = Vec::new(alloc);
     match take_bytes(alloc, held, bytes, &mut text) {
@@ -121,17 +124,22 @@ impl<W: Write> Objects<W> {
 }
 
 impl<W: Write> Write for Objects<W> {
-    ghost use Rattle.osdp_tool_objects.specs.Outputs.{lines_taken, output_of};
+    ghost use Rattle.osdp_tool_objects.specs.Outputs.{fault_of, lines_taken, output_of};
+    ghost use Rattle.osdp_tool_streams.specs.declared.fault.ToolFault.{ToolFault};
 
     ghost contents = { lines_taken W.contents };
 
-    /// Takes all bytes. An error is one of the output, or out of memory: nothing is known of the objects then.
+    /// Takes all bytes. An error is one of the output, after which a beginning of the objects of these bytes is written, or out of memory, and then
+    /// none of them is. `fault` tells which.
     fn write(&mut self, buf: &[u8]) -> io::Result<usize>
         ensures bound { WritesAtMost result buf.now }
         ensures bytes { WriteAppends (lines_taken W.contents self.old) (lines_taken W.contents self.new) result buf.now }
         ensures all { IfOk result (λ count. count ≡ length buf.now) }
         ensures written { IfOk result (λ count. Appends (W.contents (inner_of (output_of self.old))) (W.contents (inner_of (output_of self.new))) (written_after self.old.held.items buf.now)) }
         ensures held { IfOk result (λ count. self.new.held.items ≡ held_after self.old.held.items buf.now) }
+        ensures well { IfOk result (λ count. fault_of self.new ≡ fault_of self.old) }
+        ensures stops { IfErr result (λ error. (fault : ToolFault) × (fault_of self.new ≡ Some fault) × StopsWriting (written_after self.old.held.items buf.now)
+            (W.contents (inner_of (output_of self.old))) (W.contents (inner_of (output_of self.new))) (has_failed (output_of self.old)) (has_failed (output_of self.new)) fault) }
     {
         match write_objects(self.alloc, &mut self.held, buf, &mut self.inner) {
             Ok(()) => {
