@@ -1,5 +1,5 @@
--- The day of a panel with an entry of another make between ours, which is made anew in another order: by the tests of each call.
-use Rattle.std.proofs.Common.{◌≡◌, ℕ, zero, suc, Bool, true, ◌&&◌, List, [], ◌∷◌, refl, ap, arith}
+-- The day of a panel that is made anew with one of our entries left out, and then in another order: by the tests of each call.
+use Rattle.std.proofs.Common.{◌≡◌, ℕ, zero, suc, Bool, true, ◌&&◌, List, [], ◌∷◌, Some, refl, ap, ◌∙◌, arith}
 use Rattle.std.proofs.lemmas.Bool.{and_parts}
 use Rattle.osdp_frame.specs.Held.{decided}
 use Rattle.osdp_frame.specs.Items.{items, left_over}
@@ -13,15 +13,14 @@ use Rattle.osdp_bus.specs.declared.entry.Entry.{Entry}
 use Rattle.osdp_link_laws.proofs.Lines.{each_all}
 use Rattle.osdp_reader.specs.declared.handler.Answer.{Answer}
 use Rattle.osdp_shared_line.specs.Line.{site_at}
-use Rattle.osdp_calls.specs.Premises.{IsSetUp, Keeps}
-use Rattle.osdp_calls.specs.Calls.{NewPanel}
+use Rattle.osdp_calls.specs.Premises.{IsSetUp}
 use Rattle.osdp_premises.specs.Deciding.{is_fair}
 use Rattle.osdp_premises.specs.LongDay.{twice}
 use Rattle.osdp_premises.proofs.Exactly.{fair_keep}
 use Rattle.osdp_premises.proofs.LongDay.{RangeOf, all_range, id_fits, is_set_up, key_fits, twice_fits}
-use Rattle.osdp_entry_numbers.specs.Day.{BetweenAndTurned, around, back, between, day, exchanged, noon, onward, own_line}
+use Rattle.osdp_entry_numbers.specs.Day.{AnyOrder, KeepsRestart, around, back, between, day, exchanged, line_after, onward, own_line, without}
 use Rattle.osdp_entry_numbers.specs.Numbers.{AreNumbers, IsNewPanel}
-use Rattle.osdp_entry_numbers.specs.OwnOrder.{AllOwnKeep, Fits, OwnLine, OwnStep, after_own, ordered_step, turned}
+use Rattle.osdp_entry_numbers.specs.OwnOrder.{AllOwnKeep, Fits, LeavesAlone, OwnLine, OwnStep, after_own, ordered_step, turned}
 
 -- ---- the numbers
 
@@ -61,11 +60,23 @@ around_sorted (suc zero) = refl
 around_sorted (suc (suc zero)) = refl
 around_sorted (suc (suc (suc i))) = refl
 
-at_first : IsNewPanel twice (3 ∷ 20 ∷ 4 ∷ []) (3 ∷ 4 ∷ 20 ∷ []) between
-at_first = record { settings = twice_fits; none_refused = (refl, (refl, (refl, tt))); numbers = between_are; sorted = between_sorted }
+without_are : AreNumbers without
+without_are = record { back = onward_back; forth = back_onward }
 
-at_noon : IsNewPanel twice (4 ∷ 20 ∷ 3 ∷ []) (3 ∷ 4 ∷ 20 ∷ []) around
-at_noon = record { settings = twice_fits; none_refused = (refl, (refl, (refl, tt))); numbers = around_are; sorted = around_sorted }
+without_sorted : (i a : ℕ) → site_at {A = ℕ} i (20 ∷ 3 ∷ []) ≡ Some a → site_at {A = ℕ} (back i) (3 ∷ 4 ∷ 20 ∷ []) ≡ Some a
+without_sorted zero a at = at
+without_sorted (suc zero) a at = at
+without_sorted (suc (suc zero)) a at = absurd (let e = at in cc)
+without_sorted (suc (suc (suc i))) a at = absurd (let e = at in cc)
+
+at_first : IsNewPanel twice (3 ∷ 20 ∷ 4 ∷ []) (3 ∷ 4 ∷ 20 ∷ []) between
+at_first = record { settings = twice_fits; none_refused = (refl, (refl, (refl, tt))); numbers = between_are; sorted = λ i a at. between_sorted i ∙ at }
+
+at_noon : IsNewPanel twice (20 ∷ 3 ∷ []) (3 ∷ 4 ∷ 20 ∷ []) without
+at_noon = record { settings = twice_fits; none_refused = (refl, (refl, (refl, tt))); numbers = without_are; sorted = without_sorted }
+
+at_four : IsNewPanel twice (4 ∷ 20 ∷ 3 ∷ []) (3 ∷ 4 ∷ 20 ∷ []) around
+at_four = record { settings = twice_fits; none_refused = (refl, (refl, (refl, tt))); numbers = around_are; sorted = λ i a at. around_sorted i ∙ at }
 
 abbrev address_at : ℕ → List Entry → ℕ
 address_at k [] = 0
@@ -82,7 +93,7 @@ module _ {H : Type 0} (answer_of : H → Command → Answer) (after : H → Comm
   abbrev AllFit : List (OwnStep H) → OwnLine H → Type 0
   AllFit [] a = Unit {0}
   AllFit (step ∷ steps) a =
-      (RangeOf answer_of after (ordered_step step a).call (turned step.call a) × Fits step.call step.ordered step.numbers)
+      (RangeOf answer_of after (ordered_step step a).call (turned step.call a) × Fits step.call step.ordered step.numbers × LeavesAlone step.call a)
       × AllFit steps (after_own answer_of after step a)
 
   keep_all : (steps : List (OwnStep H)) (a : OwnLine H) → all_fair steps a ≡ true → AllFit steps a → AllOwnKeep answer_of after steps a
@@ -95,6 +106,7 @@ module _ {H : Type 0} (answer_of : H → Command → Answer) (after : H → Comm
         record {
           keeps = (fair_keep answer_of after one l (λ i. both.0 i && true) (all_range answer_of after one l (fits.0.0, tt))).0;
           fits = fits.0.1;
+          leaves = fits.0.2;
         },
         keep_all steps next both.1 fits.1,
       )
@@ -103,13 +115,17 @@ module _ {H : Type 0} (answer_of : H → Command → Answer) (after : H → Comm
   not_before handler up =
       let same : 20 ≡ 4 = ap (λ (b : BusState). address_at 1 b.devices.entries) up.bus in absurd (omega (arith, same))
 
-  not_turned : (handler : H) → Keeps answer_of after (record { call = NewPanel twice (4 ∷ 20 ∷ 3 ∷ []); places = [] }) (noon answer_of after handler).line → ⊥
+  not_fewer : (handler : H) → KeepsRestart answer_of after (20 ∷ 3 ∷ []) (line_after answer_of after 12 handler) → ⊥
+  unfolding items left_over decided reply_of reply_fault reply_at command_of command_fault command_at
+  not_fewer handler keeps = keeps.addresses.there 0 1 3 _ _ (λ same. absurd (let e : 0 ≡ 1 = same in omega (arith, e))) refl refl refl refl
+
+  not_turned : (handler : H) → KeepsRestart answer_of after (4 ∷ 20 ∷ 3 ∷ []) (line_after answer_of after 18 handler) → ⊥
   unfolding items left_over decided reply_of reply_fault reply_at command_of command_fault command_at
   not_turned handler keeps = keeps.addresses.there 1 0 4 _ _ (λ same. absurd (let e : 1 ≡ 0 = same in omega (arith, e))) refl refl refl refl
 
-  pub between_and_turned : (handler : H) → BetweenAndTurned answer_of after handler
+  pub any_order : (handler : H) → AnyOrder answer_of after handler
   unfolding items left_over decided reply_of reply_fault reply_at command_of command_fault command_at
-  between_and_turned handler = record {
+  any_order handler = record {
     up = record {
       up = is_set_up handler;
       config = twice;
@@ -119,88 +135,14 @@ module _ {H : Type 0} (answer_of : H → Command → Answer) (after : H → Comm
       own = refl;
       same = refl;
     };
-    keep = keep_all day (own_line handler) refl (
-      (tt, tt),
-      (
-        (tt, tt),
-        (
-          (omega arith, tt),
-          (
-            (tt, tt),
-            (
-              (tt, tt),
-              (
-                (tt, tt),
-                (
-                  (tt, tt),
-                  (
-                    (tt, tt),
-                    (
-                      ((id_fits, tt), tt),
-                      (
-                        (tt, tt),
-                        (
-                          (tt, tt),
-                          (
-                            (tt, tt),
-                            (
-                              ((twice_fits, (omega arith, (omega arith, (omega arith, tt))), omega arith), at_noon),
-                              (
-                                (tt, tt),
-                                (
-                                  (((omega arith, each_all CapabilityFits [] tt), tt), tt),
-                                  (
-                                    (tt, tt),
-                                    (
-                                      (tt, tt),
-                                      (
-                                        (tt, tt),
-                                        (
-                                          (tt, tt),
-                                          (
-                                            (tt, tt),
-                                            (
-                                              ((id_fits, tt), tt),
-                                              (
-                                                (tt, tt),
-                                                (
-                                                  (tt, tt),
-                                                  (
-                                                    (tt, tt),
-                                                    (
-                                                      (tt, tt),
-                                                      (
-                                                        ((key_fits, tt), tt),
-                                                        ((tt, tt), tt),
-                                                      ),
-                                                    ),
-                                                  ),
-                                                ),
-                                              ),
-                                            ),
-                                          ),
-                                        ),
-                                      ),
-                                    ),
-                                  ),
-                                ),
-                              ),
-                            ),
-                          ),
-                        ),
-                      ),
-                    ),
-                  ),
-                ),
-              ),
-            ),
-          ),
-        ),
-      ),
-    );
+    keep = keep_all day (own_line handler) refl
+        ((tt, tt, tt), ((tt, tt, tt), ((omega arith, tt, λ accepted. refl), ((tt, tt, tt), ((tt, tt, tt), ((tt, tt, tt), ((tt, tt, tt), ((tt, tt, tt), (((id_fits, tt), tt, tt), ((tt, tt, tt), ((tt, tt, tt), ((tt, tt, tt), (((twice_fits, (omega arith, (omega arith, (omega arith, tt))), omega arith), at_noon, tt), ((tt, tt, tt), ((((omega arith, each_all CapabilityFits [] tt), tt), tt, tt), ((tt, tt, tt), ((tt, tt, tt), ((tt, tt, tt), (((twice_fits, (omega arith, (omega arith, (omega arith, tt))), omega arith), at_four, tt), ((tt, tt, tt), ((tt, tt, tt), ((tt, tt, tt), (((id_fits, tt), tt, tt), ((tt, tt, tt), ((tt, tt, tt), ((tt, tt, tt), ((tt, tt, tt), (((key_fits, tt), tt, tt), ((tt, tt, tt), tt)))))))))))))))))))))))))))));
     between = not_before handler;
+    fewer = not_fewer handler;
     turned = not_turned handler;
     asks = refl;
     would_ask = refl;
+    left_out = refl;
+    back = refl;
     steps = refl;
   }

@@ -1,7 +1,8 @@
 -- Entries by other numbers: what is found among them, and what one that changes leaves of this.
-use Rattle.std.proofs.Common.{◌≡◌, ◌≢◌, ◌<◌, ◌+◌, ℕ, zero, suc, Bool, true, false, ◌||◌, ◌==◌, List, [], ◌∷◌, take, drop, slice_get, slice_set, Option, Some, None, refl, sym, ap, ◌∙◌, inl, inr, arith}
+use Rattle.std.proofs.Common.{◌≡◌, ◌≢◌, ◌<◌, ◌+◌, ℕ, zero, suc, Bool, true, false, ◌||◌, ◌==◌, List, [], ◌∷◌, take, drop, slice_get, slice_set, Option, Some, None, refl, sym, ap, ◌∙◌, subst, inl, inr, arith}
 use Rattle.std.specs.Prelude.{option_map}
 use Rattle.std.specs.List.{list_any}
+use Rattle.std.specs.Option.{option_map_or}
 use Rattle.std.proofs.lemmas.Bool.{eq-eqb}
 use Rattle.std.proofs.lemmas.Bool.Decides.{eqb_tells}
 use Rattle.osdp_bus.specs.Entries.{first_from, is_taken_beside, takes_up}
@@ -9,11 +10,27 @@ use Rattle.osdp_bus.specs.declared.entry.Entry.{Entry}
 use Rattle.osdp_bus.proofs.Waiting.{IsFound, found}
 use Rattle.osdp_bus_laws.proofs.Places.{free_beside, none_at}
 use Rattle.osdp_bus_laws.proofs.Turning.{set_here, set_other}
-use Rattle.osdp_entry_numbers.specs.Numbers.{AreNumbers, Numbers}
+use Rattle.osdp_entry_numbers.specs.Numbers.{AreNumbers, IsIdle, Numbers}
 
--- entry i of these is that number of those
+-- what the panel has of an entry, and what stands for it by the other number: the same, or an idle entry where it is left out
+pub data IsUnder (o q : Option Entry) : Type 0 where
+  Same : q ≡ o → IsUnder o q
+  LeftOut : (g : Entry) → o ≡ None → q ≡ Some g → IsIdle g → IsUnder o q
+
 abbrev pub AreUnder : Numbers → List Entry → List Entry → Type 0
-AreUnder n ds es = (i : ℕ) → slice_get es (n.ordered i) ≡ slice_get ds i
+AreUnder n ds es = (i : ℕ) → IsUnder (slice_get ds i) (slice_get es (n.ordered i))
+
+pub present : (d : Entry) (o q : Option Entry) → o ≡ Some d → IsUnder o q → q ≡ Some d
+present d o q at (Same is) = is ∙ at
+present d o q at (LeftOut g none there idle) = absurd (let e = sym none ∙ at in cc)
+
+pub data FromOther (o : Option Entry) (e : Entry) : Type 0 where
+  IsEntry : o ≡ Some e → FromOther o e
+  IsIdleOne : o ≡ None → IsIdle e → FromOther o e
+
+pub from_other : (e : Entry) (o q : Option Entry) → q ≡ Some e → IsUnder o q → FromOther o e
+from_other e o q at (Same is) = IsEntry (sym is ∙ at)
+from_other e o q at (LeftOut g none there idle) = IsIdleOne none (subst IsIdle (let same : g ≡ e = (let both = sym there ∙ at in cc) in same) idle)
 
 module _ (n : Numbers) (are : AreNumbers n) where
   pub apart_so : (i j : ℕ) → j ≢ i → n.ordered j ≢ n.ordered i
@@ -33,16 +50,28 @@ module _ (n : Numbers) (are : AreNumbers n) where
   ]
 
   module _ (ds es : List Entry) (all : AreUnder n ds es) where
-    pub own_there : (k : ℕ) → slice_get ds (n.own k) ≡ slice_get es k
-    own_there k = sym (all (n.own k)) ∙ ap (slice_get es) (are.forth k)
+    -- the same by the number of the device
+    pub own_there : (k : ℕ) → IsUnder (slice_get ds (n.own k)) (slice_get es k)
+    own_there k = subst (λ j. IsUnder (slice_get ds (n.own k)) (slice_get es j)) (are.forth k) (all (n.own k))
 
     -- one changes
     pub set_under : (i : ℕ) (d e : Entry) → slice_get ds i ≡ Some d → AreUnder n (slice_set ds i e) (slice_set es (n.ordered i) e)
     set_under i d e at j = elim (eqb_tells j i) [
+      | inl equal ↦ Same (
+          ap (λ x. slice_get (slice_set es (n.ordered i) e) (n.ordered x)) equal.1
+          ∙ set_here es (n.ordered i) d e (present d (slice_get ds i) (slice_get es (n.ordered i)) at (all i))
+          ∙ sym (ap (slice_get (slice_set ds i e)) equal.1 ∙ set_here ds i d e at))
+      | inr differs ↦
+          subst (λ (p : Option Entry × Option Entry). IsUnder p.0 p.1)
+          (λ x. (sym (set_other ds i j e differs.1) x, sym (set_other es (n.ordered i) (n.ordered j) e (apart_so i j differs.1)) x)) (all j)
+    ]
+
+    -- an idle one changes, and stays idle
+    pub set_idle : (k : ℕ) (g e : Entry) → slice_get es k ≡ Some g → slice_get ds (n.own k) ≡ None → IsIdle e → AreUnder n ds (slice_set es k e)
+    set_idle k g e at none idle j = elim (eqb_tells (n.ordered j) k) [
       | inl equal ↦
-          ap (λ x. slice_get (slice_set es (n.ordered i) e) (n.ordered x)) equal.1 ∙ set_here es (n.ordered i) d e (all i ∙ at)
-          ∙ sym (ap (slice_get (slice_set ds i e)) equal.1 ∙ set_here ds i d e at)
-      | inr differs ↦ set_other es (n.ordered i) (n.ordered j) e (apart_so i j differs.1) ∙ all j ∙ sym (set_other ds i j e differs.1)
+          LeftOut e (ap (slice_get ds) (sym (are.back j) ∙ ap n.own equal.1) ∙ none) (ap (slice_get (slice_set es k e)) equal.1 ∙ set_here es k g e at) idle
+      | inr differs ↦ subst (IsUnder (slice_get ds j)) (sym (set_other es k (n.ordered j) e differs.1)) (all j)
     ]
 
 -- ---- the one that passes a test
@@ -50,21 +79,49 @@ module _ (n : Numbers) (are : AreNumbers n) where
 abbrev pub IsOnlyOne : (Entry → Bool) → List Entry → Type 0
 IsOnlyOne test ds = (i j : ℕ) (d e : Entry) → slice_get ds i ≡ Some d → slice_get ds j ≡ Some e → test d ≡ true → test e ≡ true → i ≡ j
 
-pub first_under : (n : Numbers) → AreNumbers n → (ds es : List Entry) → AreUnder n ds es → (test : Entry → Bool) → IsOnlyOne test ds
-    → first_from 0 test es ≡ option_map n.ordered (first_from 0 test ds)
-first_under n are ds es all test one = by_found (first_from 0 test ds) (first_from 0 test es) (found test 0 ds) (found test 0 es)
+abbrev pub FailsIdle : (Entry → Bool) → Type 0
+FailsIdle test = (g : Entry) → IsIdle g → test g ≡ false
+
+-- of entries of which some are left out, whether one passes that no idle one passes
+pub map_under : (test : Entry → Bool) → FailsIdle test → (o q : Option Entry) → IsUnder o q → option_map_or test q false ≡ option_map_or test o false
+map_under test fails o q (Same is) = ap (λ x. option_map_or test x false) is
+map_under test fails o q (LeftOut g none there idle) =
+    ap (λ x. option_map_or test x false) there ∙ fails g idle ∙ sym (ap (λ x. option_map_or test x false) none)
+
+-- the first that passes: the same, or else nobody is there and it is an idle one
+pub data FirstUnder (n : Numbers) (test : Entry → Bool) (ds es : List Entry) (o q : Option ℕ) : Type 0 where
+  IsFirst : q ≡ option_map n.ordered o → FirstUnder n test ds es o q
+  IsIdleFirst : (k : ℕ) (g : Entry) → o ≡ None → q ≡ Some k → slice_get es k ≡ Some g → slice_get ds (n.own k) ≡ None → IsIdle g → test g ≡ true
+      → FirstUnder n test ds es o q
+
+pub first_of : (n : Numbers) → AreNumbers n → (ds es : List Entry) → AreUnder n ds es → (test : Entry → Bool) → IsOnlyOne test es
+    → FirstUnder n test ds es (first_from 0 test ds) (first_from 0 test es)
+first_of n are ds es all test one = by_found (first_from 0 test ds) (first_from 0 test es) (found test 0 ds) (found test 0 es)
   where
-    by_found : (o q : Option ℕ) → IsFound test 0 ds o → IsFound test 0 es q → q ≡ option_map n.ordered o
-    by_found None None a b = refl
+    by_other : (k y : ℕ) (e : Entry) → list_any test ds ≡ false → k ≡ y → slice_get es y ≡ Some e → test e ≡ true → FromOther (slice_get ds (n.own y)) e
+        → FirstUnder n test ds es None (Some k)
+    by_other k y e none at here passes (IsEntry there) = absurd (let fails = none_at test ds (n.own y) e none there in cc)
+    by_other k y e none at here passes (IsIdleOne nobody idle) = IsIdleFirst y e refl (ap Some at) here nobody idle passes
+
+    by_found : (o q : Option ℕ) → IsFound test 0 ds o → IsFound test 0 es q → FirstUnder n test ds es o q
+    by_found None None a b = IsFirst refl
     by_found (Some i) None (x, (d, (at, there, passes))) none =
-        absurd (let fails = none_at test es (n.ordered x) d none (all x ∙ there) in cc)
-    by_found None (Some k) none (x, (e, (at, there, passes))) =
-        absurd (let fails = none_at test ds (n.own x) e none (own_there n are ds es all x ∙ there) in cc)
+        absurd (let fails = none_at test es (n.ordered x) d none (present d (slice_get ds x) (slice_get es (n.ordered x)) there (all x)) in cc)
+    by_found None (Some k) none (y, (e, (at, here, passes))) =
+        by_other k y e none (omega (arith, at)) here passes (from_other e (slice_get ds (n.own y)) (slice_get es y) here (own_there n are ds es all y))
     by_found (Some i) (Some k) (x, (d, (at, there, passes))) (y, (e, (also, here, too))) =
         let i_is : i ≡ x = omega (arith, at) in
         let k_is : k ≡ y = omega (arith, also) in
-        let same : x ≡ n.own y = one x (n.own y) d e there (own_there n are ds es all y ∙ here) passes too in
-        ap Some (k_is ∙ sym (are.forth y) ∙ ap n.ordered (sym same ∙ sym i_is))
+        let same : n.ordered x ≡ y = one (n.ordered x) y d e (present d (slice_get ds x) (slice_get es (n.ordered x)) there (all x)) here passes too in
+        IsFirst (ap Some (k_is ∙ sym same ∙ ap n.ordered (sym i_is)))
+
+pub first_under : (n : Numbers) → AreNumbers n → (ds es : List Entry) → AreUnder n ds es → (test : Entry → Bool) → FailsIdle test → IsOnlyOne test es
+    → first_from 0 test es ≡ option_map n.ordered (first_from 0 test ds)
+first_under n are ds es all test fails one = by_first (first_of n are ds es all test one)
+  where
+    by_first : FirstUnder n test ds es (first_from 0 test ds) (first_from 0 test es) → first_from 0 test es ≡ option_map n.ordered (first_from 0 test ds)
+    by_first (IsFirst is) = is
+    by_first (IsIdleFirst k g none is here nobody idle passes) = absurd (let off = fails g idle in cc)
 
 -- ---- who has taken an address
 
@@ -93,16 +150,14 @@ none_beside address entry ds fails = (λ i. none_any (takes_up address) (take en
     behind : (j : ℕ) (f : Entry) → slice_get (drop (entry + 1) ds) j ≡ Some f → takes_up address f ≡ false
     behind j f at = fails (entry + 1 + j) f (λ same. absurd (omega (arith, same))) (from_dropped (entry + 1) j ds f at)
 
+-- what is taken of the panel's entries is taken of the others
 pub taken_under : (n : Numbers) → AreNumbers n → (ds es : List Entry) → AreUnder n ds es → (i address : ℕ)
-    → is_taken_beside (n.ordered i) address es ≡ is_taken_beside i address ds
-taken_under n are ds es all i address = by_tests (is_taken_beside (n.ordered i) address es) (is_taken_beside i address ds) refl refl
+    → is_taken_beside i address ds ≡ true → is_taken_beside (n.ordered i) address es ≡ true
+taken_under n are ds es all i address taken = by_test (is_taken_beside (n.ordered i) address es) refl
   where
-    by_tests : (x y : Bool) → is_taken_beside (n.ordered i) address es ≡ x → is_taken_beside i address ds ≡ y → x ≡ y
-    by_tests true true p q = refl
-    by_tests false false p q = refl
-    by_tests true false p q =
-        absurd (let free = none_beside address (n.ordered i) es
-        (λ j f other at. free_beside address i ds (n.own j) f q (own_apart n are i j other) (own_there n are ds es all j ∙ at)) in cc)
-    by_tests false true p q =
+    by_test : (x : Bool) → is_taken_beside (n.ordered i) address es ≡ x → is_taken_beside (n.ordered i) address es ≡ true
+    by_test true is = is
+    by_test false is =
         absurd (let free = none_beside address i ds
-        (λ j f other at. free_beside address (n.ordered i) es (n.ordered j) f p (apart_so n are i j other) (all j ∙ at)) in cc)
+        (λ j f other at. free_beside address (n.ordered i) es (n.ordered j) f is (apart_so n are i j other)
+        (present f (slice_get ds j) (slice_get es (n.ordered j)) at (all j))) in cc)

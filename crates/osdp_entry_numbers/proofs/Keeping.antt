@@ -1,9 +1,10 @@
 -- The ledger of each device, read off a panel whose entries stand in an order of its own, is that of its link.
-use Rattle.std.proofs.Common.{◌≡◌, ◌+◌, ℕ, false, List, [], ◌∷◌, ◌++◌, map, refl, sym, subst, ap, ◌∙◌}
+use Rattle.std.proofs.Common.{◌≡◌, ◌+◌, ◌⊎◌, ℕ, true, false, inl, inr, List, [], ◌∷◌, ◌++◌, map, Some, refl, sym, subst, ap, ◌∙◌}
 use Rattle.std.specs.Prelude.{is_some, option_to_list}
 use Rattle.osdp_msg.specs.declared.command.Command.{Command}
 use Rattle.osdp_msg.specs.declared.event.Event.{Event}
-use Rattle.osdp_bus.specs.Buses.{BusState}
+use Rattle.osdp_bus.specs.Buses.{device_of}
+use Rattle.osdp_bus.specs.declared.entry.Entry.{Entry}
 use Rattle.osdp_reader.specs.State.{ReaderState}
 use Rattle.osdp_reader.specs.declared.handler.Answer.{Answer}
 use Rattle.osdp_ledger.specs.Ledger as ledger
@@ -12,6 +13,7 @@ use Rattle.osdp_ledger.specs.History.{AreAllowed, History, new_history, noted, r
 use Rattle.osdp_ledger.specs.Laws.{EventsHold, OrdersHold, TellsInTurn}
 use Rattle.osdp_link_ledger.specs.Steps.{after_steps, all_steps, queued_before}
 use Rattle.osdp_link_ledger.proofs.Ties.{runs_after}
+use Rattle.osdp_link_laws.specs.Link.{outstanding_command}
 use Rattle.osdp_line_ledger.specs.Laws as lines
 use Rattle.osdp_shared_line.specs.Addresses.{NetMovesFit, NoTwoAreTogether, NobodyElseHears}
 use Rattle.osdp_shared_line.specs.Line.{Net, NetMove, RestartPanel as RestartsPanel, after_net, site_at}
@@ -21,17 +23,19 @@ use Rattle.osdp_shared_line.proofs.Sites.{some_same}
 use Rattle.osdp_calls.proofs.Counting.{all_heard}
 use Rattle.osdp_calls.proofs.Holding.{its_site}
 use Rattle.osdp_calls.proofs.Lasting.{call_keeps}
+use Rattle.osdp_calls.proofs.Matching.{is_there}
 use Rattle.osdp_calls.proofs.Powers.{outstanding_same, waiting_too}
-use Rattle.osdp_calls.proofs.Same.{Controls, IsNetOf}
+use Rattle.osdp_calls.proofs.Same.{IsNetOf}
 use Rattle.osdp_calls.proofs.Setting.{first_net, first_site, first_there, starts}
 use Rattle.osdp_calls_ledger.proofs.Calling.{call_shown, call_shows}
 use Rattle.osdp_calls_ledger.proofs.Keeping.{IsBefore}
 use Rattle.osdp_calls_ledger.proofs.Seen.{in_turn, seen, seen_at, seen_of_link}
 use Rattle.osdp_calls_ledger.proofs.Shows.{Shown, Shows, shows_as, then_shows}
+use Rattle.osdp_entry_numbers.specs.Numbers.{IsIdle}
 use Rattle.osdp_entry_numbers.specs.OwnOrder.{AllOwnKeep, OwnLine, OwnStep, after_all_own, after_own, in_order, turned}
-use Rattle.osdp_entry_numbers.specs.Promises.{OwnOrderDoesTheSame, OwnOrderKeepsApart, OwnOrderKeepsLedger, own_along, own_steps, own_steps_from}
-use Rattle.osdp_entry_numbers.proofs.Entries.{own_there}
-use Rattle.osdp_entry_numbers.proofs.Following.{Follows, does_the_same, set_up_follows, still_follows}
+use Rattle.osdp_entry_numbers.specs.Promises.{IsOfPanel, OwnOrderDoesTheSame, OwnOrderKeepsApart, OwnOrderKeepsLedger, own_along, own_steps, own_steps_from}
+use Rattle.osdp_entry_numbers.proofs.Entries.{FromOther, IsEntry, IsIdleOne, from_other}
+use Rattle.osdp_entry_numbers.proofs.Following.{Follows, does_the_same, own_line_under, set_up_follows, still_follows}
 use Rattle.osdp_entry_numbers.proofs.Reading.{own_commands, own_events, own_exits}
 
 -- ---- a panel that is switched on before anything has happened forgets nothing
@@ -68,7 +72,7 @@ module _ {H : Type 0} (answer_of : H → Command → Answer) (after_command : H 
   own_keep k [] a = refl
   own_keep k (step ∷ steps) a =
       own_keep k steps (after_own answer_of after_command step a)
-      ∙ call_keeps k answer_of after_command (in_order step.call step.ordered a.numbers) step.places (turned step.call a)
+      ∙ call_keeps k answer_of after_command (in_order step.call step.ordered a) step.places (turned step.call a)
 
   abbrev along : List (OwnStep H) → OwnLine H → Shown
   along steps a k g = own_along answer_of after_command k steps a g
@@ -80,18 +84,26 @@ module _ {H : Type 0} (answer_of : H → Command → Answer) (after_command : H 
   turned_net : (step : OwnStep H) (a : OwnLine H) (n : Net H) → IsNetOf a.line n → IsNetOf (turned step.call a) n
   turned_net step a n h = record { sites = h.sites; to_panel = h.to_panel; place = h.place; openings = h.openings; said = h.said }
 
+  -- each of our devices has an entry there
+  entry_there : (k : ℕ) (a : OwnLine H) (n : Net H) → IsNetOf a.line n → is_some (site_at k a.line.stations) ≡ true → (e : Entry) × (device_of k a.line.bus ≡ Some e)
+  entry_there k a n h own =
+      let t = is_there (site_at k a.line.stations) own in
+      let at = its_site answer_of after_command k t.0 a.line n h t.1 in
+      (at.entry, at.is_entry)
+
   own_shows : (steps : List (OwnStep H)) (a : OwnLine H) (n : Net H) → IsNetOf a.line n → Follows a → AllOwnKeep answer_of after_command steps a
       → Shows answer_of after_command (along steps a) n (after_all_own answer_of after_command steps a).line
   own_shows [] a n h f keep = record { net = n; moves = []; fit = tt; run = refl; same = h; shows = λ heard k g own. refl }
   own_shows (step ∷ steps) a n h f keep =
       let next = after_own answer_of after_command step a in
-      let call = in_order step.call step.ordered a.numbers in
+      let call = in_order step.call step.ordered a in
       let l = turned step.call a in
       let k = keep.0.keeps in
       let still = still_follows answer_of after_command step.call step.places step.ordered step.numbers a f keep.0 in
       then_shows answer_of after_command (here step a) (along steps next) n next.line
       (after_all_own answer_of after_command steps next).line (λ i. own_keep i steps next)
-      (shows_as answer_of after_command (call_shown answer_of after_command call l) (here step a) n next.line (λ i g own. still.shown i g)
+      (shows_as answer_of after_command (call_shown answer_of after_command call l) (here step a) n next.line
+      (λ i g own. let e = entry_there i a n h (sym (own_keep i (step ∷ []) a) ∙ own) in still.shown i g e.0 e.1)
       (call_shows answer_of after_command l n (turned_net step a n h) call step.places k.in_order k.quiet_opening k.addresses k.in_range))
       (λ m h1. own_shows steps next m h1 still.follows keep.1)
 
@@ -102,6 +114,29 @@ module _ {H : Type 0} (answer_of : H → Command → Answer) (after_command : H 
   all_follow (step ∷ steps) a f keep =
       all_follow steps (after_own answer_of after_command step a)
       (still_follows answer_of after_command step.call step.places step.ordered step.numbers a f keep.0).follows keep.1
+
+  -- ---- what the panel has of an entry is what the line has, or both are idle
+
+  whole_entry : (k : ℕ) (d : Entry) (a : OwnLine H) → Follows a → (e : Entry) → device_of k a.line.bus ≡ Some e → IsOfPanel k d a
+      → (e ≡ d) ⊎ (IsIdle e × IsIdle d)
+  whole_entry k d a f e at (inl is) =
+      by_other (from_other e (device_of (a.numbers.own k) a.bus) (device_of k a.line.bus) at (own_line_under a f k))
+    where
+      by_other : FromOther (device_of (a.numbers.own k) a.bus) e → (e ≡ d) ⊎ (IsIdle e × IsIdle d)
+      by_other (IsEntry there) = inl (some_same e d (sym there ∙ is))
+      by_other (IsIdleOne none idle) = absurd (let both = sym none ∙ is in cc)
+  whole_entry k d a f e at (inr (none, idle)) =
+      by_other (from_other e (device_of (a.numbers.own k) a.bus) (device_of k a.line.bus) at (own_line_under a f k))
+    where
+      by_other : FromOther (device_of (a.numbers.own k) a.bus) e → (e ≡ d) ⊎ (IsIdle e × IsIdle d)
+      by_other (IsEntry there) = absurd (let both = sym none ∙ there in cc)
+      by_other (IsIdleOne nobody also) = inr (also, idle)
+
+  ahead_same : (e d : Entry) → (e ≡ d) ⊎ (IsIdle e × IsIdle d)
+      → option_to_list (outstanding_command e.controller.session.state) ++ e.controller.waiting ≡ option_to_list (outstanding_command d.controller.session.state) ++ d.controller.waiting
+  ahead_same e d (inl same) = ap (λ (x : Entry). option_to_list (outstanding_command x.controller.session.state) ++ x.controller.waiting) same
+  ahead_same e d (inr (one, other)) =
+      (λ i. option_to_list (outstanding_command ((one.closed ∙ sym other.closed) i)) ++ (one.waiting ∙ sym other.waiting) i)
 
   -- ---- the ledger of a site is that of its device
 
@@ -143,18 +178,15 @@ module _ {H : Type 0} (answer_of : H → Command → Answer) (after_command : H 
       allowed_without before rest (RestartPanel false) new_history quiet (subst (λ xs. AreAllowed xs new_history) same kept.allowed) in
       let last_follows = all_follow steps a follows keep in
       let mine = at.is_entry in
-      let one : at.entry ≡ d = some_same at.entry d
-      (sym (mine) ∙ ap (λ (b : BusState). Rattle.osdp_bus.specs.Buses.device_of k b) last_follows.same
-      ∙ sym (own_there end.numbers last_follows.numbers end.bus.devices.entries last_follows.devices.entries last_follows.under.entries k) ∙ entry) in
-      let control : Controls last.begun ls.bus.greatest d.controller at.site.controller =
-      subst (λ e. Controls last.begun ls.bus.greatest e.controller at.site.controller) one at.controller in (
+      let mine = whole_entry k d end last_follows at.entry at.is_entry entry in (
         allowed,
         record {
           accepted = sym (own_commands answer_of after_command k first steps a);
           queued = sym (own_events answer_of after_command k first steps a);
           ahead = ap (λ (h : History). map (λ (o : Order). o.command) h.ledger.ahead) (sym ends) ∙ kept.ledger.ahead
-              ∙ (λ i. option_to_list (outstanding_same last.begun ls.bus.greatest d.controller at.site.controller control i)
-              ++ waiting_too last.begun ls.bus.greatest d.controller at.site.controller control i);
+              ∙ (λ i. option_to_list (outstanding_same last.begun ls.bus.greatest at.entry.controller at.site.controller at.controller i)
+              ++ waiting_too last.begun ls.bus.greatest at.entry.controller at.site.controller at.controller i)
+              ∙ ahead_same at.entry d mine;
           waiting = ap (λ (h : History). map (λ (c : ledger.Card). c.event) h.ledger.cards) (sym ends) ∙ kept.ledger.cards
               ∙ ap (λ (r : ReaderState H). r.queue.events) at.reader;
           orders = subst OrdersHold ends kept.orders;

@@ -1,5 +1,5 @@
 -- Each call of a panel, on a bus whose entries have other numbers: what it makes of the bus, and the steps of the ledger that it shows.
-use Rattle.std.proofs.Common.{◌≡◌, ℕ, cond, ◌||◌, ◌==◌, max, List, [], ◌∷◌, ◌++◌, map, slice_get, slice_set, Option, Some, None, refl, sym, subst, ap, ◌∙◌, is_some}
+use Rattle.std.proofs.Common.{arith, ◌≡◌, ℕ, Bool, true, false, cond, ◌||◌, ◌==◌, max, List, [], ◌∷◌, ◌++◌, map, slice_get, slice_set, Option, Some, None, refl, sym, subst, ap, ◌∙◌, is_some}
 use Rattle.std.specs.Prelude.{option_map}
 use Rattle.std.specs.Option.{option_map_or}
 use Rattle.osdp_frame.specs.Packet.{Packet}
@@ -16,19 +16,22 @@ use Rattle.osdp_bus.specs.Remembering.{Remembered}
 use Rattle.osdp_bus.specs.Ticking.{bus_ticks}
 use Rattle.osdp_bus.specs.declared.entry.Entry.{Entry}
 use Rattle.osdp_bus.specs.declared.fault.BusFault.{BusFault}
+use Rattle.osdp_bus.specs.declared.fault.BusFault.TheVariants.{AddressTaken}
+use Rattle.osdp_bus.specs.Entries.{is_taken_beside}
 use Rattle.osdp_bus_laws.specs.Calls as bus
 use Rattle.osdp_bus_laws.specs.Reports.{told_in}
 use Rattle.osdp_bus_laws.proofs.Changing.{Sound}
 use Rattle.osdp_bus_laws.proofs.Sound.{SoundBus, sound_item, sound_seen}
+use Rattle.osdp_ledger.specs.Ledger as ledger
 use Rattle.osdp_ledger.specs.Ledger.{Ledger}
 use Rattle.osdp_link_ledger.specs.Steps.{after_steps, opens, submits, told, withdraws}
 use Rattle.osdp_frame.specs.Reading.{PacketItem}
 use Rattle.osdp_calls.specs.Calls.{asked_at, read_by}
 use Rattle.osdp_calls.specs.Handing.{hears_all}
 use Rattle.osdp_calls_ledger.specs.Steps.{given_back, opening, panel_steps, reported}
-use Rattle.osdp_entry_numbers.specs.Numbers.{AreNumbers, Numbers, renumbered, renumbers}
+use Rattle.osdp_entry_numbers.specs.Numbers.{AreNumbers, Numbers, named, renumbered, renumbers}
 use Rattle.osdp_entry_numbers.proofs.Buses.{IsTurn, SameBus, asked_same, bytes_same, end_same, like, tick_read, tick_same}
-use Rattle.osdp_entry_numbers.proofs.Entries.{number_test, own_there, set_under, taken_under}
+use Rattle.osdp_entry_numbers.proofs.Entries.{IsUnder, LeftOut, Same, number_test, own_there, present, set_under, taken_under}
 use Rattle.osdp_entry_numbers.proofs.Hearing.{UnderDevices, packet_same}
 
 abbrev pub IsNoAdd : bus.Call → Type 0
@@ -41,14 +44,50 @@ HasTurn n (bus.Tick now) first b = IsTurn n first (asked_at now b)
 HasTurn n _ first b = Unit {0}
 
 -- what the call makes of the bus, and the steps that it shows
-pub record SamePanel (n : Numbers) (call : bus.Call) (whole part : BusState) : Type 0 where
+pub record SamePanel (n : Numbers) (call also : bus.Call) (whole part : BusState) : Type 0 where
   pub devices : Devices
   pub first : ℕ
   pub memory : List Remembered
   pub under : UnderDevices n (bus.after_call call part).devices devices
-  pub same : bus.after_call (renumbered n.ordered call) whole ≡ like (bus.after_call call part) devices first memory
-  pub told : told_in (renumbered n.ordered call) whole ≡ map (renumbers n.ordered) (told_in call part)
-  pub shown : (k : ℕ) (g : Ledger) → panel_steps k (renumbered n.ordered call) whole g ≡ panel_steps (n.own k) call part g
+  pub same : bus.after_call also whole ≡ like (bus.after_call call part) devices first memory
+  pub shown : (k : ℕ) (g : Ledger) → panel_steps k also whole g ≡ panel_steps (n.own k) call part g
+
+-- both are refused, or neither
+pub data AreAlike (f g : Option BusFault) : Type 0 where
+  Accepted : f ≡ None → g ≡ None → AreAlike f g
+  Refused : (a b : BusFault) → f ≡ Some a → g ≡ Some b → AreAlike f g
+
+unless_alike : {A : Type 0} (f g : Option BusFault) (x y : A) → AreAlike f g → changed_unless f x y ≡ changed_unless g x y
+unless_alike f g x y (Accepted none also) = ap (λ o. changed_unless o x y) (none ∙ sym also)
+unless_alike f g x y (Refused a b is also) = ap (λ o. changed_unless o x y) is ∙ ap (λ o. changed_unless o x y) (sym also)
+
+-- what is refused by the one is refused by the other, and what isn't isn't
+alike_of : (f g : Option BusFault) → (g ≡ None → f ≡ None) → ((b : BusFault) → g ≡ Some b → (a : BusFault) × (f ≡ Some a)) → AreAlike f g
+alike_of f None accepts refuses = Accepted (accepts refl) refl
+alike_of f (Some b) accepts refuses = let is = refuses b refl in Refused is.0 b is.1 refl
+
+-- an entry that a call names is there
+abbrev pub IsPresent : Option ℕ → BusState → Type 0
+IsPresent None b = Unit {0}
+IsPresent (Some k) b = (d : Entry) × (device_of k b ≡ Some d)
+
+-- what the panel's bus accepts, the other accepts
+abbrev pub Leaves : Numbers → bus.Call → BusState → BusState → Type 0
+Leaves n (bus.Submit k command) c b = submit_refusal_at k command b ≡ None → submit_refusal_at (n.ordered k) command c ≡ None
+Leaves n (bus.Retarget k address) c b = retarget_refusal_at k address b ≡ None → retarget_refusal_at (n.ordered k) address c ≡ None
+Leaves n _ c b = Unit {0}
+
+or_true : (x : Bool) → x || true ≡ true
+or_true true = refl
+or_true false = refl
+
+nothing : (x : Bool) → cond {A = List ledger.Step} x [] [] ≡ []
+nothing true = refl
+nothing false = refl
+
+-- no moment is before the first one
+max_zero : (g : ℕ) → max g 0 ≡ g
+max_zero g = omega arith
 
 module _ (n : Numbers) (are : AreNumbers n) where
   -- ---- what is reported, by other numbers
@@ -62,52 +101,92 @@ module _ (n : Numbers) (are : AreNumbers n) where
       ∙ ap (λ steps. cond (said.0 == n.own k) (told (Some said.1) g) [] ++ steps)
       (reported_under k more (after_steps (cond (said.0 == n.own k) (told (Some said.1) g) []) g))
 
-  opening_under : (k : ℕ) (o : Option ℕ) (sent : Option Packet) (q : Option Entry) → opening k (option_map n.ordered o) sent q ≡ opening (n.own k) o sent q
-  opening_under k None sent q = refl
-  opening_under k (Some i) sent None = refl
-  opening_under k (Some i) sent (Some d) = ap (λ b. cond b (opens d.controller.session.state sent) []) (number_test n are i k)
+  opening_under : (k : ℕ) (o : Option ℕ) (sent : Option Packet) (p q : Option Entry) → IsUnder p q → opening k (option_map n.ordered o) sent q ≡ opening (n.own k) o sent p
+  opening_under k o sent p q (Same is) = ap (opening k (option_map n.ordered o) sent) is ∙ by_number o p
+    where
+      by_number : (o : Option ℕ) (p : Option Entry) → opening k (option_map n.ordered o) sent p ≡ opening (n.own k) o sent p
+      by_number None p = refl
+      by_number (Some i) None = refl
+      by_number (Some i) (Some d) = ap (λ b. cond b (opens d.controller.session.state sent) []) (number_test n are i k)
+  opening_under k o sent p q (LeftOut g none there idle) =
+      ap (opening k (option_map n.ordered o) sent) there ∙ by_asked (option_map n.ordered o) ∙ sym (ap (opening (n.own k) o sent) none ∙ by_nobody o)
+    where
+      either : (b : Bool) → cond {A = List ledger.Step} b [] [] ≡ []
+      either true = refl
+      either false = refl
 
-  heard_under : (now : ℕ) (ps : List Packet) (ds es : Devices) → Sound ds → UnderDevices n ds es → UnderDevices n (hears_all now ps ds) (hears_all now ps es)
+      by_asked : (x : Option ℕ) → opening k x sent (Some g) ≡ []
+      by_asked None = refl
+      by_asked (Some i) = ap (λ st. cond (i == k) (opens st sent) []) idle.closed ∙ either (i == k)
+
+      by_nobody : (x : Option ℕ) → opening (n.own k) x sent None ≡ []
+      by_nobody None = refl
+      by_nobody (Some i) = refl
+
+  heard_under : (now : ℕ) (ps : List Packet) (ds es : Devices) → Sound es → UnderDevices n ds es → UnderDevices n (hears_all now ps ds) (hears_all now ps es)
   heard_under now [] ds es sound u = u
   heard_under now (p ∷ ps) ds es sound u =
-      heard_under now ps (hears_packet p now ds) (hears_packet p now es) (sound_item now (PacketItem p) ds sound) (packet_same n are p now ds es sound u).under
+      heard_under now ps (hears_packet p now ds) (hears_packet p now es) (sound_item now (PacketItem p) es sound) (packet_same n are p now ds es sound u).under
 
   -- ---- refusals
 
+  -- what the panel's bus refuses of an entry that it has, the other refuses, too
   comset_refused : (o : Option Communication) (k : ℕ) (d : Entry) (first : ℕ) (ms : List Remembered) (b : BusState) (es : Devices) → UnderDevices n b.devices es
-      → is_comset_refused o (n.ordered k) d (like b es first ms) ≡ is_comset_refused o k d b
-  comset_refused None k d first ms b es u = refl
-  comset_refused (Some asked) k d first ms b es u =
-      ap (λ x. x || is_some d.reserved) (taken_under n are b.devices.entries es.entries u.entries k asked.address)
-
-  submit_under : (k : ℕ) (command : Command) (first : ℕ) (ms : List Remembered) (b : BusState) (es : Devices) → UnderDevices n b.devices es
-      → submit_refusal_at (n.ordered k) command (like b es first ms) ≡ submit_refusal_at k command b
-  submit_under k command first ms b es u =
-      ap (λ o. submit_refusal_of (n.ordered k) command o (like b es first ms)) (u.entries k) ∙ by_entry (device_of k b)
+      → is_comset_refused o k d b ≡ true → is_comset_refused o (n.ordered k) d (like b es first ms) ≡ true
+  comset_refused None k d first ms b es u refused = refused
+  comset_refused (Some asked) k d first ms b es u refused = by_tests (is_taken_beside k asked.address b.devices.entries) (is_some d.reserved) refl refl refused
     where
-      by_entry : (o : Option Entry) → submit_refusal_of (n.ordered k) command o (like b es first ms) ≡ submit_refusal_of k command o b
-      by_entry None = refl
-      by_entry (Some d) =
-          ap (λ x. cond x (Some Rattle.osdp_bus.specs.declared.fault.BusFault.TheVariants.AddressTaken) (option_map bus_fault (submit_refusal command d.controller)))
-          (comset_refused (comset_of command) k d first ms b es u)
+      by_tests : (x y : Bool) → is_taken_beside k asked.address b.devices.entries ≡ x → is_some d.reserved ≡ y → x || y ≡ true
+          → is_taken_beside (n.ordered k) asked.address es.entries || is_some d.reserved ≡ true
+      by_tests true y taken reserved is = ap (λ x. x || is_some d.reserved) (taken_under n are b.devices.entries es.entries u.entries k asked.address taken)
+      by_tests false true taken reserved is = ap (λ x. is_taken_beside (n.ordered k) asked.address es.entries || x) reserved ∙ or_true (is_taken_beside (n.ordered k) asked.address es.entries)
+      by_tests false false taken reserved is = absurd (let e = is in cc)
 
-  retarget_under : (k address : ℕ) (first : ℕ) (ms : List Remembered) (b : BusState) (es : Devices) → UnderDevices n b.devices es
-      → retarget_refusal_at (n.ordered k) address (like b es first ms) ≡ retarget_refusal_at k address b
-  retarget_under k address first ms b es u =
-      ap (λ o. retarget_refusal_of (n.ordered k) address o (like b es first ms)) (u.entries k) ∙ by_entry (device_of k b)
+  submit_more : (k : ℕ) (command : Command) (d : Entry) (first : ℕ) (ms : List Remembered) (b : BusState) (es : Devices) → UnderDevices n b.devices es → (fault : BusFault)
+      → submit_refusal_of k command (Some d) b ≡ Some fault → (other : BusFault) × (submit_refusal_of (n.ordered k) command (Some d) (like b es first ms) ≡ Some other)
+  submit_more k command d first ms b es u fault is =
+      by_tests (is_comset_refused (comset_of command) (n.ordered k) d (like b es first ms)) (is_comset_refused (comset_of command) k d b) refl refl is
     where
-      by_entry : (o : Option Entry) → retarget_refusal_of (n.ordered k) address o (like b es first ms) ≡ retarget_refusal_of k address o b
-      by_entry None = refl
-      by_entry (Some d) =
-          ap (λ x. or_taken (option_map bus_fault (retarget_refusal address d.controller)) (x || has_comset d.controller.waiting))
-          (taken_under n are b.devices.entries es.entries u.entries k address)
+      rest : Option BusFault
+      rest = option_map bus_fault (submit_refusal command d.controller)
+
+      by_tests : (x y : Bool) → is_comset_refused (comset_of command) (n.ordered k) d (like b es first ms) ≡ x → is_comset_refused (comset_of command) k d b ≡ y
+          → cond y (Some AddressTaken) rest ≡ Some fault
+          → (other : BusFault) × (cond (is_comset_refused (comset_of command) (n.ordered k) d (like b es first ms)) (Some AddressTaken) rest ≡ Some other)
+      by_tests true y whole part is = (AddressTaken, ap (λ x. cond x (Some AddressTaken) rest) whole)
+      by_tests false true whole part is = absurd (let on = comset_refused (comset_of command) k d first ms b es u part in cc)
+      by_tests false false whole part is = (fault, ap (λ x. cond x (Some AddressTaken) rest) whole ∙ is)
+
+  retarget_more : (k address : ℕ) (d : Entry) (first : ℕ) (ms : List Remembered) (b : BusState) (es : Devices) → UnderDevices n b.devices es → (fault : BusFault)
+      → retarget_refusal_of k address (Some d) b ≡ Some fault → (other : BusFault) × (retarget_refusal_of (n.ordered k) address (Some d) (like b es first ms) ≡ Some other)
+  retarget_more k address d first ms b es u fault is =
+      by_first (option_map bus_fault (retarget_refusal address d.controller)) (is_taken_beside k address b.devices.entries) refl is
+    where
+      has : Bool
+      has = has_comset d.controller.waiting
+
+      by_first : (f : Option BusFault) (x : Bool) → is_taken_beside k address b.devices.entries ≡ x → or_taken f (x || has) ≡ Some fault
+          → (other : BusFault) × (or_taken f (is_taken_beside (n.ordered k) address es.entries || has) ≡ Some other)
+      by_first (Some other) x taken is = (other, refl)
+      by_first None true taken is = (AddressTaken, ap (λ x. or_taken None (x || has)) (taken_under n are b.devices.entries es.entries u.entries k address taken))
+      by_first None false taken is = (AddressTaken, by_has has is)
+        where
+          by_has : (x : Bool) → or_taken None (false || x) ≡ Some fault → or_taken None (is_taken_beside (n.ordered k) address es.entries || x) ≡ Some AddressTaken
+          by_has true is = ap (or_taken None) (or_true (is_taken_beside (n.ordered k) address es.entries))
+          by_has false is = absurd (let e = is in cc)
 
   -- ---- an entry changes
 
-  changes_under : (k : ℕ) (change : Entry → Entry) (first : ℕ) (ms : List Remembered) (b : BusState) (es : Devices) → UnderDevices n b.devices es
+  changes_under : (k : ℕ) (d : Entry) (change : Entry → Entry) (first : ℕ) (ms : List Remembered) (b : BusState) (es : Devices) → UnderDevices n b.devices es → device_of k b ≡ Some d
       → SameBus n first ms (changes_entry (n.ordered k) change (like b es first ms)) (changes_entry k change b) [] []
-  changes_under k change first ms b es u =
-      subst (λ o. SameBus n first ms (by_whole o) (changes_entry k change b) [] []) (sym (u.entries k)) (by_entry (device_of k b) refl)
+  changes_under k d change first ms b es u at =
+      subst (λ (q : Option Entry × Option Entry). SameBus n first ms (by_whole q.1) (by_part q.0) [] [])
+      (λ i. (sym at i, sym (present d (slice_get b.devices.entries k) (slice_get es.entries (n.ordered k)) at (u.entries k)) i)) (record {
+        devices = record es { entries = slice_set es.entries (n.ordered k) (change d) };
+        under = record { entries = set_under n are b.devices.entries es.entries u.entries k d (change d) at; report = u.report };
+        same = refl;
+        told = refl;
+      })
     where
       by_whole : Option Entry → BusState
       by_whole o = option_map_or (λ (d : Entry). record (like b es first ms) {
@@ -117,15 +196,6 @@ module _ (n : Numbers) (are : AreNumbers n) where
       by_part : Option Entry → BusState
       by_part o = option_map_or (λ (d : Entry). record b { devices = record b.devices { entries = slice_set b.devices.entries k (change d) } }) o b
 
-      by_entry : (o : Option Entry) → device_of k b ≡ o → SameBus n first ms (by_whole o) (by_part o) [] []
-      by_entry None none = record { devices = es; under = u; same = refl; told = refl }
-      by_entry (Some d) at = record {
-        devices = record es { entries = slice_set es.entries (n.ordered k) (change d) };
-        under = record { entries = set_under n are b.devices.entries es.entries u.entries k d (change d) at; report = u.report };
-        same = refl;
-        told = refl;
-      }
-
   -- .. unless the call is refused
   unless_under : (f : Option BusFault) (first : ℕ) (ms : List Remembered) (b c d : BusState) (es : Devices) → UnderDevices n b.devices es
       → SameBus n first ms d c [] [] → SameBus n first ms (changed_unless f (like b es first ms) d) (changed_unless f b c) [] []
@@ -134,59 +204,83 @@ module _ (n : Numbers) (are : AreNumbers n) where
 
   -- ---- each call
 
-  module _ (first : ℕ) (ms : List Remembered) (b : BusState) (es : Devices) (sound : SoundBus b) (u : UnderDevices n b.devices es) where
-    pub panel_same : (call : bus.Call) → IsNoAdd call → HasTurn n call first b → SamePanel n call (like b es first ms) b
-    panel_same (bus.Add address) added turn = absurd added
-    panel_same (bus.Begin k now) added turn =
+  module _ (first : ℕ) (ms : List Remembered) (b : BusState) (es : Devices) (sound : SoundBus (like b es first ms)) (u : UnderDevices n b.devices es) where
+    moment_stays : bus.after_call (bus.OnBytes [] 0) (like b es first ms) ≡ like b es first ms
+    moment_stays = ap (λ g. record (like b es first ms) { greatest = g }) (max_zero b.greatest)
+
+    here : (k : ℕ) (d : Entry) → device_of k b ≡ Some d → device_of (n.ordered k) (like b es first ms) ≡ Some d
+    here k d at = present d (slice_get b.devices.entries k) (slice_get es.entries (n.ordered k)) at (u.entries k)
+
+    pub submit_alike : (k : ℕ) (command : Command) (d : Entry) → device_of k b ≡ Some d
+        → (submit_refusal_at k command b ≡ None → submit_refusal_at (n.ordered k) command (like b es first ms) ≡ None)
+        → AreAlike (submit_refusal_at (n.ordered k) command (like b es first ms)) (submit_refusal_at k command b)
+    submit_alike k command d at accepts =
+        alike_of (submit_refusal_at (n.ordered k) command (like b es first ms)) (submit_refusal_at k command b) accepts (λ fault is.
+        let more = submit_more k command d first ms b es u fault (sym (ap (λ o. submit_refusal_of k command o b) at) ∙ is) in
+        (more.0, ap (λ o. submit_refusal_of (n.ordered k) command o (like b es first ms)) (here k d at) ∙ more.1))
+
+    pub retarget_alike : (k address : ℕ) (d : Entry) → device_of k b ≡ Some d
+        → (retarget_refusal_at k address b ≡ None → retarget_refusal_at (n.ordered k) address (like b es first ms) ≡ None)
+        → AreAlike (retarget_refusal_at (n.ordered k) address (like b es first ms)) (retarget_refusal_at k address b)
+    retarget_alike k address d at accepts =
+        alike_of (retarget_refusal_at (n.ordered k) address (like b es first ms)) (retarget_refusal_at k address b) accepts (λ fault is.
+        let more = retarget_more k address d first ms b es u fault (sym (ap (λ o. retarget_refusal_of k address o b) at) ∙ is) in
+        (more.0, ap (λ o. retarget_refusal_of (n.ordered k) address o (like b es first ms)) (here k d at) ∙ more.1))
+
+    -- one that names an entry that the panel has, or none
+    pub panel_same : (call : bus.Call) → IsNoAdd call → HasTurn n call first b → Leaves n call (like b es first ms) b → IsPresent (named call) b
+        → SamePanel n call (renumbered n.ordered call) (like b es first ms) b
+    panel_same (bus.Add address) added turn leaves there = absurd added
+    panel_same (bus.Begin k now) added turn leaves (d, at) =
+        let refusal : begin_refusal_at (n.ordered k) (like b es first ms) ≡ begin_refusal_at k b = ap begin_refusal_of (here k d at ∙ sym at) in
         let x = unless_under (begin_refusal_at k b) first ms b (after_begin_at k now b) (after_begin_at (n.ordered k) now (like b es first ms)) es u
-        (changes_under k (entry_begins (max b.greatest now)) first ms (seen now b) es u) in
+        (changes_under k d (entry_begins (max b.greatest now)) first ms (seen now b) es u at) in
         record {
           devices = x.devices;
           first = first;
           memory = ms;
           under = x.under;
-          same = ap (λ f. changed_unless f (like b es first ms) (after_begin_at (n.ordered k) now (like b es first ms))) (ap begin_refusal_of (u.entries k)) ∙ x.same;
-          told = refl;
+          same = ap (λ f. changed_unless f (like b es first ms) (after_begin_at (n.ordered k) now (like b es first ms))) refusal ∙ x.same;
           shown = λ i g. refl;
         }
-    panel_same (bus.Submit k command) added turn =
-        let refusal = submit_under k command first ms b es u in
+    panel_same (bus.Submit k command) added turn leaves (d, at) =
+        let alike = submit_alike k command d at leaves in
         let x = unless_under (submit_refusal_at k command b) first ms b (after_submit_at k command b) (after_submit_at (n.ordered k) command (like b es first ms)) es u
-        (changes_under k (entry_submits command) first ms b es u) in
+        (changes_under k d (entry_submits command) first ms b es u at) in
         record {
           devices = x.devices;
           first = first;
           memory = ms;
           under = x.under;
-          same = ap (λ f. changed_unless f (like b es first ms) (after_submit_at (n.ordered k) command (like b es first ms))) refusal ∙ x.same;
-          told = refl;
-          shown = λ i g. (λ j. cond (number_test n are k i j) (changed_unless (refusal j) [] (submits None command g)) []);
+          same = unless_alike (submit_refusal_at (n.ordered k) command (like b es first ms)) (submit_refusal_at k command b) (like b es first ms)
+              (after_submit_at (n.ordered k) command (like b es first ms)) alike ∙ x.same;
+          shown = λ i g. (λ j. cond (number_test n are k i j) (unless_alike (submit_refusal_at (n.ordered k) command (like b es first ms)) (submit_refusal_at k command b)
+              [] (submits None command g) alike j) []);
         }
-    panel_same (bus.Withdraw k) added turn =
-        let x = changes_under k entry_withdraws first ms b es u in
+    panel_same (bus.Withdraw k) added turn leaves (d, at) =
+        let x = changes_under k d entry_withdraws first ms b es u at in
         record {
           devices = x.devices;
           first = first;
           memory = ms;
           under = x.under;
           same = x.same;
-          told = refl;
-          shown = λ i g. (λ j. cond (number_test n are k i j) (withdraws (given_back (withdrawal_of (u.entries k j))) g) []);
+          shown = λ i g. (λ j. cond (number_test n are k i j) (withdraws (given_back (withdrawal_of ((here k d at ∙ sym at) j))) g) []);
         }
-    panel_same (bus.Retarget k address) added turn =
-        let refusal = retarget_under k address first ms b es u in
+    panel_same (bus.Retarget k address) added turn leaves (d, at) =
+        let alike = retarget_alike k address d at leaves in
         let x = unless_under (retarget_refusal_at k address b) first ms b (after_retarget_at k address b) (after_retarget_at (n.ordered k) address (like b es first ms)) es u
-        (changes_under k (entry_retargets address) first ms b es u) in
+        (changes_under k d (entry_retargets address) first ms b es u at) in
         record {
           devices = x.devices;
           first = first;
           memory = ms;
           under = x.under;
-          same = ap (λ f. changed_unless f (like b es first ms) (after_retarget_at (n.ordered k) address (like b es first ms))) refusal ∙ x.same;
-          told = refl;
+          same = unless_alike (retarget_refusal_at (n.ordered k) address (like b es first ms)) (retarget_refusal_at k address b) (like b es first ms)
+              (after_retarget_at (n.ordered k) address (like b es first ms)) alike ∙ x.same;
           shown = λ i g. refl;
         }
-    panel_same (bus.OnBytes bytes now) added turn =
+    panel_same (bus.OnBytes bytes now) added turn leaves there =
         let x = bytes_same n are ms first bytes now b es sound u in
         record {
           devices = x.devices;
@@ -194,22 +288,19 @@ module _ (n : Numbers) (are : AreNumbers n) where
           memory = ms;
           under = x.under;
           same = x.same;
-          told = x.told;
           shown = λ i g. ap (λ all. reported i all g) x.told ∙ reported_under i (told_in (bus.OnBytes bytes now) b) g;
         }
-    panel_same (bus.OnSilence now) added turn =
-        let x = end_same n are ms first (seen now b) es (sound_seen now b sound) u in
+    panel_same (bus.OnSilence now) added turn leaves there =
+        let x = end_same n are ms first (seen now b) es (sound_seen now (like b es first ms) sound) u in
         record {
           devices = x.devices;
           first = first;
           memory = ms;
           under = x.under;
           same = x.same;
-          told = x.told;
           shown = λ i g. ap (λ all. reported i all g) x.told ∙ reported_under i (told_in (bus.OnSilence now) b) g;
         }
-    panel_same (bus.Tick now) added turn =
-        let c = like b es first ms in
+    panel_same (bus.Tick now) added turn leaves there =
         let x = tick_same n are ms first now b es sound u turn in
         let asked = asked_same n are ms first now b es sound u turn in
         let read = tick_read n are ms first now b es sound u in
@@ -222,19 +313,66 @@ module _ (n : Numbers) (are : AreNumbers n) where
           memory = ms;
           under = x.under;
           same = x.same;
-          told = x.told;
           shown = λ i g.
               (λ j. reported i (x.told j) g ++ opening i (asked j) (x.sent j) (slice_get (hears_all moment (read j) es).entries i))
-              ∙ (λ j. reported_under i (told_in (bus.Tick now) b) g j ++ (opening_under i (asked_at now b) (bus_ticks now b).sent (slice_get (hears_all moment ps es).entries i)
-              ∙ ap (opening (n.own i) (asked_at now b) (bus_ticks now b).sent)
-              (sym (own_there n are (hears_all moment ps b.devices).entries (hears_all moment ps es).entries hears.entries i))) j);
+              ∙ (λ j. reported_under i (told_in (bus.Tick now) b) g j ++ opening_under i (asked_at now b) (bus_ticks now b).sent
+              (slice_get (hears_all moment ps b.devices).entries (n.own i)) (slice_get (hears_all moment ps es).entries i)
+              (own_there n are (hears_all moment ps b.devices).entries (hears_all moment ps es).entries hears.entries i) j);
         }
-    panel_same bus.NextReport added turn = record {
+    panel_same bus.NextReport added turn leaves there = record {
       devices = record es { report = None };
       first = first;
       memory = remembered_after es.report (like b es first ms);
       under = record { entries = u.entries; report = refl };
       same = refl;
-      told = refl;
       shown = λ i g. refl;
     }
+
+    -- one that names an entry that the panel doesn't have changes nothing
+    pub panel_none : (call : bus.Call) (k : ℕ) → named call ≡ Some k → device_of k b ≡ None → SamePanel n call (bus.OnBytes [] 0) (like b es first ms) b
+    panel_none (bus.Begin i now) k is none =
+        let nobody : device_of i b ≡ None = ap (λ j. device_of j b) (let e : i ≡ k = cc in e) ∙ none in
+        record {
+          devices = es;
+          first = first;
+          memory = ms;
+          under = subst (λ (c : BusState). UnderDevices n c.devices es) (λ j. changed_unless (begin_refusal_of (sym nobody j)) b (after_begin_at i now b)) u;
+          same = moment_stays ∙ (λ j. like (changed_unless (begin_refusal_of (sym nobody j)) b (after_begin_at i now b)) es first ms);
+          shown = λ x g. refl;
+        }
+    panel_none (bus.Submit i command) k is none =
+        let nobody : device_of i b ≡ None = ap (λ j. device_of j b) (let e : i ≡ k = cc in e) ∙ none in
+        record {
+          devices = es;
+          first = first;
+          memory = ms;
+          under = subst (λ (c : BusState). UnderDevices n c.devices es) (λ j. changed_unless (submit_refusal_of i command (sym nobody j) b) b (after_submit_at i command b)) u;
+          same = moment_stays ∙ (λ j. like (changed_unless (submit_refusal_of i command (sym nobody j) b) b (after_submit_at i command b)) es first ms);
+          shown = λ x g. sym (ap (λ o. cond (i == n.own x) (changed_unless (submit_refusal_of i command o b) [] (submits None command g)) []) nobody ∙ nothing (i == n.own x));
+        }
+    panel_none (bus.Withdraw i) k is none =
+        let nobody : device_of i b ≡ None = ap (λ j. device_of j b) (let e : i ≡ k = cc in e) ∙ none in
+        let after : Option Entry → BusState = λ o. option_map_or (λ (d : Entry). record b { devices = record b.devices { entries = slice_set b.devices.entries i (entry_withdraws d) } }) o b in
+        record {
+          devices = es;
+          first = first;
+          memory = ms;
+          under = subst (λ (c : BusState). UnderDevices n c.devices es) (λ j. after (sym nobody j)) u;
+          same = moment_stays ∙ (λ j. like (after (sym nobody j)) es first ms);
+          shown = λ x g. sym (ap (λ o. cond (i == n.own x) (withdraws (given_back (withdrawal_of o)) g) []) nobody ∙ nothing (i == n.own x));
+        }
+    panel_none (bus.Retarget i address) k is none =
+        let nobody : device_of i b ≡ None = ap (λ j. device_of j b) (let e : i ≡ k = cc in e) ∙ none in
+        record {
+          devices = es;
+          first = first;
+          memory = ms;
+          under = subst (λ (c : BusState). UnderDevices n c.devices es) (λ j. changed_unless (retarget_refusal_of i address (sym nobody j) b) b (after_retarget_at i address b)) u;
+          same = moment_stays ∙ (λ j. like (changed_unless (retarget_refusal_of i address (sym nobody j) b) b (after_retarget_at i address b)) es first ms);
+          shown = λ x g. refl;
+        }
+    panel_none (bus.Add address) k is none = absurd (let e = is in cc)
+    panel_none (bus.OnBytes bytes now) k is none = absurd (let e = is in cc)
+    panel_none (bus.OnSilence now) k is none = absurd (let e = is in cc)
+    panel_none (bus.Tick now) k is none = absurd (let e = is in cc)
+    panel_none bus.NextReport k is none = absurd (let e = is in cc)

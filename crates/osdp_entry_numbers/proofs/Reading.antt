@@ -28,11 +28,11 @@ use Rattle.osdp_calls.specs.Calls.{Call, NewDevice, NewPanel, Next, OfPanel, Pen
 use Rattle.osdp_calls.specs.Handing.{heard}
 use Rattle.osdp_calls.specs.Lines.{InUse, Station}
 use Rattle.osdp_calls_ledger.specs.Promises.{LeftSo}
-use Rattle.osdp_calls_ledger.specs.Steps.{answered, device_steps, given_back, opening, panel_restarts, panel_steps, reported, steps_at}
+use Rattle.osdp_calls_ledger.specs.Steps.{answered, device_steps, given_back, opening, panel_steps, reported, steps_at}
 use Rattle.osdp_calls_ledger.proofs.Accepted.{call_commands, call_events, commands_in, events_in, runs_accepted, runs_queued}
 use Rattle.osdp_calls_ledger.proofs.Allowing.{answered_done, opening_open, reported_done}
 use Rattle.osdp_entry_numbers.specs.OwnOrder.{OwnLine, OwnStep, after_own}
-use Rattle.osdp_entry_numbers.specs.Promises.{all_own_accepted, all_own_queued, own_accepted, own_along, own_steps, own_steps_from}
+use Rattle.osdp_entry_numbers.specs.Promises.{all_own_accepted, all_own_queued, own_accepted, own_along, own_restarts, own_steps, own_steps_from}
 
 -- ---- commands and events, one list after the other
 
@@ -95,9 +95,17 @@ withdraws_event_none : (o : Option Event) (ever : Bool) (g : Ledger) → Each No
 withdraws_event_none None ever g = tt
 withdraws_event_none (Some event) ever g = (tt, tt)
 
-restarts_none : (o : Option Entry) → Each NoLapse (panel_restarts o)
-restarts_none None = tt
+restarts_none : (o : Option Entry) → Each NoLapse (own_restarts o)
+restarts_none None = (tt, tt)
 restarts_none (Some d) = (tt, tt)
+
+no_commands : (o : Option Entry) → commands_in (own_restarts o) ≡ []
+no_commands None = refl
+no_commands (Some d) = refl
+
+no_events : (o : Option Entry) → events_in (own_restarts o) ≡ []
+no_events None = refl
+no_events (Some d) = refl
 
 before_none : (place : ℕ) (es : List Event) → Each NoLapse (queued_before place es)
 before_none place [] = tt
@@ -161,8 +169,8 @@ module _ {H : Type 0} (answer_of : H → Command → Answer) (after : H → Comm
     none = panel_none (a.numbers.own k) call a.bus g;
   }
   reads (NewPanel config xs) a g = record {
-    accepted = call_commands answer_of after (a.numbers.own k) (NewPanel config xs) (own_view a) g;
-    queued = call_events answer_of after (a.numbers.own k) (NewPanel config xs) (own_view a) g;
+    accepted = no_commands (device_of (a.numbers.own k) a.bus);
+    queued = no_events (device_of (a.numbers.own k) a.bus);
     none = restarts_none (device_of (a.numbers.own k) a.bus);
   }
   reads (SubmitEvent i event) a g = record {

@@ -1,15 +1,16 @@
--- A panel whose entries stand in an order of its own, with entries of others between ours. It goes by its own bus. Beside that stands the same line with
--- our entries first, in the order of our devices.
-use Rattle.std.specs.Prelude.{◌≡◌, ℕ, List, [], ◌∷◌, Option, None, option_map}
+-- A panel whose entries stand in an order of its own, with entries of others between ours, and some of ours left out. It goes by its own bus. Beside that
+-- stands the same line with our entries first, in the order of our devices. There an idle entry stands for each device that is left out.
+use Rattle.std.specs.Prelude.{◌≡◌, ℕ, if◌then◌else◌, List, [], ◌∷◌, Option, None, option_map}
 use Rattle.osdp_msg.specs.declared.command.Command.{Command}
 use Rattle.osdp_bus.specs.Buses.{BusState}
+use Rattle.osdp_bus.specs.Machine.{retarget_refusal_at, submit_refusal_at}
 use Rattle.osdp_bus.specs.declared.config.BusConfig.{BusConfig}
 use Rattle.osdp_bus_laws.specs.Calls as bus
 use Rattle.osdp_reader.specs.declared.handler.Answer.{Answer}
 use Rattle.osdp_calls.specs.Calls.{Call, NewPanel, OfPanel, Step, after_call, asked_at}
 use Rattle.osdp_calls.specs.Lines.{InUse, bus_with}
 use Rattle.osdp_calls.specs.Premises.{IsSetUp, Keeps}
-use Rattle.osdp_entry_numbers.specs.Numbers.{IsNewPanel, Numbers, renumbered, turn_of}
+use Rattle.osdp_entry_numbers.specs.Numbers.{IsNewPanel, Numbers, has_entry, named, renumbered, turn_of}
 
 -- the panel's own bus, the numbers of its entries, and the line with entries in the order of devices
 pub record OwnLine (H : Type 0) : Type 0 where
@@ -30,14 +31,14 @@ asked_in (bus.Tick now) b = asked_at now b
 asked_in _ b = None
 
 module _ {H : Type 0} where
-  -- the call by the order of devices
-  abbrev pub in_order : Call H → List ℕ → Numbers → Call H
-  in_order (OfPanel call) ordered n = OfPanel (renumbered n.ordered call)
-  in_order (NewPanel config addresses) ordered n = NewPanel config ordered
-  in_order call ordered n = call
+  -- the call by the order of devices. One that names an entry that the panel doesn't have is refused: it brings nothing
+  abbrev pub in_order : Call H → List ℕ → OwnLine H → Call H
+  in_order (OfPanel call) ordered a = OfPanel (if has_entry (named call) a.bus then renumbered a.numbers.ordered call else bus.OnBytes [] 0)
+  in_order (NewPanel config addresses) ordered a = NewPanel config ordered
+  in_order call ordered a = call
 
   abbrev pub ordered_step : OwnStep H → OwnLine H → Step H
-  ordered_step step a = record { call = in_order step.call step.ordered a.numbers; places = step.places }
+  ordered_step step a = record { call = in_order step.call step.ordered a; places = step.places }
 
   -- at a tick it is the turn of the entry that the panel's own bus asks
   abbrev pub asked_by : Call H → BusState → Option ℕ
@@ -64,6 +65,14 @@ module _ {H : Type 0} where
   Fits (NewPanel config addresses) ordered n = IsNewPanel config addresses ordered n
   Fits _ ordered n = Unit {0}
 
+  -- The panel accepts no COMSET and no `retarget` to the address of an entry that is left out.
+  abbrev pub LeavesAlone : Call H → OwnLine H → Type 0
+  LeavesAlone (OfPanel (bus.Submit entry command)) a =
+      submit_refusal_at entry command a.bus ≡ None → submit_refusal_at (a.numbers.ordered entry) command a.line.bus ≡ None
+  LeavesAlone (OfPanel (bus.Retarget entry address)) a =
+      retarget_refusal_at entry address a.bus ≡ None → retarget_refusal_at (a.numbers.ordered entry) address a.line.bus ≡ None
+  LeavesAlone _ a = Unit {0}
+
   -- a line that is set up, with the panel's own bus
   pub record IsOwnSetUp (a : OwnLine H) : Type 0 where
     pub up : IsSetUp a.line
@@ -86,11 +95,12 @@ module _ {H : Type 0} where
     after_all_own [] a = a
     after_all_own (step ∷ steps) a = after_all_own steps (after_own step a)
 
-    -- The premises are those of any calls, asked as if our entries came first, in the order of our devices. The panel is made anew with entries that could
-    -- be added as they stand.
+    -- The premises are those of any calls, asked as if our entries came first, in the order of our devices, and none were left out. The panel is made anew
+    -- with entries that could be added as they stand, with those that are left out.
     pub record OwnKeeps (step : OwnStep H) (a : OwnLine H) : Type 0 where
       pub keeps : Keeps answer_of after (ordered_step step a) (turned step.call a)
       pub fits : Fits step.call step.ordered step.numbers
+      pub leaves : LeavesAlone step.call a
 
     abbrev pub AllOwnKeep : List (OwnStep H) → OwnLine H → Type 0
     AllOwnKeep [] a = Unit {0}

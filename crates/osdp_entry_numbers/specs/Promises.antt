@@ -1,6 +1,6 @@
 -- What is promised where entries stand in an order of the panel's own: the ledger of each of our devices, read off what the panel's own bus answers and
 -- reports, by its own numbers.
-use Rattle.std.specs.Prelude.{◌≡◌, ◌≢◌, ℕ, List, [], ◌∷◌, ◌++◌, map, option_map, Some}
+use Rattle.std.specs.Prelude.{◌≡◌, ◌≢◌, ◌⊎◌, ℕ, false, List, [], ◌∷◌, ◌++◌, map, Option, option_map, Some, None}
 use Rattle.osdp_msg.specs.declared.command.Command.{Command}
 use Rattle.osdp_msg.specs.declared.event.Event.{Event}
 use Rattle.osdp_bus.specs.Buses.{device_of}
@@ -10,7 +10,7 @@ use Rattle.osdp_bus_laws.specs.Calls as bus
 use Rattle.osdp_bus_laws.specs.Reports.{told_in}
 use Rattle.osdp_ledger.specs.History.{AreAllowed, new_history, runs}
 use Rattle.osdp_ledger.specs.Ledger as ledger
-use Rattle.osdp_ledger.specs.Ledger.{Ledger, new_ledger}
+use Rattle.osdp_ledger.specs.Ledger.{Ledger, RestartPanel, new_ledger}
 use Rattle.osdp_link_ledger.specs.Steps.{after_steps, queued_before}
 use Rattle.osdp_reader.specs.declared.handler.Answer.{Answer}
 use Rattle.osdp_shared_line.specs.Line.{site_at}
@@ -19,14 +19,23 @@ use Rattle.osdp_calls.specs.Calls.{Call, NewPanel, OfPanel}
 use Rattle.osdp_calls.specs.Lines.{Station}
 use Rattle.osdp_calls_ledger.specs.Promises.{HoldsOnce}
 use Rattle.osdp_calls_ledger.specs.Steps.{panel_restarts, panel_steps, steps_of}
-use Rattle.osdp_entry_numbers.specs.Numbers.{renumbered, renumbers}
+use Rattle.osdp_entry_numbers.specs.Numbers.{IsIdle, renumbered, renumbers}
 use Rattle.osdp_entry_numbers.specs.OwnOrder.{AllOwnKeep, IsOwnSetUp, OwnLine, OwnStep, after_all_own, after_own, turned}
+
+-- the panel loses power, with an order of this entry on the wire, or not; of one that it doesn't have none is
+abbrev pub own_restarts : Option Entry → List ledger.Step
+own_restarts None = RestartPanel false ∷ []
+own_restarts (Some d) = panel_restarts (Some d)
 
 module _ {H : Type 0} where
   -- the command that the panel's own bus accepts for a device, and over a list of calls; and the events of the device
   abbrev pub own_accepted : ℕ → Call H → OwnLine H → List Command
   own_accepted k (OfPanel call) a = accepted_by_panel (a.numbers.own k) call a.bus
   own_accepted k _ a = []
+
+  -- what the panel has of an entry; nothing is under way of one that is left out
+  abbrev pub IsOfPanel : ℕ → Entry → OwnLine H → Type 0
+  IsOfPanel k d a = (device_of (a.numbers.own k) a.bus ≡ Some d) ⊎ ((device_of (a.numbers.own k) a.bus ≡ None) × IsIdle d)
 
   module _ (answer_of : H → Command → Answer) (after : H → Command → H) where
     abbrev pub all_own_accepted : ℕ → List (OwnStep H) → OwnLine H → List Command
@@ -40,7 +49,7 @@ module _ {H : Type 0} where
     -- the steps of a device's ledger: off the panel's own bus, and off the device
     abbrev pub own_steps : ℕ → Call H → OwnLine H → Ledger → List ledger.Step
     own_steps k (OfPanel call) a g = panel_steps (a.numbers.own k) call a.bus g
-    own_steps k (NewPanel config addresses) a g = panel_restarts (device_of (a.numbers.own k) a.bus)
+    own_steps k (NewPanel config addresses) a g = own_restarts (device_of (a.numbers.own k) a.bus)
     own_steps k call a g = steps_of answer_of after k call a.line g
 
     abbrev pub own_along : ℕ → List (OwnStep H) → OwnLine H → Ledger → List ledger.Step
@@ -52,12 +61,12 @@ module _ {H : Type 0} where
     own_steps_from k first steps a =
         let before = queued_before 0 first.reader.queue.events in before ++ own_along k steps a (after_steps before new_ledger)
 
-    -- for each of our devices, with the entry that the panel has of it in the end
+    -- for each of our devices, whether or not the panel has an entry for it in the end
     abbrev pub OwnOrderKeepsLedger : Type 0
     OwnOrderKeepsLedger = (a : OwnLine H) (steps : List (OwnStep H)) → IsOwnSetUp a → AllOwnKeep answer_of after steps a
         → let end = after_all_own answer_of after steps a in
         (k : ℕ) (first last : Station H) (d : Entry) → site_at k a.line.stations ≡ Some first → site_at k end.line.stations ≡ Some last
-        → device_of (end.numbers.own k) end.bus ≡ Some d
+        → IsOfPanel k d end
         → AreAllowed (own_steps_from k first steps a) new_history
         × HoldsOnce (all_own_accepted k steps a) (first.reader.queue.events ++ all_own_queued k steps a) d last
         (runs (own_steps_from k first steps a) new_history)
@@ -69,10 +78,11 @@ module _ {H : Type 0} where
         (j k : ℕ) (s t : Station H) → j ≢ k → site_at j end.line.stations ≡ Some s → site_at k end.line.stations ≡ Some t
         → s.reader.config.address ≢ t.reader.config.address
 
-  -- What is asked of the line with our entries first is asked of what the panel has: each entry is the same by its other number, and so is the report that
-  -- waits. A call tells the same, and at a tick the same goes out.
+  -- What is asked of the line with our entries first is asked of what the panel has: each entry is the same by its other number, one that is left out is
+  -- idle, and the report that waits is the same. A call tells the same, and at a tick the same goes out.
   pub record DoesTheSame (a : OwnLine H) : Type 0 where
-    pub entries : (i : ℕ) → device_of (a.numbers.ordered i) a.line.bus ≡ device_of i a.bus
+    pub entries : (i : ℕ) (d : Entry) → device_of i a.bus ≡ Some d → device_of (a.numbers.ordered i) a.line.bus ≡ Some d
+    pub left_out : (k : ℕ) (d : Entry) → device_of (a.numbers.own k) a.bus ≡ None → device_of k a.line.bus ≡ Some d → IsIdle d
     pub waits : a.line.bus.devices.report ≡ option_map (renumbers a.numbers.ordered) a.bus.devices.report
     pub told : (call : bus.Call) → told_in (renumbered a.numbers.ordered call) (turned (OfPanel call) a).bus ≡ map (renumbers a.numbers.ordered) (told_in call a.bus)
     pub sent : (now : ℕ) → (bus_ticks now (turned (OfPanel (bus.Tick now)) a).bus).sent ≡ (bus_ticks now a.bus).sent

@@ -1,2 +1,0 @@
-pub mod FewerEntries
-pub mod Day
