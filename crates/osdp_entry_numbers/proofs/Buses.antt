@@ -157,7 +157,7 @@ module _ (n : Numbers) (are : AreNumbers n) (ms : List Remembered) where
     | inr below ↦ inr (inr (below.1, omega arith))
   ]
 
-  next_same : (first : ℕ) (b : BusState) (es : Devices) → UnderDevices n b.devices es → IsTurn n first (next_due b)
+  pub next_same : (first : ℕ) (b : BusState) (es : Devices) → UnderDevices n b.devices es → IsTurn n first (next_due b)
       → next_due (like b es first ms) ≡ option_map n.ordered (next_due b)
   next_same first b es u turn = by_next (next_due b) refl
     where

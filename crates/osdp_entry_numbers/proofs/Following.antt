@@ -57,10 +57,10 @@ new_under config xs ys n new = record {
     by_address i None None none also = Same (ap (option_map f) (also ∙ sym none))
     by_address i None (Some a) none also = LeftOut (new_device a config) (ap (option_map f) none) (ap (option_map f) also) (new_idle a config)
 
-new_sound : (config : BusConfig) (xs ys : List ℕ) (n : Numbers) → IsNewPanel config xs ys n → SoundBus (bus_with config ys)
+pub new_sound : (config : BusConfig) (xs ys : List ℕ) (n : Numbers) → IsNewPanel config xs ys n → SoundBus (bus_with config ys)
 new_sound config xs ys n new = subst SoundBus (adds_make_the_bus config ys new.none_refused) (always config (map bus.Add ys) new.settings)
 
-has_turn : (call : bus.Call) (n : Numbers) (b : BusState) (first : ℕ) → HasTurn n call (turn_of (option_map n.ordered (asked_in call b)) first) b
+pub has_turn : (call : bus.Call) (n : Numbers) (b : BusState) (first : ℕ) → HasTurn n call (turn_of (option_map n.ordered (asked_in call b)) first) b
 has_turn (bus.Add address) n b first = tt
 has_turn (bus.Begin k now) n b first = tt
 has_turn (bus.Submit k command) n b first = tt

@@ -5,4 +5,6 @@ pub mod Panels
 pub mod Following
 pub mod Reading
 pub mod Keeping
+pub mod Turning
+pub mod Including
 pub mod Day

@@ -86,7 +86,7 @@ nothing true = refl
 nothing false = refl
 
 -- no moment is before the first one
-max_zero : (g : ℕ) → max g 0 ≡ g
+pub max_zero : (g : ℕ) → max g 0 ≡ g
 max_zero g = omega arith
 
 module _ (n : Numbers) (are : AreNumbers n) where

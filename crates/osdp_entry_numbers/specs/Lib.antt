@@ -1,4 +1,5 @@
 pub mod Numbers
 pub mod OwnOrder
 pub mod Promises
+pub mod Including
 pub mod Day

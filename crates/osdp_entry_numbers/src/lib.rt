@@ -2,6 +2,7 @@
 #![tactic(auto)]
 
 ghost use Rattle.osdp_entry_numbers.specs.Day.{AnyOrder};
+ghost use Rattle.osdp_entry_numbers.specs.Including.{AnyCallsKeep};
 ghost use Rattle.osdp_entry_numbers.specs.Promises.{OwnOrderDoesTheSame, OwnOrderKeepsApart, OwnOrderKeepsLedger};
 
 use osdp_reader::Handler;
@@ -14,11 +15,12 @@ use osdp_reader::Handler;
 /// The premises are those of any calls, asked as if our entries came first, in the order of our devices, and none were left out. So the address of one that
 /// is left out is no other's: all entries could be added as they stand, with those that are left out, and the panel accepts no COMSET and no `retarget`
 /// to their addresses. The line with all entries has what the panel has, by other numbers: the same entries, the same reports, and at a tick the same goes
-/// out. One that is left out is idle there.
+/// out. One that is left out is idle there. Calls that keep the premises of any calls keep these, where the panel's entries could be added as they stand.
 pub fn own_order_holds_once<H: Handler>()
     ensures ledger { OwnOrderKeepsLedger H.answer_of H.after }
     ensures apart { OwnOrderKeepsApart H.answer_of H.after }
     ensures same { OwnOrderDoesTheSame H.answer_of H.after }
+    ensures less { AnyCallsKeep H.answer_of H.after }
 {
     osdp_ledger::tells_in_turn();
     osdp_line_ledger::each_keeps_ledger::<H>();
