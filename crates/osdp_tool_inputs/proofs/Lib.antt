@@ -6,3 +6,5 @@ pub mod Hearing
 pub mod Timed
 pub mod Retelling
 pub mod Telling
+pub mod OneByOne
+pub mod WholeText

@@ -1,5 +1,5 @@
 -- Lines that are told to an output of objects.
-use Rattle.std.proofs.Common.{◌≡◌, ◌⊎◌, ◌&&◌, inl, inr, ℕ, Bool, true, false, not, List, [], ◌∷◌, ◌++◌, Option, None, Some, Result, Ok, Err, take, refl, sym, subst, ap, ◌∙◌, append-nil}
+use Rattle.std.proofs.Common.{◌≡◌, ◌&&◌, inl, inr, ℕ, Bool, true, false, not, List, [], ◌++◌, Option, None, Some, Result, Ok, Err, take, refl, sym, subst, ap, ◌∙◌, append-nil}
 use Rattle.std.specs.Io.KnownBytes.{Appends, Keeps}
 use Rattle.osdp_tool_captures.specs.declared.format.Format.{Format}
 use Rattle.osdp_tool_monitor.specs.Ending.{input_report}

@@ -5,7 +5,7 @@ use Rattle.memchr.specs.Find.{is_byte, places, first_of}
 use Rattle.osdp_tool_captures.specs.Lines.{is_decimal}
 use Rattle.osdp_tool_streams.specs.Cut.{line_feed, lines_of}
 use Rattle.osdp_tool_objects.specs.Objects.{object_of}
-use Rattle.osdp_tool_inputs.specs.Times.{ends_so, has_digits, run_of, stamp_at, stamps_of}
+use Rattle.osdp_tool_inputs.specs.Times.{ends_so, has_digits, no_stamp, run_of, stamp_at, stamps_below, stamps_of}
 use Rattle.osdp_tool_times.specs.Captures.{Heard, after_line, after_lines, line_told, nothing_heard}
 use Rattle.osdp_tool_times.specs.declared.waits.Told.{Told}
 use Rattle.osdp_tool_times.specs.declared.waits.Told.TheVariants.{InTime, Late, Nothing}
@@ -79,3 +79,14 @@ heard_objects text shown = told_objects text shown ++ answer_objects text
 -- by whether objects are wanted
 abbrev pub printed_of : Bool → List ℕ → List ℕ → List ℕ
 printed_of json text shown = if json then heard_objects text shown else heard_text text shown
+
+-- ---- the same of a capture that was heard: by its lines, by what each line of digits tells, and by what was counted
+
+abbrev pub text_with : List (List ℕ) → List Told → Heard → List ℕ → List ℕ
+text_with lines tells heard shown = flat_map (told_line (stamps_below no_stamp lines) tells) (lines_of shown) ++ times_text heard.times
+
+abbrev pub objects_with : List (List ℕ) → List Told → Heard → List ℕ → List ℕ
+objects_with lines tells heard shown = flat_map (stamped_object (stamps_below no_stamp lines) tells) (lines_of shown) ++ times_objects heard.times
+
+abbrev pub printed_with : Bool → List (List ℕ) → List Told → Heard → List ℕ → List ℕ
+printed_with json lines tells heard shown = if json then objects_with lines tells heard shown else text_with lines tells heard shown

@@ -2,10 +2,11 @@
 
 ghost use Rattle.std.specs.Prelude.{◌≡◌, ◌++◌, ◌∷◌, ℕ, [], List, IfOk, OnOk, flat_map, is_some, string_bytes};
 ghost use Rattle.memchr.specs.Find.{first_of, is_byte, places};
-ghost use Rattle.osdp_tool_inputs.specs.Heard.{heard_objects, heard_text, names_run, printed_of, stamped_object, tells_at, tells_below, times_after, told_line, took_text, whole_line};
+ghost use Rattle.osdp_tool_inputs.specs.Heard.{names_run, objects_with, printed_of, printed_with, stamped_object, tells_at, tells_below, text_with, times_after, told_line, took_text, whole_line};
 ghost use Rattle.osdp_tool_inputs.specs.Times.{no_stamp, parts, run_of, stamps_below};
 ghost use Rattle.osdp_tool_streams.specs.Cut.{lines_of};
-ghost use Rattle.osdp_tool_times.specs.Captures.{after_line, after_lines, heard_of, nothing_heard};
+ghost use Rattle.osdp_tool_streams.specs.Line.{line_bytes};
+ghost use Rattle.osdp_tool_times.specs.Captures.{after_line, after_lines, heard_of, last_said, nothing_heard};
 ghost use Rattle.osdp_tool_times.specs.Text.{times_objects, times_text};
 
 use crate::lines::cut_lines;
@@ -42,9 +43,14 @@ fn push_plain(text: &mut Vec<u8>, line: &[u8]) -> Result<(), AllocError>
 }
 
 /// A line comes: what it tells is added to what those before it tell, where it is one of digits.
-fn find_told(timed: &mut Timed, found: &mut Vec<Told>, line: &[u8]) -> Result<(), AllocError>
+pub(crate) fn find_told(
+    timed: &mut Timed,
+    found: &mut Vec<Told>,
+    line: &[u8],
+) -> Result<(), AllocError>
     ensures heard { OnOk result (heard_of timed.new ≡ after_line (heard_of timed.old) line.now) }
     ensures tells { OnOk result ((lines : List (List ℕ)) → found.new.items ++ tells_below (heard_of timed.new) lines ≡ found.old.items ++ tells_below (heard_of timed.old) (line.now ∷ lines)) }
+    ensures said { OnOk result (last_said timed.new ≡ line_bytes line.now) }
 {
     let told = timed.hear_line(line)?;
     if !has_digits(line) {
@@ -204,9 +210,11 @@ fn hear_all(timed: &mut Timed, tells: &mut Vec<Told>, lines: &[&[u8]]) -> Result
 
 /// What was heard of a capture, and what each of its lines of digits tells.
 #[derive(Drop)]
-struct Capture {
-    timed: Timed,
-    tells: Vec<Told>,
+pub(crate) struct Capture {
+    /// By the moments of its lines.
+    pub timed: Timed,
+    /// What each line of digits tells.
+    pub tells: Vec<Told>,
 }
 
 /// What was heard of a capture of these lines.
@@ -238,26 +246,48 @@ fn answer_objects(alloc: Global, timed: &Timed) -> Result<String, AllocError>
     Ok(told)
 }
 
-/// What the monitor prints of the digits in a text, with the moments in it, and then the answer times of each device.
-fn heard_text(alloc: Global, text: &[u8], shown: &[u8]) -> Result<Vec<u8>, AllocError>
-    ensures { IfOk result (λ told. told.items ≡ heard_text text.now shown.now) }
+/// What the monitor prints of a capture of these lines, with the moments in it, and then the answer times of each device.
+fn text_with(
+    alloc: Global,
+    lines: &[&[u8]],
+    capture: &Capture,
+    shown: &[u8],
+) -> Result<Vec<u8>, AllocError>
+    ensures { IfOk result (λ told. told.items ≡ text_with (parts lines.now) capture.now.tells.items (heard_of capture.now.timed) shown.now) }
 {
-    let lines = cut_lines(alloc, text)?;
-    let Capture { timed, tells } = heard_in(alloc, lines.as_slice())?;
-    let mut told = told_lines(alloc, lines.as_slice(), tells.as_slice(), shown)?;
-    told.extend_from_slice(answer_times(alloc, &timed)?.as_bytes())?;
+    let mut told = told_lines(alloc, lines, capture.tells.as_slice(), shown)?;
+    told.extend_from_slice(answer_times(alloc, &capture.timed)?.as_bytes())?;
     Ok(told)
 }
 
 /// The same as objects of JSON.
-fn heard_objects(alloc: Global, text: &[u8], shown: &[u8]) -> Result<Vec<u8>, AllocError>
-    ensures { IfOk result (λ told. told.items ≡ heard_objects text.now shown.now) }
+fn objects_with(
+    alloc: Global,
+    lines: &[&[u8]],
+    capture: &Capture,
+    shown: &[u8],
+) -> Result<Vec<u8>, AllocError>
+    ensures { IfOk result (λ told. told.items ≡ objects_with (parts lines.now) capture.now.tells.items (heard_of capture.now.timed) shown.now) }
 {
-    let lines = cut_lines(alloc, text)?;
-    let Capture { timed, tells } = heard_in(alloc, lines.as_slice())?;
-    let mut told = told_objects(alloc, lines.as_slice(), tells.as_slice(), shown)?;
-    told.extend_from_slice(answer_objects(alloc, &timed)?.as_bytes())?;
+    let mut told = told_objects(alloc, lines, capture.tells.as_slice(), shown)?;
+    told.extend_from_slice(answer_objects(alloc, &capture.timed)?.as_bytes())?;
     Ok(told)
+}
+
+/// What the monitor prints of a capture of these lines, as lines or as objects of JSON.
+pub(crate) fn printed_with(
+    alloc: Global,
+    json: bool,
+    lines: &[&[u8]],
+    capture: &Capture,
+    shown: &[u8],
+) -> Result<Vec<u8>, AllocError>
+    ensures { IfOk result (λ told. told.items ≡ printed_with json (parts lines.now) capture.now.tells.items (heard_of capture.now.timed) shown.now) }
+{
+    if json {
+        return objects_with(alloc, lines, capture, shown);
+    }
+    text_with(alloc, lines, capture, shown)
 }
 
 /// What the monitor prints with the moments in a text, as lines or as objects of JSON.
@@ -269,8 +299,7 @@ pub(crate) fn retold(
 ) -> Result<Vec<u8>, AllocError>
     ensures { IfOk result (λ told. told.items ≡ printed_of json text.now shown.now) }
 {
-    if json {
-        return heard_objects(alloc, text, shown);
-    }
-    heard_text(alloc, text, shown)
+    let lines = cut_lines(alloc, text)?;
+    let capture = heard_in(alloc, lines.as_slice())?;
+    printed_with(alloc, json, lines.as_slice(), &capture, shown)
 }

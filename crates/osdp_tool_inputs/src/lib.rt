@@ -3,6 +3,7 @@
 
 mod asked;
 mod clock;
+mod ears;
 mod heard;
 mod hinted;
 mod inputs;

@@ -1,6 +1,6 @@
 //! What is done with a stream of digits or bytes.
 
-ghost use Rattle.std.specs.Prelude.{◌≡◌, ◌<◌, ◌^◌, false};
+ghost use Rattle.std.specs.Prelude.{◌≡◌, ◌<◌, ◌^◌, false, true};
 ghost use Rattle.osdp_tool_inputs.specs.Done.{Does, EndsHeard, Retells, Shows};
 ghost use Rattle.osdp_tool_inputs.specs.Times.{timed_text};
 ghost use Rattle.osdp_tool_inputs.specs.Heard.{printed_of};
@@ -11,7 +11,9 @@ ghost use Rattle.osdp_tool_streams.specs.Watched.{has_failed, inner_of};
 
 use crate::asked::{Asked, Task, form_of, has_lines};
 use crate::clock::Clock;
-use crate::heard::retold;
+use crate::ears::Ears;
+use crate::heard::{printed_with, retold};
+use crate::lines::cut_lines;
 use crate::times::timed;
 use osdp_tool_monitor::{MonitorMode, monitor};
 use osdp_tool_show::{Detail, command};
@@ -62,6 +64,39 @@ fn print_text<W: Write>(text: &[u8], output: &mut Watched<W>) -> Result<(), Tool
     flush_out(output)
 }
 
+/// Listens to the digits in a text line by line, each of which is read once, and tells what it finds with the moments in the text. True where an end was accused.
+#[inline(never)]
+fn listen_lines<W: Write>(
+    rt: &HostRuntime,
+    mode: MonitorMode,
+    text: &[u8],
+    output: &mut Watched<W>,
+) -> Result<bool, ToolFault>
+    requires output { has_failed output.old ≡ false }
+    requires hex { mode.hex ≡ true }
+    ensures { Retells (EndsHeard mode) (printed_of mode.json text.now) text.now (watched W.contents output.old output.new) result }
+{
+    let Ok(lines) = cut_lines(rt.alloc(), text) else {
+        return Err(ToolFault::NoMemory);
+    };
+    let Some(ears) = Ears::of_capture(rt.alloc(), mode, lines.as_slice()) else {
+        return Err(ToolFault::NoMemory);
+    };
+    let Ok(told) = printed_with(
+        rt.alloc(),
+        mode.json,
+        lines.as_slice(),
+        &ears.capture,
+        ears.shown.as_bytes(),
+    ) else {
+        return Err(ToolFault::NoMemory);
+    };
+    match print_text(told.as_slice(), output) {
+        Ok(()) => ears.answer(),
+        Err(fault) => Err(fault),
+    }
+}
+
 /// Listens to the digits in a text, and tells what it finds with the moments in the text. True where an end was accused.
 #[inline(never)]
 fn listen_timed<W: Write>(
@@ -73,6 +108,9 @@ fn listen_timed<W: Write>(
     requires { has_failed output.old ≡ false }
     ensures { Retells (EndsHeard mode) (printed_of mode.json text.now) text.now (watched W.contents output.old output.new) result }
 {
+    if mode.hex {
+        return listen_lines(rt, mode, text, output);
+    }
     let mut memory = Watched::new(Vec::new(rt.alloc()));
     let mut input = Watched::new(text);
     let answer = listen(rt, mode, &mut input, &mut memory);
