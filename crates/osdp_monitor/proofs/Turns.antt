@@ -1,5 +1,5 @@
 -- A packet after one that was answered, and an ACK that answers a POLL in turn: nothing is found in them.
-use Rattle.std.proofs.Common.{◌≡◌, ◌≢◌, ◌==◌, ◌-◌, ◌&&◌, ◌<◌, ℕ, Bool, true, false, List, Option, Some, None, Result, Ok, Err, refl, ap, subst, arith}
+use Rattle.std.proofs.Common.{◌≡◌, ◌≢◌, ◌==◌, ◌-◌, ◌&&◌, ℕ, Bool, true, false, Option, Some, None, Result, Ok, Err, refl, ap, subst, ◌∙◌, arith}
 use Rattle.std.proofs.lemmas.Bool.{ne_eqb}
 use Rattle.osdp_frame.specs.Packet.{Packet, next_sequence}
 use Rattle.osdp_msg.specs.declared.command.Command.{Command}
@@ -8,11 +8,12 @@ use Rattle.osdp_msg.specs.declared.fault.MsgFault.{MsgFault}
 use Rattle.osdp_msg.specs.declared.reply.Reply.TheVariants.{Ack}
 use Rattle.osdp_monitor.specs.declared.found.Found.{Found}
 use Rattle.osdp_monitor.specs.Known.{Known, same_check, same_packet}
-use Rattle.osdp_monitor.specs.Line.{Knowledge, after_packet, after_reply_if, devices_after, devices_after_reply, devices_after_sent, expected_if, expected_in, found_in, found_in_reply, found_in_sent, moves_to, nothing_wrong}
+use Rattle.osdp_monitor.specs.Line.{Knowledge, after_reply_if, copies_last, devices_after, devices_after_reply, devices_after_sent, found_in, found_in_reply, found_in_sent, is_last, moves_to, nothing_wrong}
 use Rattle.osdp_monitor.specs.Panel.{after_sent}
-use Rattle.osdp_monitor.specs.Private.{AnswersPoll, IsNext, IsPollTo, IsSpelledIf, is_next, number_of}
+use Rattle.osdp_monitor.specs.Laws.{PlainIsFine}
+use Rattle.osdp_monitor.specs.Plain.{AnswersPoll, IsNext, IsPlain, IsPlainTurn, IsPollTo, is_next, number_of}
 use Rattle.osdp_monitor.specs.Reader.{after_reply, is_owed_number}
-use Rattle.osdp_monitor.specs.Saying.{asked, is_foreign, moved_by, reply_told}
+use Rattle.osdp_monitor.specs.Saying.{asked, is_foreign, is_unknown, moved_by, reply_told}
 
 -- the number is not the one taken last
 other_number : (t n : ℕ) → (next_sequence t == n) ≡ true → (t == n) ≡ false
@@ -127,40 +128,71 @@ pub is_sent : (k : Known) (p : Packet) → IsNext k p
     → after_sent k.last k p ≡ record k { last = Some p; replied = false; answered = false; missed = false; earlier = None; older = None; settled = true; suspected = k.suspected - 1 }
 is_sent k p n = next_sent k.last k p refl n.next n.replied n.settled n.answered
 
--- ---- where nothing is known anew
+-- ---- what is plain
 
-abbrev pub line_of : (ℕ → Known) → ℕ → Knowledge
-line_of devices skipped = record { devices = devices; skipped = skipped }
-
--- what holds of what is known holds still
-pub on_same : (P : Knowledge → Type 0) (devices others : ℕ → Known) (skipped : ℕ) → devices ≡ others → P (line_of devices skipped) → P (line_of others skipped)
-on_same P devices others skipped same holds = subst (λ d. P (line_of d skipped)) same holds
-
--- ---- what is found in a packet of a device, and what is known after it
-
-module _ (devices : ℕ → Known) (skipped : ℕ) (p : Packet) (device : p.address < 127) (own : is_foreign p ≡ false) where
+module _ (line : Knowledge) (p : Packet) (plain : IsPlain line p) where
   not_all : (p.address == 127) ≡ false
-  not_all = ne_eqb p.address 127 (λ h. omega arith)
+  not_all = ne_eqb p.address 127 (λ h. omega (arith, plain.device))
 
-  pub reply_found : p.reply ≡ true → found_in (line_of devices skipped) p ≡ found_in_reply (devices p.address).last (devices p.address) p
-  reply_found reply = rw (not_all, own, reply) refl
+  turn_of : (reply : Bool) → p.reply ≡ reply → IsPlainTurn reply (line.devices p.address) p
+  turn_of reply is = subst (λ b. IsPlainTurn b (line.devices p.address) p) is plain.turn
 
-  pub reply_after : p.reply ≡ true → devices_after p devices ≡ devices_after_reply p devices
-  reply_after reply = rw (not_all, own, reply) refl
+  pub is_ack : p.reply ≡ true → reply_told p ≡ Ok Ack
+  is_ack reply = (turn_of true reply).0
 
-  pub sent_found : p.reply ≡ false → found_in (line_of devices skipped) p ≡ found_in_sent (devices p.address) p
-  sent_found sent = rw (not_all, own, sent) refl
+  pub answers_poll : p.reply ≡ true → AnswersPoll (line.devices p.address) p
+  answers_poll reply = (turn_of true reply).1
 
-  pub sent_after : p.reply ≡ false → devices_after p devices ≡ devices_after_sent p devices
-  sent_after sent = rw (not_all, own, sent) refl
+  pub is_poll : p.reply ≡ false → asked p ≡ Ok Poll
+  is_poll sent = (turn_of false sent).0
 
--- of what is known alike the same had to come, and the same is known after it
-module _ (devices others : ℕ → Known) (skipped : ℕ) (same : devices ≡ others) (p : Packet) where
-  pub expected_same : (f : Found) (bytes : List ℕ) → f ≡ found_in (line_of devices skipped) p → IsSpelledIf (expected_if (devices p.address) f.accusation) bytes
-      → IsSpelledIf (expected_in (line_of others skipped) p) bytes
-  expected_same f bytes is spelled =
-      on_same (λ k. IsSpelledIf (expected_in k p) bytes) devices others skipped same
-      (subst (λ (g : Found). IsSpelledIf (expected_if (devices p.address) g.accusation) bytes) is spelled)
+  pub is_next_poll : p.reply ≡ false → IsNext (line.devices p.address) p
+  is_next_poll sent = (turn_of false sent).1
 
-  pub after_same : (next : ℕ → Known) → next ≡ devices_after p devices → line_of next 0 ≡ after_packet (line_of others skipped) p
-  after_same next is = on_same (λ k. line_of next 0 ≡ after_packet k p) devices others skipped same (ap (λ d. line_of d 0) is)
+  reply_own : p.reply ≡ true → is_foreign p ≡ false
+  reply_own reply = rw (plain.unsecured, reply) (ap is_unknown (is_ack reply))
+
+  sent_own : p.reply ≡ false → is_foreign p ≡ false
+  sent_own sent = rw (plain.unsecured, sent) (ap is_unknown (is_poll sent))
+
+  pub reply_after : p.reply ≡ true → devices_after p line.devices ≡ devices_after_reply p line.devices
+  reply_after reply = rw (not_all, reply_own reply, reply) refl
+
+  pub sent_after : p.reply ≡ false → devices_after p line.devices ≡ devices_after_sent p line.devices
+  sent_after sent = rw (not_all, sent_own sent, sent) refl
+
+  reply_is : p.reply ≡ true → found_in line p ≡ found_in_reply (line.devices p.address).last (line.devices p.address) p
+  reply_is reply = rw (not_all, reply_own reply, reply) refl
+
+  sent_is : p.reply ≡ false → found_in line p ≡ found_in_sent (line.devices p.address) p
+  sent_is sent = rw (not_all, sent_own sent, sent) refl
+
+  reply_found : p.reply ≡ true → found_in line p ≡ nothing_wrong
+  reply_found reply = reply_is reply ∙ none_found (line.devices p.address) p (answers_poll reply) (is_ack reply)
+
+  sent_found : p.reply ≡ false → found_in line p ≡ nothing_wrong
+  sent_found sent = sent_is sent ∙ none_found_in_next (line.devices p.address) p (is_next_poll sent)
+
+  pub plain_found : found_in line p ≡ nothing_wrong
+  plain_found = by_reply p.reply refl
+    where
+      by_reply : (reply : Bool) → p.reply ≡ reply → found_in line p ≡ nothing_wrong
+      by_reply true is = reply_found is
+      by_reply false is = sent_found is
+
+  pub is_fresh : p.reply ≡ false → copies_last line p ≡ false
+  is_fresh sent = by_last (line.devices p.address).last (is_next_poll sent).next
+    where
+      by_last : (last : Option Packet) → is_next (number_of last) p.sequence ≡ true → is_last last p ≡ false
+      by_last None next = refl
+      by_last (Some last) next = other_packet last p (other_number last.sequence p.sequence next)
+
+pub plain_is_fine_lem : PlainIsFine
+plain_is_fine_lem line p plain =
+    let found = plain_found line p plain in
+    record {
+      accusation = ap (λ (f : Found). f.accusation) found;
+      notice = ap (λ (f : Found). f.notice) found;
+      judged = ap (λ (f : Found). f.judged) found;
+      fresh = is_fresh line p plain;
+    }

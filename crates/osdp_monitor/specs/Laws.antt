@@ -1,12 +1,13 @@
 -- What the rules come to, in the words of their reader.
-use Rattle.std.specs.Prelude.{◌≡◌, ◌≢◌, ◌≤◌, ◌↔◌, ◌⊎◌, ℕ, true, false, Some, Ok, Err}
+use Rattle.std.specs.Prelude.{◌≡◌, ◌≢◌, ◌≤◌, ◌↔◌, ◌⊎◌, ℕ, true, false, None, Some, Ok, Err}
 use Rattle.osdp_frame.specs.Packet.{Packet}
 use Rattle.osdp_msg.specs.declared.command.Command.TheVariants.{Comset}
 use Rattle.osdp_msg.specs.declared.command_fields.Communication.{Communication}
 use Rattle.osdp_msg.specs.declared.fault.MsgFault.TheVariants.{UnknownCode}
 use Rattle.osdp_msg.specs.declared.reply.Reply.TheVariants.{Com}
 use Rattle.osdp_monitor.specs.Known.{same_packet}
-use Rattle.osdp_monitor.specs.Line.{moves_to}
+use Rattle.osdp_monitor.specs.Line.{Knowledge, copies_last, found_in, moves_to}
+use Rattle.osdp_monitor.specs.Plain.{IsPlain}
 use Rattle.osdp_monitor.specs.Saying.{asked, is_foreign, reply_told}
 
 -- packets are compared as a whole
@@ -30,3 +31,13 @@ NamesAnother p r address =
 -- a device moves exactly where such a COM comes after the COMSET
 abbrev pub MovesByCom : Type 0
 MovesByCom = (p r : Packet) (address : ℕ) → (moves_to (Some p) r ≡ Some address) ↔ NamesAnother p r address
+
+-- a plain packet breaks no rule, nothing in it is worth a look, and it was judged; and a command is no repeat
+pub record IsFine (line : Knowledge) (p : Packet) : Type 0 where
+  pub accusation : (found_in line p).accusation ≡ None
+  pub notice : (found_in line p).notice ≡ None
+  pub judged : (found_in line p).judged ≡ true
+  pub fresh : p.reply ≡ false → copies_last line p ≡ false
+
+abbrev pub PlainIsFine : Type 0
+PlainIsFine = (line : Knowledge) (p : Packet) → IsPlain line p → IsFine line p

@@ -4,6 +4,7 @@ pub mod Saying
 pub mod Panel
 pub mod Reader
 pub mod Line
+pub mod Plain
 pub mod Laws
 pub mod Private
 pub mod Monitors

@@ -3,16 +3,18 @@
 ghost use Rattle.std.specs.Prelude.{◌≡◌, ◌↔◌, is_some, None, Ok, Some, true, false};
 ghost use Rattle.osdp_msg.specs.declared.reply.Reply.TheVariants.{Ack};
 ghost use Rattle.osdp_monitor.specs.Known.{nothing_known};
-ghost use Rattle.osdp_monitor.specs.Line.{after_reply_if, found_in_reply, found_in_sent, is_last, moves_to, nothing_wrong};
+ghost use Rattle.osdp_monitor.specs.Line.{after_reply_if, is_last, moves_to};
 ghost use Rattle.osdp_monitor.specs.Panel.{after_another, after_sent, before_row, is_waiting, still_suspected};
 ghost use Rattle.osdp_frame.specs.Packet.{Packet};
-ghost use Rattle.osdp_monitor.specs.Private.{AnswersPoll, IsNext};
+ghost use Rattle.osdp_monitor.specs.Plain.{AnswersPoll, IsNext, IsPlainTurn};
 ghost use Rattle.osdp_monitor.specs.Reader.{after_answer, after_own, has_earlier_number, is_late, is_owed, is_owed_number, is_stray, is_unheard, repeat_reply};
 ghost use Rattle.osdp_monitor.specs.Saying.{reply_told};
 
 use crate::kept::KeptPacket;
 use crate::panel::{SUSPECTED_FOR, is_after, is_doubt, is_number, is_zero};
-use crate::said::{ReadReply, Said, has_no_number, moved_by, read_command, said_in, tells_number};
+use crate::said::{
+    ReadReply, Said, has_no_number, is_ack, is_poll, moved_by, read_command, said_in, tells_number,
+};
 use osdp_frame::{Address, FrameView, Seq};
 use osdp_msg::Reply;
 use std::marker::Model;
@@ -106,17 +108,12 @@ impl Device {
         self.replied && self.answered && !self.owing && is_after(self.last.number(), packet.seq())
     }
 
-    /// Takes a packet after one that was answered, in which nothing is found. False of any other one, and then nothing is known anew.
-    #[tactic(auto, using(crate::proofs::Turns::none_found_in_next, crate::proofs::Turns::is_sent))]
-    pub fn take_next(&mut self, packet: &FrameView<'_>) -> bool
-        ensures when { (result ≡ true) ↔ IsNext self.old packet.now }
-        ensures found { result ≡ true → found_in_sent self.old packet.now ≡ nothing_wrong }
-        ensures sent { result ≡ true → self.new ≡ after_sent self.old.last self.old packet.now }
-        ensures kept { result ≡ false → self.new ≡ self.old }
+    /// Takes a packet after one that was answered.
+    #[tactic(auto, using(crate::proofs::Turns::is_sent))]
+    pub fn take_next(&mut self, packet: &FrameView<'_>)
+        requires { IsNext self.old packet.now }
+        ensures { self.new ≡ after_sent self.old.last self.old packet.now }
     {
-        if !self.is_next(packet) {
-            return false;
-        }
         self.last.keep(packet);
         self.replied = false;
         self.answered = false;
@@ -125,7 +122,6 @@ impl Device {
         self.older = None;
         self.settled = true;
         self.suspected = self.suspected.saturating_sub(1);
-        true
     }
 
     /// Whether a copy of the last packet has had no reply.
@@ -292,26 +288,31 @@ impl Device {
         !self.replied && is_after(self.taken, number) && self.last.is_poll_to(number, reply)
     }
 
-    /// Takes an ACK that answers a POLL in turn, in which nothing is found. False of any other one, and then nothing is known anew.
-    #[tactic(auto, using(crate::proofs::Turns::none_found, crate::proofs::Turns::goes_nowhere, crate::proofs::Turns::is_taken))]
-    pub fn take_ack(&mut self, reply: &FrameView<'_>) -> bool
-        requires { reply_told reply.now ≡ Ok Ack }
-        ensures when { (result ≡ true) ↔ AnswersPoll self.old reply.now }
-        ensures found { result ≡ true → found_in_reply self.old.last self.old reply.now ≡ nothing_wrong }
-        ensures stays { result ≡ true → moves_to self.old.last reply.now ≡ None }
-        ensures taken { result ≡ true → self.new ≡ after_reply_if self.old.last self.old reply.now }
-        ensures kept { result ≡ false → self.new ≡ self.old }
+    /// Whether a packet without a security block is an ACK that answers a POLL in turn, or a POLL after a packet that was answered.
+    pub fn is_plain(&self, packet: &FrameView<'_>) -> bool
+        ensures { (result ≡ true) ↔ IsPlainTurn packet.now.reply self.now packet.now }
     {
-        if !self.answers_poll(reply) {
-            return false;
+        if packet.is_reply() {
+            is_ack(packet) && self.answers_poll(packet)
+        } else {
+            is_poll(packet) && self.is_next(packet)
         }
+    }
+
+    /// Takes an ACK that answers a POLL in turn.
+    #[tactic(auto, using(crate::proofs::Turns::goes_nowhere, crate::proofs::Turns::is_taken))]
+    pub fn take_ack(&mut self, reply: &FrameView<'_>)
+        requires ack { reply_told reply.now ≡ Ok Ack }
+        requires turn { AnswersPoll self.old reply.now }
+        ensures stays { moves_to self.old.last reply.now ≡ None }
+        ensures taken { self.new ≡ after_reply_if self.old.last self.old reply.now }
+    {
         self.replied = true;
         self.answered = true;
         self.taken = Some(reply.seq());
         self.stored.keep(reply);
         self.earlier = None;
         self.older = None;
-        true
     }
 
     /// It has answered its last packet, which has this number.

@@ -3,9 +3,10 @@
 ghost use Rattle.std.specs.Prelude.{◌≡◌, ◌<◌, ◌↔◌, [], length, true, false, None, Ok, IfNone, IfOk, IfSome, OnErr, OnOk};
 ghost use Rattle.osdp_msg.specs.declared.reply.Reply.TheVariants.{Ack};
 ghost use Rattle.osdp_monitor.specs.Known.{nothing_known};
-ghost use Rattle.osdp_monitor.specs.Line.{after_reply_if, devices_after_reply, devices_after_sent, expected_if, found_in_reply, found_in_sent, known_at, moves_to, no_knowledge, nothing_wrong};
+ghost use Rattle.osdp_monitor.specs.Line.{after_reply_if, devices_after_reply, devices_after_sent, expected_if, found_in_reply, found_in_sent, known_at, moves_to, no_knowledge};
 ghost use Rattle.osdp_monitor.specs.Panel.{after_sent};
-ghost use Rattle.osdp_monitor.specs.Private.{AnswersPoll, IsNext, IsSpelledIf, known_of};
+ghost use Rattle.osdp_monitor.specs.Plain.{AnswersPoll, IsNext, IsPlainTurn};
+ghost use Rattle.osdp_monitor.specs.Private.{IsSpelledIf, known_of};
 ghost use Rattle.osdp_monitor.specs.Saying.{reply_told};
 
 use crate::device::Device;
@@ -69,17 +70,23 @@ impl Devices {
         }
     }
 
-    /// Takes a packet after one that was answered, in which nothing is found. False of any other one, and then nothing is known anew.
-    pub fn take_next(&mut self, packet: &FrameView<'_>) -> bool
-        ensures when { (result ≡ true) ↔ IsNext (devices_in self.old packet.now.address) packet.now }
-        ensures found { result ≡ true → found_in_sent (devices_in self.old packet.now.address) packet.now ≡ nothing_wrong }
-        ensures sent { result ≡ true → devices_in self.new ≡ devices_after_sent packet.now (devices_in self.old) }
-        ensures kept { result ≡ false → devices_in self.new ≡ devices_in self.old }
+    /// Whether a packet without a security block is an ACK that answers a POLL in turn, or a POLL after a packet that was answered.
+    pub fn is_plain(&self, packet: &FrameView<'_>) -> bool
+        ensures { (result ≡ true) ↔ IsPlainTurn packet.now.reply (devices_in self.now packet.now.address) packet.now }
     {
-        take_next(
-            &mut self.blocks[usize::from(packet.address().get())],
-            packet,
-        )
+        match self.get(packet.address()) {
+            Some(device) => device.is_plain(packet),
+            None => false,
+        }
+    }
+
+    /// Takes a packet after one that was answered.
+    pub fn take_next(&mut self, packet: &FrameView<'_>)
+        requires { IsNext (devices_in self.old packet.now.address) packet.now }
+        ensures { devices_in self.new ≡ devices_after_sent packet.now (devices_in self.old) }
+    {
+        let slot = &mut self.blocks[usize::from(packet.address().get())];
+        take_next(slot, packet);
     }
 
     /// A packet was sent to a device. Where its address has no block yet and there is no memory for one nothing changes.
@@ -121,18 +128,14 @@ impl Devices {
         found
     }
 
-    /// Takes an ACK that answers a POLL in turn, in which nothing is found. False of any other one, and then nothing is known anew.
-    pub fn take_ack(&mut self, packet: &FrameView<'_>) -> bool
-        requires { reply_told packet.now ≡ Ok Ack }
-        ensures when { (result ≡ true) ↔ AnswersPoll (devices_in self.old packet.now.address) packet.now }
-        ensures found { result ≡ true → let k = devices_in self.old packet.now.address in found_in_reply k.last k packet.now ≡ nothing_wrong }
-        ensures taken { result ≡ true → devices_in self.new ≡ devices_after_reply packet.now (devices_in self.old) }
-        ensures kept { result ≡ false → devices_in self.new ≡ devices_in self.old }
+    /// Takes an ACK that answers a POLL in turn.
+    pub fn take_ack(&mut self, packet: &FrameView<'_>)
+        requires ack { reply_told packet.now ≡ Ok Ack }
+        requires turn { AnswersPoll (devices_in self.old packet.now.address) packet.now }
+        ensures { devices_in self.new ≡ devices_after_reply packet.now (devices_in self.old) }
     {
-        take_ack(
-            &mut self.blocks[usize::from(packet.address().get())],
-            packet,
-        )
+        let slot = &mut self.blocks[usize::from(packet.address().get())];
+        take_ack(slot, packet);
     }
 
     /// What is known after it.
@@ -197,30 +200,24 @@ fn hear_reply(slot: &mut Slot, reply: &ReadReply<'_, '_>)
     }
 }
 
-/// A packet was sent to this address: whether it is the next one after one that was answered.
-fn take_next(slot: &mut Slot, packet: &FrameView<'_>) -> bool
-    ensures when { (result ≡ true) ↔ IsNext (known_of slot.old) packet.now }
-    ensures found { result ≡ true → found_in_sent (known_of slot.old) packet.now ≡ nothing_wrong }
-    ensures sent { result ≡ true → let k = known_of slot.old in known_of slot.new ≡ after_sent k.last k packet.now }
-    ensures kept { result ≡ false → known_of slot.new ≡ known_of slot.old }
+/// The next packet after one that was answered was sent to this address.
+fn take_next(slot: &mut Slot, packet: &FrameView<'_>)
+    requires { IsNext (known_of slot.old) packet.now }
+    ensures { let k = known_of slot.old in known_of slot.new ≡ after_sent k.last k packet.now }
 {
-    match slot {
-        Some(block) => block.take_next(packet),
-        None => false,
+    if let Some(block) = slot {
+        block.take_next(packet);
     }
 }
 
-/// The device at this address has said ACK: whether it answers a POLL in turn.
-fn take_ack(slot: &mut Slot, packet: &FrameView<'_>) -> bool
-    requires { reply_told packet.now ≡ Ok Ack }
-    ensures when { (result ≡ true) ↔ AnswersPoll (known_of slot.old) packet.now }
-    ensures found { result ≡ true → let k = known_of slot.old in found_in_reply k.last k packet.now ≡ nothing_wrong }
-    ensures stays { result ≡ true → moves_to (known_of slot.old).last packet.now ≡ None }
-    ensures taken { result ≡ true → let k = known_of slot.old in known_of slot.new ≡ after_reply_if k.last k packet.now }
-    ensures kept { result ≡ false → known_of slot.new ≡ known_of slot.old }
+/// The device at this address has said an ACK that answers a POLL in turn.
+fn take_ack(slot: &mut Slot, packet: &FrameView<'_>)
+    requires ack { reply_told packet.now ≡ Ok Ack }
+    requires turn { AnswersPoll (known_of slot.old) packet.now }
+    ensures stays { moves_to (known_of slot.old).last packet.now ≡ None }
+    ensures taken { let k = known_of slot.old in known_of slot.new ≡ after_reply_if k.last k packet.now }
 {
-    match slot {
-        Some(block) => block.take_ack(packet),
-        None => false,
+    if let Some(block) = slot {
+        block.take_ack(packet);
     }
 }

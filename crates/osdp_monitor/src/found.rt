@@ -43,10 +43,3 @@ pub(crate) const DOUBT: Found = Found {
     notice: Some(Notice::Unsure),
     judged: false,
 };
-
-/// Nothing is wrong.
-pub(crate) const FINE: Found = Found {
-    accusation: None,
-    notice: None,
-    judged: true,
-};

@@ -3,7 +3,7 @@
 ghost use Rattle.std.specs.Prelude.{◌≡◌, ◌<◌, ◌≤◌, ◌↔◌, None, Ok, Some, drop, length, slice_index, true};
 ghost use Rattle.osdp_monitor.specs.Known.{same_check};
 ghost use Rattle.osdp_monitor.specs.Line.{is_last};
-ghost use Rattle.osdp_monitor.specs.Private.{IsPollTo, number_of};
+ghost use Rattle.osdp_monitor.specs.Plain.{IsPollTo, number_of};
 ghost use Rattle.osdp_msg.specs.CommandTable.{command_of};
 ghost use Rattle.osdp_msg.specs.declared.command.Command.TheVariants.{Poll};
 

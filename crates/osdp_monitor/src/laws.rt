@@ -1,6 +1,6 @@
 //! What the rules come to. The functions have no code: each states a law, and its proof is the law's.
 
-ghost use Rattle.osdp_monitor.specs.Laws.{ComparesPackets, MovesByCom, PassesOver};
+ghost use Rattle.osdp_monitor.specs.Laws.{ComparesPackets, MovesByCom, PassesOver, PlainIsFine};
 
 /// Packets are compared as a whole: none of their bytes is passed over.
 pub fn compares_packets()
@@ -15,4 +15,9 @@ pub fn passes_over_what_it_cannot_read()
 /// A device moves exactly where a COM that names another address, up to 126, answers a COMSET, whatever numbers the two have.
 pub fn moves_by_com()
     ensures { MovesByCom }
+{}
+
+/// A POLL after a packet that was answered, and an ACK that answers a POLL in turn, are judged, and nothing is found in them; and the POLL is no repeat.
+pub fn finds_nothing_in_plain_packets()
+    ensures { PlainIsFine }
 {}

@@ -1,16 +1,15 @@
 //! The listener.
 
-ghost use Rattle.std.specs.Prelude.{◌≡◌, ◌<◌, Ok, true, false, [], IfOk, OnErr, OnOk};
-ghost use Rattle.osdp_msg.specs.declared.reply.Reply.TheVariants.{Ack};
+ghost use Rattle.std.specs.Prelude.{◌≡◌, ◌<◌, ◌↔◌, Ok, true, false, [], IfOk, OnErr, OnOk};
 ghost use Rattle.osdp_monitor.specs.Line.{after_packet, after_skipped, copies_last, expected_in, found_in, no_knowledge};
+ghost use Rattle.osdp_monitor.specs.Plain.{IsPlain};
 ghost use Rattle.osdp_monitor.specs.Private.{IsSpelledIf};
-ghost use Rattle.osdp_monitor.specs.Saying.{is_foreign, reply_told};
+ghost use Rattle.osdp_monitor.specs.Saying.{is_foreign};
 
 use crate::devices::Devices;
-use crate::found::{FINE, Found, NOTHING};
-use crate::said::{ReadReply, asks_unknown, is_ack, is_unknown, read_reply};
+use crate::found::{Found, NOTHING};
+use crate::said::{ReadReply, asks_unknown, is_unknown, read_reply};
 use osdp_frame::{Burst, FrameView};
-use osdp_msg::Reply;
 use std::alloc::{AllocError, Global};
 
 /// So many bytes the smallest packet has.
@@ -42,7 +41,7 @@ impl Monitor {
     /// Takes a packet of the line, and tells what is found in it. The bytes of the packet that had to come in place of one that is accused, where only
     /// one may, are put in place of what stands in `expected`, and none where there is no such packet.
     ///
-    /// Where a packet to a new address comes and there is no memory for its block, nothing changes.
+    /// Where a packet to a new address comes and there is no memory for its block, nothing changes. It does as much of a plain packet (`is_plain`), but not as fast.
     pub fn hear(
         &mut self,
         packet: &FrameView<'_>,
@@ -67,11 +66,31 @@ impl Monitor {
         if !packet.is_reply() {
             return self.hear_sent(packet, expected);
         }
-        // Most replies are an ACK, of which nothing is read.
-        if is_ack(packet) {
-            return Ok(self.hear_ack(packet, expected));
+        Ok(self.hear_reply(packet, expected))
+    }
+
+    /// Whether a packet is a POLL after one that was answered, or an ACK that answers a POLL in turn: nothing is found in it, and it is no repeat. Of most
+    /// lines nearly every packet is such.
+    #[inline(always)]
+    pub fn is_plain(&self, packet: &FrameView<'_>) -> bool
+        ensures { (result ≡ true) ↔ IsPlain (knowledge_of self.now) packet.now }
+    {
+        packet.address().is_device() && !packet.has_block() && self.devices.is_plain(packet)
+    }
+
+    /// Takes such a packet.
+    #[inline(always)]
+    #[tactic(auto, using(crate::proofs::Turns::is_ack, crate::proofs::Turns::answers_poll, crate::proofs::Turns::is_next_poll, crate::proofs::Turns::reply_after, crate::proofs::Turns::sent_after))]
+    pub fn hear_plain(&mut self, packet: &FrameView<'_>)
+        requires { IsPlain (knowledge_of self.old) packet.now }
+        ensures { knowledge_of self.new ≡ after_packet (knowledge_of self.old) packet.now }
+    {
+        if packet.is_reply() {
+            self.devices.take_ack(packet);
+        } else {
+            self.devices.take_next(packet);
         }
-        Ok(self.hear_other(packet, expected))
+        self.skipped = 0;
     }
 
     /// Whether a packet to a device is the last one to its address once more, as far as that is known.
@@ -94,33 +113,8 @@ impl Monitor {
         self.skipped = 0;
     }
 
-    /// Takes an ACK. Most answer a POLL in turn.
-    fn hear_ack(&mut self, packet: &FrameView<'_>, expected: &mut Burst) -> Found
-        requires device { packet.now.address < 127 }
-        requires reply { packet.now.reply ≡ true }
-        requires open { packet.now.block ≡ false }
-        requires ack { reply_told packet.now ≡ Ok Ack }
-        requires none { expected.old.items ≡ [] }
-        ensures found { result ≡ found_in (knowledge_of self.old) packet.now }
-        ensures expected { IsSpelledIf (expected_in (knowledge_of self.old) packet.now) expected.new.items }
-        ensures after { knowledge_of self.new ≡ after_packet (knowledge_of self.old) packet.now }
-    {
-        if self.devices.take_ack(packet) {
-            self.skipped = 0;
-            return FINE;
-        }
-        let read = Ok(Reply::Ack);
-        let reply = ReadReply {
-            packet,
-            read: &read,
-        };
-        let found = self.devices.reply(&reply, expected);
-        self.skipped = 0;
-        found
-    }
-
-    /// Takes a reply that is read.
-    fn hear_other(&mut self, packet: &FrameView<'_>, expected: &mut Burst) -> Found
+    /// Takes a reply.
+    fn hear_reply(&mut self, packet: &FrameView<'_>, expected: &mut Burst) -> Found
         requires device { packet.now.address < 127 }
         requires reply { packet.now.reply ≡ true }
         requires open { packet.now.block ≡ false }
@@ -143,7 +137,7 @@ impl Monitor {
         found
     }
 
-    /// Takes a packet to a device. Most are the next one after one that was answered.
+    /// Takes a packet to a device.
     fn hear_sent(
         &mut self,
         packet: &FrameView<'_>,
@@ -161,10 +155,6 @@ impl Monitor {
         if asks_unknown(packet) {
             self.pass(packet);
             return Ok(NOTHING);
-        }
-        if self.devices.take_next(packet) {
-            self.skipped = 0;
-            return Ok(FINE);
         }
         let found = self.devices.judge_sent(packet, expected);
         match self.devices.send(packet) {

@@ -4,7 +4,7 @@ ghost use Rattle.std.specs.Prelude.{◌≡◌, Some};
 ghost use Rattle.osdp_frame.specs.Packet.{Packet};
 ghost use Rattle.osdp_monitor.specs.Known.{is_number};
 ghost use Rattle.osdp_monitor.specs.Panel.{is_doubt, sent_after};
-ghost use Rattle.osdp_monitor.specs.Private.{is_next, number_of};
+ghost use Rattle.osdp_monitor.specs.Plain.{is_next, number_of};
 
 use crate::accusation::Accusation;
 use crate::kept::KeptPacket;

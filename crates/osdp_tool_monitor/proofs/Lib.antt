@@ -1,4 +1,5 @@
 pub mod Spelling
+pub mod Plain
 pub mod ByCode
 pub mod Rows
 pub mod Windows

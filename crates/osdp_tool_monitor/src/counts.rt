@@ -1,7 +1,11 @@
 //! What is counted of an address.
 
-ghost use Rattle.std.specs.Prelude.{◌≡◌, None, true, false, nat_eq};
+ghost use Rattle.std.specs.Prelude.{◌≡◌, Bool, None, Ok, true, false, nat_eq};
+ghost use Rattle.osdp_frame.specs.Packet.{Packet};
+ghost use Rattle.osdp_monitor.specs.Line.{nothing_wrong};
 ghost use Rattle.osdp_monitor.specs.Saying.{asked, reply_told};
+ghost use Rattle.osdp_msg.specs.declared.command.Command.TheVariants.{Poll};
+ghost use Rattle.osdp_msg.specs.declared.reply.Reply.TheVariants.{Ack};
 ghost use Rattle.osdp_tool_monitor.specs.Counts.{is_demand, is_poll, is_refused, kind_of_reason, kind_of_reply, more_if, rate_after};
 
 use osdp_frame::FrameView;
@@ -77,6 +81,13 @@ pub(crate) fn more_if(test: bool, count: u64) -> u64
     } else {
         count
     }
+}
+
+/// One more.
+pub(crate) fn one_more(count: u64) -> u64
+    ensures { result ≡ more_if true count }
+{
+    more_if(true, count)
 }
 
 /// Whether a packet to a device is a POLL.
@@ -213,6 +224,41 @@ impl Counts {
             self.count_reply(kind_of_reply(packet), found);
         } else {
             self.count_sent(packet, copy, found);
+        }
+    }
+
+    /// A POLL came in which nothing was found, and that is no copy.
+    fn count_poll(&mut self, clean: bool)
+        ensures { (p : Packet) → p.reply ≡ false → p.block ≡ false → asked p ≡ Ok Poll → self.new ≡ after_packet p clean false nothing_wrong self.old }
+    {
+        self.clean = more_if(clean, self.clean);
+        self.judged = one_more(self.judged);
+        self.asked = one_more(self.asked);
+        self.polls = one_more(self.polls);
+        self.heard = false;
+    }
+
+    /// An ACK came in which nothing was found.
+    fn count_ack(&mut self, clean: bool)
+        ensures { (p : Packet) (copy : Bool) → p.reply ≡ true → p.block ≡ false → reply_told p ≡ Ok Ack → self.new ≡ after_packet p clean copy nothing_wrong self.old }
+    {
+        self.clean = more_if(clean, self.clean);
+        self.judged = one_more(self.judged);
+        self.answered = one_more(self.answered);
+        self.heard = true;
+    }
+
+    /// A plain packet came: a POLL in which nothing was found, and that is no copy, or such an ACK.
+    pub(crate) fn count_plain(&mut self, packet: &FrameView<'_>, clean: bool)
+        requires bare { packet.now.block ≡ false }
+        requires poll { packet.now.reply ≡ false → asked packet.now ≡ Ok Poll }
+        requires ack { packet.now.reply ≡ true → reply_told packet.now ≡ Ok Ack }
+        ensures { (copy : Bool) → (packet.now.reply ≡ false → copy ≡ false) → self.new ≡ after_packet packet.now clean copy nothing_wrong self.old }
+    {
+        if packet.is_reply() {
+            self.count_ack(clean);
+        } else {
+            self.count_poll(clean);
         }
     }
 

@@ -6,7 +6,7 @@ ghost use Rattle.osdp_frame.specs.Reading.{item_size};
 ghost use Rattle.osdp_frame.specs.Shown.{item_of, item_read};
 ghost use Rattle.osdp_tool_show.specs.Tally.{counted};
 
-use crate::counts::{Counts, more_if};
+use crate::counts::{Counts, more_if, one_more};
 use crate::diagnosis::push_diagnoses;
 use crate::table::{is_unjudged, push_table};
 use crate::talk::push_talk;
@@ -45,7 +45,8 @@ pub struct Listener {
 }
 
 impl Listener {
-    ghost use Rattle.osdp_monitor.specs.Line.{after_packet, copies_last, expected_in};
+    ghost use Rattle.osdp_monitor.specs.Line.{after_packet, copies_last, expected_in, nothing_wrong};
+    ghost use Rattle.osdp_monitor.specs.Plain.{IsPlain};
     ghost use Rattle.osdp_monitor.specs.Monitors.{knowledge_of};
     ghost use Rattle.osdp_tool_monitor.specs.Counts.{counts_after, counts_after_damage, more_if};
     ghost use Rattle.osdp_tool_monitor.specs.Trail.{hit_by, is_clean, trail_after_packet};
@@ -75,7 +76,30 @@ impl Listener {
         })
     }
 
-    /// Takes a packet that stands at this place of this run.
+    /// Takes a plain packet, and counts it: nothing is printed of it.
+    #[inline(always)]
+    #[tactic(auto, using(osdp_monitor::proofs::Turns::is_ack, osdp_monitor::proofs::Turns::is_poll, osdp_monitor::proofs::Turns::is_fresh))]
+    fn count_plain(&mut self, packet: &FrameView<'_>)
+        requires { IsPlain (knowledge_of self.old.monitor) packet.now }
+        ensures knowledge { knowledge_of self.new.monitor ≡ after_packet (knowledge_of self.old.monitor) packet.now }
+        ensures trail { self.new.trail ≡ trail_after_packet packet.now }
+        ensures counts { self.new.counts.items
+            ≡ counts_after packet.now (is_clean self.old.trail.bad) (copies_last (knowledge_of self.old.monitor) packet.now) nothing_wrong self.old.counts.items }
+        ensures judged { self.new.judged ≡ more_if true self.old.judged }
+        ensures detail { self.new.detail ≡ self.old.detail }
+        ensures tally { self.new.tally ≡ self.old.tally }
+        ensures accused { self.new.accused ≡ self.old.accused }
+        ensures standard { self.new.standard ≡ self.old.standard }
+        ensures last_table { self.new.last_table ≡ self.old.last_table }
+    {
+        self.monitor.hear_plain(packet);
+        let counts = &mut self.counts[usize::from(packet.address().get())];
+        counts.count_plain(packet, self.trail.is_clean());
+        self.trail = Trail::after_packet(packet);
+        self.judged = one_more(self.judged);
+    }
+
+    /// Takes a packet that stands at this place of this run. Most are plain.
     fn hear_packet(
         &mut self,
         packet: &FrameView<'_>,
@@ -97,6 +121,10 @@ impl Listener {
         ensures text { OnOk result (string_bytes text.new
             ≡ string_bytes text.old ++ found_text run place packet.now (told_in (listening_of self.old) packet.now) (expected_bytes (expected_in (knowledge_of self.old.monitor) packet.now))) }
     {
+        if self.monitor.is_plain(packet) {
+            self.count_plain(packet);
+            return Ok(());
+        }
         let copy = self.monitor.copies_last(packet);
         let found = match self.monitor.hear(packet, &mut self.expected) {
             Ok(found) => told(self.standard, found),

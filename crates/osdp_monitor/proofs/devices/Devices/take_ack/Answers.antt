@@ -1,15 +1,9 @@
 use Rattle.std.proofs.Common.{◌≡◌, ◌<◌, ◌∙◌, length, arith}
-use Rattle.osdp_monitor.proofs.Blocks.{kept_in_place, reply_in_place}
+use Rattle.osdp_monitor.proofs.Blocks.{reply_in_place}
 use Rattle.osdp_monitor.proofs.devices.Devices.take_ack.Goals as goal
 
-pub returns-clause-taken : goal.returns-clause-taken
-returns-clause-taken c = λ is.
+pub returns : goal.returns
+returns c =
     let place : c.from.result ≡ c.args.packet.now.address = c.from.ensures ∙ c.get.ensures.value ∙ c.address.ensures in
     let within : c.from.result < length c.args.self.now.blocks.items = omega (arith, c.from.ensures, c.get.ensures.range, c.args.self.now.room) in
-    reply_in_place c.args.packet.now c.args.self.now.blocks.items c.from.result _ _ place within c.index_mut.ensures.value (c.take_ack.ensures.stays is)
-    (c.take_ack.ensures.taken is)
-
-pub returns-clause-kept : goal.returns-clause-kept
-returns-clause-kept c = λ is.
-    let within : c.from.result < length c.args.self.now.blocks.items = omega (arith, c.from.ensures, c.get.ensures.range, c.args.self.now.room) in
-    kept_in_place c.args.self.now.blocks.items c.from.result _ _ within c.index_mut.ensures.value (c.take_ack.ensures.kept is)
+    reply_in_place c.args.packet.now c.args.self.now.blocks.items c.from.result _ _ place within c.index_mut-slot.ensures.value c.take_ack.ensures.stays c.take_ack.ensures.taken

@@ -1,7 +1,11 @@
-use Rattle.std.proofs.Common.{◌≡◌, ◌∙◌, ◌++◌, ap, string_bytes}
-use Rattle.osdp_monitor.specs.Line.{expected_in}
+use Rattle.std.proofs.Common.{◌≡◌, ◌∙◌, ◌++◌, is_some, sym, ap, string_bytes, append-nil}
+use Rattle.osdp_monitor.specs.declared.found.Found.{Found}
+use Rattle.osdp_monitor.specs.Line.{copies_last, expected_in}
 use Rattle.osdp_monitor.specs.Monitors.{knowledge_of}
 use Rattle.osdp_tool_monitor.proofs.Spelling.{spelled_if}
+use Rattle.osdp_tool_monitor.proofs.Plain.{plain_text, plain_told}
+use Rattle.osdp_tool_monitor.specs.Counts.{counts_after, more_if}
+use Rattle.osdp_tool_monitor.specs.Trail.{is_clean}
 use Rattle.osdp_tool_monitor.specs.Text.{expected_bytes, found_text, told}
 use Rattle.osdp_tool_monitor.specs.Listening.{listening_of, told_in}
 use Rattle.osdp_tool_monitor.proofs.listener.Listener.hear_packet.Goals as goal
@@ -15,3 +19,26 @@ returns-in-Ok-push_found-clause-text c =
     c.in-Ok-push_found.ensures
     ∙ ap (λ f. string_bytes c.args.text.now ++ found_text c.args.run c.args.place c.args.packet.now f c.as_slice-expected.result.now) (c.told-found.ensures ∙ ap (told c.args.self.now.standard) c.in-Ok.ensures.found)
     ∙ ap (λ b. string_bytes c.args.text.now ++ found_text c.args.run c.args.place c.args.packet.now (told_in l c.args.packet.now) b) expected
+
+pub returns-then-is_plain-clause-counts : goal.returns-then-is_plain-clause-counts
+returns-then-is_plain-clause-counts c =
+    let l = listening_of c.args.self.now in
+    let p = c.args.packet.now in
+    c.count_plain.ensures.counts
+    ∙ ap (λ f. counts_after p (is_clean l.trail.bad) (copies_last l.knowledge p) f l.counts) (sym (plain_told l p (c.is_plain.ensures.0 c.if-is_plain.true)))
+
+pub returns-then-is_plain-clause-judged : goal.returns-then-is_plain-clause-judged
+returns-then-is_plain-clause-judged c =
+    let l = listening_of c.args.self.now in
+    c.count_plain.ensures.judged ∙ ap (λ (f : Found). more_if f.judged l.judged) (sym (plain_told l c.args.packet.now (c.is_plain.ensures.0 c.if-is_plain.true)))
+
+pub returns-then-is_plain-clause-accused : goal.returns-then-is_plain-clause-accused
+returns-then-is_plain-clause-accused c =
+    let l = listening_of c.args.self.now in
+    c.count_plain.ensures.accused ∙ ap (λ (f : Found). more_if (is_some f.accusation) l.accused) (sym (plain_told l c.args.packet.now (c.is_plain.ensures.0 c.if-is_plain.true)))
+
+pub returns-then-is_plain-clause-text : goal.returns-then-is_plain-clause-text
+returns-then-is_plain-clause-text c =
+    let l = listening_of c.args.self.now in
+    let text = string_bytes c.args.text.now in
+    sym (append-nil text) ∙ ap (λ t. text ++ t) (sym (plain_text l c.args.packet.now (c.is_plain.ensures.0 c.if-is_plain.true) c.args.run c.args.place))
