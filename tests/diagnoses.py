@@ -1,14 +1,15 @@
 """Lines with a fault that the counts tell, for `monitor`: which diagnosis stands after the table. Takes the path of the program.
 
 Both ends are those of `strangers.py`, by the rules of the standard alone. Each kind of line is made at losses of 0, 1 and 5 of a hundred bursts. What must be
-told is wanted in each line, and what may be told besides is named. Anything else is told falsely. The counts of both are printed."""
+told is wanted in each line, and what may be told besides is named. Anything else is told falsely, and so is each accusation on a good line and on one
+whose echo was left out. The counts of both are printed."""
 import random
 import re
 import subprocess
 import sys
 from collections import Counter
 
-from strangers import ACK, COM, COMSET, LOSSES, NAK, PLAIN, PROGRAM, QUIET, Line, Reader, Twin, packet
+from strangers import ACCUSED, ACK, COM, COMSET, LOSSES, NAK, PLAIN, PROGRAM, QUIET, Line, Reader, Twin, packet
 
 DIAGNOSIS = re.compile(r"^diagnosis: (.*)$", re.M)
 ROUNDS = 800
@@ -163,12 +164,16 @@ def main():
         missing = [word for word in wanted if not any(re.fullmatch(word, what) for what in said)]
         false = [what for what in said if not any(re.fullmatch(word, what) for word in (*wanted, *allowed))]
         false += [row for row in re.findall(r"^(?:93|44) .*$", text, re.M) if name == "ghost devices"]
+        if "good" in name or "left out" in name:
+            false += [" ".join(accused) for accused in ACCUSED.findall(text)]
+        kind = re.sub(r",( [a-h])? losses \d%$", "", name)
         for what, more in (("lines", 1), ("found", not missing), ("falsely told", len(false))):
-            counts[what] += more
+            counts[kind, what] += more
         if missing or false:
             faults += 1
             print(f"diagnoses: {name}: wanted {missing}, not wanted {false}")
-    print(f"lines {counts['lines']}, found {counts['found']}, falsely told {counts['falsely told']}")
+    for kind in dict.fromkeys(kind for kind, _ in counts):
+        print(f"{kind}: {', '.join(f'{what} {counts[kind, what]}' for what in ('lines', 'found', 'falsely told'))}")
     print(f"diagnoses: {faults} faults")
     return 1 if faults else 0
 

@@ -66,6 +66,8 @@ def judge(name):
         if len(seen) != 1:
             return packets, judged, accused, [*wrong, f"losses {loss:.0%}: no line of counts"]
         counts = [int(count) for count in seen[0]]
+        if counts[2]:
+            wrong.append(f"losses {loss:.0%}: {counts[2]} accusations are counted")
         if counts[1] < counts[0] * (0.95 if loss == 0 else 0.8):
             wrong.append(f"losses {loss:.0%}: of {counts[0]} packets {counts[1]} were judged")
         packets, judged, accused = packets + counts[0], judged + counts[1], accused + counts[2]

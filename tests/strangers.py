@@ -209,8 +209,8 @@ class Line:
 class Case:
     """A line, what must be told of it, whom it may accuse of what besides, and what may not be noticed."""
 
-    def __init__(self, name, line, wanted=(), allowed=(), noticed=(), unwanted=()):
-        self.name, self.lines = name, line.run(600)
+    def __init__(self, name, line, wanted=(), allowed=(), noticed=(), unwanted=(), rounds=600):
+        self.name, self.lines = name, line.run(rounds)
         self.wanted, self.allowed, self.noticed, self.unwanted = wanted, allowed, noticed, unwanted
 
     def judge(self, text):
@@ -352,11 +352,12 @@ def faulty_lines():
             yield Case(f"another number, losses {loss:.0%}", wrong, ("reader another number",), (SECOND,))
             twins = Twin(f"twin {seed}", loss, **PLAIN)
             yield Case(f"two devices at one address, losses {loss:.0%}", twins, (SECOND,), ("reader another number", "reader a number out of turn was taken", "reader a repeat is answered by something else"))
-        for loss in (0.02, 0.05):  # these show only where something is lost
+        for loss in LOSSES:  # these show only where something is lost, and in short lines not at each loss
+            rounds = 3000 if loss == 0.01 else 600
             again = Line(f"again {seed}", loss, reader=ActsAgain, **PLAIN)
-            yield Case(f"a repeat acted on again, losses {loss:.0%}", again, ("reader a repeat is answered by something else",))
+            yield Case(f"a repeat acted on again, losses {loss:.0%}", again, ("reader a repeat is answered by something else",) if loss else (), rounds=rounds)
             up = Line(f"up {seed}", loss, panel=GivesUp, **PLAIN | {"repeats": 0})
-            yield Case(f"a panel that gives up, losses {loss:.0%}", up, ("panel to the next number, but the last one was not answered",))
+            yield Case(f"a panel that gives up, losses {loss:.0%}", up, ("panel to the next number, but the last one was not answered",) if loss else (), rounds=rounds)
 
 
 def deaf_listeners():
