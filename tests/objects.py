@@ -34,6 +34,9 @@ def line_of(told, is_timed):
         stamp = f"{told['stamp'] or '-'} " if is_timed else ""
         basis = f" ({told['basis']})" if told.get("basis") else ""
         party = f"{told['party']} {told['address']}: " if kind == "told" else ""
+        times = f" (it took {told['took']} ms, the panel waited {told['waited']} ms)" if "took" in told else ""
+        if kind == "told" and told["text"].removesuffix(times).endswith(")"):
+            tell("the times of a late answer as numbers", told["text"], times)
         return f"{stamp}{told['run']}:{told['place']} {party}{told['text']}{basis}"
     if kind in ("expected", "seen"):
         return f"     {kind:<8} {told['packet']}"
@@ -46,6 +49,14 @@ def line_of(told, is_timed):
         return f"times: {told['address']} answered {told['answers']} in {told['least']} to {told['most']} ms, half below {told['half_below']}, 95 of 100 below {told['most_below']}"
     if kind == "late":
         return f"times: {told['address']} answered {told['answers']} late, after {told['took']} ms at most: the panel waits {told['waited']} ms"
+    if kind == "online":
+        return f"times: {told['address']} online since {told['since']}, last answer at {told['last']}"
+    if kind == "offline":
+        since = f" since {told['last']}" if told["last"] else ""
+        return f"times: {told['address']} offline{since}, {told['unanswered']} packets without an answer"
+    if kind == "restarts":
+        often = f" {told['restarts']} times, every {told['every']} s" if told["restarts"] > 1 else f" at {told['last']}"
+        return f"times: {told['address']} restarted{often}"
     return f"diagnosis: {told['text']}" if kind == "diagnosis" else told["text"]
 
 
@@ -71,7 +82,7 @@ def compare(what, words, data):
         fault = next(FORM.iter_errors(told), None)
         if fault:
             tell(f"{what}: the form of a line", fault.message, line)
-        lines.append(line_of(told, "--times" in words and "--raw" not in words))  # raw bytes have no stamps
+        lines.append(line_of(told, {"--times", "--clock"} & set(words) and "--raw" not in words))  # raw bytes have no stamps
         objects += 1
     wanted = [line for line in plain.split("\n")[:-1] if line not in (HEAD, HEAD.replace("device", "window"))]
     if lines != wanted:
@@ -86,7 +97,7 @@ for file in ("monitor", "forms"):
                 compare(row.place, words, row.input)
                 inputs += 1
 for capture in sorted((TOP / "examples").glob("*.hex")):
-    for options in ([], ["--packets"], ["--talk"], ["--times"], ["--packets", "--times"]):
+    for options in ([], ["--packets"], ["--talk"], ["--times"], ["--packets", "--times"], ["--packets", "--clock"]):
         compare(f"{capture.name} {options}", ["monitor", *options], capture.read_bytes())
         inputs += 1
 # words that JSON writes otherwise: quotes, backslashes, and a stamp that is no text

@@ -96,6 +96,7 @@ usage: osdp monitor [FORM] [OPTION]... [FILE]...
   --standard leave out accusations by the profile alone, where other makers may do otherwise
   --recorded the bytes were recorded before: no silence ends a run, as in a file
   --times    put its run's moment and way before each line, and tell how long each device takes to answer
+  --clock    the same, each moment as the day's time, 10:02:33.125
   --json     print an object of JSON in place of each line
   --gap N    a run of bytes is over N milliseconds after its last ones, 1 to 3600000; else 20
   --every N  print the table again N seconds after the last one, 1 to 3600000, as bytes come; from
@@ -103,7 +104,7 @@ usage: osdp monitor [FORM] [OPTION]... [FILE]...
 
 Input: that of show: lines of digits, each of which is a run, or what one of the first four options says. The
 table comes where the input ends: end the program that gives the bytes. Ctrl-C ends this one, and no table is
-printed. The bytes of a FILE were recorded before. man osdp-monitor says what each accusation means.
+printed. The bytes of a file were recorded before. man osdp-monitor says what each accusation means.
 
 Examples:
 

@@ -1,8 +1,8 @@
 -- What is told with the moments of a capture.
-use Rattle.std.proofs.Common.{◌≡◌, ◌⊎◌, inl, inr, ℕ, List, [], ◌∷◌, ◌++◌, codes, flat_map, refl, sym, ap, ◌∙◌, append_assoc}
+use Rattle.std.proofs.Common.{◌≡◌, ◌⊎◌, inl, inr, ℕ, Bool, List, [], ◌∷◌, ◌++◌, codes, flat_map, refl, sym, ap, ◌∙◌, append_assoc}
 use Rattle.std.proofs.lemmas.Bool.{cases_Bool, cond-false, cond-true}
 use Rattle.osdp_tool_streams.specs.Cut.{line_feed, lines_of}
-use Rattle.osdp_tool_inputs.specs.Heard.{late_notice, names_run, tells_at, tells_of, times_after, told_line, took_text}
+use Rattle.osdp_tool_inputs.specs.Heard.{late_notice, names_run, shown_stamp, tells_at, tells_of, times_after, told_line, took_text}
 use Rattle.osdp_tool_inputs.specs.Laws.{AreEdges, Edges, IsFront, IsTail, MomentsLeaveLines, lines_between}
 use Rattle.osdp_tool_inputs.specs.Times.{ends_so, run_of, stamp_at, stamps_of}
 use Rattle.osdp_tool_times.specs.declared.waits.Told.{Told}
@@ -29,14 +29,14 @@ tail_is line (Late took waited) = elim (cases_Bool (ends_so line late_notice)) [
   | inr other ↦ inl (cond-false (ends_so line late_notice) (took_text took waited) [] other)
 ]
 
-abbrev Edged : List (List ℕ) → List Told → List ℕ → Type 0
-Edged stamps tells line =
-    (edge : Edges) × IsFront stamps line edge.front × IsTail tells line edge.tail
-    × ((rest : List ℕ) → told_line stamps tells line ++ rest ≡ edge.front ++ (line ++ (edge.tail ++ line_feed ∷ rest)))
+abbrev Edged : Bool → List (List ℕ) → List Told → List ℕ → Type 0
+Edged clock stamps tells line =
+    (edge : Edges) × IsFront clock stamps line edge.front × IsTail tells line edge.tail
+    × ((rest : List ℕ) → told_line clock stamps tells line ++ rest ≡ edge.front ++ (line ++ (edge.tail ++ line_feed ∷ rest)))
 
-one_edge : (stamps : List (List ℕ)) (tells : List Told) (line : List ℕ) → Edged stamps tells line
-one_edge stamps tells line =
-    let stamp = stamp_at (run_of line) stamps in
+one_edge : (clock : Bool) (stamps : List (List ℕ)) (tells : List Told) (line : List ℕ) → Edged clock stamps tells line
+one_edge clock stamps tells line =
+    let stamp = shown_stamp clock stamps line in
     let tail = times_after line (tells_at (run_of line) tells) in
     let stamped = stamp ++ (codes " " ++ ((line ++ tail) ++ line_feed ∷ [])) in
     elim (cases_Bool (names_run line)) [
@@ -55,17 +55,17 @@ one_edge stamps tells line =
       )
     ]
 
-all_edges : (stamps : List (List ℕ)) (tells : List Told) (lines : List (List ℕ)) → (edges : List Edges) × AreEdges stamps tells lines edges
-    × (flat_map (told_line stamps tells) lines ≡ lines_between edges lines)
+all_edges : (clock : Bool) (stamps : List (List ℕ)) (tells : List Told) (lines : List (List ℕ)) → (edges : List Edges) × AreEdges clock stamps tells lines edges
+    × (flat_map (told_line clock stamps tells) lines ≡ lines_between edges lines)
 unfolding lines_between
-all_edges stamps tells [] = ([], tt, refl)
-all_edges stamps tells (line ∷ lines) =
-    let first = one_edge stamps tells line in
-    let more = all_edges stamps tells lines in (
+all_edges clock stamps tells [] = ([], tt, refl)
+all_edges clock stamps tells (line ∷ lines) =
+    let first = one_edge clock stamps tells line in
+    let more = all_edges clock stamps tells lines in (
       first.0 ∷ more.0,
       (first.1, first.2, more.1),
-      first.3 (flat_map (told_line stamps tells) lines) ∙ ap (λ t. first.0.front ++ (line ++ (first.0.tail ++ line_feed ∷ t))) more.2,
+      first.3 (flat_map (told_line clock stamps tells) lines) ∙ ap (λ t. first.0.front ++ (line ++ (first.0.tail ++ line_feed ∷ t))) more.2,
     )
 
 pub moments_leave_lines : MomentsLeaveLines
-moments_leave_lines text shown = all_edges (stamps_of text) (tells_of text) (lines_of shown)
+moments_leave_lines clock text shown = all_edges clock (stamps_of text) (tells_of text) (lines_of shown)

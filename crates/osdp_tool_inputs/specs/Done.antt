@@ -83,7 +83,7 @@ module _ (ends : Ending) (retold : List ℕ → List ℕ) (text : List ℕ) (out
 
 -- by whether moments are told; else the lines are told, also where objects are made of them
 abbrev pub Listens : Bool → MonitorMode → List ℕ → Ending
-Listens true mode text result input output = Retells (EndsHeard mode) (printed_of mode.json text) text output result
+Listens true mode text result input output = Retells (EndsHeard mode) (printed_of mode.json mode.clock text) text output result
 Listens false mode text result input output = EndsHeard mode result input output
 
 -- what is asked is done with a stream of digits or bytes; these are all its bytes, where they were read before
@@ -92,6 +92,17 @@ Does (Print detail join) format limit bytes input output result = Shows detail (
 Does (Time detail join) format limit bytes input output result =
     Retells (Shows detail (form_of format join) LONGEST) (timed_text bytes) bytes output result
 Does (Listen mode) format limit bytes input output result = Listens (mode.times && has_lines format) mode bytes result input output
+
+-- ---- bytes of a file
+
+-- they were recorded before: no silence ends a run of theirs
+abbrev pub recorded_task : Task → Task
+recorded_task (Print detail join) = Print detail join
+recorded_task (Time detail join) = Time detail join
+recorded_task (Listen mode) = Listen (record mode { recorded = true })
+
+abbrev pub recorded_of : Asked → Asked
+recorded_of asked = record asked { task = recorded_task asked.task }
 
 -- ---- any form
 

@@ -4,9 +4,10 @@ use Rattle.std.specs.Fmt.{decimal}
 use Rattle.memchr.specs.Find.{is_byte, places, first_of}
 use Rattle.osdp_tool_captures.specs.Lines.{is_decimal}
 use Rattle.osdp_tool_streams.specs.Cut.{line_feed, lines_of}
-use Rattle.osdp_tool_objects.specs.Objects.{object_of}
+use Rattle.osdp_tool_objects.specs.Objects.{object_with}
 use Rattle.osdp_tool_inputs.specs.Times.{ends_so, has_digits, no_stamp, run_of, stamp_at, stamps_below, stamps_of}
 use Rattle.osdp_tool_times.specs.Captures.{Heard, after_line, after_lines, line_told, nothing_heard}
+use Rattle.osdp_tool_times.specs.DayTime.{clock_stamp}
 use Rattle.osdp_tool_times.specs.declared.waits.Told.{Told}
 use Rattle.osdp_tool_times.specs.declared.waits.Told.TheVariants.{InTime, Late, Nothing}
 use Rattle.osdp_tool_times.specs.Text.{times_objects, times_text}
@@ -46,47 +47,62 @@ times_after line (Late took waited) = if ends_so line late_notice then took_text
 abbrev pub whole_line : List Told → List ℕ → List ℕ
 whole_line tells line = line ++ times_after line (tells_at (run_of line) tells)
 
-abbrev pub told_line : List (List ℕ) → List Told → List ℕ → List ℕ
-told_line stamps tells line =
-    if names_run line then stamp_at (run_of line) stamps ++ (codes " " ++ (whole_line tells line ++ line_feed ∷ [])) else line ++ line_feed ∷ []
+-- the stamp of the run of a line, with the day's time where that is asked for
+abbrev pub shown_stamp : Bool → List (List ℕ) → List ℕ → List ℕ
+shown_stamp clock stamps line = if clock then clock_stamp (stamp_at (run_of line) stamps) else stamp_at (run_of line) stamps
+
+abbrev pub told_line : Bool → List (List ℕ) → List Told → List ℕ → List ℕ
+told_line clock stamps tells line =
+    if names_run line then shown_stamp clock stamps line ++ (codes " " ++ (whole_line tells line ++ line_feed ∷ [])) else line ++ line_feed ∷ []
 
 -- what the monitor prints of the digits in a text, with the stamps of the text
-abbrev pub told_text : List ℕ → List ℕ → List ℕ
-told_text text shown = flat_map (told_line (stamps_of text) (tells_of text)) (lines_of shown)
+abbrev pub told_text : Bool → List ℕ → List ℕ → List ℕ
+told_text clock text shown = flat_map (told_line clock (stamps_of text) (tells_of text)) (lines_of shown)
 
 -- the answer times of each device, by the stamps of the text
 abbrev pub answer_times : List ℕ → List ℕ
 answer_times text = times_text (after_lines nothing_heard (lines_of text)).times
 
-abbrev pub heard_text : List ℕ → List ℕ → List ℕ
-heard_text text shown = told_text text shown ++ answer_times text
+abbrev pub heard_text : Bool → List ℕ → List ℕ → List ℕ
+heard_text clock text shown = told_text clock text shown ++ answer_times text
 
 -- ---- the same as objects of JSON
 
--- a line about a run has the stamp of that in it
-abbrev pub stamped_object : List (List ℕ) → List Told → List ℕ → List ℕ
-stamped_object stamps tells line = object_of (stamp_at (run_of line) stamps) (whole_line tells line)
+-- how long a late answer took, and how long the panel waited
+abbrev pub took_members : ℕ → ℕ → List ℕ
+took_members took waited = codes ",\"took\":" ++ (decimal took ++ (codes ",\"waited\":" ++ decimal waited))
 
-abbrev pub told_objects : List ℕ → List ℕ → List ℕ
-told_objects text shown = flat_map (stamped_object (stamps_of text) (tells_of text)) (lines_of shown)
+-- what stands after the members of a line about a run
+abbrev pub members_after : List ℕ → Told → List ℕ
+members_after line Nothing = []
+members_after line (InTime time) = []
+members_after line (Late took waited) = if ends_so line late_notice then took_members took waited else []
+
+-- a line about a run has the stamp of that in it, and a late answer has its times after its text
+abbrev pub stamped_object : Bool → List (List ℕ) → List Told → List ℕ → List ℕ
+stamped_object clock stamps tells line =
+    object_with (shown_stamp clock stamps line) (members_after line (tells_at (run_of line) tells)) (whole_line tells line)
+
+abbrev pub told_objects : Bool → List ℕ → List ℕ → List ℕ
+told_objects clock text shown = flat_map (stamped_object clock (stamps_of text) (tells_of text)) (lines_of shown)
 
 abbrev pub answer_objects : List ℕ → List ℕ
 answer_objects text = times_objects (after_lines nothing_heard (lines_of text)).times
 
-abbrev pub heard_objects : List ℕ → List ℕ → List ℕ
-heard_objects text shown = told_objects text shown ++ answer_objects text
+abbrev pub heard_objects : Bool → List ℕ → List ℕ → List ℕ
+heard_objects clock text shown = told_objects clock text shown ++ answer_objects text
 
--- by whether objects are wanted
-abbrev pub printed_of : Bool → List ℕ → List ℕ → List ℕ
-printed_of json text shown = if json then heard_objects text shown else heard_text text shown
+-- by whether objects are wanted, and by whether the day's time is
+abbrev pub printed_of : Bool → Bool → List ℕ → List ℕ → List ℕ
+printed_of json clock text shown = if json then heard_objects clock text shown else heard_text clock text shown
 
 -- ---- the same of a capture that was heard: by its lines, by what each line of digits tells, and by what was counted
 
-abbrev pub text_with : List (List ℕ) → List Told → Heard → List ℕ → List ℕ
-text_with lines tells heard shown = flat_map (told_line (stamps_below no_stamp lines) tells) (lines_of shown) ++ times_text heard.times
+abbrev pub text_with : Bool → List (List ℕ) → List Told → Heard → List ℕ → List ℕ
+text_with clock lines tells heard shown = flat_map (told_line clock (stamps_below no_stamp lines) tells) (lines_of shown) ++ times_text heard.times
 
-abbrev pub objects_with : List (List ℕ) → List Told → Heard → List ℕ → List ℕ
-objects_with lines tells heard shown = flat_map (stamped_object (stamps_below no_stamp lines) tells) (lines_of shown) ++ times_objects heard.times
+abbrev pub objects_with : Bool → List (List ℕ) → List Told → Heard → List ℕ → List ℕ
+objects_with clock lines tells heard shown = flat_map (stamped_object clock (stamps_below no_stamp lines) tells) (lines_of shown) ++ times_objects heard.times
 
-abbrev pub printed_with : Bool → List (List ℕ) → List Told → Heard → List ℕ → List ℕ
-printed_with json lines tells heard shown = if json then objects_with lines tells heard shown else text_with lines tells heard shown
+abbrev pub printed_with : Bool → Bool → List (List ℕ) → List Told → Heard → List ℕ → List ℕ
+printed_with json clock lines tells heard shown = if json then objects_with clock lines tells heard shown else text_with clock lines tells heard shown

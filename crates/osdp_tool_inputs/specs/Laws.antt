@@ -1,9 +1,9 @@
 -- What holds of the times that are printed, in the words of their reader.
-use Rattle.std.specs.Prelude.{◌≡◌, ◌⊎◌, ◌+◌, ◌<◌, ◌^◌, ℕ, true, false, List, [], ◌∷◌, ◌++◌, codes, drop, get_or}
+use Rattle.std.specs.Prelude.{◌≡◌, ◌⊎◌, ◌+◌, ◌<◌, ◌^◌, ℕ, Bool, true, false, List, [], ◌∷◌, ◌++◌, codes, drop, get_or}
 use Rattle.std.specs.Fmt.{decimal}
 use Rattle.osdp_tool_monitor.specs.Ending.{Told}
 use Rattle.osdp_tool_streams.specs.Cut.{line_feed, lines_of}
-use Rattle.osdp_tool_inputs.specs.Heard.{tells_at, tells_of, told_text, took_text}
+use Rattle.osdp_tool_inputs.specs.Heard.{shown_stamp, tells_at, tells_of, told_text, took_text}
 use Rattle.osdp_tool_inputs.specs.Moments.{AreInOrder, Tells}
 use Rattle.osdp_tool_inputs.specs.Times.{has_digits, is_stamp, no_stamp, run_of, stamp_at, stamps_below, stamps_of}
 use Rattle.osdp_tool_inputs.specs.declared.clock.Clock.{Clock}
@@ -25,9 +25,9 @@ abbrev pub TimesByRuns : Type 0
 TimesByRuns =
     (run : ℕ) (rest : List ℕ) (stamps : List (List ℕ)) → run + 1 < 2 ^ 64 → stamp_at (run_of (decimal (run + 1) ++ 32 ∷ rest)) stamps ≡ get_or stamps run no_stamp
 
--- nothing stands before a line, or the stamp of its run and a space
-abbrev pub IsFront : List (List ℕ) → List ℕ → List ℕ → Type 0
-IsFront stamps line front = (front ≡ []) ⊎ (front ≡ stamp_at (run_of line) stamps ++ codes " ")
+-- nothing stands before a line, or the stamp of its run, with the day's time where that is asked for, and a space
+abbrev pub IsFront : Bool → List (List ℕ) → List ℕ → List ℕ → Type 0
+IsFront clock stamps line front = (front ≡ []) ⊎ (front ≡ shown_stamp clock stamps line ++ codes " ")
 
 -- nothing stands after it, or the times of its run, where that is told as late
 abbrev pub IsTail : List waits.Told → List ℕ → List ℕ → Type 0
@@ -40,11 +40,11 @@ pub record Edges : Type 0 where
   pub tail : List ℕ
 
 -- one for each line
-abbrev pub AreEdges : List (List ℕ) → List waits.Told → List (List ℕ) → List Edges → Type 0
-AreEdges stamps tells [] [] = Unit {0}
-AreEdges stamps tells [] (edge ∷ edges) = ⊥
-AreEdges stamps tells (line ∷ lines) [] = ⊥
-AreEdges stamps tells (line ∷ lines) (edge ∷ edges) = IsFront stamps line edge.front × IsTail tells line edge.tail × AreEdges stamps tells lines edges
+abbrev pub AreEdges : Bool → List (List ℕ) → List waits.Told → List (List ℕ) → List Edges → Type 0
+AreEdges clock stamps tells [] [] = Unit {0}
+AreEdges clock stamps tells [] (edge ∷ edges) = ⊥
+AreEdges clock stamps tells (line ∷ lines) [] = ⊥
+AreEdges clock stamps tells (line ∷ lines) (edge ∷ edges) = IsFront clock stamps line edge.front × IsTail tells line edge.tail × AreEdges clock stamps tells lines edges
 
 -- each line between them
 unfoldable pub lines_between : List Edges → List (List ℕ) → List ℕ
@@ -56,5 +56,5 @@ lines_between (edge ∷ edges) (line ∷ lines) = edge.front ++ (line ++ (edge.t
 -- it.
 abbrev pub MomentsLeaveLines : Type 0
 MomentsLeaveLines =
-    (text shown : List ℕ) → (edges : List Edges) × AreEdges (stamps_of text) (tells_of text) (lines_of shown) edges
-    × (told_text text shown ≡ lines_between edges (lines_of shown))
+    (clock : Bool) (text shown : List ℕ) → (edges : List Edges) × AreEdges clock (stamps_of text) (tells_of text) (lines_of shown) edges
+    × (told_text clock text shown ≡ lines_between edges (lines_of shown))

@@ -2,7 +2,7 @@
 
 ghost use Rattle.std.specs.Prelude.{◌≡◌, ◌++◌, ◌∷◌, ℕ, [], List, IfOk, OnOk, flat_map, is_some, string_bytes};
 ghost use Rattle.memchr.specs.Find.{first_of, is_byte, places};
-ghost use Rattle.osdp_tool_inputs.specs.Heard.{names_run, objects_with, printed_of, printed_with, stamped_object, tells_at, tells_below, text_with, times_after, told_line, took_text, whole_line};
+ghost use Rattle.osdp_tool_inputs.specs.Heard.{members_after, names_run, objects_with, printed_of, printed_with, shown_stamp, stamped_object, tells_at, tells_below, text_with, times_after, told_line, took_members, took_text, whole_line};
 ghost use Rattle.osdp_tool_inputs.specs.Times.{no_stamp, parts, run_of, stamps_below};
 ghost use Rattle.osdp_tool_streams.specs.Cut.{lines_of};
 ghost use Rattle.osdp_tool_streams.specs.Line.{line_bytes};
@@ -13,7 +13,7 @@ use crate::lines::cut_lines;
 use crate::times::{has_digits, is_decimal, push_line, run_in, stamp_for, stamps};
 use memchr::memchr;
 use osdp_tool_objects::push_object;
-use osdp_tool_times::{Timed, Told};
+use osdp_tool_times::{Timed, Told, clock_stamp};
 use std::alloc::{AllocError, Global};
 
 /// What the monitor tells of a late answer.
@@ -103,6 +103,47 @@ fn times_after(alloc: Global, line: &[u8], told: Told) -> Result<String, AllocEr
     }
 }
 
+/// The same as members of an object of JSON.
+fn took_members(alloc: Global, took: u64, waited: u64) -> Result<String, AllocError>
+    ensures { IfOk result (λ text. string_bytes text ≡ took_members took waited) }
+{
+    format!(in alloc; ",\"took\":{took},\"waited\":{waited}")
+}
+
+/// What stands after the members of a line about a run that tells this.
+fn members_after(alloc: Global, line: &[u8], told: Told) -> Result<String, AllocError>
+    ensures { IfOk result (λ text. string_bytes text ≡ members_after line.now told) }
+{
+    match told {
+        Told::Nothing | Told::InTime(_) => Ok(String::new(alloc)),
+        Told::Late(took, waited) => {
+            if line.ends_with(LATE) {
+                took_members(alloc, took, waited)
+            } else {
+                Ok(String::new(alloc))
+            }
+        }
+    }
+}
+
+/// The stamp of the run of a line, with the day's time where that is asked for.
+fn shown_stamp(
+    alloc: Global,
+    clock: bool,
+    stamps: &[&[u8]],
+    line: &[u8],
+) -> Result<Vec<u8>, AllocError>
+    ensures { IfOk result (λ stamp. stamp.items ≡ shown_stamp clock (parts stamps.now) line.now) }
+{
+    let stamp = stamp_for(stamps, line);
+    if clock {
+        return clock_stamp(alloc, stamp);
+    }
+    let mut shown = Vec::new(alloc);
+    shown.extend_from_slice(stamp)?;
+    Ok(shown)
+}
+
 /// A line about a run, and the times of a late answer.
 fn whole_line(alloc: Global, tells: &[Told], line: &[u8]) -> Result<Vec<u8>, AllocError>
     ensures { IfOk result (λ whole. whole.items ≡ whole_line tells.now line.now) }
@@ -117,16 +158,18 @@ fn whole_line(alloc: Global, tells: &[Told], line: &[u8]) -> Result<Vec<u8>, All
 /// Adds a line, where it is about a run after the stamp of that, and before its times.
 fn push_told(
     alloc: Global,
+    clock: bool,
     text: &mut Vec<u8>,
     stamps: &[&[u8]],
     tells: &[Told],
     line: &[u8],
 ) -> Result<(), AllocError>
-    ensures { OnOk result (text.new.items ≡ text.old.items ++ told_line (parts stamps.now) tells.now line.now) }
+    ensures { OnOk result (text.new.items ≡ text.old.items ++ told_line clock (parts stamps.now) tells.now line.now) }
 {
     if names_run(line) {
         let whole = whole_line(alloc, tells, line)?;
-        return push_line(text, stamp_for(stamps, line), whole.as_slice());
+        let stamp = shown_stamp(alloc, clock, stamps, line)?;
+        return push_line(text, stamp.as_slice(), whole.as_slice());
     }
     push_plain(text, line)
 }
@@ -134,15 +177,16 @@ fn push_told(
 /// Adds lines.
 fn push_all(
     alloc: Global,
+    clock: bool,
     text: &mut Vec<u8>,
     stamps: &[&[u8]],
     tells: &[Told],
     lines: &[&[u8]],
 ) -> Result<(), AllocError>
-    ensures { OnOk result (text.new.items ≡ text.old.items ++ flat_map (told_line (parts stamps.now) tells.now) (parts lines.now)) }
+    ensures { OnOk result (text.new.items ≡ text.old.items ++ flat_map (told_line clock (parts stamps.now) tells.now) (parts lines.now)) }
 {
     for line in lines {
-        push_told(alloc, text, stamps, tells, line)?;
+        push_told(alloc, clock, text, stamps, tells, line)?;
     }
     Ok(())
 }
@@ -151,32 +195,63 @@ fn push_all(
 /// its times.
 fn told_lines(
     alloc: Global,
+    clock: bool,
     lines: &[&[u8]],
     tells: &[Told],
     shown: &[u8],
 ) -> Result<Vec<u8>, AllocError>
-    ensures { IfOk result (λ told. told.items ≡ flat_map (told_line (stamps_below no_stamp (parts lines.now)) tells.now) (lines_of shown.now)) }
+    ensures { IfOk result (λ told. told.items ≡ flat_map (told_line clock (stamps_below no_stamp (parts lines.now)) tells.now) (lines_of shown.now)) }
 {
     let stamps = stamps(alloc, lines)?;
     let lines = cut_lines(alloc, shown)?;
     let mut told = Vec::new(alloc);
-    push_all(alloc, &mut told, stamps.as_slice(), tells, lines.as_slice())?;
+    push_all(
+        alloc,
+        clock,
+        &mut told,
+        stamps.as_slice(),
+        tells,
+        lines.as_slice(),
+    )?;
     Ok(told)
+}
+
+/// Adds the object of a line, where it is about a run with the stamp of that, and with the times of a late answer.
+fn push_stamped(
+    alloc: Global,
+    clock: bool,
+    text: &mut Vec<u8>,
+    stamps: &[&[u8]],
+    tells: &[Told],
+    line: &[u8],
+) -> Result<(), AllocError>
+    ensures { OnOk result (text.new.items ≡ text.old.items ++ stamped_object clock (parts stamps.now) tells.now line.now) }
+{
+    let whole = whole_line(alloc, tells, line)?;
+    let stamp = shown_stamp(alloc, clock, stamps, line)?;
+    let times = members_after(alloc, line, tells_for(tells, line))?;
+    push_object(
+        alloc,
+        text,
+        stamp.as_slice(),
+        times.as_bytes(),
+        whole.as_slice(),
+    )
 }
 
 /// Adds the object of each line, where it is about a run with the stamp of that.
 fn push_objects(
     alloc: Global,
+    clock: bool,
     text: &mut Vec<u8>,
     stamps: &[&[u8]],
     tells: &[Told],
     lines: &[&[u8]],
 ) -> Result<(), AllocError>
-    ensures { OnOk result (text.new.items ≡ text.old.items ++ flat_map (stamped_object (parts stamps.now) tells.now) (parts lines.now)) }
+    ensures { OnOk result (text.new.items ≡ text.old.items ++ flat_map (stamped_object clock (parts stamps.now) tells.now) (parts lines.now)) }
 {
     for line in lines {
-        let whole = whole_line(alloc, tells, line)?;
-        push_object(alloc, text, stamp_for(stamps, line), whole.as_slice())?;
+        push_stamped(alloc, clock, text, stamps, tells, line)?;
     }
     Ok(())
 }
@@ -184,16 +259,24 @@ fn push_objects(
 /// The same as objects of JSON.
 fn told_objects(
     alloc: Global,
+    clock: bool,
     lines: &[&[u8]],
     tells: &[Told],
     shown: &[u8],
 ) -> Result<Vec<u8>, AllocError>
-    ensures { IfOk result (λ told. told.items ≡ flat_map (stamped_object (stamps_below no_stamp (parts lines.now)) tells.now) (lines_of shown.now)) }
+    ensures { IfOk result (λ told. told.items ≡ flat_map (stamped_object clock (stamps_below no_stamp (parts lines.now)) tells.now) (lines_of shown.now)) }
 {
     let stamps = stamps(alloc, lines)?;
     let lines = cut_lines(alloc, shown)?;
     let mut told = Vec::new(alloc);
-    push_objects(alloc, &mut told, stamps.as_slice(), tells, lines.as_slice())?;
+    push_objects(
+        alloc,
+        clock,
+        &mut told,
+        stamps.as_slice(),
+        tells,
+        lines.as_slice(),
+    )?;
     Ok(told)
 }
 
@@ -249,13 +332,14 @@ fn answer_objects(alloc: Global, timed: &Timed) -> Result<String, AllocError>
 /// What the monitor prints of a capture of these lines, with the moments in it, and then the answer times of each device.
 fn text_with(
     alloc: Global,
+    clock: bool,
     lines: &[&[u8]],
     capture: &Capture,
     shown: &[u8],
 ) -> Result<Vec<u8>, AllocError>
-    ensures { IfOk result (λ told. told.items ≡ text_with (parts lines.now) capture.now.tells.items (heard_of capture.now.timed) shown.now) }
+    ensures { IfOk result (λ told. told.items ≡ text_with clock (parts lines.now) capture.now.tells.items (heard_of capture.now.timed) shown.now) }
 {
-    let mut told = told_lines(alloc, lines, capture.tells.as_slice(), shown)?;
+    let mut told = told_lines(alloc, clock, lines, capture.tells.as_slice(), shown)?;
     told.extend_from_slice(answer_times(alloc, &capture.timed)?.as_bytes())?;
     Ok(told)
 }
@@ -263,13 +347,14 @@ fn text_with(
 /// The same as objects of JSON.
 fn objects_with(
     alloc: Global,
+    clock: bool,
     lines: &[&[u8]],
     capture: &Capture,
     shown: &[u8],
 ) -> Result<Vec<u8>, AllocError>
-    ensures { IfOk result (λ told. told.items ≡ objects_with (parts lines.now) capture.now.tells.items (heard_of capture.now.timed) shown.now) }
+    ensures { IfOk result (λ told. told.items ≡ objects_with clock (parts lines.now) capture.now.tells.items (heard_of capture.now.timed) shown.now) }
 {
-    let mut told = told_objects(alloc, lines, capture.tells.as_slice(), shown)?;
+    let mut told = told_objects(alloc, clock, lines, capture.tells.as_slice(), shown)?;
     told.extend_from_slice(answer_objects(alloc, &capture.timed)?.as_bytes())?;
     Ok(told)
 }
@@ -278,28 +363,30 @@ fn objects_with(
 pub(crate) fn printed_with(
     alloc: Global,
     json: bool,
+    clock: bool,
     lines: &[&[u8]],
     capture: &Capture,
     shown: &[u8],
 ) -> Result<Vec<u8>, AllocError>
-    ensures { IfOk result (λ told. told.items ≡ printed_with json (parts lines.now) capture.now.tells.items (heard_of capture.now.timed) shown.now) }
+    ensures { IfOk result (λ told. told.items ≡ printed_with json clock (parts lines.now) capture.now.tells.items (heard_of capture.now.timed) shown.now) }
 {
     if json {
-        return objects_with(alloc, lines, capture, shown);
+        return objects_with(alloc, clock, lines, capture, shown);
     }
-    text_with(alloc, lines, capture, shown)
+    text_with(alloc, clock, lines, capture, shown)
 }
 
 /// What the monitor prints with the moments in a text, as lines or as objects of JSON.
 pub(crate) fn retold(
     alloc: Global,
     json: bool,
+    clock: bool,
     text: &[u8],
     shown: &[u8],
 ) -> Result<Vec<u8>, AllocError>
-    ensures { IfOk result (λ told. told.items ≡ printed_of json text.now shown.now) }
+    ensures { IfOk result (λ told. told.items ≡ printed_of json clock text.now shown.now) }
 {
     let lines = cut_lines(alloc, text)?;
     let capture = heard_in(alloc, lines.as_slice())?;
-    printed_with(alloc, json, lines.as_slice(), &capture, shown)
+    printed_with(alloc, json, clock, lines.as_slice(), &capture, shown)
 }

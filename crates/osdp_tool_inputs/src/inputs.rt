@@ -2,7 +2,7 @@
 
 ghost use Rattle.std.specs.Prelude.{◌≡◌, IfErr, IfOk, OnOk, false, true};
 ghost use Rattle.std.specs.Io.KnownBytes.{Appends};
-ghost use Rattle.osdp_tool_inputs.specs.Done.{DoesDirectly, DoesInput, DoesObjects, EndsWholly, bad_of, has_objects, heading, is_whole, status_of, text_of};
+ghost use Rattle.osdp_tool_inputs.specs.Done.{DoesDirectly, DoesInput, DoesObjects, EndsWholly, bad_of, has_objects, heading, is_whole, recorded_of, status_of, text_of};
 ghost use Rattle.osdp_tool_objects.specs.Outputs.{IsNew, output_of};
 ghost use Rattle.osdp_tool_show.specs.Ending.{watched};
 ghost use Rattle.osdp_tool_streams.specs.Watched.{has_failed, inner_of};
@@ -16,6 +16,9 @@ use osdp_tool_objects::Objects;
 use osdp_tool_streams::{LIMIT, ToolFault, Watched, flush_out, write_out};
 use std::fs;
 use std::io::{Read, Write};
+
+/// The name by which the system gives standard input.
+const STANDARD_INPUT: &str = "/dev/stdin";
 
 /// An input as lines of digits or as bytes, and the first bad line where another tool wrote it.
 fn translated(rt: &HostRuntime, format: Format, bytes: Vec<u8>) -> Result<Translated, ToolFault>
@@ -150,11 +153,32 @@ fn print_input<R: Read + Drop>(
     told
 }
 
+/// The same of bytes that were recorded before: no silence ends a run of theirs.
+fn recorded<'a>(asked: &Asked<'a>) -> Asked<'a>
+    ensures { result ≡ recorded_of asked.now }
+{
+    let mut asked = *asked;
+    if let Task::Listen(mode) = &mut asked.task {
+        mode.recorded = true;
+    }
+    asked
+}
+
+/// Does what is asked with standard input. Where that is a regular file, its bytes were recorded before.
+fn print_standard(rt: &HostRuntime, asked: &Asked<'_>) -> Result<Told, ToolFault> {
+    if let Ok(input) = fs::metadata(rt, STANDARD_INPUT) {
+        if input.is_file() {
+            return print_input(rt, &recorded(asked), rt.stdin());
+        }
+    }
+    print_input(rt, asked, rt.stdin())
+}
+
 /// Does what is asked with each input, one after the other, and gives the greatest status. Where there are several, a comment with its name
 /// stands above what is printed of each.
 pub fn do_all(rt: &HostRuntime, asked: &Asked<'_>) -> Result<u8, ToolFault> {
     if asked.files.is_empty() {
-        let told = print_input(rt, asked, rt.stdin())?;
+        let told = print_standard(rt, asked)?;
         return Ok(status_of(rt, told, ""));
     }
     let mut worst = 0;
@@ -197,16 +221,12 @@ fn status_of(rt: &HostRuntime, told: Told, name: &str) -> u8
 /// Does what is asked with the file of a name, or with standard input where that is a hyphen, and gives the status.
 fn do_file(rt: &HostRuntime, asked: &Asked<'_>, name: &str) -> Result<u8, ToolFault> {
     if name == "-" {
-        let told = print_input(rt, asked, rt.stdin())?;
+        let told = print_standard(rt, asked)?;
         return Ok(status_of(rt, told, ": -"));
-    }
-    let mut asked = *asked;
-    if let Task::Listen(mode) = &mut asked.task {
-        mode.recorded = true;
     }
     match fs::open(rt, name) {
         Ok(file) => {
-            let told = print_input(rt, &asked, file)?;
+            let told = print_input(rt, &recorded(asked), file)?;
             let Ok(suffix) = format!(in rt.alloc(); ": {name}") else {
                 return Err(ToolFault::NoMemory);
             };

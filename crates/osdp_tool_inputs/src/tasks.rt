@@ -74,7 +74,7 @@ fn listen_lines<W: Write>(
 ) -> Result<bool, ToolFault>
     requires output { has_failed output.old ≡ false }
     requires hex { mode.hex ≡ true }
-    ensures { Retells (EndsHeard mode) (printed_of mode.json text.now) text.now (watched W.contents output.old output.new) result }
+    ensures { Retells (EndsHeard mode) (printed_of mode.json mode.clock text.now) text.now (watched W.contents output.old output.new) result }
 {
     let Ok(lines) = cut_lines(rt.alloc(), text) else {
         return Err(ToolFault::NoMemory);
@@ -85,6 +85,7 @@ fn listen_lines<W: Write>(
     let Ok(told) = printed_with(
         rt.alloc(),
         mode.json,
+        mode.clock,
         lines.as_slice(),
         &ears.capture,
         ears.shown.as_bytes(),
@@ -106,7 +107,7 @@ fn listen_timed<W: Write>(
     output: &mut Watched<W>,
 ) -> Result<bool, ToolFault>
     requires { has_failed output.old ≡ false }
-    ensures { Retells (EndsHeard mode) (printed_of mode.json text.now) text.now (watched W.contents output.old output.new) result }
+    ensures { Retells (EndsHeard mode) (printed_of mode.json mode.clock text.now) text.now (watched W.contents output.old output.new) result }
 {
     if mode.hex {
         return listen_lines(rt, mode, text, output);
@@ -119,7 +120,7 @@ fn listen_timed<W: Write>(
         return Err(ToolFault::NoMemory);
     }
     let shown = memory.get_ref().as_slice();
-    let Ok(lines) = retold(rt.alloc(), mode.json, text, shown) else {
+    let Ok(lines) = retold(rt.alloc(), mode.json, mode.clock, text, shown) else {
         return Err(ToolFault::NoMemory);
     };
     match print_text(lines.as_slice(), output) {

@@ -7,7 +7,7 @@ use Rattle.osdp_frame.specs.Times.{IsTime}
 use Rattle.osdp_tool_options.specs.Options.{TakesFirst, Words}
 use Rattle.osdp_tool_options.proofs.Named.{number_stands, number_taken}
 use Rattle.osdp_tool_monitor.specs.declared.mode.MonitorOption.{MonitorOption}
-use Rattle.osdp_tool_monitor.specs.declared.mode.MonitorOption.TheVariants.{Packets, Talk, Gap, Every, Standard, Recorded, Times, Json}
+use Rattle.osdp_tool_monitor.specs.declared.mode.MonitorOption.TheVariants.{Packets, Talk, Gap, Every, Standard, Recorded, Times, Json, Clock}
 use Rattle.osdp_tool_monitor.specs.declared.mode.OptionName.{OptionName}
 use Rattle.osdp_tool_monitor.specs.declared.mode.OptionName.TheVariants as name
 
@@ -26,6 +26,7 @@ taken name.Standard old new o (took, same) = let is : o ≡ Standard = cc in rw 
 taken name.Recorded old new o (took, same) = let is : o ≡ Recorded = cc in rw (is, same) (tt, refl)
 taken name.Times old new o (took, same) = let is : o ≡ Times = cc in rw (is, same) (tt, refl)
 taken name.Json old new o (took, same) = let is : o ≡ Json = cc in rw (is, same) (tt, refl)
+taken name.Clock old new o (took, same) = let is : o ≡ Clock = cc in rw (is, same) (tt, refl)
 
 -- the option that stands there is the one that is taken
 stands : (o : MonitorOption) (old new rest : Words) (result : Option MonitorOption) → TakesOption (name_of o) old new result → OptionFits o
@@ -38,6 +39,7 @@ stands Standard old new rest result (took, same) fit e = (took, same ∙ e)
 stands Recorded old new rest result (took, same) fit e = (took, same ∙ e)
 stands Times old new rest result (took, same) fit e = (took, same ∙ e)
 stands Json old new rest result (took, same) fit e = (took, same ∙ e)
+stands Clock old new rest result (took, same) fit e = (took, same ∙ e)
 
 module _ (word : List ℕ) (old new : Words) (found : Option OptionName) (is : (n : OptionName) → (found ≡ Some n) ↔ (word ≡ name_text n)) where
   first : (o : MonitorOption) (rest : Words) → word ∷ old ≡ name_text (name_of o) ∷ (map decimal (numbers_of o) ++ rest) → found ≡ Some (name_of o)

@@ -5,7 +5,7 @@ use Rattle.osdp_frame.specs.Times.{IsTime}
 use Rattle.osdp_tool_show.specs.declared.detail.Detail.TheVariants.{Filtered, Full, Refusals}
 use Rattle.osdp_tool_monitor.specs.declared.mode.MonitorMode.{MonitorMode}
 use Rattle.osdp_tool_monitor.specs.declared.mode.MonitorOption.{MonitorOption}
-use Rattle.osdp_tool_monitor.specs.declared.mode.MonitorOption.TheVariants.{Packets, Talk, Gap, Every, Standard, Recorded, Times, Json}
+use Rattle.osdp_tool_monitor.specs.declared.mode.MonitorOption.TheVariants.{Packets, Talk, Gap, Every, Standard, Recorded, Times, Json, Clock}
 use Rattle.osdp_tool_monitor.specs.declared.mode.OptionName.{OptionName}
 use Rattle.osdp_tool_monitor.specs.declared.mode.OptionName.TheVariants as name
 
@@ -18,6 +18,7 @@ name_text name.Standard = codes "--standard"
 name_text name.Recorded = codes "--recorded"
 name_text name.Times = codes "--times"
 name_text name.Json = codes "--json"
+name_text name.Clock = codes "--clock"
 
 abbrev pub name_of : MonitorOption → OptionName
 name_of Packets = name.Packets
@@ -28,6 +29,7 @@ name_of Standard = name.Standard
 name_of Recorded = name.Recorded
 name_of Times = name.Times
 name_of Json = name.Json
+name_of Clock = name.Clock
 
 -- the number of an option that has one
 abbrev pub numbers_of : MonitorOption → List ℕ
@@ -39,6 +41,7 @@ numbers_of Standard = []
 numbers_of Recorded = []
 numbers_of Times = []
 numbers_of Json = []
+numbers_of Clock = []
 
 -- milliseconds of a gap, or seconds between two tables: both have the range of a time of the link
 abbrev pub OptionFits : MonitorOption → Type 0
@@ -50,6 +53,7 @@ OptionFits Standard = Unit {0}
 OptionFits Recorded = Unit {0}
 OptionFits Times = Unit {0}
 OptionFits Json = Unit {0}
+OptionFits Clock = Unit {0}
 
 abbrev pub with_option : MonitorOption → MonitorMode → MonitorMode
 with_option Packets mode = record mode { detail = Full }
@@ -60,11 +64,13 @@ with_option Standard mode = record mode { standard = true }
 with_option Recorded mode = record mode { recorded = true }
 with_option Times mode = record mode { times = true }
 with_option Json mode = record mode { json = true }
+-- the day's time of a moment is asked for with the moment
+with_option Clock mode = record mode { times = true; clock = true }
 
 -- without options the input is lines of digits, findings alone are printed, in lines of text, a run is over after 20 milliseconds, no accusation is left
 -- out, and no moment is told
 abbrev pub default_mode : MonitorMode
-default_mode = record { hex = true; detail = Refusals; gap = 20; every = None; standard = false; recorded = false; times = false; json = false }
+default_mode = record { hex = true; detail = Refusals; gap = 20; every = None; standard = false; recorded = false; times = false; json = false; clock = false }
 
 -- what the words ask for of an input of lines of digits, or of one of bytes
 abbrev pub ReadsMode : Bool → Words → Option MonitorMode → Type 0
@@ -83,3 +89,4 @@ TakesOption name.Standard old new result = (result ≡ Some Standard) × (new �
 TakesOption name.Recorded old new result = (result ≡ Some Recorded) × (new ≡ old)
 TakesOption name.Times old new result = (result ≡ Some Times) × (new ≡ old)
 TakesOption name.Json old new result = (result ≡ Some Json) × (new ≡ old)
+TakesOption name.Clock old new result = (result ≡ Some Clock) × (new ≡ old)

@@ -34,6 +34,8 @@ pub struct MonitorMode {
     pub times: bool,
     /// Whether an object of JSON is printed for each line.
     pub json: bool,
+    /// Whether a moment that is told is told as the day's time.
+    pub clock: bool,
 }
 
 /// A word of the command `monitor`, with its number.
@@ -55,6 +57,8 @@ pub enum MonitorOption {
     Times,
     /// `--json`
     Json,
+    /// `--clock`
+    Clock,
 }
 
 /// Which option a word names.
@@ -68,6 +72,7 @@ pub(crate) enum OptionName {
     Recorded,
     Times,
     Json,
+    Clock,
 }
 
 /// The option of this name.
@@ -83,6 +88,7 @@ fn option_name(word: &str) -> Option<OptionName>
         "--recorded" => Some(OptionName::Recorded),
         "--times" => Some(OptionName::Times),
         "--json" => Some(OptionName::Json),
+        "--clock" => Some(OptionName::Clock),
         _ => None,
     }
 }
@@ -119,6 +125,7 @@ impl MonitorOption {
             OptionName::Recorded => Some(MonitorOption::Recorded),
             OptionName::Times => Some(MonitorOption::Times),
             OptionName::Json => Some(MonitorOption::Json),
+            OptionName::Clock => Some(MonitorOption::Clock),
         }
     }
 }
@@ -155,6 +162,10 @@ impl CommandOption for MonitorOption {
             MonitorOption::Recorded => mode.recorded = true,
             MonitorOption::Times => mode.times = true,
             MonitorOption::Json => mode.json = true,
+            MonitorOption::Clock => {
+                mode.times = true;
+                mode.clock = true;
+            }
         }
     }
 }
@@ -175,6 +186,7 @@ pub fn monitor_mode(hex: bool, words: &[&str]) -> Option<MonitorMode>
         recorded: false,
         times: false,
         json: false,
+        clock: false,
     };
     read_options::<MonitorOption>(mode, words)
 }

@@ -75,8 +75,9 @@ abbrev pub place_members : List ℕ → List ℕ → List ℕ
 place_members stamp line =
     member (codes "run") (before 58 line) ++ (member (codes "place") (after 58 (before 32 line)) ++ member (codes "stamp") (stamp_of stamp))
 
-abbrev pub run_object : List ℕ → List ℕ → List ℕ
-run_object stamp line = run_kind (words_of line) ++ (place_members stamp line ++ (word_members (words_of line) ++ codes "}\n"))
+-- whoever calls may have more members to tell
+abbrev pub run_object : List ℕ → List ℕ → List ℕ → List ℕ
+run_object stamp more line = run_kind (words_of line) ++ (place_members stamp line ++ (word_members (words_of line) ++ (more ++ codes "}\n")))
 
 -- ---- the table
 
@@ -101,18 +102,22 @@ words_object start words = start ++ (text_of words ++ codes "}\n")
 
 -- ---- any line
 
-abbrev pub kind_object : Kind → List ℕ → List ℕ → List ℕ
-kind_object kind.Run stamp line = run_object stamp line
-kind_object kind.Row stamp line = row_object (codes "{\"kind\":\"device\"") line
-kind_object kind.Counts stamp line = counts_object (codes "{\"kind\":\"line\"") line
-kind_object kind.WindowRow stamp line = row_object (codes "{\"kind\":\"window\"") (drop 1 line)
-kind_object kind.WindowCounts stamp line = counts_object (codes "{\"kind\":\"window_line\"") (drop 1 line)
-kind_object kind.Diagnosis stamp line = words_object (codes "{\"kind\":\"diagnosis\",\"text\":") (drop 11 line)
-kind_object kind.Expected stamp line = words_object (codes "{\"kind\":\"expected\",\"packet\":") (drop 14 line)
-kind_object kind.Seen stamp line = words_object (codes "{\"kind\":\"seen\",\"packet\":") (drop 14 line)
-kind_object kind.Note stamp line = words_object (codes "{\"kind\":\"note\",\"text\":") line
+abbrev pub kind_object : Kind → List ℕ → List ℕ → List ℕ → List ℕ
+kind_object kind.Run stamp more line = run_object stamp more line
+kind_object kind.Row stamp more line = row_object (codes "{\"kind\":\"device\"") line
+kind_object kind.Counts stamp more line = counts_object (codes "{\"kind\":\"line\"") line
+kind_object kind.WindowRow stamp more line = row_object (codes "{\"kind\":\"window\"") (drop 1 line)
+kind_object kind.WindowCounts stamp more line = counts_object (codes "{\"kind\":\"window_line\"") (drop 1 line)
+kind_object kind.Diagnosis stamp more line = words_object (codes "{\"kind\":\"diagnosis\",\"text\":") (drop 11 line)
+kind_object kind.Expected stamp more line = words_object (codes "{\"kind\":\"expected\",\"packet\":") (drop 14 line)
+kind_object kind.Seen stamp more line = words_object (codes "{\"kind\":\"seen\",\"packet\":") (drop 14 line)
+kind_object kind.Note stamp more line = words_object (codes "{\"kind\":\"note\",\"text\":") line
 -- the head of a table has none: its names are those of the members
-kind_object kind.Heading stamp line = []
+kind_object kind.Heading stamp more line = []
+
+-- a line about a run has these members after its own
+abbrev pub object_with : List ℕ → List ℕ → List ℕ → List ℕ
+object_with stamp more line = kind_object (kind_of line) stamp more line
 
 abbrev pub object_of : List ℕ → List ℕ → List ℕ
-object_of stamp line = kind_object (kind_of line) stamp line
+object_of stamp line = object_with stamp [] line

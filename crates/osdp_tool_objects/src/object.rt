@@ -3,7 +3,7 @@
 ghost use Rattle.std.specs.Prelude.{◌≡◌, ◌++◌, ◌≤◌, OnOk, drop, length};
 ghost use Rattle.osdp_words.specs.Word.{texts};
 ghost use Rattle.osdp_tool_objects.specs.Members.{columns};
-ghost use Rattle.osdp_tool_objects.specs.Objects.{address_members, basis_of, column_names, columns_object, counts_object, kind_object, object_of, party_members, place_members, row_object, run_kind, run_object, told_members, word_members, words_object};
+ghost use Rattle.osdp_tool_objects.specs.Objects.{address_members, basis_of, column_names, columns_object, counts_object, kind_object, object_with, party_members, place_members, row_object, run_kind, run_object, told_members, word_members, words_object};
 
 use crate::cuts::{after, before};
 use crate::line::{Kind, basis_length, kind_of, party_length};
@@ -91,19 +91,21 @@ fn push_place(
     push_member(object, b"stamp", stamp_value(alloc, stamp)?.as_bytes())
 }
 
-/// Adds the object of a line about a run.
+/// Adds the object of a line about a run, with more members after its own.
 fn push_run(
     alloc: Global,
     object: &mut Vec<u8>,
     stamp: &[u8],
+    more: &[u8],
     line: &[u8],
 ) -> Result<(), AllocError>
-    ensures { OnOk result (object.new.items ≡ object.old.items ++ run_object stamp.now line.now) }
+    ensures { OnOk result (object.new.items ≡ object.old.items ++ run_object stamp.now more.now line.now) }
 {
     let words = after(b' ', line);
     object.extend_from_slice(run_kind(words))?;
     push_place(alloc, object, stamp, line)?;
     push_words(alloc, object, words)?;
+    object.extend_from_slice(more)?;
     object.extend_from_slice(b"}\n")
 }
 
@@ -194,13 +196,14 @@ fn push_kind(
     object: &mut Vec<u8>,
     kind: Kind,
     stamp: &[u8],
+    more: &[u8],
     line: &[u8],
 ) -> Result<(), AllocError>
-    ensures { OnOk result (object.new.items ≡ object.old.items ++ kind_object kind stamp.now line.now) }
+    ensures { OnOk result (object.new.items ≡ object.old.items ++ kind_object kind stamp.now more.now line.now) }
 {
     let counted = from_place(1, line);
     match kind {
-        Kind::Run => push_run(alloc, object, stamp, line),
+        Kind::Run => push_run(alloc, object, stamp, more, line),
         Kind::Row => push_row(alloc, object, b"{\"kind\":\"device\"", line),
         Kind::Counts => push_line(alloc, object, b"{\"kind\":\"line\"", line),
         Kind::WindowRow => push_row(alloc, object, b"{\"kind\":\"window\"", counted),
@@ -228,14 +231,16 @@ fn push_kind(
     }
 }
 
-/// Adds the object of a line that `monitor` tells, with the stamp of its run, where it has one. The head of a table has none.
+/// Adds the object of a line that `monitor` tells, with the stamp of its run, where it has one, and more members after its own, each after a comma. The head of a
+/// table has none.
 pub fn push_object(
     alloc: Global,
     object: &mut Vec<u8>,
     stamp: &[u8],
+    more: &[u8],
     line: &[u8],
 ) -> Result<(), AllocError>
-    ensures { OnOk result (object.new.items ≡ object.old.items ++ object_of stamp.now line.now) }
+    ensures { OnOk result (object.new.items ≡ object.old.items ++ object_with stamp.now more.now line.now) }
 {
-    push_kind(alloc, object, kind_of(line), stamp, line)
+    push_kind(alloc, object, kind_of(line), stamp, more, line)
 }

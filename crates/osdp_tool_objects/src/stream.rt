@@ -42,7 +42,7 @@ fn end_line(
     ensures held { OnOk result (held.new.items ≡ []) }
 {
     held.extend_from_slice(rest)?;
-    push_object(alloc, text, &[], held.as_slice())?;
+    push_object(alloc, text, &[], &[], held.as_slice())?;
     held.clear();
     Ok(())
 }

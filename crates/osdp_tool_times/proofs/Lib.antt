@@ -3,3 +3,5 @@ pub mod Steps
 pub mod Exchanges
 pub mod Rows
 pub mod Comments
+pub mod DayTimes
+pub mod Presences

@@ -1,6 +1,10 @@
 pub mod Waits
+pub mod Numbers
+pub mod Presence
 pub mod Times
 pub mod Moments
 pub mod Captures
+pub mod DayTime
 pub mod Text
 pub mod Laws
+pub mod PresenceLaws

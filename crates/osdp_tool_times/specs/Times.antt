@@ -1,28 +1,20 @@
 -- What is counted of the answers of a device.
-use Rattle.std.specs.Prelude.{ℕ, ◌+◌, ◌-◌, ◌*◌, ◌/◌, ◌^◌, ◌==◌, nat_le, nat_lt, if◌then◌else◌, List, [], ◌∷◌, replicate, slice_index_or, slice_set, Option, None, Some}
+use Rattle.std.specs.Prelude.{ℕ, ◌+◌, ◌-◌, ◌*◌, ◌/◌, ◌==◌, nat_le, if◌then◌else◌, List, [], ◌∷◌, replicate, slice_index_or, slice_set, Option, None, Some}
 use Rattle.osdp_frame.specs.Packet.{Packet}
 use Rattle.osdp_tool_times.specs.Waits.{after_reply, after_sent, no_waits, told_reply}
+pub use Rattle.osdp_tool_times.specs.Numbers.{one_more, lesser, greater}
+use Rattle.osdp_tool_times.specs.Presence.{not_heard, presence_after}
 use Rattle.osdp_tool_times.specs.declared.table.Times.{Times}
 use Rattle.osdp_tool_times.specs.declared.waits.Sent.{Sent}
 use Rattle.osdp_tool_times.specs.declared.waits.Told.{Told}
 use Rattle.osdp_tool_times.specs.declared.waits.Told.TheVariants.{InTime, Late, Nothing}
-
--- one more; a count stays at the greatest number of 64 bits
-abbrev pub one_more : ℕ → ℕ
-one_more count = if nat_lt count (2 ^ 64 - 1) then count + 1 else count
-
-abbrev pub lesser : ℕ → ℕ → ℕ
-lesser a b = if nat_le a b then a else b
-
-abbrev pub greater : ℕ → ℕ → ℕ
-greater a b = if nat_le a b then b else a
 
 -- answer times are counted by steps of 5 milliseconds, 64 of them; the last one has all that take longer
 abbrev pub step_of : ℕ → ℕ
 step_of time = lesser (time / 5) 63
 
 abbrev pub no_times : Times
-no_times = record { answers = 0; least = 0; most = 0; late = 0; took = 0; missed = 0; waited = 0; steps = replicate 64 0; waits = no_waits }
+no_times = record { answers = 0; least = 0; most = 0; late = 0; took = 0; missed = 0; waited = 0; steps = replicate 64 0; waits = no_waits; presence = not_heard }
 
 abbrev pub after_in_time : ℕ → Times → Times
 after_in_time time t = record t {
@@ -55,12 +47,18 @@ abbrev pub packet_told : Packet → Option ℕ → Times → Told
 packet_told p None t = Nothing
 packet_told p (Some moment) t = if p.reply then told_reply t.waits p.sequence moment else Nothing
 
--- a packet without a moment leaves nothing open
+-- a packet without a moment leaves nothing open, and tells nothing else
 abbrev pub after_packet : Packet → Option ℕ → Times → Times
 after_packet p None t = record t { waits = no_waits }
 after_packet p (Some moment) t =
-    if p.reply then record (after_told (told_reply t.waits p.sequence moment) t) { waits = after_reply p.sequence moment t.waits }
-    else record (after_missed t.waits.first t.waits.last moment t) { waits = after_sent (record { moment = moment; number = p.sequence }) t.waits }
+    if p.reply then record (after_told (told_reply t.waits p.sequence moment) t) {
+      waits = after_reply p.sequence moment t.waits;
+      presence = presence_after p moment t.presence;
+    }
+    else record (after_missed t.waits.first t.waits.last moment t) {
+      waits = after_sent (record { moment = moment; number = p.sequence }) t.waits;
+      presence = presence_after p moment t.presence;
+    }
 
 -- those of each address, from 0 on
 abbrev pub all_after : Packet → Option ℕ → List Times → List Times

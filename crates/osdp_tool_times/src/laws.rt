@@ -1,5 +1,7 @@
-//! What is told as late, in the words of the line. A law has no code: it holds for all values, and its proof is the law's.
+//! What is told as late, in the words of the line, which devices are told offline and how often they restart, and what the day's time tells. A law has no code: it holds for all values, and its proof is the law's.
 
+ghost use Rattle.osdp_tool_times.specs.DayTime.{ComesAgain, TellsMomentsApart};
+ghost use Rattle.osdp_tool_times.specs.PresenceLaws.{CountsARowOnce, CountsRestarts, TellsOffline, TellsOnline};
 ghost use Rattle.osdp_tool_times.specs.Laws.{NeverTellsLate, TellsLate, TellsLateCopies, TellsLateFurther, TellsLateSeconds};
 
 /// A device that answers each packet before the panel sends its next one is never told late.
@@ -25,4 +27,34 @@ pub fn tells_late_seconds()
 /// And so it is where the panel has sent two more packets.
 pub fn tells_late_further()
     ensures { TellsLateFurther }
+{}
+
+/// The day's time tells two moments of one day apart.
+pub fn day_times_tell_moments_apart()
+    ensures { TellsMomentsApart }
+{}
+
+/// A day later the day's time is the same.
+pub fn day_times_come_again()
+    ensures { ComesAgain }
+{}
+
+/// A device is told offline from its third packet in a row that has no answer, and no earlier.
+pub fn tells_offline()
+    ensures { TellsOffline }
+{}
+
+/// It is online since it was, where it answers one of the first three packets, and else since its next answer.
+pub fn tells_online()
+    ensures { TellsOnline }
+{}
+
+/// A device that restarts every so many seconds is told so often, and with these seconds.
+pub fn counts_restarts()
+    ensures { CountsRestarts }
+{}
+
+/// Several NAK 4 in a row are told as one restart.
+pub fn counts_a_row_once()
+    ensures { CountsARowOnce }
 {}

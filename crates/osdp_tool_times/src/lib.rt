@@ -2,10 +2,14 @@
 #![tactic(auto)]
 
 mod capture;
+mod day_time;
 pub mod laws;
 mod line;
 mod moment;
 mod object;
+mod presence;
+mod presence_object;
+mod presence_text;
 mod run;
 mod table;
 #[cfg(test)]
@@ -14,4 +18,5 @@ mod text;
 mod waits;
 
 pub use capture::Timed;
+pub use day_time::clock_stamp;
 pub use waits::Told;

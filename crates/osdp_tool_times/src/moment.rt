@@ -86,7 +86,7 @@ fn seconds_in(text: &[u8]) -> Option<u64>
 }
 
 /// How many characters say the way of a burst.
-fn way_length(text: &[u8]) -> usize
+pub(crate) fn way_length(text: &[u8]) -> usize
     ensures { result ≡ way_length text.now }
 {
     if text.ends_with(b"in") {

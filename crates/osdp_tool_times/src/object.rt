@@ -3,13 +3,14 @@
 ghost use Rattle.std.specs.Prelude.{◌≡◌, ◌++◌, ◌≤◌, OnOk, length, string_bytes};
 ghost use Rattle.osdp_tool_times.specs.Text.{answers_members, answers_object, device_objects, first_members, late_members, late_object, named, shares_members, times_objects, took_members};
 
+use crate::presence_object::push_presence;
 use crate::table::Times;
 use crate::text::times_at;
 use std::alloc::AllocError;
 
 /// Writes a number after its name.
 #[tactic(auto, unfolding(crate::specs::Text::named))]
-fn push_named(text: &mut String, name: &str, number: u64) -> Result<(), AllocError>
+pub(crate) fn push_named(text: &mut String, name: &str, number: u64) -> Result<(), AllocError>
     ensures { OnOk result (string_bytes text.new ≡ string_bytes text.old ++ named name.now number) }
 {
     write!(text, ",\"{name}\":{number}")
@@ -88,7 +89,8 @@ fn push_device(text: &mut String, address: u64, times: &Times) -> Result<(), All
     ensures { OnOk result (string_bytes text.new ≡ string_bytes text.old ++ device_objects address times.now) }
 {
     push_answers(text, address, times)?;
-    push_late(text, address, times)
+    push_late(text, address, times)?;
+    push_presence(text, address, &times.presence)
 }
 
 /// Writes the objects of all addresses, from 0 on.

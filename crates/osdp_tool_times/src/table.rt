@@ -3,6 +3,7 @@
 ghost use Rattle.std.specs.Prelude.{◌≡◌, ◌<◌, ◌≤◌, length};
 ghost use Rattle.osdp_tool_times.specs.Times.{after_in_time, after_late, after_missed, after_packet, after_told, below, greater, half_below, lesser, most_below, no_times, one_more, packet_told, step_at, step_of};
 
+use crate::presence::Presence;
 use crate::waits::{Sent, Told, Waits};
 use osdp_frame::FrameView;
 
@@ -30,10 +31,12 @@ pub struct Times {
     pub steps: [u64; 64],
     /// What is open.
     pub waits: Waits,
+    /// When it answered, and its restarts.
+    pub presence: Presence,
 }
 
 /// One more.
-fn one_more(count: u64) -> u64
+pub(crate) fn one_more(count: u64) -> u64
     ensures { result ≡ one_more count }
 {
     if count < u64::MAX { count + 1 } else { count }
@@ -90,6 +93,7 @@ impl Times {
         waited: 0,
         steps: [0; STEPS],
         waits: Waits::NONE,
+        presence: Presence::NONE,
     };
 
     /// An answer took so long.
@@ -153,14 +157,18 @@ impl Times {
         };
         let number = packet.seq().get();
         let waits = self.waits;
+        let mut presence = self.presence;
+        presence.take(packet, moment);
         if packet.is_reply() {
             let told = waits.told_reply(number, moment);
             self.count(told);
             self.waits = waits.after_reply(number, moment);
+            self.presence = presence;
             told
         } else {
             self.count_missed(moment);
             self.waits = waits.after_sent(Sent { moment, number });
+            self.presence = presence;
             Told::Nothing
         }
     }

@@ -20,11 +20,13 @@ const CAPTURE: [&str; 10] = [
 
 const TEXT: &str = "times: 5 answered 1 in 20 to 20 ms, half below 25, 95 of 100 below 25
 times: 5 answered 1 late, after 250 ms at most: the panel waits 200 ms
+times: 5 online since 00:00:01.020, last answer at 00:00:02.250
 ";
 
 const OBJECTS: &str =
     "{\"kind\":\"times\",\"address\":5,\"answers\":1,\"least\":20,\"most\":20,\"half_below\":25,\"most_below\":25}
 {\"kind\":\"late\",\"address\":5,\"answers\":1,\"took\":250,\"waited\":200}
+{\"kind\":\"online\",\"address\":5,\"since\":\"00:00:01.020\",\"last\":\"00:00:02.250\"}
 ";
 
 fn heard(rt: &impl Abort, alloc: Global) -> Timed {

@@ -3,6 +3,7 @@
 ghost use Rattle.std.specs.Prelude.{◌≡◌, ◌++◌, ◌<◌, ◌≤◌, OnOk, Option, length, slice_get, string_bytes};
 ghost use Rattle.osdp_tool_times.specs.Text.{answers_line, counted_text, device_text, late_line, shares_text, times_text};
 
+use crate::presence_text::push_presence;
 use crate::table::Times;
 use std::alloc::AllocError;
 
@@ -58,7 +59,8 @@ fn push_device(text: &mut String, address: u64, times: &Times) -> Result<(), All
     ensures { OnOk result (string_bytes text.new ≡ string_bytes text.old ++ device_text address times.now) }
 {
     push_answers(text, address, times)?;
-    push_late(text, address, times)
+    push_late(text, address, times)?;
+    push_presence(text, address, &times.presence)
 }
 
 /// What was counted of an address.

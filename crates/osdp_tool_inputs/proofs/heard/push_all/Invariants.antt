@@ -7,5 +7,5 @@ use Rattle.osdp_tool_inputs.proofs.heard.push_all.Given as goal
 -- the lines so far, and those to come
 abbrev pub invariant-loop-line : goal.invariant-loop-line
 invariant-loop-line l =
-    l.text.items ++ flat_map (told_line (parts l.stamps) l.tells) (parts (drop l.line-index l.lines))
-    ≡ l.initial.text.items ++ flat_map (told_line (parts l.stamps) l.tells) (parts l.lines)
+    l.text.items ++ flat_map (told_line l.clock (parts l.stamps) l.tells) (parts (drop l.line-index l.lines))
+    ≡ l.initial.text.items ++ flat_map (told_line l.clock (parts l.stamps) l.tells) (parts l.lines)
