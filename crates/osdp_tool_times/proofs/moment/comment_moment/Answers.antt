@@ -1,9 +1,18 @@
-use Rattle.std.proofs.Common.{◌++◌, sym, ap, ◌∙◌, take}
+use Rattle.std.proofs.Common.{◌++◌, sym, ap, ◌∙◌, arith, take}
 use Rattle.std.proofs.lemmas.Bool.{ne_eqb}
 use Rattle.osdp_tool_streams.specs.Line.{kept}
 use Rattle.osdp_tool_times.specs.Moments.{moment_in, stamp_in}
 use Rattle.osdp_tool_times.proofs.Comments.{moment_of_comment}
 use Rattle.osdp_tool_times.proofs.moment.comment_moment.Goals as goal
+
+pub returns-in-Some : goal.returns-in-Some
+returns-in-Some c =
+    let text = c.before_blank-text.result.now in
+    let stamp = c.after_blank-stamp.result.now in
+    sym c.in-Some.ensures.1 ∙ ap stamp_in (sym c.in-Some.ensures.0)
+    ∙ sym (moment_of_comment text stamp c.way_length-way.result c.way_length-way.ensures (ne_eqb c.way_length-way.result 0 (λ e. omega (arith, c.if-way-gt0.true)))
+    (c.after_blank-stamp.ensures ∙ c.before_blank.ensures ∙ ap (λ n. kept (take n text)) c.saturating_sub.ensures))
+    ∙ ap moment_in c.before_blank-text.ensures
 
 pub returns : goal.returns
 returns c =
