@@ -1,7 +1,8 @@
 """`osdp-port --live`: the monitor's table as a picture on a terminal, redrawn in place. Takes the path of the program.
 
 The port is a pseudo terminal, and so is the output, of 100 columns and 30 lines, whose picture is kept as text: it is what a person sees. A panel asks three
-devices: 5 answers, 6 loses every second answer, and 7 has a reply that answers no command. Then the output is a pipe, which gets plain lines, or objects of JSON."""
+devices: 5 answers, 6 loses every second answer, and 7 has a reply that answers no command. Pictures that are broken on purpose must be told. Then the output is a pipe,
+which gets plain lines, or objects of JSON."""
 import json
 import os
 import pty
@@ -136,21 +137,47 @@ def seen(options, seconds):
     return live, picture.text(), scrolled, status
 
 
+def picture_faults(live, scrolled):
+    """What is wrong with the picture of this line."""
+    if scrolled:
+        yield f"the picture scrolled by {scrolled} lines"
+    if live.count("device  asked  polls") != 1:
+        yield "not one table"
+    if not re.search(r"^monitor at \S+ 9600: \d\d:\d\d:\d\d, last byte [0-9] s ago; Ctrl-C ends it$", live, re.M):
+        yield "no heading"
+    if not re.search(r"^last \d+ s: \d+% of the time in use; a second \d+\.\d packets, 0\.0 damaged, \d+\.\d turns of the panel$", live, re.M):
+        yield "no line of the window"
+    rows = {int(row[1]): (int(row[2]), float(row[3])) for row in re.finditer(r"^(\d+) +(\d+) +0\.0% +(\d+\.\d)%  online$", live, re.M)}
+    lost = {address: asked * share / 100 for address, (asked, share) in rows.items()}
+    if set(lost) != {5, 6, 7}:
+        yield f"the devices of the window are {rows}"
+    elif lost[5] > 1.1 or abs(lost[6] - rows[6][0] / 2) > 2:  # an answer may be on its way when a table is due
+        yield f"5 loses {lost[5]:.1f} answers, and 6 {lost[6]:.1f} of {rows[6][0]}"
+    if live.rfind("reader 7: a reply that doesn't fit the command") < live.find("device  asked  polls"):
+        yield "no accusation stands under the table"
+    if not all(len(line) <= WIDTH for line in live.split("\n")):
+        yield "a line is too long"
+
+
+BROKEN = {  # how a picture is broken
+    "a second table stands there": lambda live: f"{live}\ndevice  asked  polls",
+    "the heading isn't there": lambda live: re.sub(r"^monitor at .*$", "", live, flags=re.M),
+    "the line of the window isn't there": lambda live: re.sub(r"^last \d+ s: .*$", "", live, flags=re.M),
+    "a device isn't there": lambda live: re.sub(r"^7 .*$", "", live, flags=re.M),
+    "the losses of 6 are none": lambda live: re.sub(r"^(6 +\d+ +0\.0% +)\d+\.\d%", r"\g<1>0.0%", live, flags=re.M),
+    "the accusations aren't there": lambda live: live.replace("reader 7: a reply that doesn't fit", "reader 7: a reply that does fit"),
+    "the accusations stand above the table": lambda live: live[(told := live.find("reader 7:")):] + live[:told],
+    "a line is too long": lambda live: live + "x" * (WIDTH + 1),
+}
+
+
 def is_drawn():
     live, last, scrolled, status = seen(["--live"], 6)
     print(live)
-    asks(scrolled == 0, f"the picture scrolled by {scrolled} lines")
-    asks(live.count("device  asked  polls") == 1, "not one table")
-    asks(re.search(r"^monitor at \S+ 9600: \d\d:\d\d:\d\d, last byte [0-9] s ago; Ctrl-C ends it$", live, re.M), "no heading")
-    asks(re.search(r"^last \d+ s: \d+% of the time in use; a second \d+\.\d packets, 0\.0 damaged, \d+\.\d turns of the panel$", live, re.M), "no line of the window")
-    rows = {int(row[1]): (int(row[2]), float(row[3])) for row in re.finditer(r"^(\d+) +(\d+) +0\.0% +(\d+\.\d)%  online$", live, re.M)}
-    lost = {address: asked * share / 100 for address, (asked, share) in rows.items()}
-    asks(set(lost) == {5, 6, 7}, f"the devices of the window are {rows}")
-    if 5 in lost and 6 in lost:  # an answer may be on its way when a table is due
-        asks(lost[5] <= 1.1, f"5 loses {lost[5]:.1f} answers")
-        asks(abs(lost[6] - rows[6][0] / 2) <= 2, f"6 loses {lost[6]:.1f} of {rows[6][0]} answers")
-    asks("reader 7: a reply that doesn't fit the command" in live, "no accusation stands under the table")
-    asks(all(len(line) <= WIDTH for line in live.split("\n")), "a line is too long")
+    faults.extend(picture_faults(live, scrolled))
+    asks(any(picture_faults(live, 1)), "it isn't seen that the picture scrolled")
+    for what, broken in BROKEN.items():
+        asks(broken(live) != live and any(picture_faults(broken(live), 0)), f"it isn't seen that {what}")
     asks(re.search(r"^runs \d+ packets \d+ skipped 0 refused 0 judged \d+ accused \d+$", last, re.M), f"no table at the end: {last}")
     asks(status == 1, f"status {status}")
 

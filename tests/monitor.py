@@ -6,8 +6,11 @@ counted here by the bytes. Moments of the machines are made up here; those of th
 import os
 import random
 import select
+import signal
 import subprocess
 import sys
+import tempfile
+import threading
 import time
 from collections import Counter
 from pathlib import Path
@@ -245,10 +248,43 @@ def judge_clock():
     terminal.close()
 
 
+def stopped(words, stdin, feed=b""):
+    """What is printed of bytes while the program is stopped for a while now and then: it reads them late."""
+    process = subprocess.Popen([PROGRAM, "monitor", "--raw", "--gap", "1", *words], stdin=stdin, stdout=subprocess.PIPE)
+    writer = threading.Thread(target=lambda: (process.stdin.write(feed), process.stdin.close())) if feed else None
+    if writer:
+        writer.start()
+    while process.poll() is None:
+        time.sleep(0.004)
+        process.send_signal(signal.SIGSTOP)
+        time.sleep(0.02)
+        process.send_signal(signal.SIGCONT)
+    if writer:
+        writer.join()
+    return process.stdout.read().decode()
+
+
+def judge_recorded():
+    """Bytes that were recorded are read by no clock: a file that is named, and a pipe with --recorded. A pipe without it is: there some packets are cut."""
+    line = b"".join(packet(5, number % 3 + 1, POLL) + packet(0x85, number % 3 + 1, 0x40) for number in range(300000))
+    with tempfile.NamedTemporaryFile() as file:
+        file.write(line)
+        file.flush()
+        seen = {"a file by its name": stopped([file.name], subprocess.DEVNULL)}
+    seen["a pipe with --recorded"] = stopped(["--recorded"], subprocess.PIPE, line)
+    for what, text in seen.items():
+        counts = table(text)[1]
+        if (counts["runs"], counts["packets"], counts["refused"], counts["accused"]) != (1, 600000, 0, 0):
+            tell(f"{what}, read late", (1, 600000, 0, 0), counts)
+    if not table(stopped([], subprocess.PIPE, line))[1]["refused"]:
+        tell("a pipe, read late: the clock cuts packets", "some refused", 0)
+
+
 for number in (1, 2, 3):
     judge_good_line(number)
 judge_other_answer()
 judge_damaged_length()
 judge_clock()
+judge_recorded()
 print(f"monitor: {faults} faults")
 sys.exit(1 if faults else 0)
