@@ -168,6 +168,7 @@ def main():
     one = next((it for line, it in made.items() if "HasLongestText ReplyFits reply_text 5730" in line), None)
     assert one and contracts.made(one.path, one.text(), items.File(one.text()), ("osdp_msg",)) is not None, "a law's contract isn't changed"
 
+    assert not list(premises.missing()), f"premises.py names what isn't there: {list(premises.missing())}"
     found = {it.name(): it for it in premises.of_crate("osdp_calls")}
     told = found["specs/Premises.antt InRange (SetHandler)"].texts()["crates/osdp_calls/specs/Premises.antt"]
     assert "    InRange (SetHandler _ _) l = ⊥\n    InRange _ l = Unit {0}\n" in told and ", SetHandler}" in told, "a case of a premise isn't made false"

@@ -24,12 +24,12 @@ ASKED = {
         ("osdp_shared_line", "osdp_calls"),
         (("osdp_shared_line::programs::rule_suffices", "osdp_calls::calls_keep_apart"), ("osdp_calls::calls_rule_suffices", "osdp_shared_line::each_is_a_link")),
         {"Addresses": None, "Programs": ("IsKnown", "KeepsRule", "KeepRule", "RestFits"), "Views": ("OpensQuietly",),
-         "Restarts": ("KeepsDeviceOf", "KeepsReaderOf", "IsOrdinaryOf", "IsBeforeAndAfter"), "Progress": ("IsReady", "IsEmpty", "AreRounds")},
+         "Restarts": ("KeepsDeviceOf", "KeepsReaderOf", "IsOrdinaryOf"), "Progress": ("IsReady", "IsEmpty", "AreRounds")},
     ),
     "osdp_link_laws": (
-        ("osdp_link_laws", "osdp_shared_line"),
-        (("osdp_shared_line::each_is_a_link", "osdp_shared_line::restarts::each_of_one_handler_holds_once", "osdp_shared_line::restarts::each_ordinary_is_undisturbed"),
-         ("osdp_shared_line::restarts::each_restart_costs", "osdp_shared_line::progress::each_comes_through", "osdp_link_laws::comes_through", "osdp_link_laws::lapses::holds_once_with_lapses")),
+        ("osdp_link_laws", "osdp_link_ledger", "osdp_shared_line", "osdp_line_ledger"),
+        (("osdp_shared_line::each_is_a_link", "osdp_line_ledger::each_acts_by_one_handler", "osdp_line_ledger::each_ordinary_ends_told"),
+         ("osdp_shared_line::progress::each_comes_through", "osdp_link_laws::comes_through", "osdp_link_laws::lapses::holds_once_with_lapses")),
         {"Headline": ("MaySubmit", "SaysWhatFits", "SaysWhatFitsIf", "MoveFits", "MovesFit", "Begins"), "Addresses": ("SetsNoOther",), "OneHandler": ("KeepsHandler", "KeepsDevice", "KeepHandler"),
          "Ordinary": ("IsOrdinary", "IsSteady"), "Refusals": ("KeepsReader", "IsNoRefusal"), "Lapses": ("KeepsSession", "KeepSession"), "LapsingRuns": ("LeavesRoom", "LapsingFits", "AllFit"),
          "Progress": ("IsClear", "AreClear", "SetsNoAddress", "NoComset", "HearsOn")},
@@ -43,6 +43,20 @@ ASKED = {
     "osdp_programs_ledger": (("osdp_programs_ledger",), (("osdp_programs_ledger::c_programs_hold_once", "osdp_programs_ledger::line_programs_hold_once", "osdp_programs_ledger::runs_hold_once"),),
                              {"Programs": ("AreTheirCalls",)}),
 }
+
+
+def missing():
+    """Yields what is named here and isn't in the tree: a law, or a definition."""
+    for crate, (_, stages, modules) in ASKED.items():
+        for law in [it for stage in stages for it in stage]:
+            *inside, name = law.split("::")
+            path = f"crates/{inside[0]}/src/{'/'.join(inside[1:]) or 'lib'}.rt"
+            if not os.path.isfile(f"{generated.TOP}/{path}") or not re.search(rf"\bfn {name}\b", generated.read(path)):
+                yield law
+        for module, names in modules.items():
+            path = f"crates/{crate}/specs/{module}.antt"
+            held = {it.name.partition(".")[0] for it in generated.parsed(path).units} if os.path.isfile(f"{generated.TOP}/{path}") else set()
+            yield from (f"{path} {it}" for it in names or () if it not in held)
 
 
 class Falsehood:
