@@ -1,6 +1,6 @@
 #!/usr/bin/env python3
-"""Pages that `osdp-report` makes of captures that are written here, with known moments: the answer times, late answers, echoes and devices that are gone
-come out as they were made, at losses of 0, 1 and 5 of a hundred answers. Takes the path of the program.
+"""Pages that `osdp-report` makes of captures that are written here, with known moments: the answer times, late answers, echoes of commands, of answers and of
+both, and devices that are gone come out as they were made, at losses of 0, 1 and 5 of a hundred answers. Takes the path of the program.
 
 The panel and the readers are a few lines of their own. What each page must say is worked out from what was put into the line."""
 import html
@@ -9,6 +9,7 @@ import random
 import re
 import subprocess
 import sys
+from collections import Counter
 from datetime import datetime, timedelta, timezone
 from html.parser import HTMLParser
 from pathlib import Path
@@ -18,9 +19,12 @@ import jsonschema
 TOP = Path(__file__).resolve().parent.parent
 PROGRAM = str(Path(sys.argv[1]).resolve())
 START = datetime(2026, 3, 1, 23, 59, 50, tzinfo=timezone.utc)
+# of each trace, the ways of commands and of answers: a panel's, a reader's, and one of a program that plays both ends. An adapter hands back what goes out
+WAYS = {"none": ("out", "in"), "commands": ("out", "in"), "answers": ("in", "out"), "both": ("out", "out")}
 FORM = jsonschema.Draft202012Validator(json.loads((TOP / "docs/report.schema.json").read_text()))
 POLL, ACK, OUT, RAW = 0x60, 0x40, 0x68, 0x50
 faults = 0
+counts = Counter()
 
 
 def tell(what, wanted, got):
@@ -47,6 +51,13 @@ class Line:
     def add(self, moment, way, burst):
         self.bursts.append((moment, way, burst))
 
+    def say(self, moment, way, burst, echoes):
+        """A burst, and what an adapter hands back of it where it does so. Whether it has."""
+        self.add(moment, way, burst)
+        if echoes and way == "out":
+            self.add(moment + 1, "in", burst)
+        return echoes and way == "out"
+
     def digits(self):
         return "".join(f"# {stamp(moment)} {way}\n{burst.hex().upper()}\n" for moment, way, burst in sorted(self.bursts, key=lambda each: each[0]))
 
@@ -63,8 +74,9 @@ def following(number):
     return number % 3 + 1
 
 
-def calm(source, loss, echo=False):
-    """A panel that polls 5 and 6, of which 6 is gone after a while. The line, and what was put into it."""
+def calm(source, loss, echo="none"):
+    """A panel that polls 5 and 6, of which 6 is gone after a while. The line, with an echo of what it says, and what was put into it."""
+    ask, say = WAYS[echo]
     line, put = Line(), {"times": [], "cards": 0, "orders": 0, "echoes": 0, "repeats": 0, "gone": None}
     numbers, moment = {5: 0, 6: 0}, 0
     for turn in range(120):
@@ -77,10 +89,7 @@ def calm(source, loss, echo=False):
             lost = turn > 0 and not is_gone and source.random() * 100 < loss
             copies = [moment, moment + 200] if lost else [moment]
             for copy in copies:
-                line.add(copy, "out", sent)
-                if echo:
-                    line.add(copy + 1, "in", sent)
-                    put["echoes"] += 1
+                put["echoes"] += line.say(copy, ask, sent, echo != "none")
             moment = copies[-1]
             put["orders"] += order
             put["repeats"] += address == 5 and lost
@@ -89,7 +98,7 @@ def calm(source, loss, echo=False):
             delay = source.randrange(5, 150)
             card = address == 5 and not order and turn % 10 == 5
             reply = packet(address, numbers[address], RAW if card else ACK, bytes([0, 0, 8, 0, 0xA5]) if card else b"", True)
-            line.add(moment + delay, "in", reply)
+            put["echoes"] += line.say(moment + delay, say, reply, echo != "none")
             if address == 5:
                 put["cards"] += card
                 if not lost:
@@ -177,10 +186,11 @@ def nearest(times, hundredth):
     return next(time for time in sorted(times) if 100 * sum(other <= time for other in times) >= hundredth * len(times))
 
 
-def looks_at_calm(seed, loss):
+def looks_at_calm(seed, loss, echo):
+    before, name = faults, "no echo" if echo == "none" else f"an echo of {echo}"
     source = random.Random(seed)
-    line, put = calm(source, loss, seed % 2 == 1)
-    what = f"calm {seed} {loss}"
+    line, put = calm(source, loss, echo)
+    what = f"calm {seed} {loss}, {name}"
     page = report(line.digits())
     is_whole(what, page)
     times = put["times"]
@@ -192,11 +202,14 @@ def looks_at_calm(seed, loss):
     if cells[2] != f"{share}%":
         tell(f"{what}: repeats", share, cells[2])
     gone = re.escape(stamp(put["gone"]))
-    says(what, page, [rf"Device 6 is offline: its last answer came at {gone}, and 40 packets", "Nobody broke a rule", *([f": {put['echoes']} runs that came in"] if seed % 2 else [])],
-         ["broke a rule [0-9]", "answers late", "Device 5 is offline", *([] if seed % 2 else ["hands back"])])
+    says(what, page, [rf"Device 6 is offline: its last answer came at {gone}, and 40 packets", "Nobody broke a rule", *([f": {put['echoes']} runs that came in"] if put["echoes"] else [])],
+         ["broke a rule [0-9]", "answers late", "Device 5 is offline", "[Tt]wo devices", "comes twice", "repeated although", *([] if put["echoes"] else ["hands back"])])
     again = report(line.osdpcap(), "--osdpcap")
     if row(again, 5)[:10] != cells[:10]:
         tell(f"{what}: .osdpcap has another row", cells, row(again, 5))
+    found = put["echoes"] == sum(map(int, re.findall(r"hands back what is sent: (\d+) runs", page)))
+    for of, more in (("pages", 1), ("found", found), ("falsely told", faults != before)):
+        counts[f"{name}, losses {loss}%", of] += more
 
 
 def objects(text, *words):
@@ -217,7 +230,7 @@ def asks(what, wanted, got):
 
 def looks_at_objects():
     """What a program reads: the same figures, by name."""
-    line, put = calm(random.Random(1), 5, True)
+    line, put = calm(random.Random(1), 5, "commands")
     kinds, times = objects(line.digits()), put["times"]
     five, six = kinds["device"]
     asks("names of a device", ["address", "answered", "asked", "damaged", "events", "heard", "kind", "online", "orders", "repeats", "times"], sorted(five))
@@ -287,11 +300,14 @@ def looks_at_accused():
 
 
 for loss in (0, 1, 5):
-    for seed in range(4):
-        looks_at_calm(seed, loss)
+    for number, echo in enumerate(WAYS):
+        for seed in (number, number + len(WAYS)):
+            looks_at_calm(seed, loss, echo)
     looks_at_late(loss)
 looks_at_restarts()
 looks_at_accused()
 looks_at_objects()
+for name in dict.fromkeys(name for name, _ in counts):
+    print(f"{name}: {', '.join(f'{of} {counts[name, of]}' for of in ('pages', 'found', 'falsely told'))}")
 print(f"reports: {faults} faults")
 sys.exit(1 if faults else 0)
