@@ -3,4 +3,4 @@
 set -u
 program=$(cd "$(dirname "$1")" && pwd)/$(basename "$1")
 cd "$(dirname "$0")/.." || exit 1
-timeout 100 python3 tests/diagnoses.py "$program"
+timeout 200 python3 tests/diagnoses.py "$program"

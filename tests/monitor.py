@@ -265,19 +265,24 @@ def stopped(words, stdin, feed=b""):
 
 
 def judge_recorded():
-    """Bytes that were recorded are read by no clock: a file that is named, and a pipe with --recorded. A pipe without it is: there some packets are cut."""
+    """Bytes that were recorded are read by no clock: a file, by its name or as standard input, and a pipe with --recorded. A pipe without it is: there some packets
+    are cut, also by the word `-`."""
     line = b"".join(packet(5, number % 3 + 1, POLL) + packet(0x85, number % 3 + 1, 0x40) for number in range(300000))
     with tempfile.NamedTemporaryFile() as file:
         file.write(line)
         file.flush()
         seen = {"a file by its name": stopped([file.name], subprocess.DEVNULL)}
+        for words in ([], ["-"]):
+            with open(file.name, "rb") as standard:
+                seen[f"a file as standard input, {words}"] = stopped(words, standard)
     seen["a pipe with --recorded"] = stopped(["--recorded"], subprocess.PIPE, line)
     for what, text in seen.items():
         counts = table(text)[1]
         if (counts["runs"], counts["packets"], counts["refused"], counts["accused"]) != (1, 600000, 0, 0):
             tell(f"{what}, read late", (1, 600000, 0, 0), counts)
-    if not table(stopped([], subprocess.PIPE, line))[1]["refused"]:
-        tell("a pipe, read late: the clock cuts packets", "some refused", 0)
+    for words in ([], ["-"]):
+        if not table(stopped(words, subprocess.PIPE, line))[1]["refused"]:
+            tell(f"a pipe, {words}, read late: the clock cuts packets", "some refused", 0)
 
 
 for number in (1, 2, 3):

@@ -127,18 +127,6 @@ exec 7>&- 8<&-
 wait $! || { echo "a full first read: status $?"; failed=1; }
 [ "$(wc -l <"$work/out")" -eq 9363 ] || { echo 'a full first read: the last packet is not shown'; failed=1; }
 
-# The bytes of a file are one run, however slowly what is told of them is taken: a silence of a millisecond ends none. They are read in pieces, and a packet that
-# stands in two of them would be cut off.
-poll_packets 10000 >"$work/recorded"
-slowly='import sys, time
-while piece := sys.stdin.buffer.read(4096):
-    sys.stdout.buffer.write(piece)
-    time.sleep(0.003)'
-for words in '' -; do
-  "$program" monitor --raw --packets --gap 1 $words <"$work/recorded" | python3 -c "$slowly" | grep '^runs' >"$work/out"
-  grep -q '^runs 1 packets 10000 skipped 0 refused 0 ' "$work/out" || { echo "a file as standard input, $words: $(cat "$work/out")"; failed=1; }
-done
-
 # A reader that stops after the first line.
 yes 53000700006046 | head -n 100000 | "$program" show 2>"$work/err" | head -n 1 >"$work/out"
 status=${PIPESTATUS[2]}

@@ -2,7 +2,10 @@
 
 Both ends are written here, by the rules of the standard alone, with habits of several makers. Each burst may be lost to the end that it is for, or damaged for
 all. A line whose ends keep the rules has nobody accused. A line with one fault has the words that tell it, and no others of those that accuse. The counts of
-what was found and of what was falsely told are printed. Moments are made up."""
+what was found and of what was falsely told are printed. Moments are made up.
+
+Where the listener alone misses bursts nothing tells that from a fault of the ends. The manual says how many accusations that makes, and more than half as many
+again are a fault here."""
 import binascii
 import bisect
 import heapq
@@ -124,6 +127,7 @@ class Line:
         self.loss, self.unheard = loss, unheard
         self.panel, self.reader = panel(self, 5), reader(self, 5)
         self.heard, self.events, self.order = [], [], 0
+        self.missed = 0  # bursts that the listener alone misses
         self.waits = self.heard_of = 0  # the number of the packet that is waited for, and of the last one that was answered
 
     def at(self, moment, what, *data):
@@ -134,6 +138,7 @@ class Line:
         """A burst goes over the line: whether the end that it is for reads it."""
         fate = self.chance.random()
         if self.unheard and self.chance.random() < self.unheard:
+            self.missed += 1
             return True
         if fate < self.loss:
             at = self.chance.randrange(1, len(burst))
@@ -210,7 +215,7 @@ class Case:
     """A line, what must be told of it, whom it may accuse of what besides, and what may not be noticed."""
 
     def __init__(self, name, line, wanted=(), allowed=(), noticed=(), unwanted=(), rounds=600):
-        self.name, self.lines = name, line.run(rounds)
+        self.name, self.lines, self.missed = name, line.run(rounds), line.missed
         self.wanted, self.allowed, self.noticed, self.unwanted = wanted, allowed, noticed, unwanted
 
     def judge(self, text):
@@ -220,7 +225,8 @@ class Case:
         missing = [word for word in self.wanted if word not in accused] + [word for word in self.noticed if not any(what.startswith(word) for what in told)]
         false = [word for word in accused if word not in (*self.wanted, *self.allowed)]
         false += [word for word in self.unwanted if any(what.startswith(word) for what in told)]
-        for what, more in (("lines", 1), ("packets", len(self.lines)), ("found", not missing), ("accusations", len(accused)), ("falsely told", len(false))):
+        for what, more in (("lines", 1), ("packets", len(self.lines)), ("found", not missing), ("accusations", len(accused)), ("falsely told", len(false)),
+                           ("missed", self.missed), ("lines accused", bool(accused)), ("too little", text.count(TOO_LITTLE))):
             counts[self.name, what] += more
         return missing + false
 
@@ -313,6 +319,11 @@ class Twin(Line):
 
 
 LATE = "a late answer"
+TOO_LITTLE = ": heard too little to judge\n"
+DEAF = "a listener that alone misses"
+# of a hundred packets that it misses, one in a hundred of all, so many accusations by the manual, by what the line itself loses; of one in a thousand none, on most lines
+BY_MANUAL = {0: (6, "some six give an accusation"), 0.01: (9, "it is some nine"), 0.05: (16, "at five in a hundred some sixteen")}
+MANUAL = Path(__file__).resolve().parent.parent / "man/osdp-monitor.1"
 LOSSES = (0, 0.01, 0.05)
 QUIET = {"resets": 0, "busy": 0, "restarts": 0, "moves": 0}
 PLAIN = {"delay": 20, "wait": 200, "repeats": 3, "pause": 50, **QUIET}
@@ -361,9 +372,26 @@ def faulty_lines():
 
 
 def deaf_listeners():
-    """The listener alone loses bursts: nothing tells that from a fault of the ends, and the figures are for the manual."""
-    for seed in range(20):
-        yield Case("a listener that loses 1%", Line(f"deaf {seed}", 0, unheard=0.01, **QUIET))
+    """The listener alone misses bursts."""
+    for loss in LOSSES:
+        for often in (100, 1000):
+            for seed in range(100):
+                yield Case(f"{DEAF} 1 in {often}, losses {loss:.0%}", Line(f"deaf {seed}", loss, unheard=1 / often, **QUIET))
+
+
+def listener_faults():
+    """More accusations than the manual says, and fewer notices that too little was heard than one for two packets that were missed."""
+    for loss, (said, words) in BY_MANUAL.items():
+        if words not in MANUAL.read_text():
+            yield f"the manual has no words {words}"
+        often, rarely = f"{DEAF} 1 in 100, losses {loss:.0%}", f"{DEAF} 1 in 1000, losses {loss:.0%}"
+        if counts[often, "accusations"] > 1.5 * said * counts[often, "missed"] / 100:
+            yield f"{often}: {counts[often, 'accusations']} accusations of {counts[often, 'missed']} that were missed, by the manual {said} of 100"
+        if counts[rarely, "lines accused"] > counts[rarely, "lines"] / 10:
+            yield f"{rarely}: {counts[rarely, 'lines accused']} lines have accusations, by the manual most have none"
+        for name in (often, rarely):
+            if counts[name, "too little"] < counts[name, "missed"] / 2:
+                yield f"{name}: {counts[name, 'too little']} notices of {counts[name, 'missed']} that were missed"
 
 
 def main():
@@ -372,11 +400,15 @@ def main():
     cases = [*good_lines(), *late_readers(), *faulty_lines(), *deaf_listeners()]
     for case, text in zip(cases, listen(cases)):
         wrong = case.judge(text)
-        if wrong and not case.name.startswith("a listener"):
+        if wrong and not case.name.startswith(DEAF):
             faults += 1
             print(f"strangers: {case.name}: {', '.join(dict.fromkeys(wrong))}")
+    for fault in listener_faults():
+        faults += 1
+        print(f"strangers: {fault}")
     for name in dict.fromkeys(name for name, _ in counts):
-        print(f"{name}: {', '.join(f'{what} {counts[name, what]}' for what in ('lines', 'packets', 'found', 'accusations', 'falsely told'))}")
+        told = ("missed", "too little", "accusations", "lines accused") if name.startswith(DEAF) else ("found", "accusations", "falsely told")
+        print(f"{name}: {', '.join(f'{what} {counts[name, what]}' for what in ('lines', 'packets', *told))}")
     print(f"strangers: {faults} faults")
     return 1 if faults else 0
 
