@@ -4,7 +4,7 @@ _osdp_words() {
   case $1 in
     '') echo 'show monitor check make sim panel reader plan test help --help --version -h' ;;
     show) echo '--raw --osdpcap --xxd --stamped --hex --join --times --no-polls --address' ;;
-    monitor) echo '--raw --osdpcap --xxd --stamped --hex --packets --talk --standard --recorded --times --json --gap --every' ;;
+    monitor) echo '--raw --osdpcap --xxd --stamped --hex --packets --talk --standard --recorded --times --clock --json --gap --every' ;;
     check) echo '--raw --osdpcap --xxd --stamped --hex --join' ;;
     make) echo 'sum crc' ;;
     panel) echo 'check reply-wait poll-interval sends busy-wait busy-limit quiet-wait gap capacity poll-between-orders' ;;
