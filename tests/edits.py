@@ -177,6 +177,15 @@ def main():
     assert not any(name.startswith("specs/Premises.antt IsSetUp.others") for name in found), "what is no statement is made false"
     more = generated.read("crates/osdp_calls/specs/Premises.antt").replace("    pub openings : l.openings ≡ []\n", "    pub openings : l.openings ≡ []\n    pub none : ⊥\n")
     assert premises.made({"crates/osdp_calls/specs/Premises.antt": more}).part.startswith("IsSetUp."), "a false field more is another premise"
+    told = found["specs/Premises.antt IsSetUp.devices: site_at k l.stations ≡ Some t → ⊥"].texts()["crates/osdp_calls/specs/Premises.antt"]
+    assert "pub devices : (k : ℕ) (t : Station H) → site_at k l.stations ≡ Some t → ⊥\n" in told, "what a premise says under one of its own isn't made false"
+    parts = {it.part: it for crate in ("osdp_shared_line", "osdp_link_laws", "osdp_calls_instance") for it in premises.of_crate(crate)}
+    assert "KeepsRule (ToPanel)" in parts and "KeepsRule (ToController)" not in parts, "the cases are of another type with the same names"
+    assert "IsNoRefusal (report.Opened _) = ⊥\n" in parts["IsNoRefusal (report.Opened)"].texts()["crates/osdp_link_laws/specs/Refusals.antt"], "the cases of a type of the code aren't told apart"
+    told = parts["PanelLineFits ((SaysToPanel (Some _)))"].texts()["crates/osdp_calls_instance/specs/LinePrograms.antt"]
+    assert "PanelLineFits (SaysToPanel (Some _)) s = ⊥\nPanelLineFits (SaysToPanel None) s = Unit {0}\n" in told, "a case of an optional value isn't made false"
+    told = parts["c_device.Fits (TakesBytes)"].texts()["crates/osdp_calls_instance/specs/CPrograms.antt"]
+    assert "DeviceCallFits (TakesBytes _ _) d = ⊥\nDeviceCallFits _ d = Unit {0}\n\nabbrev pub c_device" in told and "  Fits = DeviceCallFits;\n" in told, "a kind's call isn't made false"
 
     assert same("a < 1", "a == 0", "(a) <= 0") and same("let _ = a; f(b)", "f((b))") and same("!(a == b)", "b != a"), "one meaning has two forms"
     assert same("a < 1 && b == 2", "b == 2 && a == 0") and not same("f(a) && g(b)", "g(b) && f(a)"), "the order tells where something is done, and there alone"

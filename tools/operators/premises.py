@@ -1,13 +1,16 @@
 """Makes each premise of the theory of calls false, one after the other, and asks the laws that say when it holds.
 
 A law whose premise nothing keeps speaks of nothing, and is proved all the same. So each part of a premise becomes `⊥`: a field of a record, a clause of a
-definition, and each case that a last clause takes together with others. A law of the same crate, or of the one that builds upon it, must refuse it."""
+definition, each case that a last clause takes together with others, each case of an optional value, and what a part says once some of the premises hold
+that it has itself. A law of the same crate, or of the one that builds upon it, must refuse it."""
+import functools
 import os
 import re
 
 from . import generated, variants
 from .chains import Chain
 from .definition_operators import groups, split_arrows
+from .facts import Facts
 from .short import sort_of
 from .trial import BY_CODE, NOT_TRIED, REFUSED, SURVIVED
 
@@ -21,15 +24,18 @@ ASKED = {
          "Restarts": ("KeepsDevice", "IsBeforeAndAfter"), "Undisturbed": ("IsOrdinaryOf", "LeavesCommandsOf")},
     ),
     "osdp_shared_line": (
-        ("osdp_shared_line", "osdp_calls"),
-        (("osdp_shared_line::programs::rule_suffices", "osdp_calls::calls_keep_apart"), ("osdp_calls::calls_rule_suffices", "osdp_shared_line::each_is_a_link")),
-        {"Addresses": None, "Programs": ("IsKnown", "KeepsRule", "KeepRule", "RestFits"), "Views": ("OpensQuietly",),
+        ("osdp_shared_line", "osdp_line_ledger", "osdp_calls", "osdp_calls_ledger"),
+        (("osdp_shared_line::programs::rule_suffices", "osdp_calls::calls_keep_apart"),
+         ("osdp_calls::calls_rule_suffices", "osdp_shared_line::each_is_a_link", "osdp_calls_ledger::one_device_holds_once", "osdp_calls_ledger::ordinary_is_undisturbed")),
+        {"Addresses": ("Somewhere", "Sets", "SetsReader", "IsInOrder", "IsNameOf", "AreApart", "IsHeardByNobodyElse", "HasNoOther", "IsFreeFor", "IsSetUp", "NetMoveFits", "NetMovesFit"),
+         "Programs": ("IsKnown", "KeepsRule", "KeepRule", "RestFits"), "Views": ("OpensQuietly",),
          "Restarts": ("KeepsDeviceOf", "KeepsReaderOf", "IsOrdinaryOf"), "Progress": ("IsReady", "IsEmpty", "AreRounds")},
     ),
     "osdp_link_laws": (
         ("osdp_link_laws", "osdp_link_ledger", "osdp_shared_line", "osdp_line_ledger"),
         (("osdp_shared_line::each_is_a_link", "osdp_line_ledger::each_acts_by_one_handler", "osdp_line_ledger::each_ordinary_ends_told"),
-         ("osdp_shared_line::progress::each_comes_through", "osdp_link_laws::comes_through", "osdp_link_laws::lapses::holds_once_with_lapses")),
+         ("osdp_shared_line::progress::each_comes_through", "osdp_shared_line::promises::each_refuses_no_number", "osdp_link_laws::refuses_no_number", "osdp_link_laws::comes_through",
+          "osdp_link_laws::lapses::holds_once_with_lapses")),
         {"Headline": ("MaySubmit", "SaysWhatFits", "SaysWhatFitsIf", "MoveFits", "MovesFit", "Begins"), "Addresses": ("SetsNoOther",), "OneHandler": ("KeepsHandler", "KeepsDevice", "KeepHandler"),
          "Ordinary": ("IsOrdinary", "IsSteady"), "Refusals": ("KeepsReader", "IsNoRefusal"), "Lapses": ("KeepsSession", "KeepSession"), "LapsingRuns": ("LeavesRoom", "LapsingFits", "AllFit"),
          "Progress": ("IsClear", "AreClear", "SetsNoAddress", "NoComset", "HearsOn")},
@@ -37,12 +43,24 @@ ASKED = {
     "osdp_calls_instance": (
         ("osdp_calls_instance",),
         (("osdp_calls_instance::laws_speak_of_programs", "osdp_calls_instance::stands_on_calls"), ("osdp_calls_instance::calls_for_c_are_calls", "osdp_calls_instance::lines_are_calls", "osdp_calls_instance::run_keeps_order")),
-        {"LinePrograms": ("IsWithdrawn", "PanelLineFits", "DeviceLineFits"), "OwnCalls": ("OwnFits", "FitsAt", "AllFit"), "SimulatedOrder": ("IsOrdered", "AllOrdered", "IsTaken", "AllRuled"),
-         "SimulatedBus": ("BurstFits", "HandsBytes"), "SimulatedPremises": ("OrdersNoComset", "HandsShort")},
+        {"CPrograms": ("c_panel", "c_device"), "LinePrograms": ("IsWithdrawn", "PanelLineFits", "DeviceLineFits"), "OwnCalls": ("OwnFits", "FitsAt", "AllFit"), "SimulatedOrder": ("IsOrdered", "AllOrdered", "IsTaken", "AllRuled"),
+         "SimulatedBus": ("sim_panel", "BurstFits", "HandsBytes"), "SimulatedPremises": ("OrdersNoComset", "HandsShort")},
     ),
-    "osdp_programs_ledger": (("osdp_programs_ledger",), (("osdp_programs_ledger::c_programs_hold_once", "osdp_programs_ledger::line_programs_hold_once", "osdp_programs_ledger::runs_hold_once"),),
-                             {"Programs": ("AreTheirCalls",)}),
+    "osdp_programs_ledger": (
+        ("osdp_programs_ledger", "osdp_program_days"),
+        (("osdp_program_days::a_day_in_c_keeps_the_premises", "osdp_program_days::a_day_by_lines_keeps_the_premises"),
+         ("osdp_programs_ledger::c_programs_hold_once", "osdp_programs_ledger::line_programs_hold_once", "osdp_programs_ledger::runs_hold_once")),
+        {"Programs": ("AreTheirCalls",)},
+    ),
+    "osdp_calls_time_laws": (
+        ("osdp_calls_time_laws",),
+        (("osdp_calls_time_laws::timely_is_exact", "osdp_calls_time_laws::a_long_day_is_read_in_time"), ("osdp_calls_time_laws::timely_calls_open_quietly", "osdp_calls_time_laws::timely_ledger_holds_once")),
+        {"Moments": ("WaitsTwice", "KeepsClock", "IsTimely", "AllTimely", "KeepsElse", "AllKeepElse", "KeepsRuleElse", "AllKeepRuleElse")},
+    ),
 }
+
+# how a file of definitions takes names from another, or names it
+TAKES = re.compile(r"^ *use (Rattle\.(\w+)\.specs\.([\w.]+?))(?:\.\{([^}]*)\}| as (\w+))$", re.M)
 
 
 def missing():
@@ -64,8 +82,9 @@ class Falsehood:
 
     operator = "a false premise"
 
-    def __init__(self, path, unit, part, start, end, new, taken=None):
-        self.path, self.unit, self.part, self.at, self.new, self.taken = path, unit, part, (start, end), new, taken
+    def __init__(self, path, unit, part, pieces, taken=()):
+        """Of pieces of the file, each from where to where and its new text; and of what it takes, each word and how the file names the one that it is taken from."""
+        self.path, self.unit, self.part, self.pieces, self.taken = path, unit, part, pieces, taken
 
     def crate(self):
         return self.path.split("/")[1]
@@ -77,50 +96,63 @@ class Falsehood:
         return f"{self.path.split('/', 2)[2]} {self.part}"
 
     def lines(self):
-        return self.part, generated.squeezed(self.new)
+        return self.part, generated.squeezed(" ".join(it[2] for it in self.pieces))
 
     def texts(self):
         text = generated.read(self.path)
-        text = text[:self.at[0]] + self.new + text[self.at[1]:]
-        return {self.path: taking(text, *self.taken) if self.taken else text}
+        for start, end, new in sorted(self.pieces, reverse=True):
+            text = text[:start] + new + text[end:]
+        for word, place in self.taken:
+            text = taking(text, word, place)
+        return {self.path: text}
 
 
-def taking(text, word, path):
-    """Takes a constructor from the file that declares it, where the file of definitions takes others of there and not this one."""
-    crate, module = path.split("/")[1], path.split("/specs/")[1].removesuffix(".antt").replace("/", ".")
-    line = re.search(rf"^ *use Rattle\.{crate}\.specs\.{re.escape(module)}\.\{{([^}}]*)\}}", text, re.M)
+def taking(text, word, place):
+    """Takes a constructor from the file of this name, where the file of definitions takes others of there and not this one."""
+    line = re.search(rf"^ *use {re.escape(place)}\.\{{([^}}]*)\}}", text, re.M)
     if not line or word in re.split(r"[\s,]+", line[1]):
         return text
     return text[:line.end(1)] + f", {word}" + text[line.end(1):]
 
 
 def constructors_beside(path, pattern):
-    """Returns how a file names the type's constructors, these with the types of each, and the file that declares them, for a pattern of one of them; or None."""
+    """Returns how a file names the type's constructors, these with the types of each, and the name of the file that declares them, for a pattern of one of them; or None."""
     named = re.match(r"\(?((?:\w+\.)?)([A-Z]\w*)$", pattern)
     if not named:
         return None
     prefix, name = named[1], named[2]
-    for of in [path, *taken_by(path, prefix[:-1])]:
-        for found in generated.parsed(of).constructors.values():
+    for place, types in taken_by(path, prefix[:-1], name):
+        for found in types.values():
             if name in found:
-                return prefix, found, of
+                return prefix, found, place
     return None
 
 
-def taken_by(path, alias):
-    """Returns the files of definitions of which a file takes names, or that it has under this one."""
-    ending = rf" as {alias}$" if alias else r"\.\{"
-    for crate, module in re.findall(rf"^ *use Rattle\.(\w+)\.specs\.([\w.]+?)(?:\.TheConstructors)?{ending}", generated.read(path), re.M):
-        of = f"crates/{crate}/specs/{module.replace('.', '/')}.antt"
-        if os.path.isfile(f"{generated.TOP}/{of}"):
-            yield of
+def taken_by(path, alias, name):
+    """Yields the file itself, and each that it has under this alias, or takes this name from: how it names it, and the cases of its types."""
+    if not alias:
+        yield "", generated.parsed(path).constructors
+    for it in TAKES.finditer(generated.read(path)):
+        if it[5] == alias if alias else name in re.split(r"[\s,]+", it[4] or ""):
+            yield it[1], types_of(it[2], it[3].removesuffix(".TheConstructors"))
+
+
+def types_of(crate, module):
+    """Returns the types of a file of definitions with their cases, or the one type of the code that a name stands for."""
+    declared = re.match(r"declared\.([\w.]+)\.(\w+)\.TheVariants$", module)
+    path = f"crates/{crate}/src/{declared[1].replace('.', '/')}.rt" if declared else f"crates/{crate}/specs/{module.replace('.', '/')}.antt"
+    if not os.path.isfile(f"{generated.TOP}/{path}"):
+        return {}
+    if not declared:
+        return generated.parsed(path).constructors
+    facts, kind = Facts([generated.parsed(path)], []), declared[2]
+    return {kind: {it: " → ".join([*facts.payload(kind, it), kind]) for it in facts.variants.get(kind, {})}}
 
 
 def told_apart(path, units):
     """Yields a false clause for each case that the last clause of a definition takes together with others."""
     last, text = units[-1], generated.read(path)
     patterns = [groups(it.patterns) for it in units]
-    start = text.rfind("\n", 0, text.rindex(last.name, 0, last.start)) + 1
     for i, one in enumerate(patterns[-1]):
         if one != ["_"]:
             continue
@@ -132,17 +164,80 @@ def told_apart(path, units):
         for name, kind in cases.items():
             if prefix + name in heads:
                 continue
-            arguments = len([it for it in split_arrows(kind) if not it.startswith("{")]) - 1
-            given = f"({prefix}{name}{' _' * arguments})" if arguments else prefix + name
-            words = [given if j == i else "".join(it) if len(it) == 1 else spelled(it) for j, it in enumerate(patterns[-1])]
-            pad = re.match(r" *", text[start:])[0]
-            yield Falsehood(path, last, f"{last.name} ({prefix}{name})", start, start, f"{pad}{last.name} {' '.join(words)} = ⊥\n", None if prefix else (name, declared))
+            at = begins(text, last)
+            yield Falsehood(path, last, f"{last.name} ({prefix}{name})", [(at, at, clause(text, last, i, given(prefix + name, kind), "⊥") + "\n")], () if prefix else ((name, declared),))
+
+
+def of_options(path, unit):
+    """Yields a false clause for each case of an optional value that a clause is given and doesn't use."""
+    text = generated.read(path)
+    said = text[unit.start:unit.end]
+    for i, one in enumerate(groups(unit.patterns)):
+        beside = constructors_beside(path, one[1]) if one[0] == "(" else None
+        kinds = [it for it in split_arrows(beside[1][one[1].rpartition(".")[2]]) if not it.startswith("{")][:-1] if beside else []
+        if len(one) != len(kinds) + 3:
+            continue
+        for j, kind in enumerate(kinds, 2):
+            if not kind.startswith("Option ") or not re.match(r"[a-z]\w*$", one[j]) or re.search(rf"\b{one[j]}\b", said):
+                continue
+            for case, other in (("None", "(Some _)"), ("(Some _)", "None")):
+                both = [clause(text, unit, i, spelled([*one[:j], it, *one[j + 1:]]), so) for it, so in ((case, "⊥"), (other, said))]
+                yield Falsehood(path, unit, f"{unit.name} ({spelled([*one[:j], case, *one[j + 1:]])})", [(begins(text, unit), unit.end, "\n".join(both))])
+
+
+def of_kind(path, unit):
+    """Yields a false case for each call of a kind of program that takes all of its calls."""
+    text = generated.read(path)
+    said = {name: re.search(rf"\b{name} = (.*);$", text[unit.start:unit.end], re.M) for name in ("Fits", "Own", "Program")}
+    if not all(said.values()) or not re.match(r"λ \w+ \w+\. Unit \{0\}$", said["Fits"][1]):
+        return
+    own, last = said["Own"][1], said["Fits"][1].partition(".")[0].split()[-1]
+    at = re.search(rf"^abbrev pub {unit.name} : ", text, re.M).start()
+    for name, kind in generated.parsed(path).constructors.get(own, {}).items():
+        new = f"abbrev pub {own}Fits : {own} → {said['Program'][1]} → Type 0\n{own}Fits {given(name, kind)} {last} = ⊥\n{own}Fits _ {last} = Unit {{0}}\n\n"
+        yield Falsehood(path, unit, f"{unit.name}.Fits ({name})", [(at, at, new), (unit.start + said["Fits"].start(1), unit.start + said["Fits"].end(1), f"{own}Fits")])
+
+
+def of_premises(path, unit, part):
+    """Yields what is false once some of the premises hold that it has itself."""
+    text, depth, passed = generated.read(path)[unit.start:unit.end], 0, 0
+    if "--" in text or re.match(r"let |λ ", text):
+        return
+    for i, sign in enumerate(text):
+        depth += (sign in "({") - (sign in ")}")
+        if sign == "→" and not depth:
+            premise = generated.squeezed(text[passed:i])
+            passed = i + 1
+            # a value by itself asks nothing
+            if re.fullmatch(r"(\([^():]+ : ([^()]|\([^()]*\))*\) ?)+", premise):
+                continue
+            new = text[:i] + "→ ⊥"
+            if generated.squeezed(new) != generated.squeezed(text):
+                yield Falsehood(path, unit, f"{part}: {premise} → ⊥", [(unit.start, unit.end, new)])
+
+
+def given(name, kind):
+    """A pattern of a case that names nothing of what it holds."""
+    count = len([it for it in split_arrows(kind) if not it.startswith("{")]) - 1
+    return f"({name}{' _' * count})" if count else name
+
+
+def begins(text, unit):
+    """Where the line of a clause begins."""
+    return text.rfind("\n", 0, text.rindex(unit.name, 0, unit.start)) + 1
+
+
+def clause(text, unit, i, pattern, said):
+    """A clause as this one, which is given another pattern and says something else."""
+    words = [pattern if j == i else "".join(it) if len(it) == 1 else spelled(it) for j, it in enumerate(groups(unit.patterns))]
+    return f"{re.match(r' *', text[begins(text, unit):])[0]}{unit.name} {' '.join(words)} = {said}"
 
 
 def spelled(words):
     return re.sub(r"\( | (?=\))", lambda it: it[0].strip(), " ".join(words))
 
 
+@functools.cache
 def of_crate(crate):
     """Returns what makes a premise of a crate false, in the order of its files."""
     found = []
@@ -158,16 +253,19 @@ def of_crate(crate):
                 continue
             if units[0].kind == "field":
                 if sort_of(units[0].tree) == "statement" and not re.match(r"(List|Option) ", generated.read(path)[units[0].start:units[0].end]):
-                    found.append(Falsehood(path, units[0], name, units[0].start, units[0].end, "⊥"))
+                    found.append(Falsehood(path, units[0], name, [(units[0].start, units[0].end, "⊥")]))
+                    found += of_premises(path, units[0], name)
                 continue
             if not file.types.get(name, "").endswith("Type 0"):
+                found += of_kind(path, units[0])
                 continue
             cases = list(told_apart(path, units)) if len(units) > 1 else []
             for i, it in enumerate(units if not cases else units[:-1]):
-                of = f" ({' '.join(spelled(one) for one in groups(it.patterns))})" if len(units) > 1 else ""
-                found.append(Falsehood(path, it, name + of, it.start, it.end, "⊥"))
+                part = name + (f" ({' '.join(spelled(one) for one in groups(it.patterns))})" if len(units) > 1 else "")
+                found.append(Falsehood(path, it, part, [(it.start, it.end, "⊥")]))
+                found += [*of_options(path, it), *of_premises(path, it, part)]
             found += cases
-    return [it for it in found if it.at[0] == it.at[1] or generated.read(it.path)[it.at[0]:it.at[1]] != "⊥"]
+    return [it for it in found if generated.squeezed(it.texts()[it.path]) != generated.squeezed(generated.read(it.path))]
 
 
 class Asking:
@@ -199,7 +297,7 @@ class Asking:
         return left
 
     def asked(self, batch, laws, is_last):
-        """Asks laws of some edits, and returns those that all of them let through."""
+        """Asks laws of some edits, and returns those that none of them refuses."""
         saids = self.chain.ask(batch, laws)
         if saids is None:
             return []
@@ -220,6 +318,9 @@ class Asking:
             return True
         laws = re.findall(r"^fn (\S+): (?:not proved|no proof)", said, re.M)
         laws = [it for it in laws if it in [one for stage in self.stages for one in stage]]
+        # a lemma of which these laws need nothing may be needed by those that are asked next
+        if not laws and not is_last:
+            return False
         self.say(edit, REFUSED if laws else BY_CODE, f"{', '.join(it.rpartition('::')[2] for it in laws)}: {why}")
         return True
 
@@ -251,9 +352,9 @@ def record_at(text, at):
 
 
 def plain(text):
-    """A text without spaces, comments and what it takes, where a false clause doesn't name what it is given."""
+    """A text without spaces, comments and what it takes, where a clause that is false, or asks nothing, doesn't name what it is given."""
     text = re.sub(r"^ *use [^\n]*\n|--[^\n]*", "", text, flags=re.M)
-    text = re.sub(r"^( *\w+ )(.*)( = ⊥)$", lambda it: it[1] + re.sub(r"(?<![\w.])[a-z_]\w*(?![\w.])", "_", it[2]) + it[3], text, flags=re.M)
+    text = re.sub(r"^( *\w+ )(.*)( = (?:⊥|Unit \{0\}))$", lambda it: it[1] + re.sub(r"(?<![\w.])[a-z_]\w*(?![\w.])", "_", it[2]) + it[3], text, flags=re.M)
     # a clause of a case may stand before or after that of another
     return "".join(sorted(re.sub(r"\s+", "", it) for it in text.split("\n")))
 
