@@ -18,10 +18,12 @@ from collections import Counter
 from pathlib import Path
 
 PROGRAM = str(Path(sys.argv[1]).resolve())
-ACK, NAK, PDID, COM, RAW, BUSY = 0x40, 0x41, 0x45, 0x54, 0x50, 0x79
+ACK, NAK, PDID, LSTATR, COM, RAW, BUSY, MFGREP = 0x40, 0x41, 0x45, 0x48, 0x54, 0x50, 0x79, 0x90
 POLL, ID, OUT, COMSET, LED = 0x60, 0x61, 0x68, 0x6E, 0x69
 OWN = bytes.fromhex("53494D010105000000010000")
 ACCUSED = re.compile(r"^\d+:\d+ (panel to|reader) (\d+): (.*) \((?:standard|profile)\)$", re.M)
+BASES = re.compile(r"^\d+:\d+ (?:panel to|reader) \d+: (.*) \((standard|profile)\)$", re.M)
+OURS = {"BUSY to a packet that was answered", "NAK 4 to number 0", "a reply that doesn't fit the command", "an event at number 0"}  # what the profile alone asks for
 NOTICED = re.compile(r"^\d+:\d+ device (\d+): (.*)$", re.M)
 ALL = "537F07000060C7"
 counts = Counter()
@@ -225,16 +227,17 @@ class Case:
         missing = [word for word in self.wanted if word not in accused] + [word for word in self.noticed if not any(what.startswith(word) for what in told)]
         false = [word for word in accused if word not in (*self.wanted, *self.allowed)]
         false += [word for word in self.unwanted if any(what.startswith(word) for what in told)]
+        false += [f"{what} ({basis})" for what, basis in BASES.findall(text) if (basis == "profile") != (what in OURS)]
         for what, more in (("lines", 1), ("packets", len(self.lines)), ("found", not missing), ("accusations", len(accused)), ("falsely told", len(false)),
                            ("missed", self.missed), ("lines accused", bool(accused)), ("too little", text.count(TOO_LITTLE))):
             counts[self.name, what] += more
         return missing + false
 
 
-def listen(cases):
+def listen(cases, *words):
     """What is told of each case. All are one input, with a packet to all devices after each: then nothing is known any more."""
     capture = "".join("".join(f"{line}\n" for line in [*case.lines, ALL]) for case in cases)
-    done = subprocess.run([PROGRAM, "monitor", "--hex"], input=capture.encode(), capture_output=True, check=False)
+    done = subprocess.run([PROGRAM, "monitor", "--hex", *words], input=capture.encode(), capture_output=True, check=False)
     ends = list(itertools.accumulate(len(case.lines) + 1 for case in cases))
     texts = [[] for _ in cases]
     for line in done.stdout.decode().splitlines(keepends=True):
@@ -292,6 +295,83 @@ class Hanging(Line):
             self.at(self.ready, "answer", burst)
         self.waits += 1
         self.at(now + self.habits.wait, "wait", self.waits)
+
+
+class Unfit(Reader):
+    """Now and then it answers a POLL by what its maker has defined."""
+
+    def act(self, number, code, data):
+        if code == POLL and number and self.line.chance.random() < 0.05:
+            return MFGREP, b"SIM\1"
+        return super().act(number, code, data)
+
+
+class TellsAtZero(Reader):
+    """It answers a POLL with number 0 by its state."""
+
+    def act(self, number, code, data):
+        return (LSTATR, bytes([0, 0])) if code == POLL and not number else super().act(number, code, data)
+
+
+class BusyAgain(Reader):
+    """It answers a repeat by BUSY."""
+
+    def repeat(self):
+        return self.reply(self.taken, BUSY)
+
+
+class KeepsSession(Reader):
+    """It refuses a new session by its number, every second time."""
+
+    def act(self, number, code, data):
+        self.begun = getattr(self, "begun", 0) + (not number)
+        return (NAK, bytes([4])) if not number and not self.begun % 2 else super().act(number, code, data)
+
+
+class OtherCheck(Reader):
+    """Now and then its reply has the other kind of check."""
+
+    def reply(self, number, code, data=b""):
+        check = self.line.habits.check
+        if code not in (BUSY, NAK) and self.line.chance.random() < 0.05:
+            check = "crc" if check == "sum" else "sum"
+        return packet(self.address, number, code, data, True, check)
+
+
+class Unreadable(Reader):
+    """Now and then a card has fewer bits than it says."""
+
+    def act(self, number, code, data):
+        if code == POLL and number and self.line.chance.random() < 0.05:
+            return RAW, bytes([0, 1, 26, 0, 1])
+        return super().act(number, code, data)
+
+
+class AnyNumber(Reader):
+    """It takes any number."""
+
+    def answer(self, number, code, data):
+        if number and number != self.taken:
+            self.taken = (number + 1) % 3 + 1
+        return super().answer(number, code, data)
+
+
+class Skips(Panel):
+    """Now and then it leaves a number out."""
+
+    def next(self):
+        super().next()
+        if self.line.chance.random() < 0.05:
+            self.number = self.number % 3 + 1
+
+
+class Changes(Panel):
+    """Its repeat is another packet."""
+
+    def burst(self):
+        if self.sent and self.number:
+            self.code, self.data = (OUT, bytes([0, 2, 0, 0])) if self.code == POLL else (POLL, b"")
+        return super().burst()
 
 
 class TwoChecks(Panel):
@@ -363,10 +443,23 @@ def faulty_lines():
             yield Case(f"another number, losses {loss:.0%}", wrong, ("reader another number",), (SECOND,))
             twins = Twin(f"twin {seed}", loss, **PLAIN)
             yield Case(f"two devices at one address, losses {loss:.0%}", twins, (SECOND,), ("reader another number", "reader a number out of turn was taken", "reader a repeat is answered by something else"))
+            for kind, what in ((Unfit, "a reply that doesn't fit the command"), (OtherCheck, "another check"), (Unreadable, "a reply that can't be read")):
+                yield Case(f"{what}, losses {loss:.0%}", Line(f"{what} {seed}", loss, reader=kind, **PLAIN), (f"reader {what}",))
+            for kind, what in ((TellsAtZero, "an event at number 0"), (KeepsSession, "NAK 4 to number 0")):
+                line = Line(f"{what} {seed}", loss, panel=Begins, reader=kind, **PLAIN | {"resets": 0.05})
+                yield Case(f"{what}, losses {loss:.0%}", line, (f"reader {what}",))
+            skips = Line(f"skips {seed}", loss, panel=Skips, **PLAIN)
+            yield Case(f"a number left out, losses {loss:.0%}", skips, ("panel to a number out of turn",))
+            taken = Line(f"taken {seed}", loss, panel=Skips, reader=AnyNumber, **PLAIN)
+            yield Case(f"a number left out and taken, losses {loss:.0%}", taken, ("panel to a number out of turn", "reader a number out of turn was taken"))
         for loss in LOSSES:  # these show only where something is lost, and in short lines not at each loss
             rounds = 3000 if loss == 0.01 else 600
             again = Line(f"again {seed}", loss, reader=ActsAgain, **PLAIN)
             yield Case(f"a repeat acted on again, losses {loss:.0%}", again, ("reader a repeat is answered by something else",) if loss else (), rounds=rounds)
+            busy = Line(f"busy again {seed}", loss, reader=BusyAgain, **PLAIN)
+            yield Case(f"a repeat answered by BUSY, losses {loss:.0%}", busy, ("reader BUSY to a packet that was answered",) if loss else (), rounds=rounds)
+            other = Line(f"changes {seed}", loss, panel=Changes, **PLAIN)
+            yield Case(f"another packet with the last number, losses {loss:.0%}", other, ("panel to another packet with the number of the last",) if loss else (), rounds=rounds)
             up = Line(f"up {seed}", loss, panel=GivesUp, **PLAIN | {"repeats": 0})
             yield Case(f"a panel that gives up, losses {loss:.0%}", up, ("panel to the next number, but the last one was not answered",) if loss else (), rounds=rounds)
 
@@ -395,11 +488,14 @@ def listener_faults():
 
 
 def main():
-    """Listens to all lines, and prints the counts."""
+    """Listens to all lines, and prints the counts. With --standard what the profile alone asks for is left out, and nothing else."""
     faults = 0
     cases = [*good_lines(), *late_readers(), *faulty_lines(), *deaf_listeners()]
-    for case, text in zip(cases, listen(cases)):
+    for case, text, standard in zip(cases, listen(cases), listen(cases, "--standard")):
         wrong = case.judge(text)
+        if BASES.findall(standard) != [each for each in BASES.findall(text) if each[0] not in OURS]:
+            faults += 1
+            print(f"strangers: {case.name}: with --standard others are accused")
         if wrong and not case.name.startswith(DEAF):
             faults += 1
             print(f"strangers: {case.name}: {', '.join(dict.fromkeys(wrong))}")
