@@ -1,8 +1,8 @@
 """Lines with a fault that the counts tell, for `monitor`: which diagnosis stands after the table. Takes the path of the program.
 
-Both ends are those of `strangers.py`, by the rules of the standard alone. Each kind of line is made at losses of 0, 1 and 5 of a hundred bursts. What must be
+Both ends are those of `ends.py`, by the rules of the standard alone. Each kind of line is made at losses of 0, 1 and 5 of a hundred bursts. What must be
 told is wanted in each line, and what may be told besides is named. Anything else is told falsely, and so is each row of a device that isn't there, and each
-accusation where both ends keep the rules. The counts of both are printed. Two things can't be told in each line, and are counted:
+accusation where both ends keep the rules. Where nothing could be judged a line says so, and only there. The counts of both are printed. Two things can't be told in each line, and are counted:
 
 - a rate that a COMSET has changed, where damage has hit the one answer that names it: nothing may be told there;
 - damage on one device alone, where the line damages 1 or 5% of all bursts besides: the others then have damage too, and from one in sixty on it is theirs as well."""
@@ -12,7 +12,8 @@ import subprocess
 import sys
 from collections import Counter, namedtuple
 
-from strangers import ACCUSED, COM, COMSET, ID, LOSSES, NAK, PLAIN, POLL, PROGRAM, Line, Panel, Reader, Twin, packet
+from ends import ALL, COM, COMSET, ID, LOSSES, NAK, PLAIN, POLL, Line, Panel, Reader, Twin, packet
+from strangers import ACCUSED, PROGRAM
 
 DIAGNOSIS = re.compile(r"^diagnosis: (.*)$", re.M)
 ROW = re.compile(r"^(\d+)(?: +\d+){12}$", re.M)
@@ -24,6 +25,9 @@ REPEATED = r"packets to \d+ are repeated although answered"
 RESTARTED = r"\d+ restarted \d+ times"
 SHARED = "two devices may answer at 5"
 RATE = 9600  # at which a line begins
+UNJUDGED = "\nnothing was judged\n"
+# what stands before each packet, so that nothing is known when it comes: marks, a packet with a wrong check, and a packet to all devices
+BEFORE = {"marks": lambda burst: ["FF" * 8 + burst], "a refusal": lambda burst: ["53050700016041", burst], "a packet to all": lambda burst: [ALL, burst]}
 SETTINGS = ((5, 38400), (5, 19200), (6, 9600), (6, 115200))  # the address and the rate of a COMSET
 counts = Counter()
 
@@ -191,9 +195,9 @@ def made(kind, seed, loss, address=5, rounds=ROUNDS, **words):
     return line, line.run(rounds)
 
 
-def bursts(kind, seed, loss, address=5, **words):
+def bursts(kind, seed, loss, address=5, rounds=ROUNDS, **words):
     """A line's bursts, with its devices at this address."""
-    return made(kind, seed, loss, address, **words)[1]
+    return made(kind, seed, loss, address, rounds, **words)[1]
 
 
 def dropping(seed, loss, address, damages):
@@ -243,13 +247,14 @@ def noise(seed):
 
 
 def told(lines):
-    """What is told of a line."""
+    """What is told of a line, and the status."""
     done = subprocess.run([PROGRAM, "monitor", "--hex"], input="".join(f"{line}\n" for line in lines).encode(), capture_output=True, check=False)
-    return done.stdout.decode()
+    return done.stdout.decode(), done.returncode
 
 
-# A line, its bursts, what must be told, what may, and what is told of some such lines; the devices that are there, and whether both ends keep the rules.
-Case = namedtuple("Case", "name lines wanted allowed some devices keep", defaults=((), (), (), (5,), True))
+# A line, its bursts, what must be told, what may, and what is told of some such lines; the devices that are there, whether both ends keep the rules, and whether something
+# can be judged.
+Case = namedtuple("Case", "name lines wanted allowed some devices keep judged", defaults=((), (), (), (5,), True, True))
 
 
 def answer_cases(loss, at, lost):
@@ -272,6 +277,12 @@ def answer_cases(loss, at, lost):
     yield Case(f"an echo of both, {at}", doubled(bursts(Line, f"both {loss}", loss), "both"), allowed=(*lost, REPEATED, SHARED), keep=False)
     for which in ("commands", "replies", "both"):
         yield Case(f"an echo of {which} left out, {at}", undone(doubled(bursts(Line, f"undone {loss}", loss), which)), allowed=lost)
+    for what, before in BEFORE.items():
+        for seed in range(3):
+            lines = [each for burst in bursts(Line, f"{what} {seed} {loss}", loss, rounds=SHORT) for each in before(burst)]
+            asks_all = what == "a packet to all"
+            silent = ("127 never answered", "damage on 127 alone") if asks_all else ()
+            yield Case(f"{what} before each packet, {at}", lines, silent[:1], (SHARED, LOSES, REPEATED, *silent), devices=(5, 127) if asks_all else (5,), judged=False)
     yield Case(f"noise alone, {at}", noise(loss), ("nothing but noise: another rate\\?",), devices=())
 
 
@@ -318,12 +329,13 @@ def cases():
 
 def judge(case):
     """What is missing of what is told of a line, and what is told falsely."""
-    text = told(case.lines)
+    text, status = told(case.lines)
     said = DIAGNOSIS.findall(text)
     missing = [word for word in case.wanted if not any(re.fullmatch(word, what) for what in said)]
     false = [what for what in said if not any(re.fullmatch(word, what) for word in (*case.wanted, *case.allowed, *case.some))]
     rows = tuple(int(address) for address in ROW.findall(text))
     false += [f"rows of {rows}"] if rows != case.devices else []
+    missing += [f"nothing was judged: {not case.judged}"] if (UNJUDGED in text) == case.judged or not case.judged and status != 1 else []
     false += [" ".join(accused) for accused in ACCUSED.findall(text)] if case.keep else []
     some = any(re.fullmatch(word, what) for word in case.some for what in said)
     for what, more in (("lines", 1), ("found", not missing), ("falsely told", len(false)), ("told of some", some)):

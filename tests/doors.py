@@ -1,6 +1,6 @@
 """What is wrong at a door, on lines that aren't ours: `monitor --talk` leads to the row of docs/INSTALLING.md. Takes the path of the program.
 
-The panel is that of `strangers.py` and the readers are those of `installing.py`, by the rules of the standard alone. For each row of the page's table of a door a line with that fault is made,
+The panel is that of `ends.py` and the readers are those of `installing.py`, by the rules of the standard alone. For each row of the page's table of a door a line with that fault is made,
 at losses of 0, 1 and 5 of a hundred bursts. What `--talk` prints of it alone leads to that row and no earlier one. The words that must come and those that mustn't stand with
 each fault. Both ends keep the rules, so whoever is accused is accused falsely. The counts of both are printed."""
 import re
@@ -10,8 +10,9 @@ from collections import Counter
 
 import installing
 from diagnoses import both
+from ends import LOSSES, OUT, POLL, QUIET, RAW, Line, Panel
 from installing import CARD, DOOR, KEYS, NAK, Deaf, Reader, Seen, at_times
-from strangers import ACCUSED, LOSSES, OUT, POLL, PROGRAM, QUIET, RAW, Line, Panel
+from strangers import ACCUSED, PROGRAM
 
 BURSTS = 600
 CARDS = [(30 + 40 * at, *CARD) for at in range(5)]  # a card each 40 answers

@@ -1,6 +1,6 @@
 """Good lines of ten makers' habits, a million packets, for `monitor`: nobody is accused. Takes the path of the program.
 
-Both ends are those of `strangers.py`, by the rules of the standard alone. Each habit has lines of its own, at losses of 0, 1 and 5 of a hundred bursts; every
+Both ends are those of `ends.py`, by the rules of the standard alone. Each habit has lines of its own, at losses of 0, 1 and 5 of a hundred bursts; every
 burst is a run. Besides that nobody is accused, nearly every packet must have been judged: a monitor that judges nothing would accuse nobody too. The counts of
 each habit are printed."""
 import re
@@ -8,7 +8,8 @@ import subprocess
 import sys
 from concurrent.futures import ProcessPoolExecutor
 
-from strangers import ACCUSED, LOSSES, PROGRAM, QUIET, Line, Panel, Reader
+from ends import LOSSES, QUIET, Line, Panel, Reader
+from strangers import ACCUSED, PROGRAM
 
 ROUNDS = 31500  # bursts of one habit at one loss: 33 lines of them are a million
 COUNTS = re.compile(r"^runs \d+ packets (\d+) .* judged (\d+) accused (\d+)$", re.M)

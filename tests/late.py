@@ -11,7 +11,8 @@ import subprocess
 import sys
 from datetime import datetime, timedelta, timezone
 
-from strangers import ACK, PROGRAM, packet
+from ends import ACK, packet
+from strangers import PROGRAM
 
 POLL = 0x60
 WAIT = 200
