@@ -256,17 +256,23 @@ def looks_at_late(loss):
     says(f"late {loss}", page, ["Nobody broke a rule"])
 
 
-def looks_at_restarts():
-    """A device that loses its number four times, 300 seconds apart, but once 290 and then 310: its median is 300."""
-    line, number = Line(), 0
+def looks_at_restarts(loss):
+    """A device that loses its number four times, 300 seconds apart, but once 290 and then 310: its median is 300. Of its other answers a share is lost, and comes to a copy."""
+    line, number, source = Line(), 0, random.Random(loss)
     falls = {100000, 390000, 700000, 1000000}
     for moment in range(0, 1100000, 10000):
         line.add(moment, "out", packet(5, number, POLL))
-        line.add(moment + 20, "in", packet(5, number, 0x41, bytes([4]), True) if moment in falls else packet(5, number, ACK, b"", True))
+        copy = 200 if moment not in falls and source.random() * 100 < loss else 0
+        if copy:
+            line.add(moment + copy, "out", packet(5, number, POLL))
+        line.add(moment + copy + 20, "in", packet(5, number, 0x41, bytes([4]), True) if moment in falls else packet(5, number, ACK, b"", True))
         number = 0 if moment in falls else following(number)
     for what, text, wanted in (("restarts", line.digits(), "5 restarted 4 times, every 300 s"), ("restarts without moments", re.sub("# .*\n", "", line.digits()), "5 restarted 4 times")):
-        asks(what, [wanted], [each["text"] for each in objects(text)["diagnosis"]])
-        says(what, report(text), [f"Device {wanted}.", "Nobody broke a rule"])
+        said = [each["text"] for each in objects(text).get("diagnosis", [])]
+        asks(f"{what}, losses {loss}%", [wanted], [each for each in said if not (loss and re.fullmatch(r"5 loses \d+% of answers", each))])
+        says(f"{what}, losses {loss}%", report(text), [f"Device {wanted}.", "Nobody broke a rule"])
+    done = subprocess.run([PROGRAM, "monitor", "--hex", "--times"], input=line.digits().encode(), capture_output=True)
+    asks(f"restarts by osdp monitor, losses {loss}%", ["4 times, every 300 s"], re.findall(r"^times: 5 restarted (.*)$", done.stdout.decode(), re.M))
 
 
 def looks_at_accused():
@@ -304,7 +310,7 @@ for loss in (0, 1, 5):
         for seed in (number, number + len(WAYS)):
             looks_at_calm(seed, loss, echo)
     looks_at_late(loss)
-looks_at_restarts()
+    looks_at_restarts(loss)
 looks_at_accused()
 looks_at_objects()
 for name in dict.fromkeys(name for name, _ in counts):
