@@ -6,5 +6,6 @@ pub mod Hearing
 pub mod Timed
 pub mod Retelling
 pub mod Telling
+pub mod Echoing
 pub mod OneByOne
 pub mod WholeText

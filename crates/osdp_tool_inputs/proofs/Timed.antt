@@ -4,7 +4,7 @@ use Rattle.std.proofs.lemmas.Bool.{cases_Bool, cond-false, cond-true}
 use Rattle.osdp_tool_streams.specs.Cut.{line_feed, lines_of}
 use Rattle.osdp_tool_inputs.specs.Heard.{late_notice, names_run, shown_stamp, tells_at, tells_of, times_after, told_line, took_text}
 use Rattle.osdp_tool_inputs.specs.Laws.{AreEdges, Edges, IsFront, IsTail, MomentsLeaveLines, lines_between}
-use Rattle.osdp_tool_inputs.specs.Times.{ends_so, run_of, stamp_at, stamps_of}
+use Rattle.osdp_tool_inputs.specs.Times.{ends_so, run_of, stamps_of}
 use Rattle.osdp_tool_times.specs.declared.waits.Told.{Told}
 use Rattle.osdp_tool_times.specs.declared.waits.Told.TheVariants.{InTime, Late, Nothing}
 

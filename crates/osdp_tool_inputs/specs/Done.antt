@@ -17,7 +17,7 @@ use Rattle.osdp_tool_streams.specs.declared.fault.ToolFault.TheVariants.{NoMemor
 use Rattle.osdp_tool_show.specs.declared.detail.Detail.{Detail}
 use Rattle.osdp_tool_streams.specs.declared.form.Form.{Form}
 use Rattle.osdp_tool_inputs.specs.Asked.{form_of, has_lines}
-use Rattle.osdp_tool_inputs.specs.Heard.{printed_of}
+use Rattle.osdp_tool_inputs.specs.Echoes.{echoes_in, heard_part, printed_by}
 use Rattle.osdp_tool_inputs.specs.Moments.{Tells}
 use Rattle.osdp_tool_inputs.specs.Times.{timed_text}
 use Rattle.osdp_tool_inputs.specs.declared.asked.Asked.{Asked}
@@ -81,9 +81,10 @@ module _ (ends : Ending) (retold : List ℕ → List ℕ) (text : List ℕ) (out
 
 -- ---- what is asked
 
--- by whether moments are told; else the lines are told, also where objects are made of them
+-- by whether moments are told: then the echoes of an adapter are left out, and told; else the lines are told, also where objects are made of them
 abbrev pub Listens : Bool → MonitorMode → List ℕ → Ending
-Listens true mode text result input output = Retells (EndsHeard mode) (printed_of mode.json mode.clock text) text output result
+Listens true mode text result input output =
+    Retells (EndsHeard mode) (printed_by mode.json mode.clock (echoes_in text) (heard_part text)) (heard_part text) output result
 Listens false mode text result input output = EndsHeard mode result input output
 
 -- what is asked is done with a stream of digits or bytes; these are all its bytes, where they were read before

@@ -34,7 +34,7 @@ fn names_run(line: &[u8]) -> bool
 }
 
 /// Adds a line as it is.
-fn push_plain(text: &mut Vec<u8>, line: &[u8]) -> Result<(), AllocError>
+pub(crate) fn push_plain(text: &mut Vec<u8>, line: &[u8]) -> Result<(), AllocError>
     ensures { OnOk result (text.new.items ≡ text.old.items ++ (line.now ++ 10 ∷ [])) }
 {
     text.extend_from_slice(line)?;

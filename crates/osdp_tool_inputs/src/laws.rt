@@ -1,5 +1,6 @@
 //! What the crate's definitions say, in the subject's words. A law has no code: it holds for all values, and its proof is the law's.
 
+ghost use Rattle.osdp_tool_inputs.specs.Echoes.{KeepsOthers, LeavesAllElse, LeavesEchoOut};
 ghost use Rattle.osdp_tool_inputs.specs.Laws.{MomentsLeaveLines, StampsOneRun, TellsInOrder, TimesByRuns};
 
 /// The moments that the runtime's clock tells are in order.
@@ -17,8 +18,23 @@ pub fn times_by_runs()
     ensures { TimesByRuns }
 {}
 
-/// With the moments of a capture the monitor tells the lines that it tells without, each after the moment and the way of its run, and a late answer before its times: none is
+/// With the moments of a capture, whose echoes are left out before, the monitor tells the lines that it tells without, each after the moment and the way of its run, and a late answer before its times: none is
 /// left out, none comes to them.
 pub fn moments_leave_lines()
     ensures { MomentsLeaveLines }
+{}
+
+/// Of a capture with ways a run that came in and is the one that went out just before is left out, and a second such run is not.
+pub fn leaves_echo_out()
+    ensures { LeavesEchoOut }
+{}
+
+/// A line of a capture that isn't the one that went out just before is not left out.
+pub fn keeps_others()
+    ensures { KeepsOthers }
+{}
+
+/// Of a capture without ways nothing is left out.
+pub fn leaves_all_else()
+    ensures { LeavesAllElse }
 {}

@@ -4,6 +4,7 @@
 mod asked;
 mod clock;
 mod ears;
+mod echoes;
 mod heard;
 mod hinted;
 mod inputs;

@@ -8,10 +8,10 @@ use crate::lines::cut_lines;
 use std::alloc::{AllocError, Global};
 
 /// What stands in front of a line whose run has no moment.
-const NO_STAMP: &[u8] = b"-";
+pub(crate) const NO_STAMP: &[u8] = b"-";
 
 /// Whether a line is a comment with a moment and a way: it ends in one of the ways.
-fn is_stamp(line: &[u8]) -> bool
+pub(crate) fn is_stamp(line: &[u8]) -> bool
     ensures { result ≡ is_stamp line.now }
 {
     line.starts_with(b"# ")
