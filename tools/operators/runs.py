@@ -53,11 +53,11 @@ def fails_unedited(tools, crate, kind, paths):
 
 
 def refusals(tools, copy, crate, kind, paths):
-    """Returns the tests that fail, or the row or the program that comes out otherwise."""
+    """Returns the tests that fail, or the rows or the program that come out otherwise."""
     if kind == "test":
         _, text = tools.ran(["rt", "try", "--test"], copy.folder(crate))
         return [f"test `{crate}::{it}`" for it in re.findall(r"^test (\S+) \.\.\. FAILED", text, re.M)]
     try:
-        return [tools.failing_program(copy, crate) if kind == "program" else tools.failing_row(copy, *paths)]
+        return [tools.failing_program(copy, crate)] if kind == "program" else tools.failing_rows(copy, *paths)
     except tools.Bad:
         return []
