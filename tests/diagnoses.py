@@ -18,6 +18,7 @@ from strangers import ACCUSED, PROGRAM
 DIAGNOSIS = re.compile(r"^diagnosis: (.*)$", re.M)
 ROW = re.compile(r"^(\d+)(?: +\d+){12}$", re.M)
 ROUNDS, SHORT = 800, 400
+SEEDS = ("", "b ", "e ", "g ", "h ")
 LOSES = r"\d+ loses \d+% of answers(, others none)?"
 ALIKE = r"damage on all alike"
 DAMAGED = r"damage on 5 alone"
@@ -257,33 +258,31 @@ def told(lines):
 Case = namedtuple("Case", "name lines wanted allowed some devices keep judged", defaults=((), (), (), (5,), True, True))
 
 
-def answer_cases(loss, at, lost):
+def answer_cases(loss, at, lost, seed):
     """How a device answers, and what an adapter hands back."""
-    yield Case(f"a good line, {at}", bursts(Line, f"good {loss}", loss), allowed=lost)
-    for seed in ("", "b ", "e ", "g ", "h "):
-        devices = both(bursts(Line, f"{seed}one {loss}", loss), bursts(Line, f"{seed}two {loss}", loss, 6))
-        yield Case(f"two good devices, {at}", devices, allowed=(*lost, ALIKE), devices=(5, 6))
-    yield Case(f"a reader that never answers, {at}", bursts(Answering, f"mute {loss}", loss, reader=Mute), ("5 never answered",))
-    yield Case(f"a reader that loses 8%, {at}", bursts(Answering, f"eight {loss}", loss, reader=Forgetful), (r"5 loses ([5-9]|1\d|2[0-5])% of answers",), lost[1:])
-    alone = both(bursts(Answering, f"eight of two {loss}", loss, reader=Forgetful), bursts(Line, f"other {loss}", 0, 6))
+    yield Case(f"a good line, {at}", bursts(Line, f"good{seed} {loss}", loss), allowed=lost)
+    devices = both(bursts(Line, f"{seed}one {loss}", loss), bursts(Line, f"{seed}two {loss}", loss, 6))
+    yield Case(f"two good devices, {at}", devices, allowed=(*lost, ALIKE), devices=(5, 6))
+    yield Case(f"a reader that never answers, {at}", bursts(Answering, f"mute{seed} {loss}", loss, reader=Mute), ("5 never answered",))
+    yield Case(f"a reader that loses 8%, {at}", bursts(Answering, f"eight{seed} {loss}", loss, reader=Forgetful), (r"5 loses ([5-9]|1\d|2[0-5])% of answers",), lost[1:])
+    alone = both(bursts(Answering, f"eight of two{seed} {loss}", loss, reader=Forgetful), bursts(Line, f"other{seed} {loss}", 0, 6))
     yield Case(f"one of two that loses 8%, {at}", alone, (r"5 loses ([5-9]|1\d|2[0-5])% of answers, others none",), (DAMAGED, *lost[1:]) if loss else (), devices=(5, 6))
-    yield Case(f"restarts, {at}", bursts(Line, f"restarts {loss}", loss, reader=Loses), (RESTARTED,), lost)
-    yield Case(f"two at one address that collide, {at}", bursts(Collides, f"collide {loss}", loss), (SHARED,), (LOSES, *lost[1:]))
-    yield Case(f"two at one address that don't, {at}", bursts(Twin, f"twins {loss}", loss), (SHARED,), (*lost, REPEATED, RESTARTED), keep=False)
-    yield Case(f"a deaf panel, {at}", bursts(Deaf, f"deaf {loss}", loss), (REPEATED,), lost)
-    yield Case(f"Secure Channel demanded, {at}", bursts(Line, f"secure {loss}", loss, reader=Secures), ("5 demands Secure Channel",), lost)
-    yield Case(f"an echo of commands, {at}", doubled(bursts(Line, f"echo {loss}", loss), "commands"), (r"each packet to 5 comes twice: an echo of the adapter\?",), lost[1:])
-    yield Case(f"an echo of replies, {at}", doubled(bursts(Line, f"back {loss}", loss), "replies"), (SHARED,), (*lost, REPEATED), keep=False)
-    yield Case(f"an echo of both, {at}", doubled(bursts(Line, f"both {loss}", loss), "both"), allowed=(*lost, REPEATED, SHARED), keep=False)
+    yield Case(f"restarts, {at}", bursts(Line, f"restarts{seed} {loss}", loss, reader=Loses), (RESTARTED,), lost)
+    yield Case(f"two at one address that collide, {at}", bursts(Collides, f"collide{seed} {loss}", loss), (SHARED,), (LOSES, *lost[1:]))
+    yield Case(f"two at one address that don't, {at}", bursts(Twin, f"twins{seed} {loss}", loss), (SHARED,), (*lost, REPEATED, RESTARTED), keep=False)
+    yield Case(f"a deaf panel, {at}", bursts(Deaf, f"deaf{seed} {loss}", loss), (REPEATED,), lost)
+    yield Case(f"Secure Channel demanded, {at}", bursts(Line, f"secure{seed} {loss}", loss, reader=Secures), ("5 demands Secure Channel",), lost)
+    yield Case(f"an echo of commands, {at}", doubled(bursts(Line, f"echo{seed} {loss}", loss), "commands"), (r"each packet to 5 comes twice: an echo of the adapter\?",), lost[1:])
+    yield Case(f"an echo of replies, {at}", doubled(bursts(Line, f"back{seed} {loss}", loss), "replies"), (SHARED,), (*lost, REPEATED), keep=False)
+    yield Case(f"an echo of both, {at}", doubled(bursts(Line, f"both{seed} {loss}", loss), "both"), allowed=(*lost, REPEATED, SHARED), keep=False)
     for which in ("commands", "replies", "both"):
-        yield Case(f"an echo of {which} left out, {at}", undone(doubled(bursts(Line, f"undone {loss}", loss), which)), allowed=lost)
+        yield Case(f"an echo of {which} left out, {at}", undone(doubled(bursts(Line, f"undone{seed} {loss}", loss), which)), allowed=lost)
     for what, before in BEFORE.items():
-        for seed in range(3):
-            lines = [each for burst in bursts(Line, f"{what} {seed} {loss}", loss, rounds=SHORT) for each in before(burst)]
-            asks_all = what == "a packet to all"
-            silent = ("127 never answered", "damage on 127 alone") if asks_all else ()
-            yield Case(f"{what} before each packet, {at}", lines, silent[:1], (SHARED, LOSES, REPEATED, *silent), devices=(5, 127) if asks_all else (5,), judged=False)
-    yield Case(f"noise alone, {at}", noise(loss), ("nothing but noise: another rate\\?",), devices=())
+        lines = [each for burst in bursts(Line, f"{what} {seed} {loss}", loss, rounds=SHORT) for each in before(burst)]
+        asks_all = what == "a packet to all"
+        silent = ("127 never answered", "damage on 127 alone") if asks_all else ()
+        yield Case(f"{what} before each packet, {at}", lines, silent[:1], (SHARED, LOSES, REPEATED, *silent), devices=(5, 127) if asks_all else (5,), judged=False)
+    yield Case(f"noise alone, {at}", noise(f"{seed} {loss}"), ("nothing but noise: another rate\\?",), devices=())
 
 
 def setting_cases(loss, at, lost):
@@ -323,8 +322,11 @@ def cases():
     """All lines."""
     for loss in LOSSES:
         lost = {0: (), 0.01: (LOSES,), 0.05: (LOSES, REPEATED)}[loss]
-        for of in (answer_cases, setting_cases, damage_cases):
-            yield from of(loss, f"losses {loss:.0%}", lost)
+        at = f"losses {loss:.0%}"
+        for seed in SEEDS:
+            yield from answer_cases(loss, at, lost, seed)
+        for of in (setting_cases, damage_cases):
+            yield from of(loss, at, lost)
 
 
 def judge(case):
