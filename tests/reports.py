@@ -1,6 +1,6 @@
 #!/usr/bin/env python3
 """Pages that `osdp-report` makes of captures that are written here, with known moments: the answer times, late answers, echoes of commands, of answers and of
-both, and devices that are gone come out as they were made, at losses of 0, 1 and 5 of a hundred answers. Takes the path of the program.
+both, and devices that are gone come out as they were made, at losses of 0, 1 and 5 of a hundred answers. So do echoes by `osdp monitor --times`. Takes the path of the program.
 
 The panel and the readers are a few lines of their own. What each page must say is worked out from what was put into the line."""
 import html
@@ -186,6 +186,14 @@ def nearest(times, hundredth):
     return next(time for time in sorted(times) if 100 * sum(other <= time for other in times) >= hundredth * len(times))
 
 
+def looks_at_monitor(what, line, plain, echoes):
+    """What `osdp monitor --times` tells of a line: how many echoes it leaves out, and of all else what it tells of the line without them."""
+    heard, wanted = (subprocess.run([PROGRAM, "monitor", "--hex", "--times"], input=each.digits().encode(), capture_output=True).stdout.decode() for each in (line, plain))
+    asks(f"{what}: echoes that are left out", [str(echoes)] if echoes else [], re.findall(r"^diagnosis: echoes of the adapter left out: (\d+)$", heard, re.M))
+    asks(f"{what}: the table", re.findall(r"^\d+(?: +\d+){12}$|^runs .*", wanted, re.M), re.findall(r"^\d+(?: +\d+){12}$|^runs .*", heard, re.M))
+    asks(f"{what}: said falsely", [], re.findall(r".*(?: panel to \d|reader \d|a late answer|comes twice|two devices|repeated although).*", heard))
+
+
 def looks_at_calm(seed, loss, echo):
     before, name = faults, "no echo" if echo == "none" else f"an echo of {echo}"
     source = random.Random(seed)
@@ -207,6 +215,7 @@ def looks_at_calm(seed, loss, echo):
     again = report(line.osdpcap(), "--osdpcap")
     if row(again, 5)[:10] != cells[:10]:
         tell(f"{what}: .osdpcap has another row", cells, row(again, 5))
+    looks_at_monitor(what, line, calm(random.Random(seed), loss)[0], put["echoes"])
     found = put["echoes"] == sum(map(int, re.findall(r"hands back what is sent: (\d+) runs", page)))
     for of, more in (("pages", 1), ("found", found), ("falsely told", faults != before)):
         counts[f"{name}, losses {loss}%", of] += more
