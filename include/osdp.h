@@ -24,8 +24,8 @@
  *             bytes it is 2 for each command and 10 for each event, and the room. `free` gives all back. No other call of a panel and of a
  *             device takes memory. `osdp_monitor_new` takes 26,336 bytes in three, and the calls of a monitor that hear take 2,928 for each
  *             address, and its text. Where there is none, a call says so, and nothing has changed but a monitor, which stops.
- * Stack.      Each call takes at most 4 KiB of stack, but `osdp_panel_add` and `osdp_monitor_new` 6, `osdp_monitor_bytes` and
- *             `osdp_monitor_silence` 11 and `osdp_device_new` 11, as measured and counted on 64-bit x86.
+ * Stack.      Each call takes at most 4 KiB of stack, but `osdp_monitor_bytes` 5, `osdp_panel_add` and `osdp_monitor_new` 6 and
+ *             `osdp_device_new` 11, with what the heap takes, as measured and counted on 64-bit x86.
  * Targets.    64-bit x86 and ARM. What is lowered from the proved module of 64-bit x86 by `tools/retarget` is tested, and not proved: 32-bit ARM, RISC-V, x86
  *             and WebAssembly, and 64-bit ARM. There a count or a length is an `osdp_size`, of 64 bits.
  *

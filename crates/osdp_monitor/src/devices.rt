@@ -173,6 +173,17 @@ fn forget(slot: &mut Slot)
     }
 }
 
+/// A block for an address of which nothing is known. It is made by itself, so that no other call has a place for it on the stack.
+#[inline(never)]
+fn new_block(alloc: Global) -> Result<Box<Device>, AllocError>
+    ensures { IfOk result (λ block. block.value ≡ nothing_known) }
+{
+    match Box::new(alloc, Device::new()) {
+        Ok(block) => Ok(block),
+        Err(_) => Err(AllocError),
+    }
+}
+
 /// A packet was sent to this address. Where there is no block yet, and no memory for one, nothing changes.
 fn send(alloc: Global, slot: &mut Slot, packet: &FrameView<'_>) -> Result<(), AllocError>
     ensures ok { OnOk result (let k = known_of slot.old in known_of slot.new ≡ after_sent k.last k packet.now) }
@@ -182,9 +193,9 @@ fn send(alloc: Global, slot: &mut Slot, packet: &FrameView<'_>) -> Result<(), Al
         block.send(packet);
         return Ok(());
     }
-    let mut device = Device::new();
-    device.send(packet);
-    *slot = Some(Box::new(alloc, device)?);
+    let mut block = new_block(alloc)?;
+    block.send(packet);
+    *slot = Some(block);
     Ok(())
 }
 
