@@ -27,7 +27,7 @@ use Rattle.osdp_shared_line.specs.Addresses.{IsSetUp, NetMovesFit}
 use Rattle.osdp_shared_line.specs.Line as line
 use Rattle.osdp_shared_line.specs.Line.{Net, NetMove, run, site_at}
 use Rattle.osdp_shared_line.specs.Progress.{IsEmpty}
-use Rattle.osdp_shared_line.specs.Runs.{AreItsSessions, IsItsLink}
+use Rattle.osdp_shared_line.specs.Runs.{IsItsLink}
 use Rattle.osdp_shared_line.specs.Runs as runs
 use Rattle.osdp_shared_line.specs.Views.{own, view}
 use Rattle.osdp_shared_line.proofs.Running.{apart_all, apart_first}
@@ -41,7 +41,6 @@ use Rattle.osdp_sim.specs.Account.{Account}
 use Rattle.osdp_sim.specs.Rounds.{round, rounds}
 use Rattle.osdp_sim.specs.declared.step.SimStep.{SimStep}
 use Rattle.osdp_sim_bus.specs.Runs as simulation
-use Rattle.osdp_sim_bus.specs.Runs.{FitAlong}
 use Rattle.osdp_sim_bus.specs.State.{Given, LineState, ReaderSite, accounts, set_up}
 use Rattle.osdp_sim_bus.specs.Steps.{StepFits, after_step, fault_of}
 use Rattle.osdp_sim_laws.specs.Accounts.{IsInSession, IsOf}
@@ -131,7 +130,7 @@ module _ {H : Type 0} (answer_of : H → Command → Answer) (after : H → Comm
       }
 
   module _ (on : SeveralLinks answer_of after) where
-    open on use {schedules, counts, links, rows, laws, ranges, comes, laws.{in_time, stays}}
+    open on use {schedules, counts, links, laws, ranges, comes, laws.{in_time, places, stays}}
 
     module _ (config : BusConfig) (readers : List (Given H)) (steps : List SimStep) (m wait : ℕ)
         (is : IsRun answer_of after config readers (steps ++ rounds m wait)) (within : All IsInSession steps) where
@@ -216,7 +215,6 @@ module _ {H : Type 0} (answer_of : H → Command → Answer) (after : H → Comm
         pub begins : site_at k first.sites ≡ Some (first_site config given)
         pub its : IsItsLink answer_of after k (first_site config given) (moves_of answer_of after steps start) first
         pub moved : view k t n ≡ link.run answer_of after (runs.moves_of answer_of after k (moves_of answer_of after steps start) first) (view k (first_site config given) first)
-        pub row : AreItsSessions answer_of after k (first_site config given) t (moves_of answer_of after steps start) first
         pub steady : Each IsSteady (runs.moves_of answer_of after k (moves_of answer_of after steps start) first)
 
       pub link_at : (k : ℕ) (t : line.Site H) → site_at k n.sites ≡ Some t → HasLink k t
@@ -233,7 +231,6 @@ module _ {H : Type 0} (answer_of : H → Command → Answer) (after : H → Comm
             its = its;
             moved = subst (λ u. view k u n ≡ link.run answer_of after (runs.moves_of answer_of after k ms first) (view k (first_site config given.0) first))
                 (some_same its.moved.site t (sym its.moved.there ∙ at)) its.moved.moved;
-            row = rows first ms up fits k (first_site config given.0) t begins at;
             steady = are_steady (runs.moves_of answer_of after k ms first)
                 (moves_usual answer_of after ms k first (each_of IsScheduled ms (subst (λ r. All IsScheduled r) no_rounds (done 0 (omega arith)).scheduled)));
           }
@@ -270,7 +267,8 @@ module _ {H : Type 0} (answer_of : H → Command → Answer) (after : H → Comm
             let old = view k (first_site config l.given) first in
             let begun = up.begins k (first_site config l.given) l.begins in
             let issued = each_of SetsNoAddress u.0.account.issued ready.issued in
-            let submitted = subst (Each SetsNoAddress) (u.2.tells.issued ∙ sym l.row.commands) issued in
+            let placed = ap (λ (v : Link H). ended_commands v.earlier ++ v.account.issued) l.moved ∙ sym (places old ms begun l.its.fits) in
+            let submitted = subst (Each SetsNoAddress) (u.2.tells.issued ∙ placed) issued in
             let stay = stays old ms begun l.its.fits (each_all SetsNoAddress (old.controller.waiting ++ all_submitted answer_of after ms old) submitted)
             (set_no_other old.reader.config.address old.controller.session.config.address ms l.steady) in
             let moved = l.moved in

@@ -5,7 +5,8 @@ use Rattle.osdp_reader.specs.declared.handler.Answer.{Answer}
 use Rattle.osdp_link_laws.specs.Addresses.{StayWhereTheyAre}
 use Rattle.osdp_link_laws.specs.Peers.{ReadsWhatIsAsked}
 use Rattle.osdp_link_laws.specs.Progress.{ComesThroughFromRest, ComesThroughInTime, ComesToRest}
-use Rattle.osdp_shared_line.specs.Runs.{EachHasSessionsInARow, EachIsALink}
+use Rattle.osdp_link_laws.specs.Sessions.{CommandsHavePlaces}
+use Rattle.osdp_shared_line.specs.Runs.{EachIsALink}
 use Rattle.osdp_sim_bus.specs.Laws.{HasAnAccountEach}
 use Rattle.osdp_sim_laws.specs.OneLink.{ReadsPackets}
 use Rattle.osdp_sim_bus_laws.specs.Moves.{SchedulesAreMoves}
@@ -18,13 +19,13 @@ module _ {H : Type 0} (answer_of : H → Command → Answer) (after : H → Comm
     pub in_time : ComesThroughInTime answer_of after
     pub from_rest : ComesThroughFromRest answer_of after
     pub stays : StayWhereTheyAre answer_of after
+    pub places : CommandsHavePlaces answer_of after
 
   pub record SeveralLinks : Type 0 where
     pub reads : ReadsPackets
     pub schedules : SchedulesAreMoves answer_of after
     pub counts : HasAnAccountEach answer_of after
     pub links : EachIsALink answer_of after
-    pub rows : EachHasSessionsInARow answer_of after
     pub laws : LinkLaws
     pub ranges : StaysInRange
     pub comes : ComesDue

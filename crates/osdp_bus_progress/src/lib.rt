@@ -16,10 +16,10 @@ fn stands_on_several_links<H: Handler>()
     osdp_sim_bus_laws::schedules_are_moves::<H>();
     osdp_sim_bus::laws::has_an_account_each::<H>();
     osdp_shared_line::each_is_a_link::<H>();
-    osdp_shared_line::promises::each_has_sessions_in_a_row::<H>();
     osdp_link_laws::reads_what_is_asked();
     osdp_link_laws::comes_through::<H>();
     osdp_link_laws::stay_where_they_are::<H>();
+    osdp_link_laws::sessions_in_a_row::<H>();
     osdp_controller_laws::stays_in_range();
     osdp_controller_laws::ticks_come_due();
 }

@@ -13,6 +13,7 @@ use Rattle.osdp_bus.specs.Buses.{BusState}
 use Rattle.osdp_bus_laws.specs.Calls as bus
 use Rattle.osdp_bus_laws.specs.Reports.{told_along, told_in}
 use Rattle.osdp_link_laws.specs.Link.{front_of, taken, taken_command}
+use Rattle.osdp_link_laws.specs.Sessions.{in_all}
 use Rattle.osdp_link_laws.proofs.Stages.{Each}
 use Rattle.osdp_reader.specs.Table.{hears, kind_of}
 use Rattle.osdp_reader.specs.declared.handler.Answer.{Answer}
@@ -25,7 +26,7 @@ use Rattle.osdp_calls.specs.Ends.{KeepsPanel, one_panel_call, panel_calls}
 use Rattle.osdp_calls.specs.Lines.{InUse, Station}
 use Rattle.osdp_device.specs.Telling.{items_of}
 use Rattle.osdp_calls.proofs.Places.{Stays, panel_so, station_so, those}
-use Rattle.osdp_calls_instance.specs.SimulatedReports.{Told, in_all, told_to}
+use Rattle.osdp_calls_instance.specs.SimulatedReports.{Told, told_to}
 
 -- ---- what reports add
 

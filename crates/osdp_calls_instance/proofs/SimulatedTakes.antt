@@ -10,6 +10,7 @@ use Rattle.osdp_device.specs.Deciding.{passed}
 use Rattle.osdp_frame.specs.Receiving.{after_silence, after_take, after_tick}
 use Rattle.osdp_device.specs.Telling.{items_of, next_told}
 use Rattle.osdp_link_laws.specs.Link as link
+use Rattle.osdp_link_laws.specs.Sessions.{in_all}
 use Rattle.osdp_link_laws.proofs.Stages.{Each}
 use Rattle.osdp_reader.specs.State.{after_set_busy, after_set_handler}
 use Rattle.osdp_reader.specs.declared.handler.Answer.{Answer}
@@ -22,7 +23,6 @@ use Rattle.osdp_calls.specs.Sayings.{SaysWhatGoesOut, acted_on}
 use Rattle.osdp_calls.proofs.Ends.{next_stations, queue_held}
 use Rattle.osdp_calls.proofs.Places.{Stays, as_before, panel_so, station_so}
 use Rattle.osdp_calls_instance.specs.OwnCalls.{IsOfDevice, device_after_each}
-use Rattle.osdp_calls_instance.specs.SimulatedReports.{in_all}
 
 module _ {H : Type 0} where
   abbrev pub taken_to : Station H → List Command

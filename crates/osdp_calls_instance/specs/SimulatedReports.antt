@@ -1,12 +1,12 @@
 -- What a run of a schedule over a bus tells of each reader, and what the calls that it is tell.
-use Rattle.std.specs.Prelude.{◌≡◌, ℕ, ◌≤◌, true, List, [], ◌∷◌, ◌++◌, map, Some, slice_get}
+use Rattle.std.specs.Prelude.{◌≡◌, ℕ, ◌≤◌, true, List, ◌∷◌, map, Some, slice_get}
 use Rattle.osdp_msg.specs.declared.command.Command.{Command}
 use Rattle.osdp_msg.specs.declared.event.Event.{Event}
 use Rattle.osdp_msg.specs.declared.reply.Reply.{Reply}
 use Rattle.osdp_bus.specs.Buses.{new_bus}
 use Rattle.osdp_bus.specs.Settings.{IsBusConfig}
 use Rattle.osdp_bus.specs.declared.config.BusConfig.{BusConfig}
-use Rattle.osdp_link_laws.specs.Link as link
+use Rattle.osdp_link_laws.specs.Sessions.{in_all}
 use Rattle.osdp_reader.specs.declared.handler.Answer.{Answer}
 use Rattle.osdp_shared_line.specs.Line.{site_at}
 use Rattle.osdp_sim.specs.Schedules.{HoldsAlong}
@@ -24,11 +24,6 @@ pub record Told : Type 0 where
   pub settled : List (Command × Reply)
   pub unsettled : List Command
   pub reported : List Event
-
--- of sessions, the last of them first, a list of each, session after session
-abbrev pub in_all : {A : Type 0} → (link.Account → List A) → List link.Account → List A
-in_all list [] = []
-in_all list (a ∷ earlier) = in_all list earlier ++ list a
 
 module _ {H : Type 0} where
   abbrev pub told_to : Station H → Told

@@ -9,7 +9,7 @@ use Rattle.osdp_ledger.specs.Ledger as ledger
 use Rattle.osdp_ledger.specs.Ledger.{Ledger, RestartDevice, new_ledger}
 use Rattle.osdp_ledger.specs.History.{AreAllowed, History, new_history, runs}
 use Rattle.osdp_ledger.specs.Restarts.{DeviceCosts, PanelCosts, ReportsNoMore, RestartReportsNoMore, RestartsCost}
-use Rattle.osdp_ledger.proofs.Restarts.{runs_then}
+use Rattle.osdp_ledger.proofs.InTurn.{runs_then}
 use Rattle.osdp_link_laws.specs.Link.{outstanding_command}
 use Rattle.osdp_link_laws.proofs.Numbers.{is_true}
 use Rattle.osdp_link_ledger.specs.Steps.{after_steps, queued_before}

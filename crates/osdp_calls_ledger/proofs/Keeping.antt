@@ -8,11 +8,12 @@ use Rattle.osdp_controller.specs.Machine.{Machine}
 use Rattle.osdp_reader.specs.State.{ReaderState}
 use Rattle.osdp_reader.specs.declared.handler.Answer.{Answer}
 use Rattle.osdp_ledger.specs.Ledger as ledger
-use Rattle.osdp_ledger.specs.Ledger.{Card, Ledger, Order, RestartPanel, after, new_ledger}
+use Rattle.osdp_ledger.specs.Ledger.{Card, Order, RestartPanel, after, new_ledger}
 use Rattle.osdp_ledger.specs.History.{AreAllowed, End, History, Left, new_history, runs, steps_on}
 use Rattle.osdp_ledger.specs.Laws.{EventsHold, OrdersHold}
 use Rattle.osdp_link_laws.specs.Link.{Account}
-use Rattle.osdp_link_ledger.specs.Accounts.{cut_off_as, doubted_as, in_all, removed_as, settled_as, taken_back_as}
+use Rattle.osdp_link_laws.specs.Sessions.{in_all}
+use Rattle.osdp_link_ledger.specs.Accounts.{cut_off_as, doubted_as, removed_as, settled_as, taken_back_as}
 use Rattle.osdp_link_ledger.specs.Laws.{IsLedgerOf, answered_in, is_under_way, unreported_in}
 use Rattle.osdp_link_ledger.specs.Steps.{after_steps, all_steps, queued_before}
 use Rattle.osdp_link_ledger.proofs.Ties.{runs_after}

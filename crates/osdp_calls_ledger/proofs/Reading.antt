@@ -145,9 +145,6 @@ module _ {H : Type 0} where
     -- ---- a packet that is read
 
     module _ (p : Packet) (b : Burst) (l : InUse H) (n : Net H) (h : IsNetOf l n) (same : b.packet ≡ p) (whole : HeardByOwn n) where
-      told_item : List (ℕ × Report)
-      told_item = told_by_item l.bus.greatest (PacketItem p) l.bus.devices
-
       shown_front : (rest : List (ℕ × Packet)) → n.to_panel ≡ (b.entry, b.packet) ∷ rest → (k : ℕ) (g : Ledger) → IsOurs k l.stations
           → seen_at answer_of after k (site_at k n.sites) (ToPanel Repeated l.bus.greatest) n g
           ≡ reported k (told_by_item l.bus.greatest (PacketItem p) l.bus.devices) g

@@ -5,6 +5,7 @@ pub mod Submitted
 pub mod Orders
 pub mod Events
 pub mod Untold
+pub mod InTurn
 pub mod Restarts
 pub mod Skipping
 pub mod Plain

@@ -5,17 +5,8 @@ use Rattle.std.proofs.lemmas.List.Elements.{All-filter, All-head, All-nil, All-p
 use Rattle.osdp_ledger.specs.Ledger.{Card, May, NoOffer, Offer, Reported, Unreported, Step, Submit, Withdraw, Open, Act, Settle, Doubt, Close, Queue, Offers, Report, Leave, WithdrawEvent, Lapse, RestartDevice, RestartPanel, acted_on, is_in_front, panel_restarted}
 use Rattle.osdp_ledger.specs.History.{AreAllowed, History, new_history, runs, steps_on}
 use Rattle.osdp_ledger.specs.Restarts.{RestartReportsNoMore, RestartsCost}
+use Rattle.osdp_ledger.proofs.InTurn.{allowed_second, runs_then}
 use Rattle.osdp_ledger.proofs.Waiting.{Told}
-
--- ---- lists of steps, one after the other
-
-allowed_then : (xs ys : List Step) (h : History) → AreAllowed (xs ++ ys) h → AreAllowed ys (runs xs h)
-allowed_then [] ys h all = all
-allowed_then (x ∷ xs) ys h all = allowed_then xs ys (steps_on x h) all.1
-
-pub runs_then : (xs ys : List Step) (h : History) → runs (xs ++ ys) h ≡ runs ys (runs xs h)
-runs_then [] ys h = refl
-runs_then (x ∷ xs) ys h = runs_then xs ys (steps_on x h)
 
 -- ---- so many were queued when the device lost power, in this session, with this offer
 
@@ -113,7 +104,7 @@ pub reports_no_more : RestartReportsNoMore
 reports_no_more before more allowed =
     let h = runs before new_history in
     let next = steps_on RestartDevice h in
-    let i = hold h.ledger.queued h.sessions h.ledger.offer h.reports more next (allowed_then before (RestartDevice ∷ more) new_history allowed).1 (record {
+    let i = hold h.ledger.queued h.sessions h.ledger.offer h.reports more next (allowed_second before (RestartDevice ∷ more) new_history allowed).1 (record {
       counted = omega arith;
       waiting = All-nil (IsNew h.ledger.queued h.sessions h.ledger.offer h.reports);
       offered = offer_stays h.ledger.queued h.sessions h.ledger.offer h.reports;

@@ -6,17 +6,17 @@ use Rattle.osdp_link_laws.specs.Link.{Link}
 use Rattle.osdp_link_laws.specs.OneHandler.{AreItsAnswers, GivesItsAnswers, KeepHandler, KeepsDevice}
 use Rattle.osdp_link_laws.specs.Ordinary.{IsOrdinary}
 use Rattle.osdp_link_laws.proofs.Lines.{each_all, each_map, each_of}
+use Rattle.osdp_link_laws.proofs.OneHandler.{keep_handler}
 use Rattle.osdp_link_ledger.specs.Answers.{ActsHaveAnswersOfOneHandler}
 use Rattle.osdp_link_ledger.specs.Ordinary.{OrdinaryMovesEndTold}
-use Rattle.osdp_link_ledger.proofs.Answered.{keep_handler}
 use Rattle.osdp_shared_line.specs.Addresses.{IsSetUp, NetMovesFit}
 use Rattle.osdp_shared_line.specs.Line.{LoseToPanel, LoseToReader, Net, NetMove, RestartPanel, RestartReader, SetHandler, Site, ToPanel, Withdraw, WithdrawEvent, run, site_at}
 use Rattle.osdp_shared_line.specs.Restarts.{IsOrdinaryOf, KeepsDeviceOf}
 use Rattle.osdp_shared_line.specs.Runs.{EachIsALink, moves_of}
 use Rattle.osdp_shared_line.specs.Views.{view}
+use Rattle.osdp_shared_line.proofs.Linking.{viewed}
 use Rattle.osdp_shared_line.proofs.Restarting.{HoldsOf, moves_hold}
 use Rattle.osdp_line_ledger.specs.Devices.{EachActsByOneHandler, EachOrdinaryEndsTold}
-use Rattle.osdp_line_ledger.proofs.Each.{viewed}
 
 module _ {H : Type 0} (k : ℕ) where
   device_kept : (move : NetMove H) → KeepsDeviceOf k move → HoldsOf KeepsDevice k move

@@ -120,13 +120,13 @@ module _ {H : Type 0} (answer_of : H → Command → Answer) (after : H → Comm
   -- ---- a list of moves inside a session
 
   -- it stays in the session after its first move too
-  pub first_inside : (move : Move H) (moves : List (Move H)) (l : Link H) → length (run answer_of after (move ∷ moves) l).earlier ≡ length l.earlier
+  first_inside : (move : Move H) (moves : List (Move H)) (l : Link H) → length (run answer_of after (move ∷ moves) l).earlier ≡ length l.earlier
       → length (after_move answer_of after move l).earlier ≡ length l.earlier
   first_inside move moves l same =
       let next = after_move answer_of after move l in
       omega (arith, same, more move l, all_more moves next)
 
-  pub others_inside : (move : Move H) (moves : List (Move H)) (l : Link H) → length (run answer_of after (move ∷ moves) l).earlier ≡ length l.earlier
+  others_inside : (move : Move H) (moves : List (Move H)) (l : Link H) → length (run answer_of after (move ∷ moves) l).earlier ≡ length l.earlier
       → length (run answer_of after (move ∷ moves) l).earlier ≡ length (after_move answer_of after move l).earlier
   others_inside move moves l same = same ∙ sym (first_inside move moves l same)
 

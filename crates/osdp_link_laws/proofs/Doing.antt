@@ -97,7 +97,7 @@ module _ {H : Type 0} where
       account = λ gone is. throws_away gone l.account is;
     }
 
-    pub restarts_controller : (l : Link H) (config : ControllerConfig) (room : Room)
+    restarts_controller : (l : Link H) (config : ControllerConfig) (room : Room)
         → HasNewController config room l (after_move answer_of after (RestartController config room) l)
     restarts_controller l config room = record {
       others = refl;

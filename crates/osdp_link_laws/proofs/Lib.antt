@@ -23,7 +23,6 @@ pub mod Once
 pub mod Controllers
 pub mod Devices
 pub mod Sessions
-pub mod Taken
 pub mod InARow
 pub mod EachAccount
 pub mod Ordinary
@@ -33,7 +32,6 @@ pub mod GivenAnswers
 pub mod OneHandler
 pub mod Reports
 pub mod Refusals
-pub mod TwoLists
 pub mod Endings
 pub mod Due
 pub mod Settling
@@ -50,7 +48,6 @@ pub mod Clean
 pub mod Addresses
 pub mod Doing
 pub mod Counting
-pub mod Costing
 mod PastOpening
 mod Lapsing
 mod LapsingRuns

@@ -1,6 +1,6 @@
 -- The events of a session that were offered stand before those in the queue that never were.
-use Rattle.std.proofs.Common.{◌≡◌, ◌++◌, List, [], take, Option, Some, None, refl, sym, subst, ap, ◌∙◌, append_assoc}
-use Rattle.std.proofs.lemmas.List.{append-nil, append_cancel_right}
+use Rattle.std.proofs.Common.{◌≡◌, ◌++◌, List, [], take, Option, Some, None, refl, sym, ap, ◌∙◌, append_assoc}
+use Rattle.std.proofs.lemmas.List.{append-nil}
 use Rattle.std.specs.Prelude.{ℕ, if◌then◌else◌, option_to_list}
 use Rattle.osdp_msg.specs.Events.{event_in}
 use Rattle.osdp_msg.specs.declared.event.Event.{Event}
@@ -12,13 +12,9 @@ use Rattle.osdp_reader.specs.Queue.{Queue}
 use Rattle.osdp_reader.specs.State.{ReaderState}
 use Rattle.osdp_reader.specs.declared.handler.Answer.{Answer}
 use Rattle.osdp_msg.specs.declared.command.Command.{Command}
-use Rattle.osdp_link_laws.specs.Headline.{IsWithout}
 use Rattle.osdp_link_laws.specs.Link.{Account, Link, unoffered_in}
-use Rattle.osdp_link_laws.specs.Sessions.{IsAmong}
 use Rattle.osdp_link_laws.proofs.Once.{Goes}
 use Rattle.osdp_link_laws.proofs.Removed.{as_waiting}
-use Rattle.osdp_link_laws.proofs.Taken.{among_first, among_kept}
-use Rattle.osdp_link_laws.proofs.Without.{without_keeps}
 use Rattle.osdp_link_laws.proofs.Since.{Hears, has_acted}
 use Rattle.osdp_link_laws.proofs.Stages.{After, Before, Behind, EventsAre, Fresh, Knows, Level, Never, Now, Offers, OffersEvent, ReaderAt, Rest, Restarted, Stage, Start, number_after, shown, shown_at, unreported_at}
 use Rattle.osdp_link_laws.proofs.Withdrawing.{ever_in_front, splits}
@@ -51,51 +47,34 @@ module _ (fixed : ControllerConfig) {H : Type 0} where
   at_front since (Rest n x a) r hears is =
       let f = known_in_front since n x a r hears is in (f.0, f.1 ∙ ap (λ es. es ++ f.0) (sym (append-nil (shown x a))))
 
-  -- what was offered, others that were offered before the session, and those never offered; of the events that stay those before these hold all
-  -- but those thrown away
+  -- what was offered, others that were offered before the session, and those never offered are all that are kept
   pub record StandApart (r : ReaderState H) (t : Account) : Type 0 where
     pub more : List Event
-    pub older : List Event
     pub kept : t.kept ≡ (t.offered ++ more) ++ unoffered_in r.queue
-    pub stayed : t.stayed ≡ older ++ unoffered_in r.queue
-    pub without : IsWithout t.thrown_away older (t.offered ++ more)
 
-  heard_apart : (past front new more left : List Event) (r : ReaderState H) (t : Account) → ever_in_front r.queue ≡ (front ++ new) ++ more
-      → t.kept ≡ past ++ r.queue.events → t.stayed ≡ left ++ r.queue.events → IsWithout t.thrown_away left past
-      → t.reported ≡ past ++ front → t.offered ≡ t.reported ++ new → StandApart r t
-  heard_apart past front new more left r t stands kept stayed without reported offered =
+  heard_apart : (past front new more : List Event) (r : ReaderState H) (t : Account) → ever_in_front r.queue ≡ (front ++ new) ++ more
+      → t.kept ≡ past ++ r.queue.events → t.reported ≡ past ++ front → t.offered ≡ t.reported ++ new → StandApart r t
+  heard_apart past front new more r t stands kept reported offered =
       let all : t.offered ≡ past ++ (front ++ new) = offered ∙ ap (λ es. es ++ new) reported ∙ append_assoc past front new in
       let before : past ++ ever_in_front r.queue ≡ t.offered ++ more =
       ap (λ es. past ++ es) stands ∙ sym (append_assoc past (front ++ new) more) ∙ ap (λ es. es ++ more) (sym all) in
       record {
         more = more;
-        older = left ++ ever_in_front r.queue;
         kept = kept ∙ ap (λ es. past ++ es) (queue_is r.queue) ∙ sym (append_assoc past (ever_in_front r.queue) (unoffered_in r.queue))
             ∙ ap (λ es. es ++ unoffered_in r.queue) before;
-        stayed = stayed ∙ ap (λ es. left ++ es) (queue_is r.queue) ∙ sym (append_assoc left (ever_in_front r.queue) (unoffered_in r.queue));
-        without = subst (IsWithout t.thrown_away (left ++ ever_in_front r.queue)) before
-            (without_keeps t.thrown_away left past (ever_in_front r.queue) without);
       }
 
   offered_apart : (since : Restarted) (at : Stage) (r : ReaderState H) (t : Account) → ReaderAt fixed since at r
       → t.offered ≡ t.reported ++ unreported_at at → EventsAre since (shown_at at) r.queue.events t → StandApart r t
   offered_apart Never at r t is offered are =
-      let f = at_front Never at r tt is in
-      heard_apart are.past (shown_at at) (unreported_at at) f.0 are.left r t f.1 are.kept are.stayed are.without are.reported offered
+      let f = at_front Never at r tt is in heard_apart are.past (shown_at at) (unreported_at at) f.0 r t f.1 are.kept are.reported offered
   offered_apart Before at r t is offered are =
-      let f = at_front Before at r tt is in
-      heard_apart are.past (shown_at at) (unreported_at at) f.0 are.left r t f.1 are.kept are.stayed are.without are.reported offered
-  offered_apart Now at r t is offered are =
-      let q = r.queue in
-      record {
-        more = ever_in_front q;
-        older = are.left ++ ever_in_front q;
-        kept = are.kept ∙ ap (λ es. es ++ q.events) (sym are.reported) ∙ ap (λ es. t.offered ++ es) (queue_is q)
-            ∙ sym (append_assoc t.offered (ever_in_front q) (unoffered_in q));
-        stayed = are.stayed ∙ ap (λ es. are.left ++ es) (queue_is q) ∙ sym (append_assoc are.left (ever_in_front q) (unoffered_in q));
-        without = subst (λ es. IsWithout t.thrown_away (are.left ++ ever_in_front q) (es ++ ever_in_front q)) (sym are.reported)
-            (without_keeps t.thrown_away are.left are.past (ever_in_front q) are.without);
-      }
+      let f = at_front Before at r tt is in heard_apart are.past (shown_at at) (unreported_at at) f.0 r t f.1 are.kept are.reported offered
+  offered_apart Now at r t is offered are = record {
+    more = ever_in_front r.queue;
+    kept = are.kept ∙ ap (λ es. es ++ r.queue.events) (sym are.reported) ∙ ap (λ es. t.offered ++ es) (queue_is r.queue)
+        ∙ sym (append_assoc t.offered (ever_in_front r.queue) (unoffered_in r.queue));
+  }
 
 module _ (fixed : ControllerConfig) {H : Type 0} (answer_of : H → Command → Answer) (after : H → Command → H) where
   -- what was offered stands before those in the queue that never were
@@ -103,12 +82,4 @@ module _ (fixed : ControllerConfig) {H : Type 0} (answer_of : H → Command → 
   stands_apart l h =
       let held = h.holds.2 in
       let s = offered_apart fixed h.holds.0 h.holds.1 l.reader (as_waiting l).account held.reader held.account.offered held.account.told in
-      record { more = s.more; older = s.older; kept = s.kept; stayed = s.stayed; without = s.without }
-
-  -- of those that stay, what was offered is among those before them
-  pub offered_among : (l : Link H) (others : List Event) → Goes fixed answer_of after l → l.account.stayed ≡ others ++ unoffered_in l.reader.queue
-      → IsAmong l.account.offered others
-  offered_among l others h is =
-      let s = stands_apart l h in
-      subst (IsAmong l.account.offered) (append_cancel_right s.older others (unoffered_in l.reader.queue) (sym s.stayed ∙ is))
-      (among_first l.account.offered s.more s.older (among_kept l.account.thrown_away s.older (l.account.offered ++ s.more) s.without))
+      record { more = s.more; kept = s.kept }

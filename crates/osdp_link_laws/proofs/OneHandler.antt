@@ -26,26 +26,35 @@ use Rattle.osdp_reader.specs.declared.handler.Answer.{Answer}
 use Rattle.osdp_reader.specs.declared.kind.Kind.{Kind}
 use Rattle.osdp_reader.specs.declared.kind.Kind.TheVariants as kind
 use Rattle.osdp_reader_laws.specs.Answering.{handler_after_commands}
-use Rattle.osdp_link_laws.specs.Headline.{EachIsOnce, IsBeginning, MovesFit}
+use Rattle.osdp_link_laws.specs.Headline.{MovesFit}
 use Rattle.osdp_link_laws.specs.Link as link
 use Rattle.osdp_link_laws.specs.Link.{Account, Delivered, Delivery, Link, Lost, Move, Queue as QueueEvent, Reopen, Repeated, RestartController, RestartReader, Retarget, SetBusy, SetHandler, Submit, Tick, ToController, ToReader, Withdraw, WithdrawEvent, after_move, run, taken_command, after_report, LoseToReader, LoseToController}
-use Rattle.osdp_link_laws.specs.OneHandler.{AreItsAnswers, AreOnce, GivesItsAnswers, IsSameModel, KeepHandler, KeepsDevice, KeepsHandler, OneHandlerHoldsOnce, handler_after, with_answers}
+use Rattle.osdp_link_laws.specs.OneHandler.{AreItsAnswers, GivesItsAnswers, IsSameModel, KeepHandler, KeepsDevice, KeepsHandler, handler_after, with_answers}
 use Rattle.osdp_link_laws.specs.Peers.{ReadEachOther}
-use Rattle.osdp_link_laws.specs.Refusals.{KeepsReader}
 use Rattle.osdp_link_laws.proofs.Acting.{no_event, polled, same_answer, taken_is}
 use Rattle.osdp_link_laws.proofs.GivenAnswers.{poll_or_not}
-use Rattle.osdp_link_laws.proofs.InARow.{Assumed, Stands, all_once, assumed, begins, standing}
-use Rattle.osdp_link_laws.proofs.Kept.{KeepsEvents, all_kept}
+use Rattle.osdp_link_laws.proofs.InARow.{Assumed, Stands, assumed, begins, standing}
 use Rattle.osdp_link_laws.proofs.Removed.{as_waiting}
-use Rattle.osdp_link_laws.proofs.Lines.{both, each_map, each_of}
+use Rattle.osdp_link_laws.proofs.Lines.{both}
 use Rattle.osdp_link_laws.proofs.Moves.{Premises}
 use Rattle.osdp_link_laws.proofs.Numbers.{next_above_zero}
 use Rattle.osdp_link_laws.proofs.Parts.{At}
 use Rattle.osdp_link_laws.proofs.Stages.{Acted, After, Behind, Each, Fresh, IsAsked, Level, Past, Rest, Restarted, Stage, Start, ToReaderAt, frame, number_after}
 
--- ---- the device stays the same model
-
 module _ {H : Type 0} (answer_of : H → Command → Answer) (after : H → Command → H) where
+  -- ---- a device that is never another keeps its handler
+
+  keeps_handler : (move : Move H) (l : Link H) → KeepsDevice move → KeepsHandler move l
+  keeps_handler (SetHandler handler) l keeps = absurd keeps
+  keeps_handler (RestartReader config handler room) l keeps = absurd keeps
+  keeps_handler move l keeps = tt
+
+  pub keep_handler : (moves : List (Move H)) (l : Link H) → Each KeepsDevice moves → KeepHandler answer_of after moves l
+  keep_handler [] l keep = tt
+  keep_handler (move ∷ moves) l keep = (keeps_handler move l keep.0, keep_handler moves (after_move answer_of after move l) keep.1)
+
+  -- ---- the device stays the same model
+
   abbrev StaysModel : ReaderState H → ReaderState H → Type 0
   StaysModel r s = IsSameModel s.config r.config
 
@@ -385,39 +394,3 @@ module _ {H : Type 0} (answer_of : H → Command → Answer) (after : H → Comm
       ) in
       let all = moves_answered answer_of after settings (assumed answer_of after peers) start moves l fits keep (begins answer_of after l b) (refl, refl) first in
       (all.0.given, all.1)
-
-  -- ---- where the reader doesn't restart either, no event is thrown away
-
-  keeps_handler : (move : Move H) (l : Link H) → KeepsDevice move → KeepsHandler move l
-  keeps_handler (SetHandler handler) l keeps = absurd keeps
-  keeps_handler (RestartReader config handler room) l keeps = absurd keeps
-  keeps_handler move l keeps = tt
-
-  keep_handler : (moves : List (Move H)) (l : Link H) → Each KeepsDevice moves → KeepHandler answer_of after moves l
-  keep_handler [] l keep = tt
-  keep_handler (move ∷ moves) l keep = (keeps_handler move l keep.0, keep_handler moves (after_move answer_of after move l) keep.1)
-
-  -- each session is once, from the answers given and the events kept
-  each_once : (config : ReaderConfig) (start : H) (ts : List Account) → EachIsOnce ts → AreItsAnswers answer_of after config start ts → Each KeepsEvents ts
-      → AreOnce answer_of after config start ts
-  each_once config start [] once given kept = tt
-  each_once config start (t ∷ earlier) (once, before) (given, gave) (kept, all) = (
-    record {
-      taken = once.taken;
-      settled = (once.settled.0, sym given ∙ once.settled.1, once.settled.2);
-      reported = subst (IsBeginning t.reported) kept.kept once.reported;
-    },
-    each_once config start earlier before gave all,
-  )
-
-  keeps_reader : (move : Move H) → KeepsDevice move → KeepsReader move
-  keeps_reader (SetHandler handler) keeps = tt
-  keeps_reader (RestartReader config handler room) keeps = absurd keeps
-  keeps_reader move keeps = tt
-
-  pub one_handler_once : OneHandlerHoldsOnce answer_of after
-  one_handler_once l moves b fits keep =
-      let later = run answer_of after moves l in
-      let each = each_of KeepsDevice moves keep in
-      each_once l.reader.config l.reader.handler (later.account ∷ later.earlier) (all_once answer_of after peers l moves b fits)
-      (gives_its_answers l moves b fits (keep_handler moves l each)) (all_kept answer_of after l moves b (each_map KeepsDevice KeepsReader keeps_reader moves each))

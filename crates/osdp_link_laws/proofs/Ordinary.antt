@@ -1,13 +1,13 @@
 -- Where neither end restarts and nothing is withdrawn: no list of such moves grows.
-use Rattle.std.proofs.Common.{◌≡◌, ◌⊎◌, ◌≤◌, List, [], ◌∷◌, ◌++◌, length, map, refl, sym, subst, ap, ◌∙◌, inl, inr, arith, append_assoc}
+use Rattle.std.proofs.Common.{◌≡◌, ◌⊎◌, ◌≤◌, List, [], ◌∷◌, ◌++◌, length, refl, sym, subst, ap, ◌∙◌, inl, inr, arith}
 use Rattle.std.proofs.lemmas.List.{append-nil}
 use Rattle.osdp_msg.specs.declared.command.Command.{Command}
 use Rattle.osdp_msg.specs.declared.event.Event.{Event}
 use Rattle.osdp_reader.specs.declared.handler.Answer.{Answer}
-use Rattle.osdp_link_laws.specs.Headline.{IsBeginning, IsWithout}
+use Rattle.osdp_link_laws.specs.Headline.{IsWithout}
 use Rattle.osdp_link_laws.specs.Link.{Account, Link, Move, after_move, run}
-use Rattle.osdp_link_laws.specs.Ordinary.{AreUndisturbed, HaveLeftUndisturbed, IsOrdinary, IsUndisturbed, LeavesUndisturbed, OrdinaryIsUndisturbed, UndisturbedLeaves}
-use Rattle.osdp_link_laws.specs.Sessions.{HaveLeft, Leaves, LeavesEvents, removed_command, settled_commands, withdrawn_in}
+use Rattle.osdp_link_laws.specs.Ordinary.{AreUndisturbed, IsOrdinary, IsUndisturbed, LeavesUnreported, OrdinaryIsUndisturbed}
+use Rattle.osdp_link_laws.specs.Sessions.{Leaves, LeavesEvents}
 use Rattle.osdp_link_laws.proofs.EachAccount.{IsKept, each_kept}
 use Rattle.osdp_link_laws.proofs.Lines.{each_of}
 use Rattle.osdp_link_laws.proofs.Stages.{Each}
@@ -79,59 +79,12 @@ all_reported t left events so of =
 few_again : (t : Account) (left events : List Event) → (of : LeavesEvents t left events) → length of.again ≤ 1
 few_again t left events of = omega (arith, of.one)
 
-leaves_so : (t : Account) (waiting : List Command) (events : List Event) → IsUndisturbed t → Leaves t waiting events → LeavesUndisturbed t waiting events
-leaves_so t waiting events so leaves =
-    let commands = leaves.of_commands in
-    let told : t.unsettled ++ t.forgotten ≡ t.unsettled = ap (λ cs. t.unsettled ++ cs) so.forgotten ∙ append-nil t.unsettled in
-    let gone : t.forgotten ++ map removed_command t.removed ≡ [] =
-    ap (λ cs. cs ++ map removed_command t.removed) so.forgotten ∙ ap (map removed_command) so.removed in
-    record {
-      commands = commands.commands
-          ∙ ap (λ cs. (settled_commands t ++ (t.unsettled ++ cs)) ++ waiting) gone
-          ∙ ap (λ cs. (settled_commands t ++ cs) ++ waiting) (append-nil t.unsettled)
-          ∙ append_assoc (settled_commands t) t.unsettled waiting;
-      unsettled = subst (λ cs. length cs ≤ 1) told commands.one;
-      taken = subst (λ cs. (t.taken ≡ settled_commands t) ⊎ (t.taken ≡ settled_commands t ++ cs)) told commands.taken;
-      unreported = record {
-        left = leaves.left;
-        again = leaves.of_events.again;
-        queued = sym so.stayed ∙ leaves.of_events.stayed;
-        reported = all_reported t leaves.left events so leaves.of_events;
-        front = leaves.of_events.front;
-        few = few_again t leaves.left events leaves.of_events;
-      };
-    }
-
--- no session withdraws an event
-none_withdrawn : (earlier : List Account) → AreUndisturbed earlier → withdrawn_in earlier ≡ []
-none_withdrawn [] so = refl
-none_withdrawn (t ∷ earlier) (so, rest) = ap (λ es. es ++ t.withdrawn) (none_withdrawn earlier rest) ∙ so.withdrawn
-
--- so all events are those that have left and those queued
-pub queued_so : (all gone : List Event) (t : Account) (earlier : List Account) → AreUndisturbed (t ∷ earlier)
-    → IsWithout (withdrawn_in (t ∷ earlier)) all (gone ++ t.stayed) → all ≡ gone ++ t.queued
-queued_so all gone t earlier so stays =
-    sym (without_nothing all (gone ++ t.stayed) (subst (λ out. IsWithout out all (gone ++ t.stayed)) (none_withdrawn (t ∷ earlier) so) stays))
-    ∙ ap (λ es. gone ++ es) so.0.stayed
-
-stands_so : (all : List Event) (t : Account) (earlier : List Account) (before until : List Event) → IsUndisturbed t → AreUndisturbed earlier
-    → IsBeginning until all → IsWithout (withdrawn_in (t ∷ earlier)) until (before ++ t.stayed) → IsBeginning (before ++ t.queued) all
-stands_so all t earlier before until so rest begins stays =
-    subst (λ es. IsBeginning es all) (queued_so until before t earlier (so, rest) stays) begins
-
-have_left_so : (all : List Event) (earlier : List Account) (gone : List Event) → AreUndisturbed earlier → HaveLeft all earlier gone
-    → HaveLeftUndisturbed all earlier gone
-have_left_so all [] gone so none = none
-have_left_so all (t ∷ earlier) gone (so, rest) (before, left, events, until, prior, begins, stays, is, of) = (
-  before,
-  left,
-  of.again,
-  have_left_so all earlier before rest prior,
-  stands_so all t earlier before until so rest begins stays,
-  is,
-  all_reported t left events so of,
-  few_again t left events of,
-)
-
-pub undisturbed_leaves : UndisturbedLeaves
-undisturbed_leaves = record { one = leaves_so; all = have_left_so }
+pub leaves_so : (t : Account) (waiting : List Command) (events : List Event) → IsUndisturbed t → Leaves t waiting events → LeavesUnreported t events
+leaves_so t waiting events so leaves = record {
+  left = leaves.left;
+  again = leaves.of_events.again;
+  queued = sym so.stayed ∙ leaves.of_events.stayed;
+  reported = all_reported t leaves.left events so leaves.of_events;
+  front = leaves.of_events.front;
+  few = few_again t leaves.left events leaves.of_events;
+}

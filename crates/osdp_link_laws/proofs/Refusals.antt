@@ -66,7 +66,7 @@ module _ {H : Type 0} (answer_of : H → Command → Answer) (after : H → Comm
   each_so given (move ∷ moves) l fits keep s kept =
       let new = after_move answer_of after move l in
       each_append IsNoRefusal (option_to_list (told_by move l)) (reports answer_of after moves new)
-      (one_report IsNoRefusal (told_by move l) (told_so given move l s kept.0.restarts))
+      (one_report IsNoRefusal (told_by move l) (told_so given move l s kept.0))
       (each_so given moves new fits.1 keep.1 (standing answer_of after given move l fits.0 s) (move_kept answer_of after move l keep.0 kept))
 
 module _ {H : Type 0} (answer_of : H → Command → Answer) (after : H → Command → H) (peers : ReadEachOther answer_of after) where

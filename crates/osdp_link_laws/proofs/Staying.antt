@@ -1,4 +1,4 @@
--- What each move does to the events of a session, those of them that stay, those kept, and those in the queue that were never offered.
+-- What each move does to the events of a session, those of them that stay, and those in the queue that were never offered.
 use Rattle.std.proofs.Common.{◌≡◌, ℕ, Bool, true, false, List, [], ◌∷◌, ◌++◌, drop, Option, Some, None, Result, Ok, Err, refl, sym, subst, ap, ◌∙◌, inl, inr, append_assoc}
 use Rattle.std.proofs.lemmas.List.{append-nil}
 use Rattle.std.specs.Prelude.{◌==◌, if◌then◌else◌, option_to_list}
@@ -22,7 +22,6 @@ use Rattle.osdp_reader.specs.declared.kind.Kind.{Kind}
 use Rattle.osdp_reader.specs.declared.kind.Kind.TheVariants as kind
 use Rattle.osdp_link_laws.specs.Link as link
 use Rattle.osdp_link_laws.specs.Link.{Account, Delivered, Delivery, Link, LoseToController, LoseToReader, Lost, Move, Queue as QueueEvent, Reopen, Repeated, RestartController, RestartReader, Retarget, SetBusy, SetHandler, Submit, Tick, ToController, ToReader, Withdraw, WithdrawEvent, after_move, after_report, unoffered_in}
-use Rattle.osdp_link_laws.specs.Refusals.{KeepsReader}
 use Rattle.osdp_link_laws.specs.Sessions.{queued, unless_full}
 use Rattle.osdp_link_laws.proofs.Growing.{GoesOn, taken_takes}
 use Rattle.osdp_link_laws.proofs.Lines.{both}
@@ -107,93 +106,89 @@ pub record SameEvents (t u : Account) : Type 0 where
   pub queued : u.queued ≡ t.queued
   pub withdrawn : u.withdrawn ≡ t.withdrawn
   pub stayed : u.stayed ≡ t.stayed
-  pub kept : u.kept ≡ t.kept
 
-same_events : (t u : Account) → u.queued ≡ t.queued → u.withdrawn ≡ t.withdrawn → u.stayed ≡ t.stayed → u.kept ≡ t.kept → SameEvents t u
-same_events t u queued withdrawn stayed kept = record { queued = queued; withdrawn = withdrawn; stayed = stayed; kept = kept }
+same_events : (t u : Account) → u.queued ≡ t.queued → u.withdrawn ≡ t.withdrawn → u.stayed ≡ t.stayed → SameEvents t u
+same_events t u queued withdrawn stayed = record { queued = queued; withdrawn = withdrawn; stayed = stayed }
 
 told_same : (r : Option Report) (t : Account) → SameEvents t (after_report r t)
-told_same None t = same_events t t refl refl refl refl
-told_same (Some (report.Opened id)) t = same_events t t refl refl refl refl
-told_same r t = same_events t (after_report r t) refl refl refl refl
+told_same None t = same_events t t refl refl refl
+told_same (Some (report.Opened id)) t = same_events t t refl refl refl
+told_same r t = same_events t (after_report r t) refl refl refl
 
 taken_same : (k : Kind) (c : Option Command) (said : Option Reply) (front : List Event) (t : Account) → SameEvents t (link.taken k c said front t)
 taken_same k c said front t =
     let more = taken_takes k c said front t in
-    same_events t (link.taken k c said front t) (ap (λ u. u.queued) more.1) (ap (λ u. u.withdrawn) more.1) (ap (λ u. u.stayed) more.1) (ap (λ u. u.kept) more.1)
+    same_events t (link.taken k c said front t) (ap (λ u. u.queued) more.1) (ap (λ u. u.withdrawn) more.1) (ap (λ u. u.stayed) more.1)
 
 -- these events are queued, some of those never offered are left, and one or none is taken back
-pub record EventsGo (Keeps : Type 0) (es : List Event) (t u : Account) (tail new : List Event) : Type 0 where
+pub record EventsGo (es : List Event) (t u : Account) (tail new : List Event) : Type 0 where
   pub took : List Event
   pub queued : u.queued ≡ t.queued ++ es
   pub withdrawn : u.withdrawn ≡ t.withdrawn ++ took
   pub stayed : Goes es took t.stayed u.stayed tail new
-  pub kept : Keeps → Goes es took t.kept u.kept tail new
 
 none_goes : (s t tail new : List Event) → t ≡ s → Fewer tail new → Goes [] [] s t tail new
 none_goes s t tail new same (more, is) = inl (refl, same ∙ sym (append-nil s), more, append-nil tail ∙ is)
 
-still : {Keeps : Type 0} (t u : Account) (tail new : List Event) → SameEvents t u → Fewer tail new → EventsGo Keeps [] t u tail new
-still {Keeps} t u tail new same fewer = record {
+still : (t u : Account) (tail new : List Event) → SameEvents t u → Fewer tail new → EventsGo [] t u tail new
+still t u tail new same fewer = record {
   took = [];
   queued = same.queued ∙ sym (append-nil t.queued);
   withdrawn = same.withdrawn ∙ sym (append-nil t.withdrawn);
   stayed = none_goes t.stayed u.stayed tail new same.stayed fewer;
-  kept = λ keeps. none_goes t.kept u.kept tail new same.kept fewer;
 }
 
 module _ {H : Type 0} (answer_of : H → Command → Answer) (after : H → Command → H) where
-  abbrev pub Going : Type 0 → List Event → Link H → Link H → Type 0
-  Going Keeps es l m = EventsGo Keeps es l.account m.account (unoffered_in l.reader.queue) (unoffered_in m.reader.queue)
+  abbrev pub Going : List Event → Link H → Link H → Type 0
+  Going es l m = EventsGo es l.account m.account (unoffered_in l.reader.queue) (unoffered_in m.reader.queue)
 
-  unchanged : {Keeps : Type 0} (l : Link H) → Going Keeps [] l l
-  unchanged {Keeps} l = still l.account l.account (unoffered_in l.reader.queue) (unoffered_in l.reader.queue)
-      (same_events l.account l.account refl refl refl refl) (same_tail l.reader.queue)
+  unchanged : (l : Link H) → Going [] l l
+  unchanged l = still l.account l.account (unoffered_in l.reader.queue) (unoffered_in l.reader.queue)
+      (same_events l.account l.account refl refl refl) (same_tail l.reader.queue)
 
-  same_as : {Keeps : Type 0} (l : Link H) (t : Account) → SameEvents l.account t → EventsGo Keeps [] l.account t (unoffered_in l.reader.queue) (unoffered_in l.reader.queue)
-  same_as {Keeps} l t same = still l.account t (unoffered_in l.reader.queue) (unoffered_in l.reader.queue) same (same_tail l.reader.queue)
+  same_as : (l : Link H) (t : Account) → SameEvents l.account t → EventsGo [] l.account t (unoffered_in l.reader.queue) (unoffered_in l.reader.queue)
+  same_as l t same = still l.account t (unoffered_in l.reader.queue) (unoffered_in l.reader.queue) same (same_tail l.reader.queue)
 
-  submits_go : {Keeps : Type 0} (refusal : Option ControllerFault) (c : Command) (l : Link H) → Going Keeps [] l (link.submits refusal c l)
-  submits_go {Keeps} (Some fault) c l = unchanged l
-  submits_go {Keeps} None c l = still l.account (link.submits None c l).account (unoffered_in l.reader.queue) (unoffered_in l.reader.queue)
-      (same_events l.account (link.submits None c l).account refl refl refl refl) (same_tail l.reader.queue)
+  submits_go : (refusal : Option ControllerFault) (c : Command) (l : Link H) → Going [] l (link.submits refusal c l)
+  submits_go (Some fault) c l = unchanged l
+  submits_go None c l = still l.account (link.submits None c l).account (unoffered_in l.reader.queue) (unoffered_in l.reader.queue)
+      (same_events l.account (link.submits None c l).account refl refl refl) (same_tail l.reader.queue)
 
-  queues_go : {Keeps : Type 0} (full : Bool) (e : Event) (l : Link H) → Going Keeps (unless_full full e) l (link.queues full e l)
-  queues_go {Keeps} true e l = unchanged l
-  queues_go {Keeps} false e l =
+  queues_go : (full : Bool) (e : Event) (l : Link H) → Going (unless_full full e) l (link.queues full e l)
+  queues_go true e l = unchanged l
+  queues_go false e l =
       let fewer = queued_by e l.reader.queue.events l.reader.queue.ever_offered in
       record {
         took = [];
         queued = refl;
         withdrawn = sym (append-nil l.account.withdrawn);
         stayed = inl (refl, refl, fewer.0, fewer.1);
-        kept = λ keeps. inl (refl, refl, fewer.0, fewer.1);
       }
 
-  reader_gets_go : {Keeps : Type 0} (p : Packet) (l : Link H) → Going Keeps [] l (link.reader_gets answer_of after p l)
-  reader_gets_go {Keeps} p l =
+  reader_gets_go : (p : Packet) (l : Link H) → Going [] l (link.reader_gets answer_of after p l)
+  reader_gets_go p l =
       let o = reader.hears answer_of after l.reader p in
       still l.account (link.reader_gets answer_of after p l).account (unoffered_in l.reader.queue) (unoffered_in o.reader.queue)
       (taken_same (reader.kind_of l.reader p) o.command o.said (link.front_of l.reader) l.account) (hears_tail answer_of after l.reader p)
 
-  to_reader_go : {Keeps : Type 0} (how : Delivery) (ps : List Packet) (l : Link H) → Going Keeps [] l (link.to_reader answer_of after ps how l)
-  to_reader_go {Keeps} how [] l = unchanged l
-  to_reader_go {Keeps} Delivered (p ∷ ps) l = reader_gets_go p (record l { to_reader = ps })
-  to_reader_go {Keeps} Lost (p ∷ ps) l = unchanged l
-  to_reader_go {Keeps} Repeated (p ∷ ps) l = reader_gets_go p l
+  to_reader_go : (how : Delivery) (ps : List Packet) (l : Link H) → Going [] l (link.to_reader answer_of after ps how l)
+  to_reader_go how [] l = unchanged l
+  to_reader_go Delivered (p ∷ ps) l = reader_gets_go p (record l { to_reader = ps })
+  to_reader_go Lost (p ∷ ps) l = unchanged l
+  to_reader_go Repeated (p ∷ ps) l = reader_gets_go p l
 
-  tells : {Keeps : Type 0} (r : Option Report) (l : Link H) → EventsGo Keeps [] l.account (after_report r l.account) (unoffered_in l.reader.queue) (unoffered_in l.reader.queue)
-  tells {Keeps} r l = still l.account (after_report r l.account) (unoffered_in l.reader.queue) (unoffered_in l.reader.queue) (told_same r l.account) (same_tail l.reader.queue)
+  tells : (r : Option Report) (l : Link H) → EventsGo [] l.account (after_report r l.account) (unoffered_in l.reader.queue) (unoffered_in l.reader.queue)
+  tells r l = still l.account (after_report r l.account) (unoffered_in l.reader.queue) (unoffered_in l.reader.queue) (told_same r l.account) (same_tail l.reader.queue)
 
-  to_controller_go : {Keeps : Type 0} (how : Delivery) (now : ℕ) (qs : List Packet) (l : Link H) → Going Keeps [] l (link.to_controller qs how now l)
-  to_controller_go {Keeps} how now [] l = unchanged l
-  to_controller_go {Keeps} Delivered now (q ∷ qs) l = tells (controller.hears q now l.controller.session).report l
-  to_controller_go {Keeps} Lost now (q ∷ qs) l = unchanged l
-  to_controller_go {Keeps} Repeated now (q ∷ qs) l = tells (controller.hears q now l.controller.session).report l
+  to_controller_go : (how : Delivery) (now : ℕ) (qs : List Packet) (l : Link H) → Going [] l (link.to_controller qs how now l)
+  to_controller_go how now [] l = unchanged l
+  to_controller_go Delivered now (q ∷ qs) l = tells (controller.hears q now l.controller.session).report l
+  to_controller_go Lost now (q ∷ qs) l = unchanged l
+  to_controller_go Repeated now (q ∷ qs) l = tells (controller.hears q now l.controller.session).report l
 
-  retargets_go : {Keeps : Type 0} (refusal : Option ControllerFault) (address : ℕ) (l : Link H) → Going Keeps [] l (link.retargets refusal address l)
-  retargets_go {Keeps} (Some fault) address l = unchanged l
-  retargets_go {Keeps} None address l = unchanged l
+  retargets_go : (refusal : Option ControllerFault) (address : ℕ) (l : Link H) → Going [] l (link.retargets refusal address l)
+  retargets_go (Some fault) address l = unchanged l
+  retargets_go None address l = unchanged l
 
   -- the oldest that was never offered is taken back
   loses : (q : Queue) (s : Splits q) (all : List Event) → Goes [] (option_to_list (never_offered q)) all (link.but_oldest q all) (unoffered_in q) (unoffered_in (withdrawn q))
@@ -214,16 +209,15 @@ module _ {H : Type 0} (answer_of : H → Command → Answer) (after : H → Comm
     )
   ]
 
-  withdraws_go : {Keeps : Type 0} (l : Link H) → Going Keeps [] l (link.withdraws_event l)
-  withdraws_go {Keeps} l = record {
+  withdraws_go : (l : Link H) → Going [] l (link.withdraws_event l)
+  withdraws_go l = record {
     took = option_to_list (never_offered l.reader.queue);
     queued = sym (append-nil l.account.queued);
     withdrawn = refl;
     stayed = loses l.reader.queue (splits l.reader.queue) l.account.stayed;
-    kept = λ keeps. loses l.reader.queue (splits l.reader.queue) l.account.kept;
   }
 
-  pub events_go : (move : Move H) (l : Link H) → GoesOn move → Going (KeepsReader move) (queued move l) l (after_move answer_of after move l)
+  pub events_go : (move : Move H) (l : Link H) → GoesOn move → Going (queued move l) l (after_move answer_of after move l)
   events_go (Submit c) l on = submits_go (controllers.submit_refusal c l.controller) c l
   events_go (QueueEvent e) l on = queues_go (lacks_room e l.reader.queue) e l
   events_go (SetBusy busy) l on = unchanged l
@@ -233,7 +227,7 @@ module _ {H : Type 0} (answer_of : H → Command → Answer) (after : H → Comm
   events_go (LoseToReader place) l on = unchanged l
   events_go (LoseToController place) l on = unchanged l
   events_go (SetHandler handler) l on = unchanged l
-  events_go Withdraw l on = same_as l (link.withdraws l).account (same_events l.account (link.withdraws l).account refl refl refl refl)
+  events_go Withdraw l on = same_as l (link.withdraws l).account (same_events l.account (link.withdraws l).account refl refl refl)
   events_go (Retarget address) l on = retargets_go (controllers.retarget_refusal address l.controller) address l
   events_go WithdrawEvent l on = withdraws_go l
   events_go (RestartReader config handler room) l on = record {
@@ -241,8 +235,7 @@ module _ {H : Type 0} (answer_of : H → Command → Answer) (after : H → Comm
     queued = sym (append-nil l.account.queued);
     withdrawn = sym (append-nil l.account.withdrawn);
     stayed = none_goes l.account.stayed l.account.stayed (unoffered_in l.reader.queue) [] refl (unoffered_in l.reader.queue, sym (append-nil (unoffered_in l.reader.queue)));
-    kept = λ keeps. absurd keeps;
   }
   events_go (RestartController config room) l on =
-      let t = link.controller_restarted l.controller l.account in same_as l t (same_events l.account t refl refl refl refl)
+      let t = link.controller_restarted l.controller l.account in same_as l t (same_events l.account t refl refl refl)
   events_go (Reopen now) l on = absurd on

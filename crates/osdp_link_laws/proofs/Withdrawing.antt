@@ -1,6 +1,6 @@
 -- An event is taken back: the queue, and lists that end with what is in it.
 use Rattle.std.proofs.Common.{◌≡◌, ◌⊎◌, ℕ, Bool, true, false, List, [], ◌∷◌, ◌++◌, length, take, refl, sym, subst, ap, ◌∙◌, inl, inr, arith, append_assoc}
-use Rattle.std.proofs.lemmas.List.{append-nil, append_cancel_right, length-append}
+use Rattle.std.proofs.lemmas.List.{append-nil, length-append}
 use Rattle.std.specs.Prelude.{◌-◌, if◌then◌else◌, option_to_list}
 use Rattle.osdp_msg.specs.declared.event.Event.{Event}
 use Rattle.osdp_reader.specs.Queue.{Queue, never_offered, withdrawn}
@@ -162,21 +162,6 @@ apart_goes es took s t tail new out before all (inr (none, e, takes, is, loses))
       (without_drops out a.older (before ++ a.others) (e ∷ []) a.without);
 }
 
--- those before are as before, or more
-pub apart_more : (es took s t tail new out before all : List Event) (go : Goes es took s t tail new) (a : IsApart out before all s tail)
-    → (more : List Event) × ((apart_goes es took s t tail new out before all go a).others ≡ a.others ++ more)
-apart_more es took s t tail new out before all (inl (none, grows, more, is)) a = (more, refl)
-apart_more es took s t tail new out before all (inr (none, e, takes, is, loses)) a = ([], sym (append-nil a.others))
-
-abbrev pub apart_as : (out same before all stayed tail : List Event) → out ≡ same → IsApart out before all stayed tail → IsApart same before all stayed tail
-apart_as out same before all stayed tail is a = record {
-  older = a.older;
-  others = a.others;
-  all_are = a.all_are;
-  stayed_are = a.stayed_are;
-  without = subst (λ o. IsWithout o a.older (before ++ a.others)) is a.without;
-}
-
 -- those not taken back are all but those that were
 pub apart_whole : (out before all stayed tail : List Event) → IsApart out before all stayed tail → IsWithout out all (before ++ stayed)
 apart_whole out before all stayed tail a =
@@ -184,23 +169,3 @@ apart_whole out before all stayed tail a =
     (subst (IsWithout out (a.older ++ tail))
     (append_assoc before a.others tail ∙ ap (λ l. before ++ l) (sym a.stayed_are))
     (without_keeps out a.older (before ++ a.others) tail a.without))
-
--- where a session ends: what has left is before, and the queue begins the next
-pub others_are : (stayed left front tail events others : List Event) → events ≡ front ++ tail → stayed ≡ left ++ events → stayed ≡ others ++ tail
-    → others ≡ left ++ front
-others_are stayed left front tail events others queue is before =
-    append_cancel_right others (left ++ front) tail
-    (sym before ∙ is ∙ ap (λ es. left ++ es) queue ∙ sym (append_assoc left front tail))
-
-abbrev pub apart_again : (out before all stayed left front tail events : List Event) → events ≡ front ++ tail → stayed ≡ left ++ events
-    → IsApart out before all stayed tail → IsApart out (before ++ left) all events tail
-apart_again out before all stayed left front tail events queue is a =
-    let others : a.others ≡ left ++ front =
-    others_are stayed left front tail events a.others queue is a.stayed_are in
-    record {
-      older = a.older;
-      others = front;
-      all_are = a.all_are;
-      stayed_are = queue;
-      without = subst (IsWithout out a.older) (ap (λ l. before ++ l) others ∙ sym (append_assoc before left front)) a.without;
-    }

@@ -21,19 +21,6 @@ use Rattle.osdp_link_laws.specs.Link.{Account, Link, LoseToController, LoseToRea
 
 -- ---- accounts
 
--- all that is said of commands stays
-abbrev pub SameCommands : Account → Account → Type 0
-SameCommands t u = u ≡ record t {
-  queued = u.queued;
-  withdrawn = u.withdrawn;
-  stayed = u.stayed;
-  kept = u.kept;
-  thrown_away = u.thrown_away;
-  offered = u.offered;
-  reported = u.reported;
-  restarts = u.restarts;
-}
-
 -- a restart of the reader throws these events away, which it had not offered in the session, and is counted; what it had offered stays, and
 -- all that is said of commands
 abbrev pub ThrowsAway : List Event → Account → Account → Type 0

@@ -6,13 +6,10 @@ pub mod Sessions
 pub mod Progress
 pub mod Refusals
 pub mod Addresses
-pub mod TwoLists
 pub mod Names
 pub mod Ends
 pub mod Ordinary
 pub mod Clean
 pub mod Effects
-pub mod Costs
-pub mod Withdrawn
 pub mod Lapses
 pub mod LapsingRuns

@@ -1,12 +1,12 @@
 -- Where the device never changes: the answers are those of its settings and of its one handler.
-use Rattle.std.specs.Prelude.{◌≡◌, ◌≤◌, All, List, [], ◌∷◌, ◌++◌, length}
+use Rattle.std.specs.Prelude.{◌≡◌, List, [], ◌∷◌}
 use Rattle.osdp_msg.specs.declared.command.Command.{Command}
 use Rattle.osdp_msg.specs.declared.reply.Reply.{Reply}
 use Rattle.osdp_reader.specs.declared.config.ReaderConfig.{ReaderConfig}
 use Rattle.osdp_reader.specs.declared.handler.Answer.{Answer}
 use Rattle.osdp_reader.specs.Table.{answer_to}
 use Rattle.osdp_reader_laws.specs.Answering.{handler_after_commands}
-use Rattle.osdp_link_laws.specs.Headline.{Begins, IsBeginning, MovesFit}
+use Rattle.osdp_link_laws.specs.Headline.{Begins, MovesFit}
 use Rattle.osdp_link_laws.specs.Link.{Account, Link, Move, RestartReader, SetHandler, after_move, run}
 
 -- the reader doesn't restart, and its handler isn't set
@@ -33,22 +33,10 @@ module _ {H : Type 0} (answer_of : H → Command → Answer) (after : H → Comm
       let a = answer_to answer_of after config handler command in
       (command, a.reply) ∷ with_answers config a.handler commands
 
-  -- the commands that the reader has taken are a beginning of those issued, and hold each settled one, with the answer that the
-  -- reader gave, and one more at most; the events reported are a beginning of those queued, but those withdrawn
-  pub record Once (config : ReaderConfig) (handler : H) (t : Account) : Type 0 where
-    pub taken : IsBeginning t.taken t.issued
-    pub settled : (more : List (Command × Reply)) × (with_answers config handler t.taken ≡ t.settled ++ more) × (length more ≤ 1)
-    pub reported : IsBeginning t.reported t.stayed
-
   -- the handler after the commands taken in these sessions, the last of them first
   abbrev pub handler_after : ReaderConfig → H → List Account → H
   handler_after config handler [] = handler
   handler_after config handler (t ∷ earlier) = handler_after_commands answer_of after config (handler_after config handler earlier) t.taken
-
-  -- .. each of which is once, from the handler that the ones before have left
-  abbrev pub AreOnce : ReaderConfig → H → List Account → Type 0
-  AreOnce config handler [] = Unit {0}
-  AreOnce config handler (t ∷ earlier) = Once config (handler_after config handler earlier) t × AreOnce config handler earlier
 
   -- .. of each session the answers given are those of the one handler
   abbrev pub AreItsAnswers : ReaderConfig → H → List Account → Type 0
@@ -63,7 +51,3 @@ module _ {H : Type 0} (answer_of : H → Command → Answer) (after : H → Comm
   abbrev pub GivesItsAnswers : Type 0
   GivesItsAnswers = (l : Link H) (moves : List (Move H)) → Begins l → MovesFit answer_of after moves l → KeepHandler moves l
       → let later = run answer_of after moves l in AreItsAnswers l.reader.config l.reader.handler (later.account ∷ later.earlier)
-
-  abbrev pub OneHandlerHoldsOnce : Type 0
-  OneHandlerHoldsOnce = (l : Link H) (moves : List (Move H)) → Begins l → MovesFit answer_of after moves l → All KeepsDevice moves
-      → let later = run answer_of after moves l in AreOnce l.reader.config l.reader.handler (later.account ∷ later.earlier)

@@ -1,11 +1,10 @@
 -- Runs in which neither end restarts and no command or event is withdrawn: the lists that such moves fill are empty.
-use Rattle.std.specs.Prelude.{◌≡◌, ◌≤◌, ◌⊎◌, All, List, [], ◌∷◌, ◌++◌, length}
+use Rattle.std.specs.Prelude.{◌≡◌, ◌≤◌, All, List, [], ◌∷◌, ◌++◌, length}
 use Rattle.osdp_msg.specs.declared.command.Command.{Command}
 use Rattle.osdp_msg.specs.declared.event.Event.{Event}
 use Rattle.osdp_reader.specs.declared.handler.Answer.{Answer}
 use Rattle.osdp_link_laws.specs.Headline.{Begins, IsBeginning}
 use Rattle.osdp_link_laws.specs.Link.{Account, Link, LoseToController, LoseToReader, Move, RestartController, RestartReader, Retarget, SetHandler, Withdraw, WithdrawEvent, run}
-use Rattle.osdp_link_laws.specs.Sessions.{HaveLeft, Leaves, settled_commands}
 
 -- a move with which neither end restarts and no command or event is withdrawn
 abbrev pub IsOrdinary : {H : Type 0} → Move H → Type 0
@@ -53,24 +52,3 @@ pub record LeavesUnreported (t : Account) (events : List Event) : Type 0 where
   pub reported : t.reported ≡ left ++ again
   pub front : IsBeginning again events
   pub few : length again ≤ 1
-
--- what such a session leaves: its commands are those settled, one told unsettled at most, and those that wait; the reader has taken those
--- settled, and may have taken that one; and its events
-pub record LeavesUndisturbed (t : Account) (waiting : List Command) (events : List Event) : Type 0 where
-  pub commands : t.issued ≡ settled_commands t ++ (t.unsettled ++ waiting)
-  pub unsettled : length t.unsettled ≤ 1
-  pub taken : (t.taken ≡ settled_commands t) ⊎ (t.taken ≡ settled_commands t ++ t.unsettled)
-  pub unreported : LeavesUnreported t events
-
--- of all events, those that have left the queue: what these sessions reported, of each the last or none left out, session after session
-abbrev pub HaveLeftUndisturbed : List Event → List Account → List Event → Type 0
-HaveLeftUndisturbed all [] gone = gone ≡ []
-HaveLeftUndisturbed all (t ∷ earlier) gone =
-    (before : List Event) × (left : List Event) × (again : List Event)
-    × HaveLeftUndisturbed all earlier before × IsBeginning (before ++ t.queued) all
-    × (gone ≡ before ++ left) × (t.reported ≡ left ++ again) × (length again ≤ 1)
-
-pub record UndisturbedLeaves : Type 0 where
-  pub one : (t : Account) (waiting : List Command) (events : List Event) → IsUndisturbed t → Leaves t waiting events → LeavesUndisturbed t waiting events
-  pub all : (all : List Event) (earlier : List Account) (gone : List Event) → AreUndisturbed earlier → HaveLeft all earlier gone
-      → HaveLeftUndisturbed all earlier gone

@@ -56,38 +56,15 @@ LeavesTo t next =
     (waiting : List Command) × (events : List Event)
     × Leaves t waiting events × IsBeginning waiting next.issued × IsBeginning events next.queued
 
--- sessions, the last of them first
-abbrev pub AreInARow : Account → List Account → Type 0
-AreInARow t [] = Unit {0}
-AreInARow t (before ∷ earlier) = LeavesTo before t × AreInARow before earlier
+-- a list of each of these sessions, session after session
+abbrev pub in_all : {A : Type 0} → (Account → List A) → List Account → List A
+in_all part [] = []
+in_all part (t ∷ earlier) = in_all part earlier ++ part t
 
 -- the commands of these sessions that have ended, session after session
 abbrev pub ended_commands : List Account → List Command
 ended_commands [] = []
 ended_commands (t ∷ earlier) = ended_commands earlier ++ ended_in t
-
--- the events withdrawn in these sessions, session after session
-abbrev pub withdrawn_in : List Account → List Event
-withdrawn_in [] = []
-withdrawn_in (t ∷ earlier) = withdrawn_in earlier ++ t.withdrawn
-
--- of all events, those that have left the queue in these sessions, session after session, and weren't withdrawn. The events of a session are
--- those after what had left before it, of all that were accepted until its end and weren't withdrawn.
-abbrev pub HaveLeft : List Event → List Account → List Event → Type 0
-HaveLeft all [] gone = gone ≡ []
-HaveLeft all (t ∷ earlier) gone =
-    (before : List Event) × (left : List Event) × (events : List Event) × (until : List Event)
-    × HaveLeft all earlier before × IsBeginning until all × IsWithout (withdrawn_in (t ∷ earlier)) until (before ++ t.stayed)
-    × (gone ≡ before ++ left) × LeavesEvents t left events
-
--- the commands of these sessions that have ended and were not settled
-abbrev pub unsettled_in : List Account → List Command
-unsettled_in [] = []
-unsettled_in (t ∷ earlier) = unsettled_in earlier ++ (t.unsettled ++ (t.forgotten ++ map removed_command t.removed))
-
-abbrev pub all_taken : List Account → List Command
-all_taken [] = []
-all_taken (t ∷ earlier) = all_taken earlier ++ t.taken
 
 -- some of a list, in its order: the first of it is left out, or comes first
 abbrev pub IsAmong : {A : Type 0} → List A → List A → Type 0
@@ -128,10 +105,6 @@ module _ {H : Type 0} where
     all_queued [] l = []
     all_queued (move ∷ moves) l = queued move l ++ all_queued moves (after_move answer_of after move l)
 
-    abbrev pub StayInARow : Type 0
-    StayInARow = (l : Link H) (moves : List (Move H)) → Begins l → MovesFit answer_of after moves l
-        → let later = run answer_of after moves l in AreInARow later.account later.earlier
-
     abbrev pub LastOneLasts : Type 0
     LastOneLasts = (l : Link H) (moves : List (Move H)) → Begins l → MovesFit answer_of after moves l
         → let later = run answer_of after moves l in LastsOrLeaves later.controller.session.state later
@@ -143,28 +116,6 @@ module _ {H : Type 0} where
         → let later = run answer_of after moves l in
         l.controller.waiting ++ all_submitted moves l ≡ ended_commands later.earlier ++ later.account.issued
 
-    -- .. and each event: those withdrawn left out, each at its own place, the events of the last session are those that have not left the
-    -- queue before it
-    abbrev pub EventsHavePlaces : Type 0
-    EventsHavePlaces = (l : Link H) (moves : List (Move H)) → Begins l → MovesFit answer_of after moves l
-        → let later = run answer_of after moves l in
-        let all = l.reader.queue.events ++ all_queued moves l in
-        (gone : List Event) × HaveLeft all later.earlier gone
-        × IsWithout (withdrawn_in (later.account ∷ later.earlier)) all (gone ++ later.account.stayed)
-
-    -- over all sessions no command is taken twice: those taken are a beginning of those accepted, but for some of those that have ended
-    -- without being settled, each left out at its own place
-    abbrev pub TakesNoneTwice : Type 0
-    TakesNoneTwice = (l : Link H) (moves : List (Move H)) → Begins l → MovesFit answer_of after moves l
-        → let later = run answer_of after moves l in
-        (left_out : List Command) × (others : List Command)
-        × IsAmong left_out (unsettled_in (later.account ∷ later.earlier))
-        × IsWithout left_out (l.controller.waiting ++ all_submitted moves l) others
-        × IsBeginning (all_taken (later.account ∷ later.earlier)) others
-
     pub record SessionsInARow : Type 0 where
-      pub row : StayInARow
       pub last : LastOneLasts
       pub commands : CommandsHavePlaces
-      pub events : EventsHavePlaces
-      pub taken : TakesNoneTwice

@@ -4,21 +4,18 @@
 
 ghost use Rattle.osdp_link_laws.specs.Peers.{ReadEachOther, ReadsWhatIsAsked, ReadsWhatIsAnswered, TakesPlainReplies, TellsItsEvent};
 ghost use Rattle.osdp_link_laws.specs.Headline.{HoldsOnce};
-ghost use Rattle.osdp_link_laws.specs.OneHandler.{GivesItsAnswers, OneHandlerHoldsOnce};
-ghost use Rattle.osdp_link_laws.specs.Ordinary.{OrdinaryIsUndisturbed, UndisturbedLeaves};
+ghost use Rattle.osdp_link_laws.specs.OneHandler.{GivesItsAnswers};
+ghost use Rattle.osdp_link_laws.specs.Ordinary.{OrdinaryIsUndisturbed};
 ghost use Rattle.osdp_link_laws.specs.Addresses.{StayWhereTheyAre};
-ghost use Rattle.osdp_link_laws.specs.Costs.{ControllerRestartCosts, ReaderRestartCosts, ReportsNoMore};
 ghost use Rattle.osdp_link_laws.specs.Progress.{ComesThrough, ComesThroughFromRest, ComesThroughInTime, ComesToRest};
 ghost use Rattle.osdp_link_laws.specs.Clean.{GoesInTurn};
 ghost use Rattle.osdp_link_laws.specs.Refusals.{RefusesNoNumber, RefusesNoNumberWithoutRestart, SaysAllPlainly};
 ghost use Rattle.osdp_link_laws.specs.Sessions.{SessionsInARow};
-ghost use Rattle.osdp_link_laws.specs.TwoLists.{IsTwoLists, KeepsInStep};
 
 pub mod effects;
 pub mod ends;
 pub mod lapses;
 pub mod names;
-pub mod withdrawn;
 
 use osdp_reader::Handler;
 
@@ -65,40 +62,23 @@ pub fn holds_once<H: Handler>()
 }
 
 /// Where the device stays the same model, with one handler, the answers given are its settings' to ID, CAP and COMSET, and its handler's to all
-/// others, in order. Where the reader doesn't restart either, the events reported are a beginning of all that were queued and not withdrawn.
+/// others, in order.
 pub fn answers_of_one_handler<H: Handler>()
-    ensures answers { GivesItsAnswers H.answer_of H.after }
-    ensures once { OneHandlerHoldsOnce H.answer_of H.after }
+    ensures { GivesItsAnswers H.answer_of H.after }
 {
     read_each_other::<H>();
 }
 
-/// Where neither end restarts and nothing is withdrawn, no command is forgotten or removed and every event is kept. So each session
-/// leaves its commands but those settled and the one told unsettled, and its events but those reported, or all but the last of these.
+/// Where neither end restarts and nothing is withdrawn, no command is forgotten or removed and every event is kept.
 pub fn ordinary_runs_are_undisturbed<H: Handler>()
-    ensures accounts { OrdinaryIsUndisturbed H.answer_of H.after }
-    ensures leaves { UndisturbedLeaves }
+    ensures { OrdinaryIsUndisturbed H.answer_of H.after }
 {}
 
-/// Over sessions in a row, each begun again on a quiet line: no command that was settled, told unsettled, forgotten, withdrawn or thrown away
-/// in one is one of a later session, so none is taken twice. No event is skipped but those withdrawn and those that a restart of the
-/// reader threw away, and each beginning tells again one at most, never one that was thrown away before it.
+/// Over sessions in a row, each begun again on a quiet line: each command that was accepted has ended in one of them, or is one of the last. Where the
+/// last one has ended, it leaves what a next one would begin with: the commands that have not ended, and the events but those withdrawn, those that a
+/// restart of the reader threw away, and those reported, of which the last may wait still.
 pub fn sessions_in_a_row<H: Handler>()
     ensures { SessionsInARow H.answer_of H.after }
-{
-    read_each_other::<H>();
-}
-
-/// A restart of the reader costs exactly the events in its queue, but the one in front where it has offered that in this session, which
-/// is reported already or may be heard later; and at most the session. No command is lost. Nothing else is reported in that session but what
-/// was offered before, and what is queued since and not withdrawn. A spare of another model in its place costs the same.
-///
-/// Of the controller: the outstanding command, of which it isn't known whether the reader has taken it, and those that waited. All others had
-/// ended before, and no event is lost.
-pub fn restarts_cost<H: Handler>()
-    ensures reader { ReaderRestartCosts H.answer_of H.after }
-    ensures since { ReportsNoMore H.answer_of H.after }
-    ensures controller { ControllerRestartCosts H.answer_of H.after }
 {
     read_each_other::<H>();
 }
@@ -141,22 +121,6 @@ pub fn comes_through<H: Handler>()
 /// are settled each round reports an event, the oldest first. The session lasts.
 pub fn goes_in_turn<H: Handler>()
     ensures { GoesInTurn H.answer_of H.after }
-{
-    read_each_other::<H>();
-}
-
-/// Two lists and four counts: no step takes more commands than are issued or offers more events than are queued, settles one that wasn't
-/// taken or reports one that wasn't offered, and at most one is taken or offered and not yet told.
-pub fn keeps_in_step()
-    ensures { KeepsInStep }
-{}
-
-/// A link is two lists and four counts: the lists of its account are read off them, and each of its moves is one step or none, or begins
-/// a session. So what the headline says can be seen without packets, numbers and timers. Within each session the events that the reader has
-/// offered are a beginning of those queued, and hold those reported. Of the last command taken and the last event offered at most one isn't
-/// told yet.
-pub fn moves_in_step<H: Handler>()
-    ensures { IsTwoLists H.answer_of H.after }
 {
     read_each_other::<H>();
 }

@@ -17,21 +17,22 @@ use Rattle.osdp_reader.specs.declared.kind.Kind.{Kind}
 use Rattle.osdp_reader.specs.declared.kind.Kind.TheVariants as kind
 use Rattle.osdp_ledger.specs.History.{History, new_history, runs, steps_on}
 use Rattle.osdp_ledger.specs.Ledger as ledger
-use Rattle.osdp_ledger.specs.Ledger.{Card, Ledger, Order, Step, new_ledger}
+use Rattle.osdp_ledger.specs.Ledger.{Card, Order, Step, new_ledger}
 use Rattle.osdp_ledger.proofs.Events.{at_first}
+use Rattle.osdp_ledger.proofs.InTurn.{runs_then}
 use Rattle.osdp_ledger.proofs.Waiting.{Events}
 use Rattle.osdp_link_laws.specs.Headline.{Begins, MovesFit}
 use Rattle.osdp_link_laws.specs.Link as link
 use Rattle.osdp_link_laws.specs.Link.{Account, Delivered, Delivery, Link, Lost, LoseToController, LoseToReader, Move, Queue as QueueEvent, Reopen, Repeated, RestartController, RestartReader, Retarget, SetBusy, SetHandler, Submit, Tick, ToController, ToReader, Withdraw, WithdrawEvent, after_move, front_of, new_account, outstanding_command, run}
 use Rattle.osdp_link_laws.specs.Peers.{ReadEachOther}
 use Rattle.osdp_link_laws.specs.Refusals.{told_by_front}
-use Rattle.osdp_link_laws.specs.Sessions.{accepted, all_queued, all_submitted, queued, submitted, unless_full}
+use Rattle.osdp_link_laws.specs.Sessions.{accepted, all_queued, all_submitted, in_all, queued, submitted, unless_full}
 use Rattle.osdp_link_laws.proofs.InARow.{Assumed, Stands, assumed, begins, standing}
-use Rattle.osdp_link_ledger.specs.Accounts.{LedgerTellsAccounts, in_all}
+use Rattle.osdp_link_ledger.specs.Accounts.{LedgerTellsAccounts}
 use Rattle.osdp_link_ledger.specs.Steps.{acts, after_steps, all_steps, leaves, leaves_and_acts, leaving, opens, queued_before, queues, steps_before, steps_of, submits, submitted_before, ticked, to_reader, told}
 use Rattle.osdp_link_ledger.proofs.Keeping.{keeps_one}
 use Rattle.osdp_link_ledger.proofs.Reading.{IsReadAs, read}
-use Rattle.osdp_link_ledger.proofs.Running.{begins_tied, runs_append}
+use Rattle.osdp_link_ledger.proofs.Running.{begins_tied}
 use Rattle.osdp_link_ledger.proofs.Tallies.{Tally, device_tally, ends_at, leaving_tally, opening, panel_tally, taking_tally, tells, withdrawing_event_tally, withdrawing_tally}
 use Rattle.osdp_link_ledger.proofs.Ties.{IsTied, events_keep, placed, runs_after}
 use Rattle.std.proofs.lemmas.List.{map-append}
@@ -46,7 +47,7 @@ as_before cs es earlier t h i =
 
 in_turn_tally : (cs : List Command) (es : List Event) (earlier : List Account) (t : Account) (xs ys : List Step) (h : History) → Tally cs es earlier t (runs ys (runs xs h))
     → Tally cs es earlier t (runs (xs ++ ys) h)
-in_turn_tally cs es earlier t xs ys h i = subst (Tally cs es earlier t) (sym (runs_append xs ys h)) i
+in_turn_tally cs es earlier t xs ys h i = subst (Tally cs es earlier t) (sym (runs_then xs ys h)) i
 
 submits_tally : {H : Type 0} → (cs : List Command) (es : List Event) (refusal : Option ControllerFault) (c : Command) (l : Link H) (h : History) → TallyOf cs es l h
     → TallyOf (cs ++ accepted refusal c) (es ++ []) (link.submits refusal c l) (runs (submits refusal c h.ledger) h)

@@ -1,5 +1,6 @@
 -- The answers over all sessions of a device that never changes.
 use Rattle.std.proofs.Common.{◌≡◌, List, [], ◌∷◌, ◌++◌, map, refl, sym, ap, ◌∙◌}
+use Rattle.std.proofs.lemmas.List.{map-append}
 use Rattle.osdp_msg.specs.declared.command.Command.{Command}
 use Rattle.osdp_msg.specs.declared.reply.Reply.{Reply}
 use Rattle.osdp_reader.specs.Table.{answer_to}
@@ -8,26 +9,26 @@ use Rattle.osdp_reader.specs.declared.handler.Answer.{Answer}
 use Rattle.osdp_reader_laws.specs.Answering.{handler_after_commands}
 use Rattle.osdp_ledger.specs.History.{History, new_history, runs}
 use Rattle.osdp_ledger.specs.Ledger.{Order}
-use Rattle.osdp_link_laws.specs.Headline.{asked}
-use Rattle.osdp_link_laws.specs.Link.{Account, Link, Move, RestartReader, SetHandler, after_move, run}
-use Rattle.osdp_link_laws.specs.OneHandler.{AreItsAnswers, GivesItsAnswers, KeepHandler, KeepsDevice, KeepsHandler, handler_after, with_answers}
-use Rattle.osdp_link_laws.proofs.Stages.{Each}
-use Rattle.osdp_link_ledger.specs.Accounts.{LedgerTellsAccounts, in_all}
+use Rattle.osdp_link_laws.specs.Headline.{EachIsOnce, asked}
+use Rattle.osdp_link_laws.specs.Link.{Account, run}
+use Rattle.osdp_link_laws.specs.OneHandler.{AreItsAnswers, GivesItsAnswers, handler_after, with_answers}
+use Rattle.osdp_link_laws.specs.Sessions.{in_all}
+use Rattle.osdp_link_ledger.specs.Accounts.{LedgerTellsAccounts}
 use Rattle.osdp_link_ledger.specs.Answers.{ActsHaveAnswersOfOneHandler, HasAnswersOf}
 use Rattle.osdp_link_ledger.specs.Steps.{steps_from}
 
+-- ---- commands alone
+
+-- each command that was taken has the answer that the reader gave to it
+pub taken_in : (ts : List Account) → EachIsOnce ts → map asked (in_all (λ t. t.given) ts) ≡ in_all (λ t. t.taken) ts
+taken_in [] once = refl
+taken_in (t ∷ ts) once = map-append asked (in_all (λ t. t.given) ts) t.given ∙ (λ i. taken_in ts once.1 i ++ once.0.answered i)
+
+pub commands_acted : (ds : List (Order × Reply)) → map asked (map (λ (d : Order × Reply). (d.0.command, d.1)) ds) ≡ map (λ (d : Order × Reply). d.0.command) ds
+commands_acted [] = refl
+commands_acted (d ∷ ds) = ap (λ cs. d.0.command ∷ cs) (commands_acted ds)
+
 module _ {H : Type 0} (answer_of : H → Command → Answer) (after : H → Command → H) where
-  -- ---- a device that is never another keeps its handler
-
-  keeps_handler : (m : Move H) (l : Link H) → KeepsDevice m → KeepsHandler m l
-  keeps_handler (SetHandler handler) l keeps = absurd keeps
-  keeps_handler (RestartReader config handler room) l keeps = absurd keeps
-  keeps_handler m l keeps = tt
-
-  pub keep_handler : (ms : List (Move H)) (l : Link H) → Each KeepsDevice ms → KeepHandler answer_of after ms l
-  keep_handler [] l keep = tt
-  keep_handler (m ∷ ms) l keep = (keeps_handler m l keep.0, keep_handler ms (after_move answer_of after m l) keep.1)
-
   -- ---- session after session
 
   module _ (config : ReaderConfig) where
@@ -71,10 +72,6 @@ module _ {H : Type 0} (answer_of : H → Command → Answer) (after : H → Comm
     acts_have h ts done are its =
         let given = are ∙ all_answers h ts its in
         given ∙ ap (answers h) (sym (sym (commands_acted done.acted) ∙ ap (map asked) given ∙ asked_of h (in_all (λ t. t.taken) ts)))
-      where
-        commands_acted : (ds : List (Order × Reply)) → map asked (map (λ (d : Order × Reply). (d.0.command, d.1)) ds) ≡ map (λ (d : Order × Reply). d.0.command) ds
-        commands_acted [] = refl
-        commands_acted (d ∷ ds) = ap (λ cs. d.0.command ∷ cs) (commands_acted ds)
 
   pub acts_have_answers : LedgerTellsAccounts answer_of after → GivesItsAnswers answer_of after → ActsHaveAnswersOfOneHandler answer_of after
   acts_have_answers tells gives l moves begins fit keep =

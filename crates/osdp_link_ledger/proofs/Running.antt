@@ -5,10 +5,11 @@ use Rattle.osdp_msg.specs.declared.command.Command.{Command}
 use Rattle.osdp_msg.specs.declared.event.Event.{Event}
 use Rattle.osdp_msg.specs.declared.reply.Reply.{Reply}
 use Rattle.osdp_reader.specs.declared.handler.Answer.{Answer}
-use Rattle.osdp_ledger.specs.History.{AreAllowed, History, new_history, runs, steps_on}
+use Rattle.osdp_ledger.specs.History.{AreAllowed, History, new_history, runs}
 use Rattle.osdp_ledger.specs.Laws.{KeepsEvents, KeepsOrders}
-use Rattle.osdp_ledger.specs.Ledger.{Card, Ledger, Order, Step, new_ledger}
+use Rattle.osdp_ledger.specs.Ledger.{Card, Ledger, Order, new_ledger}
 use Rattle.osdp_ledger.proofs.Events.{at_first}
+use Rattle.osdp_ledger.proofs.InTurn.{allowed_both, runs_then}
 use Rattle.osdp_ledger.proofs.Waiting.{Events}
 use Rattle.osdp_link_laws.specs.Headline.{Begins, MovesFit}
 use Rattle.osdp_link_laws.specs.Link.{Link, Move, after_move, run}
@@ -98,16 +99,6 @@ module _ {H : Type 0} where
             (ap (λ g. g.shown) again ∙ ap (λ g. g.shown) same)),
       )
 
--- ---- steps in a row
-
-allowed_append : (xs ys : List Step) (h : History) → AreAllowed xs h → AreAllowed ys (runs xs h) → AreAllowed (xs ++ ys) h
-allowed_append [] ys h first last = last
-allowed_append (x ∷ xs) ys h first last = (first.0, allowed_append xs ys (steps_on x h) first.1 last)
-
-pub runs_append : (xs ys : List Step) (h : History) → runs (xs ++ ys) h ≡ runs ys (runs xs h)
-runs_append [] ys h = refl
-runs_append (x ∷ xs) ys h = runs_append xs ys (steps_on x h)
-
 -- the ledger that is tied is the link's
 answered : (ahead : List Order) (acted : Option Reply) (given settled : List (Command × Reply)) → ActedIs ahead acted given settled
     → given ≡ settled ++ answered_in ahead acted
@@ -158,8 +149,8 @@ module _ {H : Type 0} (answer_of : H → Command → Answer) (after : H → Comm
       let later : AreAllowed more (runs steps h) × IsTied (run answer_of after moves next) (runs more (runs steps h)).ledger =
       subst (λ g. AreAllowed (all_steps answer_of after moves next g) (runs steps h)
       × IsTied (run answer_of after moves next) (runs (all_steps answer_of after moves next g) (runs steps h)).ledger) same rest in (
-        allowed_append steps more h (allowed steps h one.0) later.0,
-        subst (λ k. IsTied (run answer_of after moves next) k.ledger) (sym (runs_append steps more h)) later.1,
+        allowed_both steps more h (allowed steps h one.0) later.0,
+        subst (λ k. IsTied (run answer_of after moves next) k.ledger) (sym (runs_then steps more h)) later.1,
       )
 
   pub keeps_ledger : ReadEachOther answer_of after → LinkKeepsLedger answer_of after
@@ -173,9 +164,9 @@ module _ {H : Type 0} (answer_of : H → Command → Answer) (after : H → Comm
       let more = all_steps answer_of after moves l (after_steps before new_ledger) in
       let later : AreAllowed more h × IsTied (run answer_of after moves l) (runs more h).ledger =
       subst (λ g. AreAllowed (all_steps answer_of after moves l g) h × IsTied (run answer_of after moves l) (runs (all_steps answer_of after moves l g) h).ledger) same rest in (
-        allowed_append before more new_history (allowed before new_history first.0) later.0,
+        allowed_both before more new_history (allowed before new_history first.0) later.0,
         is_links (run answer_of after moves l) (runs (before ++ more) new_history).ledger
-            (subst (λ k. IsTied (run answer_of after moves l) k.ledger) (sym (runs_append before more new_history)) later.1),
+            (subst (λ k. IsTied (run answer_of after moves l) k.ledger) (sym (runs_then before more new_history)) later.1),
       )
 
   pub holds_by_ledger : LinkKeepsLedger answer_of after → KeepsOrders → KeepsEvents → HoldsByLedger answer_of after

@@ -16,10 +16,11 @@ use Rattle.osdp_controller.specs.declared.state.State.{State}
 use Rattle.osdp_controller.specs.declared.state.State.TheVariants.{Closed, Quiet, Idle, Waiting, Pausing}
 use Rattle.osdp_ledger.specs.History.{AfterReport, CutOff, End, Forgotten, GivenBack, History, InDoubt, Left, Settled, TakenBack, ThrownAway, ends_at_restart, runs, steps_on}
 use Rattle.osdp_ledger.specs.Ledger as ledger
-use Rattle.osdp_ledger.specs.Ledger.{Card, Ledger, NoOffer, Offer, Order, Reported, RestartDevice, RestartPanel, Step, Unreported}
+use Rattle.osdp_ledger.specs.Ledger.{Card, Ledger, NoOffer, Offer, Order, Reported, RestartDevice, RestartPanel, Unreported}
 use Rattle.osdp_link_laws.specs.Link as link
-use Rattle.osdp_link_laws.specs.Link.{Account, Removal, after_report, given_to, outstanding_command}
-use Rattle.osdp_link_ledger.specs.Accounts.{cut_off_as, doubted_as, in_all, removed_as, settled_as, taken_back_as}
+use Rattle.osdp_link_laws.specs.Link.{Account, Removal, after_report, outstanding_command}
+use Rattle.osdp_link_laws.specs.Sessions.{in_all}
+use Rattle.osdp_link_ledger.specs.Accounts.{cut_off_as, doubted_as, removed_as, settled_as, taken_back_as}
 use Rattle.osdp_link_ledger.specs.Laws.{is_under_way}
 use Rattle.osdp_link_ledger.specs.Steps.{acts_on, card_at, leaves, offered_at, offers, opens, order_acted, order_at, told, withdraws, withdraws_event}
 use Rattle.osdp_link_ledger.proofs.Lists.{commands}

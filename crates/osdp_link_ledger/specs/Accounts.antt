@@ -8,14 +8,9 @@ use Rattle.osdp_ledger.specs.History.{CutOff, End, Exit, Forgotten, GivenBack, H
 use Rattle.osdp_ledger.specs.Ledger.{Card, Order}
 use Rattle.osdp_link_laws.specs.Headline.{Begins, MovesFit}
 use Rattle.osdp_link_laws.specs.Link as link
-use Rattle.osdp_link_laws.specs.Link.{Account, Link, Move, Removal, run}
-use Rattle.osdp_link_laws.specs.Sessions.{all_queued, all_submitted}
+use Rattle.osdp_link_laws.specs.Link.{Link, Move, Removal, run}
+use Rattle.osdp_link_laws.specs.Sessions.{all_queued, all_submitted, in_all}
 use Rattle.osdp_link_ledger.specs.Steps.{steps_from}
-
--- a list of each account, session after session
-abbrev pub in_all : {A : Type 0} → (Account → List A) → List Account → List A
-in_all part [] = []
-in_all part (t ∷ earlier) = in_all part earlier ++ part t
 
 -- the commands that ended so, each with what the account has of it
 abbrev pub settled_as : Order → End → List (Command × Reply)

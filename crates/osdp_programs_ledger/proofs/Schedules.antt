@@ -1,24 +1,19 @@
 -- The run of a schedule is calls of a line in use, and its account tells what their ledger says.
-use Rattle.std.proofs.Common.{◌≡◌, ℕ, zero, suc, List, [], ◌∷◌, ◌++◌, map, Some, refl, sym, subst, ap, ◌∙◌}
-use Rattle.std.proofs.lemmas.List.{map-append}
+use Rattle.std.proofs.Common.{◌≡◌, ℕ, zero, suc, List, [], ◌∷◌, map, Some, sym, subst, ap, ◌∙◌}
 use Rattle.std.specs.Prelude.{slice_get}
 use Rattle.osdp_msg.specs.declared.command.Command.{Command}
-use Rattle.osdp_msg.specs.declared.reply.Reply.{Reply}
 use Rattle.osdp_bus.specs.Buses.{device_of}
 use Rattle.osdp_ledger.specs.History.{new_history, runs}
-use Rattle.osdp_ledger.specs.Ledger.{Order}
-use Rattle.osdp_link_laws.specs.Headline.{EachIsOnce, asked}
-use Rattle.osdp_link_laws.specs.Link as link
-use Rattle.osdp_link_ledger.specs.Accounts as ledgers
+use Rattle.osdp_link_laws.specs.Headline.{HoldsOnce, asked}
+use Rattle.osdp_link_ledger.proofs.Answered.{commands_acted, taken_in}
 use Rattle.osdp_reader.specs.declared.handler.Answer.{Answer}
 use Rattle.osdp_shared_line.specs.Line.{site_at}
-use Rattle.osdp_shared_line.specs.Runs.{EachHoldsOnce}
-use Rattle.osdp_sim_bus.specs.Runs.{run}
-use Rattle.osdp_sim_bus.specs.State.{Given, set_up}
+use Rattle.osdp_shared_line.specs.Runs.{EachIsALink}
+use Rattle.osdp_sim_bus.specs.State.{Given}
 use Rattle.osdp_calls.specs.Ends.{GoByTheirOwn}
 use Rattle.osdp_calls.specs.Lines.{InUse}
 use Rattle.osdp_calls_instance.specs.SimulatedBus.{RunIsCalls, line_at_first, new_station}
-use Rattle.osdp_calls_instance.specs.SimulatedReports.{RunTakesTheSame, RunTellsTheSame, Told, in_all}
+use Rattle.osdp_calls_instance.specs.SimulatedReports.{RunTakesTheSame, RunTellsTheSame, Told}
 use Rattle.osdp_calls_instance.proofs.SimSetUp.{runs_from_a_set_up}
 use Rattle.osdp_calls_ledger.specs.Laws.{EachKeepsLedger}
 use Rattle.osdp_calls_ledger.specs.Promises.{LedgerHoldsOnce}
@@ -28,19 +23,6 @@ use Rattle.osdp_programs_ledger.proofs.Accepted.{run_accepts}
 use Rattle.osdp_programs_ledger.proofs.Entries.{entry_of, once_of}
 use Rattle.osdp_programs_ledger.proofs.Standing.{entries_stand}
 
-same_lists : {A : Type 0} (part : link.Account → List A) (ts : List link.Account) → ledgers.in_all part ts ≡ in_all part ts
-same_lists part [] = refl
-same_lists part (t ∷ ts) = ap (λ xs. xs ++ part t) (same_lists part ts)
-
--- each command that was taken has the answer that the device gave to it
-taken_in : (ts : List link.Account) → EachIsOnce ts → map asked (ledgers.in_all (λ t. t.given) ts) ≡ in_all (λ t. t.taken) ts
-taken_in [] once = refl
-taken_in (t ∷ ts) once = map-append asked (ledgers.in_all (λ t. t.given) ts) t.given ∙ (λ i. taken_in ts once.1 i ++ once.0.answered i)
-
-commands_acted : (ds : List (Order × Reply)) → map asked (map (λ (d : Order × Reply). (d.0.command, d.1)) ds) ≡ map (λ (d : Order × Reply). d.0.command) ds
-commands_acted [] = refl
-commands_acted (d ∷ ds) = ap (λ cs. d.0.command ∷ cs) (commands_acted ds)
-
 module _ {H : Type 0} where
   station_at : (gap k : ℕ) (given : Given H) (readers : List (Given H)) → slice_get readers k ≡ Some given
       → site_at k (map (new_station gap) readers) ≡ Some (new_station gap given)
@@ -49,9 +31,9 @@ module _ {H : Type 0} where
   station_at gap (suc k) given (g ∷ readers) at = station_at gap k given readers at
 
   module _ (answer_of : H → Command → Answer) (after : H → Command → H) where
-    pub runs_hold_once : ((l : InUse H) → GoByTheirOwn answer_of after l) → EachKeepsLedger answer_of after → LedgerHoldsOnce answer_of after → EachHoldsOnce answer_of after → RunIsCalls answer_of after
+    pub runs_hold_once : ((l : InUse H) → GoByTheirOwn answer_of after l) → EachKeepsLedger answer_of after → LedgerHoldsOnce answer_of after → EachIsALink answer_of after → HoldsOnce answer_of after → RunIsCalls answer_of after
         → RunTellsTheSame answer_of after → RunTakesTheSame answer_of after → RunsHoldOnce answer_of after
-    runs_hold_once own keeps holds once is_calls tells takes config readers steps gap calls some taken are keep k given u there at =
+    runs_hold_once own keeps holds links once is_calls tells takes config readers steps gap calls some taken are keep k given u there at =
         let l = line_at_first config gap readers in
         let first = new_station gap given in
         let is = station_at gap k given readers there in
@@ -77,10 +59,10 @@ module _ {H : Type 0} where
           told = record {
             issued = more.0 ∙ sym kept.accounts.orders;
             queued = more.1 ∙ sym kept.accounts.cards;
-            settled = sym (kept.accounts.settled ∙ same_lists (λ t. t.settled) sessions ∙ ap (λ (x : Told). x.settled) told);
-            unsettled = sym (kept.accounts.in_doubt ∙ same_lists (λ t. t.unsettled) sessions ∙ ap (λ (x : Told). x.unsettled) told);
+            settled = sym (kept.accounts.settled ∙ ap (λ (x : Told). x.settled) told);
+            unsettled = sym (kept.accounts.in_doubt ∙ ap (λ (x : Told). x.unsettled) told);
             taken = sym (sym (commands_acted h.acted) ∙ ap (map asked) kept.accounts.acted
-                ∙ taken_in sessions (once_of answer_of after once l calls up keep k first t.0 is t.1) ∙ took);
-            reported = sym (kept.accounts.reported ∙ same_lists (λ t. t.reported) sessions ∙ ap (λ (x : Told). x.reported) told);
+                ∙ taken_in sessions (once_of answer_of after links once l calls up keep k first t.0 is t.1) ∙ took);
+            reported = sym (kept.accounts.reported ∙ ap (λ (x : Told). x.reported) told);
           };
         }

@@ -1,5 +1,5 @@
 -- What the laws of runs come to for their sessions.
-use Rattle.std.proofs.Common.{◌≡◌, ◌+◌, ◌++◌, ◌⊎◌, ℕ, suc, List, ◌∷◌, length, Some, arith, inl, inr, sym, subst, ◌∙◌}
+use Rattle.std.proofs.Common.{◌≡◌, ◌+◌, ◌++◌, ℕ, suc, List, ◌∷◌, length, Some, arith, sym, subst, ◌∙◌}
 use Rattle.std.specs.Prelude.{slice_get}
 use Rattle.osdp_msg.specs.declared.command.Command.{Command}
 use Rattle.osdp_reader.specs.declared.config.ReaderConfig.{ReaderConfig}
@@ -14,7 +14,7 @@ use Rattle.osdp_sim_bus.specs.State.{Given, accounts, set_up}
 use Rattle.osdp_sim_bus_laws.specs.Accounts.{EachMeets}
 use Rattle.osdp_sim_bus_laws.specs.Begun as each_begun
 use Rattle.osdp_sim_bus_laws.proofs.OneSession.{none_earlier}
-use Rattle.osdp_sim_laws.specs.Accounts.{IsInARow, IsOnce, LastsOrHasEnded}
+use Rattle.osdp_sim_laws.specs.Accounts.{HasSessions, IsOnce}
 use Rattle.osdp_sim_laws.specs.Begun as begun
 use Rattle.osdp_sim_laws.specs.Begun.{AreBegun, reopens_in}
 use Rattle.osdp_sim_laws.proofs.Holding.{of_one}
@@ -39,27 +39,23 @@ one_account : {a b : Account} → Some a ≡ Some b → a ≡ b
 one_account is = cc
 
 module _ {H : Type 0} (answer_of : H → Command → Answer) (after : H → Command → H) where
-  -- ---- from sessions in a row
+  -- ---- from the sessions of a link
 
-  end_once : (config : ReaderConfig) (handler : H) (a : Account) → IsInARow answer_of after config handler a → EndOnce a
-  end_once config handler a row = record { count = by row.ends; causes = row.causes }
-    where
-      by : LastsOrHasEnded a row.last → (length a.ends + 1 ≡ length a.sessions) ⊎ (length a.ends ≡ length a.sessions)
-      by (inl (lasts, none)) = inl lasts
-      by (inr (ended, leaves)) = inr ended
+  end_once : (config : ReaderConfig) (handler : H) (a : Account) → HasSessions answer_of after config handler a → EndOnce a
+  end_once config handler a row = record { count = row.ends; causes = row.causes }
 
   pub is_once : (config : ReaderConfig) (handler : H) (a : Account) (again : ℕ) → length a.sessions ≡ 1 + again → again ≡ 0
-      → IsInARow answer_of after config handler a → IsOnce answer_of after config handler a
+      → HasSessions answer_of after config handler a → IsOnce answer_of after config handler a
   is_once config handler a again count none row =
       of_one answer_of after config handler a row.last row.earlier (none_earlier a row.last row.earlier row.lists (omega (arith, count, none)))
-      row.lists row.undisturbed.0 row.once row.ends row.causes
+      row.lists row.undisturbed.0 row.once.0 row.answers row.ends row.causes
 
   -- ---- one reader
 
   pub tells_sessions : (config : SimConfig) (handler : H) (steps : List SimStep) (a : Account)
       → TellsByLedger answer_of after config.reader handler a (steps_of_run answer_of after config handler steps)
       → ((before later : List SimStep) → steps ≡ before ++ later → KeepsLedger answer_of after config handler before)
-      → AreBegun 1 (begun.CameTo answer_of after config handler) steps a → IsInARow answer_of after config.reader handler a
+      → AreBegun 1 (begun.CameTo answer_of after config handler) steps a → HasSessions answer_of after config.reader handler a
       → TellsSessions answer_of after config handler steps a
   tells_sessions config handler steps a ledger until sessions row = record {
     ledger = ledger;
@@ -76,11 +72,11 @@ module _ {H : Type 0} (answer_of : H → Command → Answer) (after : H → Comm
   -- ---- each of several readers
 
   module _ (config : BusConfig) (readers : List (Given H)) (steps : List SimStep) (told : List Account)
-      (sessions : each_begun.EachIsBegun answer_of after config readers steps told) (rows : EachMeets (IsInARow answer_of after) readers told) where
+      (sessions : each_begun.EachIsBegun answer_of after config readers steps told) (rows : EachMeets (HasSessions answer_of after) readers told) where
     -- its account is one, whichever law names it
-    row_of : (k : ℕ) (given : Given H) (a : Account) → slice_get readers k ≡ Some given → slice_get told k ≡ Some a → IsInARow answer_of after given.0 given.2 a
+    row_of : (k : ℕ) (given : Given H) (a : Account) → slice_get readers k ≡ Some given → slice_get told k ≡ Some a → HasSessions answer_of after given.0 given.2 a
     row_of k given a at there =
-        let mine = rows.each k given at in subst (IsInARow answer_of after given.0 given.2) (one_account (sym mine.1 ∙ there)) mine.2
+        let mine = rows.each k given at in subst (HasSessions answer_of after given.0 given.2) (one_account (sym mine.1 ∙ there)) mine.2
 
     begun_of : (k : ℕ) (given : Given H) (a : Account) → slice_get readers k ≡ Some given → slice_get told k ≡ Some a
         → AreBegun (suc k) (each_begun.CameTo answer_of after config readers k given) steps a

@@ -4,20 +4,17 @@ use Rattle.std.proofs.lemmas.Bool.Decides.{eqb_tells}
 use Rattle.std.specs.Prelude.{option_map, option_to_list}
 use Rattle.osdp_frame.specs.Packet.{Packet}
 use Rattle.osdp_msg.specs.declared.command.Command.{Command}
-use Rattle.osdp_msg.specs.declared.event.Event.{Event}
 use Rattle.osdp_controller.specs.Hearing.{comset_of}
 use Rattle.osdp_reader.specs.declared.handler.Answer.{Answer}
-use Rattle.osdp_link_laws.specs.Headline.{EachIsOnce, HoldsOnce, IsBeginning, IsWithout, MoveFits, MovesFit, SaysWhatFitsIf}
+use Rattle.osdp_link_laws.specs.Headline.{MoveFits, MovesFit, SaysWhatFitsIf}
 use Rattle.osdp_link_laws.specs.Link as link
 use Rattle.osdp_link_laws.specs.Link.{Delivered, Delivery, Link, Lost, Move, Repeated, after_move}
 use Rattle.osdp_link_laws.specs.Peers.{ReadsWhatIsAsked}
 use Rattle.osdp_link_laws.specs.Refusals.{IsNoRefusal, RefusesNoNumber, told_by}
-use Rattle.osdp_link_laws.specs.Sessions.{AreInARow, HaveLeft, IsAmong, LastsOrLeaves, SessionsInARow, all_queued, all_submitted, all_taken, ended_commands, unsettled_in, withdrawn_in}
 use Rattle.osdp_link_laws.proofs.Lines.{both}
-use Rattle.osdp_link_laws.specs.Withdrawn.{NeverOffersWhatIsWithdrawn, OfferAmong}
 use Rattle.osdp_shared_line.specs.Addresses.{NetMoveFits, NetMovesFit, in_front}
 use Rattle.osdp_shared_line.specs.Line.{LoseToPanel, LoseToReader, Net, NetMove, Queue, Reopen, RestartPanel, RestartReader, Retarget, SetBusy, SetHandler, Site, Submit, Tick, ToPanel, ToReader, Withdraw, WithdrawEvent, address_of, after_net, is_comset_refused, is_retarget_refused, run, site_at}
-use Rattle.osdp_shared_line.specs.Runs.{EachHasSessionsInARow, EachHoldsOnce, EachIsALink, EachRefusesNoNumber, IsItsLink, moves_at, moves_of}
+use Rattle.osdp_shared_line.specs.Runs.{EachIsALink, EachRefusesNoNumber, IsItsLink, moves_at, moves_of}
 use Rattle.osdp_shared_line.specs.Views as views
 use Rattle.osdp_shared_line.specs.Views.{IsMoved, OpensQuietly, front_to_panel, move_of, one_if, own, own_front, own_place, view}
 use Rattle.osdp_shared_line.proofs.Apart.{Apart}
@@ -145,50 +142,17 @@ module _ {H : Type 0} (answer_of : H → Command → Answer) (after : H → Comm
     pub each_is_a_link : EachIsALink answer_of after
     each_is_a_link n moves up fits k s is = is_its_link moves n fits (apart_first n up) k s is
 
-  -- ---- the laws of a link, for each site
+  -- the view of the last site is the link after its moves
+  pub viewed : (n : Net H) (moves : List (NetMove H)) (k : ℕ) (s last : Site H) → IsItsLink answer_of after k s moves n
+      → site_at k (run answer_of after moves n).sites ≡ Some last
+      → view k last (run answer_of after moves n) ≡ link.run answer_of after (moves_of answer_of after k moves n) (view k s n)
+  viewed n moves k s last h is =
+      subst (λ u. view k u (run answer_of after moves n) ≡ link.run answer_of after (moves_of answer_of after k moves n) (view k s n))
+      (some_same h.moved.site last (sym h.moved.there ∙ is)) h.moved.moved
 
-  module _ (links : EachIsALink answer_of after) where
-    -- the view of the last site is the link after its moves
-    pub viewed : (n : Net H) (moves : List (NetMove H)) (k : ℕ) (s last : Site H) → IsItsLink answer_of after k s moves n
-        → site_at k (run answer_of after moves n).sites ≡ Some last
-        → view k last (run answer_of after moves n) ≡ link.run answer_of after (moves_of answer_of after k moves n) (view k s n)
-    viewed n moves k s last h is =
-        subst (λ u. view k u (run answer_of after moves n) ≡ link.run answer_of after (moves_of answer_of after k moves n) (view k s n))
-        (some_same h.moved.site last (sym h.moved.there ∙ is)) h.moved.moved
-
-    pub each_holds_once : HoldsOnce answer_of after → EachHoldsOnce answer_of after
-    each_holds_once once n moves up fits k s last is there =
-        let h = links n moves up fits k s is in
-        subst (λ (v : Link H). EachIsOnce (v.account ∷ v.earlier)) (sym (viewed n moves k s last h there))
-        (once (view k s n) (moves_of answer_of after k moves n) (up.begins k s is) h.fits)
-
-    pub each_refuses_no_number : RefusesNoNumber answer_of after → EachRefusesNoNumber answer_of after
-    each_refuses_no_number none n moves up fits k s last is there never move =
-        let h = links n moves up fits k s is in
-        let same = viewed n moves k s last h there in
-        subst (λ (v : Link H). IfSome (told_by move v) IsNoRefusal) (sym same)
-        (none (view k s n) (moves_of answer_of after k moves n) move (up.begins k s is) h.fits (sym (ap (λ (v : Link H). v.account.restarts) same) ∙ never))
-
-    pub each_stays_in_a_row : SessionsInARow answer_of after → NeverOffersWhatIsWithdrawn answer_of after → EachHasSessionsInARow answer_of after
-    each_stays_in_a_row each never n moves up fits k s last is there =
-        let h = links n moves up fits k s is in
-        let ms = moves_of answer_of after k moves n in
-        let l = view k s n in
-        let begins = up.begins k s is in
-        let same = sym (viewed n moves k s last h there) in
-        record {
-          row = subst (λ (v : Link H). AreInARow v.account v.earlier) same (each.row l ms begins h.fits);
-          lasts = subst (λ (v : Link H). LastsOrLeaves v.controller.session.state v) same (each.last l ms begins h.fits);
-          commands = subst (λ (v : Link H). s.controller.waiting ++ all_submitted answer_of after ms l ≡ ended_commands v.earlier ++ v.account.issued) same
-              (each.commands l ms begins h.fits);
-          events = subst (λ (v : Link H). let all = s.reader.queue.events ++ all_queued answer_of after ms l in
-              (gone : List Event) × HaveLeft all v.earlier gone
-              × IsWithout (withdrawn_in (v.account ∷ v.earlier)) all (gone ++ v.account.stayed)) same (each.events l ms begins h.fits);
-          withdrawn = subst (λ (v : Link H). (others : List Event)
-              × IsWithout (withdrawn_in (v.account ∷ v.earlier)) (s.reader.queue.events ++ all_queued answer_of after ms l) others
-              × OfferAmong others (v.account ∷ v.earlier)) same (never l ms begins h.fits);
-          taken = subst (λ (v : Link H). (left_out : List Command) × (others : List Command)
-              × IsAmong left_out (unsettled_in (v.account ∷ v.earlier))
-              × IsWithout left_out (s.controller.waiting ++ all_submitted answer_of after ms l) others
-              × IsBeginning (all_taken (v.account ∷ v.earlier)) others) same (each.taken l ms begins h.fits);
-        }
+  pub each_refuses_no_number : EachIsALink answer_of after → RefusesNoNumber answer_of after → EachRefusesNoNumber answer_of after
+  each_refuses_no_number links none n moves up fits k s last is there never move =
+      let h = links n moves up fits k s is in
+      let same = viewed n moves k s last h there in
+      subst (λ (v : Link H). IfSome (told_by move v) IsNoRefusal) (sym same)
+      (none (view k s n) (moves_of answer_of after k moves n) move (up.begins k s is) h.fits (sym (ap (λ (v : Link H). v.account.restarts) same) ∙ never))

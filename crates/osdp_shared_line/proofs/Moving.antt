@@ -23,17 +23,11 @@ use Rattle.osdp_link_laws.proofs.Lines.{each_map, each_of}
 use Rattle.osdp_link_laws.proofs.Numbers.{is_false, is_true}
 use Rattle.osdp_link_laws.proofs.Stages.{Each}
 use Rattle.osdp_shared_line.specs.Line as line
-use Rattle.osdp_shared_line.specs.Line.{LoseToPanel, LoseToReader, Net, NetMove, Queue, Reopen, RestartPanel, RestartReader, Retarget, SetBusy, SetHandler, Site, Submit, Tick, ToPanel, ToReader, Withdraw, WithdrawEvent, address_of, after_net, calls, changed, gets, is_comset_refused, is_retarget_refused, is_told, link_of, left_by, restarts, site_at, tagged}
+use Rattle.osdp_shared_line.specs.Line.{LoseToPanel, LoseToReader, Net, Queue, Reopen, RestartPanel, RestartReader, Retarget, SetBusy, SetHandler, Site, Submit, Tick, ToPanel, ToReader, Withdraw, WithdrawEvent, address_of, after_net, calls, changed, gets, is_comset_refused, is_retarget_refused, is_told, link_of, left_by, restarts, site_at, tagged}
 use Rattle.osdp_shared_line.specs.Views as views
-use Rattle.osdp_shared_line.specs.Views.{EachMoveIsItsOwn, IsMoved, IsQuiet, OpensQuietly, front_to_panel, move_of, one_if, own, own_front, own_place, view}
+use Rattle.osdp_shared_line.specs.Views.{EachMoveIsItsOwn, IsMoved, IsQuiet, front_to_panel, move_of, one_if, own, own_front, own_place, view}
 use Rattle.osdp_shared_line.proofs.Hearing.{closed_hears, first_other, first_own, silent}
 use Rattle.osdp_shared_line.proofs.Sites.{at_changed, at_map, at_other, lost_own, own_append, own_first, own_lost, own_mine, own_none, own_others, own_rest, some_same}
-
-chosen_true : {A : Type 0} (b : Bool) (x y : A) → b ≡ true → cond b x y ≡ x
-chosen_true b x y is = ap (λ c. cond c x y) is
-
-chosen_false : {A : Type 0} (b : Bool) (x y : A) → b ≡ false → cond b x y ≡ y
-chosen_false b x y is = ap (λ c. cond c x y) is
 
 module _ {H : Type 0} where
   pub one_is : (i k : ℕ) (m : Move H) → i ≡ k → one_if i k m ≡ m ∷ []

@@ -10,7 +10,7 @@ use Rattle.osdp_controller.specs.declared.state.State.TheVariants.{Closed}
 use Rattle.osdp_reader.specs.declared.handler.Answer.{Answer}
 use Rattle.osdp_link_laws.specs.Headline.{MovesFit, SaysWhatFitsIf}
 use Rattle.osdp_link_laws.specs.Link as link
-use Rattle.osdp_link_laws.specs.Link.{Delivered, Link, Move, after_move}
+use Rattle.osdp_link_laws.specs.Link.{Delivered, Link, after_move}
 use Rattle.osdp_link_laws.specs.Peers.{ReadsWhatIsAsked}
 use Rattle.osdp_link_laws.specs.Progress.{AreDue, AreLate, ComeOn, ComesThrough, ComesThroughInTime, IsClear, SetsNoAddress, round, rounds}
 use Rattle.osdp_link_laws.proofs.Lines.{each_of}
@@ -358,7 +358,7 @@ module _ {H : Type 0} (answer_of : H → Command → Answer) (after : H → Comm
         let later = run answer_of after moves n in
         let own = its_link n moves turns k first s last h in
         let came = come n moves turns k first s last h in
-        let same = viewed answer_of after (each_is_a_link answer_of after known) n moves k first s own h.is in
+        let same = viewed answer_of after n moves k first s own h.is in
         subst (λ (l : Link H). ComeOn (moments_of k turns) s.account l.account) (sym came.0)
         (subst (λ (l : Link H). ComeOn (moments_of k turns) l.account (link.run answer_of after (rounds (moments_of k turns)) l).account) (sym same)
         (through (view k first n) (moves_of answer_of after k moves n) (moments_of k turns) (h.up.begins k first h.was) own.fits
@@ -370,7 +370,7 @@ module _ {H : Type 0} (answer_of : H → Command → Answer) (after : H → Comm
         let later = run answer_of after moves n in
         let own = its_link n moves turns k first s last h in
         let came = come n moves turns k first s last h in
-        let same = viewed answer_of after (each_is_a_link answer_of after known) n moves k first s own h.is in
+        let same = viewed answer_of after n moves k first s own h.is in
         subst (λ (l : Link H). (l.controller.session.state ≡ Closed) ⊎ ComeOn (moments_of k turns) s.account l.account) (sym came.0)
         (subst (λ (l : Link H). let end = link.run answer_of after (rounds (moments_of k turns)) l in
         (end.controller.session.state ≡ Closed) ⊎ ComeOn (moments_of k turns) l.account end.account) (sym same)

@@ -1,13 +1,10 @@
 -- A run of several sites from their first sessions on, and what it comes to for each of them.
 use Rattle.std.specs.Prelude.{◌≡◌, ℕ, List, [], ◌∷◌, ◌++◌, IfSome, Option, Some, None}
 use Rattle.osdp_msg.specs.declared.command.Command.{Command}
-use Rattle.osdp_msg.specs.declared.event.Event.{Event}
 use Rattle.osdp_reader.specs.declared.handler.Answer.{Answer}
-use Rattle.osdp_link_laws.specs.Headline.{EachIsOnce, IsBeginning, IsWithout, MovesFit}
+use Rattle.osdp_link_laws.specs.Headline.{MovesFit}
 use Rattle.osdp_link_laws.specs.Link.{Move}
 use Rattle.osdp_link_laws.specs.Refusals.{IsNoRefusal, told_by}
-use Rattle.osdp_link_laws.specs.Sessions.{AreInARow, HaveLeft, IsAmong, LastsOrLeaves, all_queued, all_submitted, all_taken, ended_commands, unsettled_in, withdrawn_in}
-use Rattle.osdp_link_laws.specs.Withdrawn.{OfferAmong}
 use Rattle.osdp_shared_line.specs.Addresses.{IsSetUp, NetMovesFit}
 use Rattle.osdp_shared_line.specs.Line.{Net, NetMove, Site, after_net, run, site_at}
 use Rattle.osdp_shared_line.specs.Views.{IsMoved, move_of, view}
@@ -34,38 +31,8 @@ module _ {H : Type 0} (answer_of : H → Command → Answer) (after : H → Comm
 
   -- ---- so what holds of a link holds of each site
 
-  -- within each session of each site commands are taken once and in order, settled with the answers that the reader gave, and events are
-  -- reported once and in order
-  abbrev pub EachHoldsOnce : Type 0
-  EachHoldsOnce = (n : Net H) (moves : List (NetMove H)) → IsSetUp n → NetMovesFit answer_of after moves n
-      → (k : ℕ) (first last : Site H) → site_at k n.sites ≡ Some first → site_at k (run answer_of after moves n).sites ≡ Some last
-      → EachIsOnce (last.account ∷ last.earlier)
-
   -- no session of a site in which its reader hasn't restarted ends because the reader refused a number, whatever comes next
   abbrev pub EachRefusesNoNumber : Type 0
   EachRefusesNoNumber = (n : Net H) (moves : List (NetMove H)) → IsSetUp n → NetMovesFit answer_of after moves n
       → (k : ℕ) (first last : Site H) → site_at k n.sites ≡ Some first → site_at k (run answer_of after moves n).sites ≡ Some last
       → last.account.restarts ≡ 0 → (move : Move H) → IfSome (told_by move (view k last (run answer_of after moves n))) IsNoRefusal
-
-  -- the sessions of each site are in a row; its commands and events have their places in them; no session offers an event that is withdrawn, in it
-  -- or in another one; and over all of them no command is taken
-  -- twice: those taken are a beginning of those accepted, but for some of those that have ended without being settled
-  pub record AreItsSessions (k : ℕ) (first last : Site H) (moves : List (NetMove H)) (n : Net H) : Type 0 where
-    pub row : AreInARow last.account last.earlier
-    pub lasts : LastsOrLeaves last.controller.session.state (view k last (run answer_of after moves n))
-    pub commands : first.controller.waiting ++ all_submitted answer_of after (moves_of k moves n) (view k first n)
-        ≡ ended_commands last.earlier ++ last.account.issued
-    pub events : let all = first.reader.queue.events ++ all_queued answer_of after (moves_of k moves n) (view k first n) in
-        (gone : List Event) × HaveLeft all last.earlier gone
-        × IsWithout (withdrawn_in (last.account ∷ last.earlier)) all (gone ++ last.account.stayed)
-    pub withdrawn : let all = first.reader.queue.events ++ all_queued answer_of after (moves_of k moves n) (view k first n) in
-        (others : List Event) × IsWithout (withdrawn_in (last.account ∷ last.earlier)) all others × OfferAmong others (last.account ∷ last.earlier)
-    pub taken : (left_out : List Command) × (others : List Command)
-        × IsAmong left_out (unsettled_in (last.account ∷ last.earlier))
-        × IsWithout left_out (first.controller.waiting ++ all_submitted answer_of after (moves_of k moves n) (view k first n)) others
-        × IsBeginning (all_taken (last.account ∷ last.earlier)) others
-
-  abbrev pub EachHasSessionsInARow : Type 0
-  EachHasSessionsInARow = (n : Net H) (moves : List (NetMove H)) → IsSetUp n → NetMovesFit answer_of after moves n
-      → (k : ℕ) (first last : Site H) → site_at k n.sites ≡ Some first → site_at k (run answer_of after moves n).sites ≡ Some last
-      → AreItsSessions k first last moves n

@@ -10,7 +10,6 @@ pub mod effects;
 pub mod programs;
 pub mod progress;
 pub mod promises;
-pub mod restarts;
 
 use osdp_reader::Handler;
 

@@ -1,5 +1,5 @@
 -- Where no session begins again, each reader's account is that of one session.
-use Rattle.std.proofs.Common.{◌≡◌, ◌-◌, ◌==◌, ℕ, zero, suc, Bool, true, false, if◌then◌else◌, List, [], ◌∷◌, length, map, Option, Some, None, refl, subst, ap, ◌∙◌, arith}
+use Rattle.std.proofs.Common.{◌≡◌, ◌-◌, ℕ, zero, suc, Bool, true, false, if◌then◌else◌, List, [], ◌∷◌, length, map, Option, Some, None, refl, subst, ap, ◌∙◌, arith}
 use Rattle.std.specs.Prelude.{slice_get, slice_set}
 use Rattle.std.specs.Option.{option_map_or}
 use Rattle.osdp_frame.specs.Items.{packets_in}
@@ -28,7 +28,7 @@ use Rattle.osdp_sim_laws.specs.Accounts.{IsInSession, IsOf}
 use Rattle.osdp_sim_laws.proofs.Accounts.{begun}
 use Rattle.osdp_sim_laws.proofs.Ends.{sessions_of_report}
 use Rattle.osdp_sim_laws.proofs.Holding.{of_one}
-use Rattle.osdp_sim_bus_laws.specs.Accounts.{AccountsAreOnce, StaysInARow, accounts_in}
+use Rattle.osdp_sim_bus_laws.specs.Accounts.{AccountsAreOnce, RunsHaveSessions, accounts_in}
 use Rattle.osdp_sim_bus_laws.proofs.Rows.{answers, told_by}
 
 get_each : {A : Type 0} (P : A → Type 0) (k : ℕ) (x : A) (xs : List A) → Each P xs → slice_get xs k ≡ Some x → P x
@@ -136,7 +136,7 @@ none_earlier a t (u ∷ earlier) lists one =
     let many = begun a.sessions t.queued (u ∷ earlier) lists.queued.0 lists.queued.1 in absurd (omega (arith, many, one))
 
 module _ {H : Type 0} (answer_of : H → Command → Answer) (after : H → Command → H) where
-  pub all_once : StaysInARow answer_of after → AccountsAreOnce answer_of after
+  pub all_once : RunsHaveSessions answer_of after → AccountsAreOnce answer_of after
   all_once rows config readers steps answer is was within =
       let ones : Each HasOne (accounts_in answer) =
       answers answer_of after (Each HasOne) config readers steps answer is was
@@ -151,6 +151,6 @@ module _ {H : Type 0} (answer_of : H → Command → Answer) (after : H → Comm
               mine.0,
               mine.1,
               of_one answer_of after given.0 given.2 mine.0 its.last its.earlier (none_earlier mine.0 its.last its.earlier its.lists one)
-                  its.lists its.undisturbed.0 its.once its.ends its.causes,
+                  its.lists its.undisturbed.0 its.once.0 its.answers its.ends its.causes,
             );
       }

@@ -1,5 +1,5 @@
--- Each reader's account is that of sessions in a row.
-use Rattle.std.proofs.Common.{◌≡◌, ◌+◌, ◌++◌, ◌-◌, ◌≤◌, ℕ, zero, suc, true, List, ◌∷◌, length, map, take, Some, Ok, Err, sym, subst, ap, ◌∙◌, append_assoc, arith}
+-- Each reader's account is that of sessions of its link.
+use Rattle.std.proofs.Common.{◌≡◌, ◌+◌, ◌-◌, ◌≤◌, ℕ, zero, suc, true, List, ◌∷◌, length, map, take, Some, Ok, Err, sym, subst, ap, ◌∙◌, arith}
 use Rattle.std.proofs.lemmas.Option.{slice_get-map}
 use Rattle.std.specs.Prelude.{slice_get, option_map}
 use Rattle.osdp_msg.specs.declared.command.Command.{Command}
@@ -8,11 +8,11 @@ use Rattle.osdp_reader.specs.declared.config.ReaderConfig.{ReaderConfig}
 use Rattle.osdp_reader.specs.declared.handler.Answer.{Answer}
 use Rattle.osdp_bus.specs.declared.config.BusConfig.{BusConfig}
 use Rattle.osdp_link_laws.specs.Link as link
-use Rattle.osdp_link_laws.specs.OneHandler.{AreOnce, OneHandlerHoldsOnce}
+use Rattle.osdp_link_laws.specs.Headline.{EachIsOnce, HoldsOnce}
+use Rattle.osdp_link_laws.specs.OneHandler.{AreItsAnswers, GivesItsAnswers}
 use Rattle.osdp_link_laws.specs.Ordinary.{AreUndisturbed, IsOrdinary, OrdinaryIsUndisturbed}
-use Rattle.osdp_link_laws.specs.Sessions.{AreInARow, LastOneLasts, LastsOrLeaves, StayInARow, ended_commands, ended_in}
 use Rattle.osdp_link_laws.proofs.Lines.{each_all, each_of}
-use Rattle.osdp_link_laws.proofs.OrdinaryRuns.{keep_device, steady_ordinary}
+use Rattle.osdp_link_laws.proofs.OrdinaryRuns.{steady_handler, steady_ordinary}
 use Rattle.osdp_shared_line.specs.Addresses.{IsSetUp}
 use Rattle.osdp_shared_line.specs.Line as line
 use Rattle.osdp_shared_line.specs.Line.{Net, NetMove, run}
@@ -29,9 +29,9 @@ use Rattle.osdp_sim_bus.specs.Laws.{HasAnAccountEach}
 use Rattle.osdp_sim_bus.specs.Runs as simulation
 use Rattle.osdp_sim_bus.specs.Runs.{AreSettings, FitAlong, Stops, is_well, lists_of_all, steps_done}
 use Rattle.osdp_sim_bus.specs.State.{Given, LineState, ReaderSite, accounts, set_up}
-use Rattle.osdp_sim_laws.specs.Accounts.{IsInARow, IsNoRefusal, LastsOrHasEnded}
-use Rattle.osdp_sim_laws.proofs.Holding.{each_one, last_one, one_unsettled, told_first}
-use Rattle.osdp_sim_bus_laws.specs.Accounts.{BusAnswer, EachMeets, IsAnswer, StaysInARow, WasSetUp, accounts_in}
+use Rattle.osdp_sim_laws.specs.Accounts.{HasSessions, IsNoRefusal}
+use Rattle.osdp_sim_laws.proofs.Holding.{last_one}
+use Rattle.osdp_sim_bus_laws.specs.Accounts.{BusAnswer, EachMeets, IsAnswer, RunsHaveSessions, WasSetUp, accounts_in}
 use Rattle.osdp_sim_bus_laws.specs.Moves.{AreItsMoves, IsSiteOf, SchedulesAreMoves, moves_of}
 use Rattle.osdp_sim_bus_laws.proofs.Beginning.{first_net, first_site, follows_first, has_site, is_set_up, none_is_kept}
 use Rattle.osdp_sim_bus_laws.proofs.Sites.{counts_alike, get_site}
@@ -44,30 +44,21 @@ module _ {H : Type 0} where
 
   module _ (answer_of : H → Command → Answer) (after : H → Command → H) where
     -- the account of a reader, from what holds of its site
-    site_in_a_row : (config : ReaderConfig) (handler : H) (k : ℕ) (u : ReaderSite H) (t : line.Site H) (n : Net H) → IsSiteOf u t
-        → AreOnce answer_of after config handler (t.account ∷ t.earlier) → AreUndisturbed (t.account ∷ t.earlier) → AreInARow t.account t.earlier
-        → LastsOrLeaves t.controller.session.state (view k t n) → IsInARow answer_of after config handler u.account
-    site_in_a_row config handler k u t n is once so row lasts =
+    site_has_sessions : (config : ReaderConfig) (handler : H) (u : ReaderSite H) (t : line.Site H) → IsSiteOf u t
+        → EachIsOnce (t.account ∷ t.earlier) → AreItsAnswers answer_of after config handler (t.account ∷ t.earlier) → AreUndisturbed (t.account ∷ t.earlier)
+        → HasSessions answer_of after config handler u.account
+    site_has_sessions config handler u t is once its so =
         let a = u.account in
         let closed = is_closed t.controller.session.state in
         let ended = subst (λ m. length a.ends + 1 ≡ length a.sessions + m) (counts_alike closed) is.ended in
-        let last : LastsOrHasEnded a t.account = last_one answer_of after t.controller.session.state a (view k t n) lasts ended in
-        let first = told_first answer_of after config _ a t.account so.0 once.0 last in
         record {
           last = t.account;
           earlier = t.earlier;
           lists = is.tells;
           undisturbed = so;
           once = once;
-          row = row;
-          told = (
-            first.0,
-            is.tells.issued ∙ ap (λ cs. ended_commands t.earlier ++ cs) first.1
-                ∙ sym (append_assoc (ended_commands t.earlier) (ended_in t.account) first.0),
-          );
-          unsettled = each_all (λ (v : link.Account). length v.unsettled ≤ 1) (t.account ∷ t.earlier)
-              (each_one answer_of after t.account t.earlier (one_unsettled answer_of after a t.account so.0 last) so.1 row);
-          ends = last;
+          answers = its;
+          ends = last_one answer_of after closed a ended;
           causes = each_all IsNoRefusal a.ends is.causes;
         }
 
@@ -98,12 +89,11 @@ module _ {H : Type 0} where
         by_step (suc before) why lists stops fits was holds =
             subst P (sym stops.1.account) (holds (record { settings = stops.0; well = stops.1.well; fits = fits }))
 
-    module _ (schedules : SchedulesAreMoves answer_of after) (links : EachIsALink answer_of after) (once : OneHandlerHoldsOnce answer_of after)
-        (so : OrdinaryIsUndisturbed answer_of after) (row : StayInARow answer_of after) (lasts : LastOneLasts answer_of after)
-        (counts : HasAnAccountEach answer_of after) where
-      each_in_a_row : (config : BusConfig) (readers : List (Given H)) (steps : List SimStep) → IsRun config readers steps
-          → EachMeets (IsInARow answer_of after) readers (told_by config readers steps)
-      each_in_a_row config readers steps is = record { count = counts config readers steps; each = each }
+    module _ (schedules : SchedulesAreMoves answer_of after) (links : EachIsALink answer_of after) (once : HoldsOnce answer_of after) (gives : GivesItsAnswers answer_of after)
+        (so : OrdinaryIsUndisturbed answer_of after) (counts : HasAnAccountEach answer_of after) where
+      each_has_sessions : (config : BusConfig) (readers : List (Given H)) (steps : List SimStep) → IsRun config readers steps
+          → EachMeets (HasSessions answer_of after) readers (told_by config readers steps)
+      each_has_sessions config readers steps is = record { count = counts config readers steps; each = each }
         where
           first : Net H
           first = first_net config readers
@@ -121,7 +111,7 @@ module _ {H : Type 0} where
           done = schedules steps (set_up config readers) first up (none_is_kept config readers) (follows_first config readers) is.well is.fits
 
           each : (k : ℕ) (given : Given H) → slice_get readers k ≡ Some given
-              → (a : Account) × (slice_get (accounts s) k ≡ Some a) × IsInARow answer_of after given.0 given.2 a
+              → (a : Account) × (slice_get (accounts s) k ≡ Some a) × HasSessions answer_of after given.0 given.2 a
           each k given at =
               let site = first_site config given in
               let there = has_site config k given readers at in
@@ -136,16 +126,15 @@ module _ {H : Type 0} where
               let same = sym its.moved.moved in (
                 mine.0.account,
                 account_at k mine.0 s.sites mine.1,
-                site_in_a_row given.0 given.2 k mine.0 t last mine.2
-                    (subst (λ (v : link.Link H). AreOnce answer_of after given.0 given.2 (v.account ∷ v.earlier)) same
-                    (once l its_moves begins its.fits (keep_device its_moves steady)))
+                site_has_sessions given.0 given.2 mine.0 t mine.2
+                    (subst (λ (v : link.Link H). EachIsOnce (v.account ∷ v.earlier)) same (once l its_moves begins its.fits))
+                    (subst (λ (v : link.Link H). AreItsAnswers answer_of after given.0 given.2 (v.account ∷ v.earlier)) same
+                    (gives l its_moves begins its.fits (steady_handler answer_of after its_moves l steady)))
                     (subst (λ (v : link.Link H). AreUndisturbed (v.account ∷ v.earlier)) same
-                    (so l its_moves begins (each_all IsOrdinary its_moves (steady_ordinary its_moves steady))))
-                    (subst (λ (v : link.Link H). AreInARow v.account v.earlier) same (row l its_moves begins its.fits))
-                    (subst (λ (v : link.Link H). LastsOrLeaves v.controller.session.state v) same (lasts l its_moves begins its.fits)),
+                    (so l its_moves begins (each_all IsOrdinary its_moves (steady_ordinary its_moves steady)))),
               )
 
-      pub all_in_a_row : StaysInARow answer_of after
-      all_in_a_row config readers steps answer is was =
-          answers (EachMeets (IsInARow answer_of after) readers) config readers steps answer is was
-          (each_in_a_row config readers (steps_done steps answer))
+      pub runs_have_sessions : RunsHaveSessions answer_of after
+      runs_have_sessions config readers steps answer is was =
+          answers (EachMeets (HasSessions answer_of after) readers) config readers steps answer is was
+          (each_has_sessions config readers (steps_done steps answer))

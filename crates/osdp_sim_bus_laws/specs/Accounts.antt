@@ -11,7 +11,7 @@ use Rattle.osdp_sim.specs.declared.fault.Fault.{Fault}
 use Rattle.osdp_sim.specs.declared.step.SimStep.{SimStep}
 use Rattle.osdp_sim_bus.specs.Runs.{FitAlong, RunEnds, lists_of_all, steps_done}
 use Rattle.osdp_sim_bus.specs.State.{Given, set_up}
-use Rattle.osdp_sim_laws.specs.Accounts.{IsInARow, IsInSession, IsOnce}
+use Rattle.osdp_sim_laws.specs.Accounts.{HasSessions, IsInSession, IsOnce}
 
 -- what `run_bus` answers: an account for each reader, or a fault with those of the steps before it
 abbrev pub BusAnswer : Type 0
@@ -40,11 +40,11 @@ module _ {H : Type 0} where
       pub ends : RunEnds answer_of after config readers steps answer
       pub fits : FitAlong answer_of after (steps_done steps answer) (set_up config readers)
 
-    -- in sessions in a row of each reader: each is once, and the next begins with what it leaves
-    abbrev pub StaysInARow : Type 0
-    StaysInARow = (config : BusConfig) (readers : List (Given H)) (steps : List SimStep) (answer : BusAnswer)
+    -- the account of each reader is that of sessions of its link, each of which is once
+    abbrev pub RunsHaveSessions : Type 0
+    RunsHaveSessions = (config : BusConfig) (readers : List (Given H)) (steps : List SimStep) (answer : BusAnswer)
         → IsAnswer config readers steps answer → WasSetUp answer
-        → EachMeets (IsInARow answer_of after) readers (accounts_in answer)
+        → EachMeets (HasSessions answer_of after) readers (accounts_in answer)
 
     -- where no session begins again, for each reader: commands are taken once and in order, settled with their own answers, and events are
     -- reported once and in order
@@ -54,5 +54,5 @@ module _ {H : Type 0} where
         → EachMeets (IsOnce answer_of after) readers (accounts_in answer)
 
     pub record EachHoldsOnce : Type 0 where
-      pub row : StaysInARow
+      pub sessions : RunsHaveSessions
       pub once : AccountsAreOnce

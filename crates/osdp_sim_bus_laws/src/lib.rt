@@ -35,9 +35,9 @@ pub fn schedules_are_moves<H: Handler>()
     osdp_shared_line::nobody_else_hears::<H>();
 }
 
-/// Whatever a schedule over a bus says, for each reader: its account is that of sessions in a row, with the last session's unsettled commands
-/// and the lengths of all lists where each session began. Each session is once and in order, and the next begins with what it leaves. None
-/// ends because a number was refused. That holds of the accounts with a fault too, once the line was set up.
+/// Whatever a schedule over a bus says, for each reader: its account is that of sessions of its link. Each is once and in order, with this reader's own
+/// answers, and has ended, or is the last. None ends because a number was refused. That holds of the accounts with a fault too, once the line was set up.
+/// What they come to together says the ledger (law `bus_run_keeps_ledgers` of `osdp_sim_ledger`).
 ///
 /// Where no session begins again: the commands that a reader has taken are a beginning of those issued to it, and hold each settled one,
 /// with the answer that this reader gave, and one more at most; the events reported are a beginning of those queued at it; its session ends
@@ -47,9 +47,9 @@ pub fn each_account_holds_once<H: Handler>()
 {
     schedules_are_moves::<H>();
     osdp_shared_line::each_is_a_link::<H>();
+    osdp_link_laws::holds_once::<H>();
     osdp_link_laws::answers_of_one_handler::<H>();
     osdp_link_laws::ordinary_runs_are_undisturbed::<H>();
-    osdp_link_laws::sessions_in_a_row::<H>();
     osdp_sim_bus::laws::has_an_account_each::<H>();
 }
 

@@ -14,15 +14,15 @@ use Rattle.osdp_reader.specs.declared.kind.Kind.TheVariants as kind
 use Rattle.osdp_link_laws.specs.Link as link
 use Rattle.osdp_link_laws.specs.Ordinary.{IsUndisturbed}
 use Rattle.osdp_link_laws.specs.Refusals as refusals
-use Rattle.osdp_link_laws.specs.Sessions.{Leaves, ended_commands, ended_in}
+use Rattle.osdp_link_laws.specs.Sessions.{Leaves, ended_commands, ended_in, in_all}
 use Rattle.osdp_link_laws.proofs.Lines.{each_append}
-use Rattle.osdp_link_laws.proofs.Ordinary.{undisturbed_leaves}
+use Rattle.osdp_link_laws.proofs.Ordinary.{leaves_so}
 use Rattle.osdp_link_laws.proofs.Stages.{Each}
 use Rattle.osdp_sim.specs.Account.{Account, lengths_of, taken_by, taken_command, with_report, with_session, with_taken}
 use Rattle.osdp_sim.specs.declared.account.End.{End}
 use Rattle.osdp_sim.specs.declared.account.End.TheVariants as ending
 use Rattle.osdp_sim.specs.declared.account.Lengths.{Lengths}
-use Rattle.osdp_sim_laws.specs.Accounts.{AreOver, IsNoRefusal, IsOf, all_in}
+use Rattle.osdp_sim_laws.specs.Accounts.{AreOver, IsNoRefusal, IsOf}
 
 -- what comes after the list of the last session comes after them all
 later : {A : Type 0} (xs before last more : List A) → xs ≡ before ++ last → xs ++ more ≡ before ++ (last ++ more)
@@ -31,7 +31,7 @@ later xs before last more is = ap (λ l. l ++ more) is ∙ append_assoc before l
 after_taken : (more : List Command) (given : List (Command × Reply)) (a : Account) (t : link.Account) (earlier : List link.Account) → IsOf a t earlier
     → IsOf (with_taken more a) (record t { taken = t.taken ++ more; given = given }) earlier
 after_taken more given a t earlier h = record {
-  taken = later a.taken (all_in (λ t. t.taken) earlier) t.taken more h.taken;
+  taken = later a.taken (in_all (λ t. t.taken) earlier) t.taken more h.taken;
   settled = h.settled;
   unsettled = h.unsettled;
   reported = h.reported;
@@ -43,7 +43,7 @@ told_settled : (more : List (Command × Reply)) (ends : List End) (a : Account) 
     → IsOf (record a { settled = a.settled ++ more; ends = ends }) (record t { settled = t.settled ++ more }) earlier
 told_settled more ends a t earlier h = record {
   taken = h.taken;
-  settled = later a.settled (all_in (λ t. t.settled) earlier) t.settled more h.settled;
+  settled = later a.settled (in_all (λ t. t.settled) earlier) t.settled more h.settled;
   unsettled = h.unsettled;
   reported = h.reported;
   issued = h.issued;
@@ -62,7 +62,7 @@ tells_report (Some (report.Event event)) a t earlier h = record {
   taken = h.taken;
   settled = h.settled;
   unsettled = h.unsettled;
-  reported = later a.reported (all_in (λ t. t.reported) earlier) t.reported (event ∷ []) h.reported;
+  reported = later a.reported (in_all (λ t. t.reported) earlier) t.reported (event ∷ []) h.reported;
   issued = h.issued;
   queued = h.queued;
 }
@@ -71,7 +71,7 @@ tells_report (Some (report.Unread command code)) a t earlier h = h
 tells_report (Some (report.Lost cause command)) a t earlier h = record {
   taken = h.taken;
   settled = h.settled;
-  unsettled = later a.unsettled (all_in (λ t. t.unsettled) earlier) t.unsettled (option_to_list command) h.unsettled;
+  unsettled = later a.unsettled (in_all (λ t. t.unsettled) earlier) t.unsettled (option_to_list command) h.unsettled;
   reported = h.reported;
   issued = h.issued;
   queued = h.queued;
@@ -162,9 +162,8 @@ pub tells_session : (a : Account) (t : link.Account) (waiting : List Command) (e
     → Leaves t waiting events → IsUndisturbed t → length a.ends ≡ length a.sessions → IsOf a t earlier
     → IsOf (with_session a) (link.new_account waiting events) (t ∷ earlier)
 tells_session a t waiting events earlier all so ended h =
-    let leaves = undisturbed_leaves.one t waiting events so all in
     let gone = h.queued.0 in
-    let left = leaves.unreported in
+    let left = leaves_so t waiting events so all in
     record {
       issued = h.issued
           ∙ ap (λ cs. ended_commands earlier ++ cs) all.of_commands.commands
@@ -195,10 +194,10 @@ tells_session a t waiting events earlier all so ended h =
         ),
         h.queued.2 ∙ ap (λ all. gone ++ all) left.queued ∙ sym (append_assoc gone left.left events),
       );
-      taken = h.taken ∙ sym (append-nil (all_in (λ t. t.taken) (t ∷ earlier)));
-      settled = h.settled ∙ sym (append-nil (all_in (λ t. t.settled) (t ∷ earlier)));
-      unsettled = h.unsettled ∙ sym (append-nil (all_in (λ t. t.unsettled) (t ∷ earlier)));
-      reported = h.reported ∙ sym (append-nil (all_in (λ t. t.reported) (t ∷ earlier)));
+      taken = h.taken ∙ sym (append-nil (in_all (λ t. t.taken) (t ∷ earlier)));
+      settled = h.settled ∙ sym (append-nil (in_all (λ t. t.settled) (t ∷ earlier)));
+      unsettled = h.unsettled ∙ sym (append-nil (in_all (λ t. t.unsettled) (t ∷ earlier)));
+      reported = h.reported ∙ sym (append-nil (in_all (λ t. t.reported) (t ∷ earlier)));
     }
 
 -- ---- how sessions end

@@ -17,9 +17,9 @@ use Rattle.osdp_link_laws.specs.Link.{Delivered, Link}
 use Rattle.osdp_link_laws.specs.Progress as progress
 use Rattle.osdp_link_laws.specs.Progress.{SetsNoAddress}
 use Rattle.osdp_link_laws.specs.Addresses.{StayWhereTheyAre}
-use Rattle.osdp_link_laws.specs.Sessions.{HaveLeft, all_queued, all_submitted, ended_commands}
+use Rattle.osdp_link_laws.specs.Sessions.{all_submitted}
 use Rattle.osdp_link_laws.proofs.Lines.{each_all, each_append, each_front, each_of}
-use Rattle.osdp_link_laws.proofs.Ordinary.{moves_so, queued_so}
+use Rattle.osdp_link_laws.proofs.Ordinary.{moves_so}
 use Rattle.osdp_link_laws.proofs.OrdinaryRuns.{begins_so, set_no_other, steady_ordinary}
 use Rattle.osdp_link_laws.proofs.Stages.{Each}
 use Rattle.osdp_link_laws.specs.Ends.{count}
@@ -31,7 +31,7 @@ use Rattle.osdp_sim.specs.Steps.{StepFits, after_step, fault_of, moment_after}
 use Rattle.osdp_sim.specs.declared.config.SimConfig.{SimConfig}
 use Rattle.osdp_sim.specs.declared.step.SimStep.{SimStep}
 use Rattle.osdp_sim.specs.declared.step.SimStep.TheVariants.{Issue, Queue, Busy, Wait, ToReader, ToController, Reopen}
-use Rattle.osdp_sim_laws.specs.Accounts.{IsInSession, all_in}
+use Rattle.osdp_sim_laws.specs.Accounts.{IsInSession, IsOf}
 use Rattle.osdp_sim_laws.specs.Moves.{clock_after, step_clock, delivery, first_link, in_bytes, move_of, moves_of}
 use Rattle.osdp_sim_laws.specs.OneLink.{OneLink}
 use Rattle.osdp_sim_laws.specs.Progress.{ComesOn, ComesThrough, IsClear, IsRun, Recovers, clear}
@@ -143,17 +143,14 @@ module _ {H : Type 0} (answer_of : H → Command → Answer) (after : H → Comm
       let l = first_link config handler in
       let later = link.run answer_of after ms l in
       let none : later.earlier ≡ [] = run_within answer_of after ms l within in
-      let carried = follows.carried in
-      let tells = carried.tells in
       let begun = begins config handler device in
-      let events = given.sessions.events l ms begun follows.moves in
       let so = moves_so answer_of after ms l (steady_ordinary ms follows.ordinary) (begins_so l begun) in
-      let gone : events.0 ≡ [] = subst (λ e. HaveLeft (all_queued answer_of after ms l) e events.0) none events.1 in
+      let tells : IsOf s.account later.account [] = subst (IsOf s.account later.account) none follows.carried.tells in
       record {
-        settled = ap length (tells.settled ∙ ap (λ e. all_in (λ t. t.settled) (later.account ∷ e)) none);
-        reported = ap length (tells.reported ∙ ap (λ e. all_in (λ t. t.reported) (later.account ∷ e)) none);
-        issued = carried.issued ∙ given.sessions.commands l ms begun follows.moves ∙ ap (λ e. ended_commands e ++ later.account.issued) none;
-        queued = ap length (carried.queued ∙ queued_so (all_queued answer_of after ms l) events.0 later.account later.earlier so events.2 ∙ ap (λ e. e ++ later.account.queued) gone);
+        settled = ap length tells.settled;
+        reported = ap length tells.reported;
+        issued = tells.issued;
+        queued = ap length (tells.queued.2 ∙ ap (λ e. e ++ later.account.queued) tells.queued.1.1);
         kept = so.0.kept;
       }
 

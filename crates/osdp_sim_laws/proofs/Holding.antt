@@ -1,39 +1,35 @@
 -- What holds of each schedule.
-use Rattle.std.proofs.Common.{◌≡◌, ◌<◌, ℕ, Bool, true, false, ◌==◌, if◌then◌else◌, arith, List, [], ◌∷◌, ◌++◌, length, All, Option, Some, None, refl, sym, subst, ap, ◌∙◌, Result, Ok, Err, ◌≤◌, ◌-◌, zero, suc, take, inl, inr, ◌+◌, append_assoc, map}
-use Rattle.std.proofs.lemmas.List.{append-nil}
+use Rattle.std.proofs.Common.{◌≡◌, ◌<◌, ℕ, Bool, true, false, ◌==◌, if◌then◌else◌, arith, List, [], ◌∷◌, ◌++◌, length, All, Option, Some, None, refl, sym, subst, ap, ◌∙◌, Result, Ok, Err, ◌≤◌, ◌-◌, zero, suc, take, inl, inr, ◌+◌}
 use Rattle.osdp_frame.specs.Packet.{Packet}
 use Rattle.osdp_msg.specs.declared.command.Command.{Command}
 use Rattle.osdp_msg.specs.declared.event.Event.{Event}
-use Rattle.osdp_msg.specs.declared.reply.Reply.{Reply}
 use Rattle.osdp_controller.specs.Machine as controllers
 use Rattle.osdp_controller.specs.States.{is_closed}
-use Rattle.osdp_controller.specs.declared.state.State.{State}
-use Rattle.osdp_controller.specs.declared.state.State.TheVariants.{Closed, Quiet, Idle, Waiting, Pausing}
 use Rattle.osdp_controller.specs.declared.fault.ControllerFault.{ControllerFault}
 use Rattle.osdp_reader.specs.declared.config.ReaderConfig.{ReaderConfig}
 use Rattle.osdp_reader.specs.declared.handler.Answer.{Answer}
 use Rattle.osdp_reader.specs.Queue.{lacks_room}
+use Rattle.osdp_link_laws.specs.Headline as link_once
 use Rattle.osdp_link_laws.specs.Headline.{Begins, IsBeginning}
 use Rattle.osdp_link_laws.specs.Link as link
-use Rattle.osdp_link_laws.specs.OneHandler.{AreOnce, Once, with_answers}
-use Rattle.osdp_link_laws.specs.Ordinary.{AreUndisturbed, IsUndisturbed}
+use Rattle.osdp_link_laws.specs.OneHandler.{AreItsAnswers, with_answers}
+use Rattle.osdp_link_laws.specs.Ordinary.{IsUndisturbed}
 use Rattle.osdp_link_laws.specs.Refusals as refusals
-use Rattle.osdp_link_laws.specs.Sessions.{AreInARow, LastsOrLeaves, ended_commands, ended_in, settled_commands}
 use Rattle.osdp_link_laws.proofs.Lines.{each_all, each_append, each_of}
-use Rattle.osdp_link_laws.proofs.Ordinary.{moves_so, undisturbed_leaves}
-use Rattle.osdp_link_laws.proofs.OrdinaryRuns.{begins_so, ended_so, keep_device, keep_reader, steady_ordinary, taken_commands}
+use Rattle.osdp_link_laws.proofs.Ordinary.{moves_so}
+use Rattle.osdp_link_laws.proofs.OrdinaryRuns.{begins_so, keep_reader, steady_handler, steady_ordinary}
 use Rattle.osdp_link_laws.proofs.Stages.{Each}
 use Rattle.osdp_link_laws.specs.Ends.{count}
 use Rattle.osdp_sim.specs.Account.{Account, empty_account, lists_of, with_session}
 use Rattle.osdp_sim.specs.Runs.{FitAlong, Stops, run, steps_done}
-use Rattle.osdp_sim.specs.State.{SimState, set_up}
+use Rattle.osdp_sim.specs.State.{set_up}
 use Rattle.osdp_sim.specs.declared.account.Account as declared
 use Rattle.osdp_sim.specs.declared.fault.Cause.{Cause}
 use Rattle.osdp_sim.specs.declared.fault.Fault.{Fault}
 use Rattle.osdp_sim.specs.declared.config.SimConfig.{SimConfig}
 use Rattle.osdp_sim.specs.declared.step.SimStep.{SimStep}
 use Rattle.osdp_sim.specs.declared.step.SimStep.TheVariants.{Issue, Queue, Busy, Wait, ToReader, ToController, Reopen}
-use Rattle.osdp_sim_laws.specs.Accounts.{IsInARow, IsInSession, IsNoRefusal, IsOf, IsOnce, IsAnswer, LastsOrHasEnded, StaysInARow, AnswersHoldOnce, WasSetUp, account_in}
+use Rattle.osdp_sim_laws.specs.Accounts.{HasSessions, IsInSession, IsNoRefusal, IsOf, IsOnce, IsAnswer, LastsOrHasEnded, RunHasSessions, AnswersHoldOnce, WasSetUp, account_in}
 use Rattle.osdp_sim_laws.specs.OneLink.{OneLink}
 use Rattle.osdp_sim_laws.specs.Progress.{IsRun}
 use Rattle.osdp_sim_laws.specs.Moves.{ScheduleIsMoves, step_clock, first_link, move_of, moves_of}
@@ -82,42 +78,13 @@ module _ {H : Type 0} (answer_of : H → Command → Answer) (after : H → Comm
         follows = record { state = follows.carried.state; tells = follows.carried.tells };
       }
 
-  -- while the last session lasts it has told nothing unsettled, and once it has ended it leaves what a next one would begin with
-  pub last_one : (state : State) (a : Account) (l : link.Link H) → LastsOrLeaves state l
-      → length a.ends + 1 ≡ length a.sessions + count (is_closed state) → LastsOrHasEnded a l.account
-  last_one Closed a l leaves ended = inr (omega (arith, ended), (l.controller.waiting, l.reader.queue.events, leaves))
-  last_one (Quiet until) a l lasts ended = inl (omega (arith, ended), lasts.0)
-  last_one (Idle due) a l lasts ended = inl (omega (arith, ended), lasts.0)
-  last_one (Waiting until sends o) a l lasts ended = inl (omega (arith, ended), lasts.0)
-  last_one (Pausing until o) a l lasts ended = inl (omega (arith, ended), lasts.0)
+  pub last_one : (closed : Bool) (a : Account) → length a.ends + 1 ≡ length a.sessions + count closed → LastsOrHasEnded a
+  last_one true a ended = inr (omega (arith, ended))
+  last_one false a ended = inl (omega (arith, ended))
 
-  -- so it told one unsettled at most, and the commands that it settled or told unsettled are a beginning of its own
-  pub one_unsettled : (a : Account) (t : link.Account) → IsUndisturbed t → LastsOrHasEnded a t → length t.unsettled ≤ 1
-  one_unsettled a t so (inl (lasts, none)) = omega (arith, ap length none)
-  one_unsettled a t so (inr (ended, (waiting, events, leaves))) = (undisturbed_leaves.one t waiting events so leaves).unsettled
-
-  pub told_first : (config : ReaderConfig) (handler : H) (a : Account) (t : link.Account) → IsUndisturbed t → Once answer_of after config handler t → LastsOrHasEnded a t
-      → IsBeginning (ended_in t) t.issued
-  told_first config handler a t so once (inr (ended, (waiting, events, leaves))) = (waiting, leaves.of_commands.commands)
-  told_first config handler a t so once (inl (lasts, none)) =
-      let more = map (λ (p : Command × Reply). p.0) once.settled.0 in
-      let rest = once.taken.0 in (
-        more ++ rest,
-        once.taken.1
-            ∙ ap (λ cs. cs ++ rest) (sym (taken_commands answer_of after config handler t once.settled.0 (sym once.settled.1)))
-            ∙ append_assoc (settled_commands t) more rest
-            ∙ ap (λ cs. cs ++ (more ++ rest)) (sym (ended_so t so ∙ ap (λ cs. settled_commands t ++ cs) none ∙ append-nil (settled_commands t))),
-      )
-
-  pub each_one : (t : link.Account) (earlier : List link.Account) → length t.unsettled ≤ 1 → AreUndisturbed earlier → AreInARow t earlier
-      → Each (λ u. length u.unsettled ≤ 1) (t ∷ earlier)
-  each_one t [] few so row = (few, tt)
-  each_one t (u ∷ earlier) few so ((waiting, events, leaves, commands, waits), row) =
-      (few, each_one u earlier (undisturbed_leaves.one u waiting events so.0 leaves).unsettled so.1 row)
-
-  abbrev pub in_a_row : OneLink answer_of after → (config : SimConfig) (handler : H) (steps : List SimStep) → IsRun answer_of after config handler steps
-      → IsInARow answer_of after config.reader handler (run answer_of after steps (set_up config handler)).account
-  in_a_row given config handler steps is =
+  abbrev pub has_sessions : OneLink answer_of after → (config : SimConfig) (handler : H) (steps : List SimStep) → IsRun answer_of after config handler steps
+      → HasSessions answer_of after config.reader handler (run answer_of after steps (set_up config handler)).account
+  has_sessions given config handler steps is =
       let l = first_link config handler in
       let device = is.settings.controller.config_in_range.address in
       let follows = schedule_follows answer_of after given.reads given.told steps l 0 no_account (goes_from_first given config handler device) is.well is.fits in
@@ -129,28 +96,15 @@ module _ {H : Type 0} (answer_of : H → Command → Answer) (after : H → Comm
       let moves = follows.moves in
       let tells = follows.carried.tells in
       let so = moves_so answer_of after ms l (steady_ordinary ms follows.ordinary) (begins_so l begun) in
-      let once = given.once l ms begun moves (keep_device ms follows.ordinary) in
-      let row = given.sessions.row l ms begun moves in
-      let ended = subst (λ (state : State). length a.ends + 1 ≡ length a.sessions + count (is_closed state))
-      (ap (λ (t : SimState H). t.controller.session.state) follows.carried.state)
-      (run_ended answer_of after given.told steps (set_up config handler) is.well refl) in
-      let last = last_one later.controller.session.state a later (given.sessions.last l ms begun moves) ended in
-      let first = told_first config.reader _ a later.account so.0 once.0 last in
+      let once = given.once l ms begun moves in
       record {
         last = later.account;
         earlier = later.earlier;
         lists = tells;
         undisturbed = so;
         once = once;
-        row = row;
-        told = (
-          first.0,
-          tells.issued ∙ ap (λ cs. ended_commands later.earlier ++ cs) first.1
-              ∙ sym (append_assoc (ended_commands later.earlier) (ended_in later.account) first.0),
-        );
-        unsettled = each_all (λ t. length t.unsettled ≤ 1) (later.account ∷ later.earlier)
-            (each_one later.account later.earlier (one_unsettled a later.account so.0 last) so.1 row);
-        ends = last;
+        answers = given.answers l ms begun moves (steady_handler answer_of after ms l follows.ordinary);
+        ends = last_one (is_closed s.controller.session.state) a (run_ended answer_of after given.told steps (set_up config handler) is.well refl);
         causes = each_all IsNoRefusal a.ends
             (follows.carried.causes (each_of refusals.IsNoRefusal (refusals.reports answer_of after ms l) (given.causes l ms begun moves (keep_reader ms follows.ordinary))) tt);
       }
@@ -226,38 +180,37 @@ module _ {H : Type 0} (answer_of : H → Command → Answer) (after : H → Comm
       each_append IsWithin (move_of step clock) (moves_of steps (step_clock step clock)) (step_within step clock w.0)
       (steps_within steps (step_clock step clock) w.1)
 
-  few : (a : Account) (t : link.Account) → LastsOrHasEnded a t → length a.sessions ≡ 1 → length a.ends ≤ 1
-  few a t (inl (lasts, none)) one = omega (arith, lasts, one)
-  few a t (inr (ended, leaves)) one = omega (arith, ended, one)
+  few : (a : Account) → LastsOrHasEnded a → length a.sessions ≡ 1 → length a.ends ≤ 1
+  few a (inl lasts) one = omega (arith, lasts, one)
+  few a (inr ended) one = omega (arith, ended, one)
 
   -- of one session alone
   pub of_one : (config : ReaderConfig) (handler : H) (a : Account) (t : link.Account) (earlier : List link.Account) → earlier ≡ []
-      → IsOf a t earlier → IsUndisturbed t → AreOnce answer_of after config handler (t ∷ earlier) → LastsOrHasEnded a t → All IsNoRefusal a.ends → IsOnce answer_of after config handler a
-  of_one config handler a t (u ∷ earlier) none lists so once ends causes = absurd cc
-  of_one config handler a t [] none lists so once ends causes =
-      let held = once.0 in
+      → IsOf a t earlier → IsUndisturbed t → link_once.IsOnce t → AreItsAnswers answer_of after config handler (t ∷ earlier) → LastsOrHasEnded a → All IsNoRefusal a.ends → IsOnce answer_of after config handler a
+  of_one config handler a t (u ∷ earlier) none lists so held its ends causes = absurd cc
+  of_one config handler a t [] none lists so held its ends causes =
       let gone : lists.queued.0 ≡ [] = lists.queued.1.1 in
       let queued : a.queued ≡ t.queued = lists.queued.2 ∙ ap (λ es. es ++ t.queued) gone in
       record {
         taken = subst (λ cs. IsBeginning cs a.issued) (sym lists.taken) (subst (IsBeginning t.taken) (sym lists.issued) held.taken);
         settled = (
           held.settled.0,
-          ap (with_answers answer_of after config handler) lists.taken ∙ held.settled.1 ∙ ap (λ l. l ++ held.settled.0) (sym lists.settled),
+          ap (with_answers answer_of after config handler) lists.taken ∙ sym its.0 ∙ held.settled.1 ∙ ap (λ l. l ++ held.settled.0) (sym lists.settled),
           held.settled.2,
         );
-        reported = subst (λ es. IsBeginning es a.queued) (sym lists.reported) (subst (IsBeginning t.reported) (so.stayed ∙ sym queued) held.reported);
-        ends = few a t ends (ap length lists.queued.1.0);
+        reported = subst (λ es. IsBeginning es a.queued) (sym lists.reported) (subst (IsBeginning t.reported) (so.kept ∙ sym queued) held.reported);
+        ends = few a ends (ap length lists.queued.1.0);
         causes = causes;
       }
 
   pub once : OneLink answer_of after → (config : SimConfig) (handler : H) (steps : List SimStep) → IsRun answer_of after config handler steps → All IsInSession steps
       → IsOnce answer_of after config.reader handler (run answer_of after steps (set_up config handler)).account
   once given config handler steps is within =
-      let row = in_a_row given config handler steps is in
+      let row = has_sessions given config handler steps is in
       let a = (run answer_of after steps (set_up config handler)).account in
       of_one config.reader handler a row.last row.earlier
       (run_within (moves_of steps 0) (first_link config handler) (steps_within steps 0 (each_of IsInSession steps within)))
-      row.lists row.undisturbed.0 row.once row.ends row.causes
+      row.lists row.undisturbed.0 row.once.0 row.answers row.ends row.causes
 
   -- ---- what is answered
 
@@ -277,9 +230,9 @@ module _ {H : Type 0} (answer_of : H → Command → Answer) (after : H → Comm
       by_step (suc before) why lists stops fits was holds =
           subst P (sym stops.1.account) (holds (record { settings = stops.0; well = stops.1.well; fits = fits }))
 
-  pub all_in_a_row : OneLink answer_of after → StaysInARow answer_of after
-  all_in_a_row given config handler steps answer is was =
-      answers (IsInARow answer_of after config.reader handler) config handler steps answer is was (in_a_row given config handler (steps_done steps answer))
+  pub run_has_sessions : OneLink answer_of after → RunHasSessions answer_of after
+  run_has_sessions given config handler steps answer is was =
+      answers (HasSessions answer_of after config.reader handler) config handler steps answer is was (has_sessions given config handler (steps_done steps answer))
 
   pub all_once : OneLink answer_of after → AnswersHoldOnce answer_of after
   all_once given config handler steps answer is was within =

@@ -5,12 +5,12 @@ use Rattle.osdp_msg.specs.declared.event.Event.{Event}
 use Rattle.osdp_msg.specs.declared.reply.Reply.{Reply}
 use Rattle.osdp_reader.specs.declared.config.ReaderConfig.{ReaderConfig}
 use Rattle.osdp_reader.specs.declared.handler.Answer.{Answer}
-use Rattle.osdp_link_laws.specs.Headline.{IsBeginning}
+use Rattle.osdp_link_laws.specs.Headline.{EachIsOnce, IsBeginning}
 use Rattle.osdp_link_laws.specs.Link as link
-use Rattle.osdp_link_laws.specs.OneHandler.{AreOnce, with_answers}
+use Rattle.osdp_link_laws.specs.OneHandler.{AreItsAnswers, with_answers}
 use Rattle.osdp_link_laws.specs.Ordinary.{AreUndisturbed, LeavesUnreported}
 use Rattle.osdp_link_laws.specs.Refusals.{IsOtherCause}
-use Rattle.osdp_link_laws.specs.Sessions.{AreInARow, Leaves, ended_commands}
+use Rattle.osdp_link_laws.specs.Sessions.{ended_commands, in_all}
 use Rattle.osdp_sim.specs.Account.{Account, lists_of}
 use Rattle.osdp_sim.specs.Runs.{FitAlong, RunEnds, steps_done}
 use Rattle.osdp_sim.specs.State.{set_up}
@@ -23,11 +23,6 @@ use Rattle.osdp_sim.specs.declared.fault.Fault.{Fault}
 use Rattle.osdp_sim.specs.declared.step.SimStep.{SimStep}
 use Rattle.osdp_sim.specs.declared.step.SimStep.TheVariants.{Reopen}
 
--- of sessions, the last of them first, a list of each, session after session
-abbrev pub all_in : {A : Type 0} → (link.Account → List A) → List link.Account → List A
-all_in list [] = []
-all_in list (t ∷ earlier) = all_in list earlier ++ list t
-
 -- all lists are empty where the first session begins
 abbrev pub no_lengths : Lengths
 no_lengths = record { issued = 0; taken = 0; settled = 0; unsettled = 0; queued = 0; reported = 0; ends = 0 }
@@ -37,11 +32,11 @@ no_lengths = record { issued = 0; taken = 0; settled = 0; unsettled = 0; queued 
 -- settled, told unsettled and reported; and one end for each
 pub record IsCut (at : Lengths) (t : link.Account) (earlier : List link.Account) (past : List Event) : Type 0 where
   pub issued : at.issued ≡ length (ended_commands earlier ++ t.issued)
-  pub taken : at.taken ≡ length (all_in (λ t. t.taken) (t ∷ earlier))
-  pub settled : at.settled ≡ length (all_in (λ t. t.settled) (t ∷ earlier))
-  pub unsettled : at.unsettled ≡ length (all_in (λ t. t.unsettled) (t ∷ earlier))
+  pub taken : at.taken ≡ length (in_all (λ t. t.taken) (t ∷ earlier))
+  pub settled : at.settled ≡ length (in_all (λ t. t.settled) (t ∷ earlier))
+  pub unsettled : at.unsettled ≡ length (in_all (λ t. t.unsettled) (t ∷ earlier))
   pub queued : at.queued ≡ length (past ++ t.queued)
-  pub reported : at.reported ≡ length (all_in (λ t. t.reported) (t ∷ earlier))
+  pub reported : at.reported ≡ length (in_all (λ t. t.reported) (t ∷ earlier))
   pub ends : at.ends ≡ length (t ∷ earlier)
 
 -- session `t` is over, and the next has begun at the last of these lengths. The events in `past` had left the queue before `t`. What it
@@ -67,22 +62,19 @@ AreOver cuts next (t ∷ earlier) gone =
 pub record IsOf (a : Account) (t : link.Account) (earlier : List link.Account) : Type 0 where
   pub issued : a.issued ≡ ended_commands earlier ++ t.issued
   pub queued : (gone : List Event) × AreOver a.sessions t.queued earlier gone × (a.queued ≡ gone ++ t.queued)
-  pub taken : a.taken ≡ all_in (λ t. t.taken) (t ∷ earlier)
-  pub settled : a.settled ≡ all_in (λ t. t.settled) (t ∷ earlier)
-  pub unsettled : a.unsettled ≡ all_in (λ t. t.unsettled) (t ∷ earlier)
-  pub reported : a.reported ≡ all_in (λ t. t.reported) (t ∷ earlier)
+  pub taken : a.taken ≡ in_all (λ t. t.taken) (t ∷ earlier)
+  pub settled : a.settled ≡ in_all (λ t. t.settled) (t ∷ earlier)
+  pub unsettled : a.unsettled ≡ in_all (λ t. t.unsettled) (t ∷ earlier)
+  pub reported : a.reported ≡ in_all (λ t. t.reported) (t ∷ earlier)
 
 -- the reader has refused no number
 abbrev pub IsNoRefusal : End → Type 0
 IsNoRefusal (ending.Lost cause) = IsOtherCause cause
 IsNoRefusal ending.Moved = Unit {0}
 
--- each session has ended, once, or each but the last. While the last one lasts it has told no command unsettled; where it has ended it
--- leaves what a next one would begin with
-abbrev pub LastsOrHasEnded : Account → link.Account → Type 0
-LastsOrHasEnded a t =
-    ((length a.ends + 1 ≡ length a.sessions) × (t.unsettled ≡ []))
-    ⊎ ((length a.ends ≡ length a.sessions) × ((waiting : List Command) × (events : List Event) × Leaves t waiting events))
+-- each session has ended, once, or each but the last
+abbrev pub LastsOrHasEnded : Account → Type 0
+LastsOrHasEnded a = (length a.ends + 1 ≡ length a.sessions) ⊎ (length a.ends ≡ length a.sessions)
 
 -- no session begins again
 abbrev pub IsInSession : SimStep → Type 0
@@ -109,18 +101,15 @@ module _ {H : Type 0} (answer_of : H → Command → Answer) (after : H → Comm
     pub ends : length a.ends ≤ 1
     pub causes : All IsNoRefusal a.ends
 
-  -- in sessions in a row, in which nobody restarts: each is once, and the next begins with what it leaves. The commands that all sessions settled or told
-  -- unsettled are together a beginning of those issued, each session's unsettled one at most
-  pub record IsInARow (config : ReaderConfig) (handler : H) (a : Account) : Type 0 where
+  -- the account is that of these sessions of a link, in which nobody restarts: each is once, with the reader's own answers, and has ended, or is the last
+  pub record HasSessions (config : ReaderConfig) (handler : H) (a : Account) : Type 0 where
     pub last : link.Account
     pub earlier : List link.Account
     pub lists : IsOf a last earlier
     pub undisturbed : AreUndisturbed (last ∷ earlier)
-    pub once : AreOnce answer_of after config handler (last ∷ earlier)
-    pub row : AreInARow last earlier
-    pub told : IsBeginning (ended_commands (last ∷ earlier)) a.issued
-    pub unsettled : All (λ t. length t.unsettled ≤ 1) (last ∷ earlier)
-    pub ends : LastsOrHasEnded a last
+    pub once : EachIsOnce (last ∷ earlier)
+    pub answers : AreItsAnswers answer_of after config handler (last ∷ earlier)
+    pub ends : LastsOrHasEnded a
     pub causes : All IsNoRefusal a.ends
 
   -- what `run_session` answers, and what went over the line in the steps that it took
@@ -128,9 +117,9 @@ module _ {H : Type 0} (answer_of : H → Command → Answer) (after : H → Comm
     pub ends : RunEnds answer_of after config handler steps answer
     pub fits : FitAlong answer_of after (steps_done steps answer) (set_up config handler)
 
-  abbrev pub StaysInARow : Type 0
-  StaysInARow = (config : SimConfig) (handler : H) (steps : List SimStep) (answer : Result declared.Account (Fault declared.Account))
-      → IsAnswer config handler steps answer → WasSetUp answer → IsInARow config.reader handler (account_in answer)
+  abbrev pub RunHasSessions : Type 0
+  RunHasSessions = (config : SimConfig) (handler : H) (steps : List SimStep) (answer : Result declared.Account (Fault declared.Account))
+      → IsAnswer config handler steps answer → WasSetUp answer → HasSessions config.reader handler (account_in answer)
 
   abbrev pub AnswersHoldOnce : Type 0
   AnswersHoldOnce = (config : SimConfig) (handler : H) (steps : List SimStep) (answer : Result declared.Account (Fault declared.Account))
@@ -138,5 +127,5 @@ module _ {H : Type 0} (answer_of : H → Command → Answer) (after : H → Comm
       → IsOnce config.reader handler (account_in answer)
 
   pub record ScheduleHoldsOnce : Type 0 where
-    pub row : StaysInARow
+    pub sessions : RunHasSessions
     pub once : AnswersHoldOnce

@@ -7,7 +7,8 @@ use Rattle.osdp_msg.specs.declared.command.Command.{Command}
 use Rattle.osdp_controller.specs.declared.session.Session.{Session}
 use Rattle.osdp_controller_laws.specs.Commands.{TellsEnds}
 use Rattle.osdp_reader.specs.declared.handler.Answer.{Answer}
-use Rattle.osdp_link_laws.specs.OneHandler.{OneHandlerHoldsOnce}
+use Rattle.osdp_link_laws.specs.Headline.{HoldsOnce}
+use Rattle.osdp_link_laws.specs.OneHandler.{GivesItsAnswers}
 use Rattle.osdp_link_laws.specs.Refusals.{RefusesNoNumberWithoutRestart}
 use Rattle.osdp_link_laws.specs.Sessions.{SessionsInARow}
 
@@ -22,7 +23,8 @@ EndsAreTold = (now : ℕ) (s : Session) → TellsEnds now s
 
 pub record OneLink {H : Type 0} (answer_of : H → Command → Answer) (after : H → Command → H) : Type 0 where
   pub reads : ReadsPackets
-  pub once : OneHandlerHoldsOnce answer_of after
+  pub once : HoldsOnce answer_of after
+  pub answers : GivesItsAnswers answer_of after
   pub sessions : SessionsInARow answer_of after
   pub causes : RefusesNoNumberWithoutRestart answer_of after
   pub told : EndsAreTold

@@ -18,6 +18,7 @@ fn stands_on_one_link<H: Handler>()
 {
     osdp_frame_laws::reads_packets();
     osdp_frame_laws::one_spelling();
+    osdp_link_laws::holds_once::<H>();
     osdp_link_laws::answers_of_one_handler::<H>();
     osdp_link_laws::sessions_in_a_row::<H>();
     osdp_link_laws::refuses_no_number::<H>();
@@ -32,7 +33,8 @@ pub fn schedule_is_moves<H: Handler>()
     stands_on_one_link::<H>();
 }
 
-/// Whatever a schedule says, in sessions in a row: each is once and in order, and the next begins with what it leaves.
+/// Whatever a schedule says: its account is that of sessions of a link. Each is once and in order, with the reader's own answers, and has ended, or is the
+/// last. What they come to together says the ledger (law `run_keeps_ledger` of `osdp_sim_ledger`).
 ///
 /// Where it begins no session again: the commands that the reader has taken are a beginning of those issued, and hold each settled one, with
 /// the answer that the reader gave, and one more at most; the events that the controller reported are a beginning of those queued; it ends

@@ -6,17 +6,15 @@ use Rattle.osdp_ledger.specs.Laws.{TellsInTurn}
 use Rattle.osdp_link_laws.specs.Headline.{HoldsOnce}
 use Rattle.osdp_link_laws.specs.Link as link
 use Rattle.osdp_link_laws.specs.Link.{Move}
-use Rattle.osdp_link_laws.specs.OneHandler.{KeepsDevice}
 use Rattle.osdp_link_laws.specs.Ordinary.{IsOrdinary, IsSteady}
 use Rattle.osdp_link_laws.specs.Sessions.{CommandsHavePlaces, all_queued, all_submitted}
-use Rattle.osdp_link_laws.proofs.Lines.{each_all, each_append, each_of}
-use Rattle.osdp_link_laws.proofs.OrdinaryRuns.{keep_device, steady_ordinary}
+use Rattle.osdp_link_laws.proofs.Lines.{each_all, each_append}
+use Rattle.osdp_link_laws.proofs.OrdinaryRuns.{steady_handler, steady_ordinary}
 use Rattle.osdp_link_laws.proofs.Stages.{Each}
 use Rattle.osdp_link_ledger.specs.Accounts.{LedgerTellsAccounts}
 use Rattle.osdp_link_ledger.specs.Answers.{ActsHaveAnswersOfOneHandler}
 use Rattle.osdp_link_ledger.specs.Laws.{HoldsByLedger, LinkKeepsLedger}
 use Rattle.osdp_link_ledger.specs.Ordinary.{OrdinaryMovesEndTold}
-use Rattle.osdp_link_ledger.proofs.Answered.{keep_handler}
 use Rattle.osdp_sim.specs.Runs.{FitAlong, is_well, run, steps_done}
 use Rattle.osdp_sim.specs.State.{set_up}
 use Rattle.osdp_sim.specs.Steps.{StepFits, after_step, fault_of}
@@ -83,7 +81,7 @@ module _ {H : Type 0} (answer_of : H → Command → Answer) (after : H → Comm
           events = held.1;
           told = told l ms (each_all IsOrdinary ms (steady_ordinary ms steady));
           once = once l ms m.begins m.fit;
-          answers = acts l ms m.begins m.fit (keep_handler answer_of after ms l (each_of KeepsDevice ms (keep_device ms steady)));
+          answers = acts l ms m.begins m.fit (steady_handler answer_of after ms l steady);
           lists = m.follows.tells;
           issued = m.follows.tells.issued ∙ sym (places l ms m.begins m.fit);
           queued_so = all_queue answer_of after moves config handler is.settings steps is.well is.fits;

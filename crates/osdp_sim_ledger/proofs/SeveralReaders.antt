@@ -1,5 +1,5 @@
 -- The run over a bus, for each of its readers.
-use Rattle.std.proofs.Common.{◌≡◌, ◌++◌, ℕ, true, List, [], Some, refl, subst, sym, ap, ◌∙◌}
+use Rattle.std.proofs.Common.{◌≡◌, ◌++◌, ℕ, true, List, [], ◌∷◌, Some, refl, subst, sym, ap, ◌∙◌}
 use Rattle.std.proofs.lemmas.Option.{slice_get-map}
 use Rattle.std.specs.Prelude.{option_map, slice_get}
 use Rattle.osdp_msg.specs.declared.command.Command.{Command}
@@ -10,19 +10,20 @@ use Rattle.osdp_bus_links.proofs.Keeping.{moves_usual}
 use Rattle.osdp_bus_links.proofs.Names.{are_steady}
 use Rattle.osdp_ledger.specs.Laws.{TellsInTurn}
 use Rattle.osdp_line_ledger.specs.Laws.{EachKeepsLedger}
-use Rattle.osdp_link_laws.specs.OneHandler.{KeepsDevice}
+use Rattle.osdp_link_laws.specs.Headline.{EachIsOnce, HoldsOnce}
+use Rattle.osdp_link_laws.specs.Link.{Link}
 use Rattle.osdp_link_laws.specs.Ordinary.{IsOrdinary}
-use Rattle.osdp_link_laws.specs.Sessions.{all_queued, all_submitted, queued}
+use Rattle.osdp_link_laws.specs.Sessions.{CommandsHavePlaces, all_queued, all_submitted, ended_commands, queued}
 use Rattle.osdp_link_laws.proofs.Lines.{each_all, each_of}
-use Rattle.osdp_link_laws.proofs.OrdinaryRuns.{keep_device, steady_ordinary}
+use Rattle.osdp_link_laws.proofs.OrdinaryRuns.{steady_handler, steady_ordinary}
 use Rattle.osdp_link_ledger.specs.Answers.{ActsHaveAnswersOfOneHandler}
 use Rattle.osdp_link_ledger.specs.Ordinary.{OrdinaryMovesEndTold}
-use Rattle.osdp_link_ledger.proofs.Answered.{keep_handler}
 use Rattle.osdp_shared_line.specs.Addresses.{NobodyElseHears}
 use Rattle.osdp_shared_line.specs.Line.{run}
 use Rattle.osdp_shared_line.specs.Runs as runs
-use Rattle.osdp_shared_line.specs.Runs.{EachHasSessionsInARow, EachHoldsOnce, EachIsALink}
+use Rattle.osdp_shared_line.specs.Runs.{EachIsALink}
 use Rattle.osdp_shared_line.specs.Views.{EachMoveIsItsOwn, view}
+use Rattle.osdp_shared_line.proofs.Linking.{viewed}
 use Rattle.osdp_calls.proofs.Counting.{all_heard, in_link}
 use Rattle.osdp_calls.proofs.Holding.{events_counted}
 use Rattle.osdp_sim.specs.Account.{Account}
@@ -41,8 +42,8 @@ use Rattle.osdp_sim_ledger.proofs.SeveralQueued.{all_queue, site_of}
 use Rattle.osdp_sim_ledger.proofs.Telling.{tells_once}
 
 module _ {H : Type 0} (answer_of : H → Command → Answer) (after : H → Command → H) (schedules : SchedulesAreMoves answer_of after)
-    (own : EachMoveIsItsOwn answer_of after) (links : EachIsALink answer_of after) (acts : ActsHaveAnswersOfOneHandler answer_of after) (told : OrdinaryMovesEndTold answer_of after) (nobody : NobodyElseHears answer_of after) (once : EachHoldsOnce answer_of after)
-    (rows : EachHasSessionsInARow answer_of after) (keeps : EachKeepsLedger answer_of after) (in_turn : TellsInTurn) where
+    (own : EachMoveIsItsOwn answer_of after) (links : EachIsALink answer_of after) (acts : ActsHaveAnswersOfOneHandler answer_of after) (told : OrdinaryMovesEndTold answer_of after) (nobody : NobodyElseHears answer_of after) (once : HoldsOnce answer_of after)
+    (places : CommandsHavePlaces answer_of after) (keeps : EachKeepsLedger answer_of after) (in_turn : TellsInTurn) where
   abbrev HasKept : ℕ → Given H → BusConfig → List (Given H) → List SimStep → List Account → Type 0
   HasKept k given config readers steps told =
       (a : Account) × (slice_get told k ≡ Some a) × TellsByLedger answer_of after given.0 given.2 a (steps_of_reader answer_of after k given config readers steps)
@@ -68,8 +69,9 @@ module _ {H : Type 0} (answer_of : H → Command → Answer) (after : H → Comm
       let mine = runs.moves_of answer_of after k moves n0 in
       let l = view k first n0 in
       let kept = keeps n0 moves up done.fits k first t.0 from t.1 in
-      let row = rows n0 moves up done.fits k first t.0 from t.1 in
       let its = links n0 moves up done.fits k first from in
+      let same = viewed answer_of after n0 moves k first t.0 its t.1 in
+      let begins = up.begins k first from in
       let heard = all_heard answer_of after nobody n0 up [] moves done.fits in
       let steady = are_steady mine (moves_usual answer_of after moves k n0 (each_of IsScheduled moves done.scheduled)) in (
         u.account,
@@ -81,10 +83,10 @@ module _ {H : Type 0} (answer_of : H → Command → Answer) (after : H → Comm
               orders = kept.orders;
               events = kept.events;
               told = told l mine (each_all IsOrdinary mine (steady_ordinary mine steady));
-              once = once n0 moves up done.fits k first t.0 from t.1;
-              answers = acts l mine (up.begins k first from) its.fits (keep_handler answer_of after mine l (each_of KeepsDevice mine (keep_device mine steady)));
+              once = subst (λ (v : Link H). EachIsOnce (v.account ∷ v.earlier)) (sym same) (once l mine begins its.fits);
+              answers = acts l mine begins its.fits (steady_handler answer_of after mine l steady);
               lists = t.2.tells;
-              issued = t.2.tells.issued ∙ sym row.commands;
+              issued = t.2.tells.issued ∙ ap (λ (v : Link H). ended_commands v.earlier ++ v.account.issued) same ∙ sym (places l mine begins its.fits);
               queued_so = found.2 ∙ sym (in_link answer_of after queued own k moves n0 first heard done.fits from) ∙ sym (events_counted answer_of after mine l);
             }),
       )

@@ -1,38 +1,21 @@
 -- What the accounts of a link and its ledger say, the account of a run says too.
-use Rattle.std.proofs.Common.{◌≡◌, List, [], ◌∷◌, ◌++◌, map, refl, sym, ap, ◌∙◌}
-use Rattle.std.proofs.lemmas.List.{map-append}
+use Rattle.std.proofs.Common.{◌≡◌, List, ◌∷◌, map, sym, ap, ◌∙◌}
 use Rattle.osdp_msg.specs.declared.command.Command.{Command}
 use Rattle.osdp_msg.specs.declared.event.Event.{Event}
-use Rattle.osdp_msg.specs.declared.reply.Reply.{Reply}
 use Rattle.osdp_ledger.specs.History.{AreAllowed, new_history, runs}
 use Rattle.osdp_ledger.specs.Laws.{EventsHold, OrdersHold, TellsInTurn}
-use Rattle.osdp_ledger.specs.Ledger.{Order, Step}
+use Rattle.osdp_ledger.specs.Ledger.{Step}
 use Rattle.osdp_ledger.specs.Plain.{AllTold}
 use Rattle.osdp_reader.specs.declared.config.ReaderConfig.{ReaderConfig}
 use Rattle.osdp_reader.specs.declared.handler.Answer.{Answer}
 use Rattle.osdp_link_laws.specs.Headline.{EachIsOnce, asked}
-use Rattle.osdp_link_laws.specs.Link as link
 use Rattle.osdp_link_laws.specs.Link.{Link}
-use Rattle.osdp_link_ledger.specs.Accounts.{TellsAccounts, in_all}
+use Rattle.osdp_link_ledger.specs.Accounts.{TellsAccounts}
 use Rattle.osdp_link_ledger.specs.Answers.{HasAnswersOf}
+use Rattle.osdp_link_ledger.proofs.Answered.{commands_acted, taken_in}
 use Rattle.osdp_sim.specs.Account.{Account}
-use Rattle.osdp_sim_laws.specs.Accounts.{IsOf, all_in}
+use Rattle.osdp_sim_laws.specs.Accounts.{IsOf}
 use Rattle.osdp_sim_ledger.specs.Telling.{TellsByLedger}
-
--- ---- lists of sessions
-
-same_lists : {A : Type 0} (part : link.Account → List A) (ts : List link.Account) → in_all part ts ≡ all_in part ts
-same_lists part [] = refl
-same_lists part (t ∷ ts) = ap (λ xs. xs ++ part t) (same_lists part ts)
-
--- each command that was taken has the answer that the reader gave to it
-taken_in : (ts : List link.Account) → EachIsOnce ts → map asked (in_all (λ t. t.given) ts) ≡ all_in (λ t. t.taken) ts
-taken_in [] once = refl
-taken_in (t ∷ ts) once = map-append asked (in_all (λ t. t.given) ts) t.given ∙ (λ i. taken_in ts once.1 i ++ once.0.answered i)
-
-commands_acted : (ds : List (Order × Reply)) → map asked (map (λ (d : Order × Reply). (d.0.command, d.1)) ds) ≡ map (λ (d : Order × Reply). d.0.command) ds
-commands_acted [] = refl
-commands_acted (d ∷ ds) = ap (λ cs. d.0.command ∷ cs) (commands_acted ds)
 
 -- ---- the account of a run
 
@@ -62,9 +45,9 @@ module _ {H : Type 0} (answer_of : H → Command → Answer) (after : H → Comm
           queued = is.queued_so ∙ sym is.accounts.cards;
           taken = is.lists.taken ∙ sym (sym (commands_acted h.acted) ∙ ap (map asked) is.accounts.acted ∙ taken_in sessions is.once);
           answers = is.answers;
-          settled = is.lists.settled ∙ sym (is.accounts.settled ∙ same_lists (λ t. t.settled) sessions);
-          unsettled = is.lists.unsettled ∙ sym (is.accounts.in_doubt ∙ same_lists (λ t. t.unsettled) sessions);
-          reported = is.lists.reported ∙ sym (is.accounts.reported ∙ same_lists (λ t. t.reported) sessions);
+          settled = is.lists.settled ∙ sym is.accounts.settled;
+          unsettled = is.lists.unsettled ∙ sym is.accounts.in_doubt;
+          reported = is.lists.reported ∙ sym is.accounts.reported;
           orders = is.orders;
           cards = is.events;
           ends = is.told;

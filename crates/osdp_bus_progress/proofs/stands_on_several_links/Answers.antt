@@ -6,13 +6,13 @@ returns g c = record {
   schedules = c.schedules_are_moves.ensures.schedules;
   counts = c.has_an_account_each.ensures;
   links = c.each_is_a_link.ensures;
-  rows = c.each_has_sessions_in_a_row.ensures;
   laws = record {
     known = c.reads_what_is_asked.ensures;
     rests = c.comes_through.ensures.rest;
     in_time = c.comes_through.ensures.in_time;
     from_rest = c.comes_through.ensures.from_rest;
     stays = c.stay_where_they_are.ensures;
+    places = c.sessions_in_a_row.ensures.commands;
   };
   ranges = c.stays_in_range.ensures;
   comes = c.ticks_come_due.ensures;

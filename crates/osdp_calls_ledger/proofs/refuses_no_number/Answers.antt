@@ -6,4 +6,4 @@ pub returns : goal.returns
 returns g c =
     let answer_of = g.H.Handler.answer_of in
     let after = g.H.Handler.after in
-    refuse_no_number answer_of after (calls_refuse_no_number answer_of after c.nobody_else_hears.ensures.hears c.each_refuses_no_number.ensures)
+    refuse_no_number answer_of after (calls_refuse_no_number answer_of after c.nobody_else_hears.ensures.hears c.each_refuses_no_number.ensures.endings)

@@ -8,7 +8,7 @@ use osdp_door::Door;
 fn a_session_holds_with_a_door(_rt: HostRuntime) {
     cites!(osdp_link_laws, Door:
         holds_once answers_of_one_handler ordinary_runs_are_undisturbed sessions_in_a_row refuses_no_number
-        restarts_cost stay_where_they_are comes_through goes_in_turn);
+        stay_where_they_are comes_through goes_in_turn);
 }
 
 /// What each move does to a link with a door.

@@ -8,7 +8,8 @@ returns g c = record {
     one = λ p packet. c.reads_packets.ensures.one p (spelling p) ((c.one_spelling.ensures p (spelling p)).1 (packet, refl));
     none = c.reads_packets.ensures.none;
   };
-  once = c.answers_of_one_handler.ensures.once;
+  once = c.holds_once.ensures;
+  answers = c.answers_of_one_handler.ensures;
   sessions = c.sessions_in_a_row.ensures;
   causes = c.refuses_no_number.ensures.never;
   told = c.endings_are_told.ensures;

@@ -13,10 +13,10 @@ returns-clause-link g c config handler steps answer run = record {
   sessions = λ up.
       let kept = c.run_keeps_ledger.ensures config handler steps answer run up in
       tells_sessions g.H.Handler.answer_of g.H.Handler.after config handler (simulation.steps_done steps answer) (account_in answer) kept.whole kept.until
-      (c.sessions_begin_by_reopens.ensures config handler steps answer run up) (c.schedule_holds_once.ensures.row config handler steps answer run up);
+      (c.sessions_begin_by_reopens.ensures config handler steps answer run up) (c.schedule_holds_once.ensures.sessions config handler steps answer run up);
   once = λ up none.
       is_once g.H.Handler.answer_of g.H.Handler.after config.reader handler (account_in answer) (reopens_in 1 (simulation.steps_done steps answer))
-      (c.sessions_begin_by_reopens.ensures config handler steps answer run up).count none (c.schedule_holds_once.ensures.row config handler steps answer run up);
+      (c.sessions_begin_by_reopens.ensures config handler steps answer run up).count none (c.schedule_holds_once.ensures.sessions config handler steps answer run up);
 }
 
 pub returns-clause-bus : goal.returns-clause-bus
@@ -26,9 +26,9 @@ returns-clause-bus g c config readers steps answer run = record {
   sessions = λ up.
       let kept = c.bus_run_keeps_ledgers.ensures config readers steps answer run up in
       each_tells g.H.Handler.answer_of g.H.Handler.after config readers (bus.steps_done steps answer) (accounts_in answer)
-      (c.each_sessions_begin_by_reopens.ensures config readers steps answer run up) (c.each_account_holds_once.ensures.row config readers steps answer run up)
+      (c.each_sessions_begin_by_reopens.ensures config readers steps answer run up) (c.each_account_holds_once.ensures.sessions config readers steps answer run up)
       kept.whole kept.until;
   once = λ up.
       each_once g.H.Handler.answer_of g.H.Handler.after config readers (bus.steps_done steps answer) (accounts_in answer)
-      (c.each_sessions_begin_by_reopens.ensures config readers steps answer run up) (c.each_account_holds_once.ensures.row config readers steps answer run up);
+      (c.each_sessions_begin_by_reopens.ensures config readers steps answer run up) (c.each_account_holds_once.ensures.sessions config readers steps answer run up);
 }
