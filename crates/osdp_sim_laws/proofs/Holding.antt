@@ -76,6 +76,8 @@ module _ {H : Type 0} (answer_of : H → Command → Answer) (after : H → Comm
         begins = begins config handler device;
         fit = follows.moves;
         follows = record { state = follows.carried.state; tells = follows.carried.tells };
+        issued = follows.carried.issued;
+        queued = follows.carried.queued;
       }
 
   pub last_one : (closed : Bool) (a : Account) → length a.ends + 1 ≡ length a.sessions + count closed → LastsOrHasEnded a

@@ -1,5 +1,5 @@
 -- The run over a line with one reader.
-use Rattle.std.proofs.Common.{◌≡◌, ◌==◌, ℕ, Bool, true, false, if◌then◌else◌, List, [], ◌∷◌, ◌++◌, subst, sym, ◌∙◌}
+use Rattle.std.proofs.Common.{◌≡◌, ◌==◌, ℕ, Bool, true, false, if◌then◌else◌, List, [], ◌∷◌, ◌++◌, subst}
 use Rattle.osdp_msg.specs.declared.command.Command.{Command}
 use Rattle.osdp_reader.specs.declared.handler.Answer.{Answer}
 use Rattle.osdp_ledger.specs.Laws.{TellsInTurn}
@@ -7,7 +7,7 @@ use Rattle.osdp_link_laws.specs.Headline.{HoldsOnce}
 use Rattle.osdp_link_laws.specs.Link as link
 use Rattle.osdp_link_laws.specs.Link.{Move}
 use Rattle.osdp_link_laws.specs.Ordinary.{IsOrdinary, IsSteady}
-use Rattle.osdp_link_laws.specs.Sessions.{CommandsHavePlaces, all_queued, all_submitted}
+use Rattle.osdp_link_laws.specs.Sessions.{all_queued, all_submitted}
 use Rattle.osdp_link_laws.proofs.Lines.{each_all, each_append}
 use Rattle.osdp_link_laws.proofs.OrdinaryRuns.{steady_handler, steady_ordinary}
 use Rattle.osdp_link_laws.proofs.Stages.{Each}
@@ -27,7 +27,6 @@ use Rattle.osdp_sim_laws.specs.Progress.{IsRun}
 use Rattle.osdp_sim_laws.proofs.Holding.{answers}
 use Rattle.osdp_sim_ledger.specs.OneReader.{KeepsLedger, RunKeepsLedger, steps_of_run}
 use Rattle.osdp_sim_ledger.specs.Telling.{TellsByLedger}
-use Rattle.osdp_sim_ledger.proofs.Queued.{all_queue}
 use Rattle.osdp_sim_ledger.proofs.Telling.{tells_once}
 
 module _ {H : Type 0} where
@@ -62,7 +61,7 @@ module _ {H : Type 0} (answer_of : H → Command → Answer) (after : H → Comm
       }
 
   module _ (moves : ScheduleIsMoves answer_of after) (once : HoldsOnce answer_of after) (acts : ActsHaveAnswersOfOneHandler answer_of after) (told : OrdinaryMovesEndTold answer_of after)
-      (places : CommandsHavePlaces answer_of after) (keeps : LinkKeepsLedger answer_of after) (tells : LedgerTellsAccounts answer_of after)
+      (keeps : LinkKeepsLedger answer_of after) (tells : LedgerTellsAccounts answer_of after)
       (holds : HoldsByLedger answer_of after) (in_turn : TellsInTurn) where
     one_run : (config : SimConfig) (handler : H) (steps : List SimStep) → IsRun answer_of after config handler steps → KeepsLedger answer_of after config handler steps
     one_run config handler steps is =
@@ -83,8 +82,8 @@ module _ {H : Type 0} (answer_of : H → Command → Answer) (after : H → Comm
           once = once l ms m.begins m.fit;
           answers = acts l ms m.begins m.fit (steady_handler answer_of after ms l steady);
           lists = m.follows.tells;
-          issued = m.follows.tells.issued ∙ sym (places l ms m.begins m.fit);
-          queued_so = all_queue answer_of after moves config handler is.settings steps is.well is.fits;
+          issued = m.issued;
+          queued_so = m.queued;
         })
 
     pub run_keeps_ledger : RunKeepsLedger answer_of after
