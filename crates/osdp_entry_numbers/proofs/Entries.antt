@@ -142,13 +142,13 @@ none_any test (d ∷ ds) fails = (λ i. fails 0 d refl i || none_any test ds (λ
 
 none_beside : (address entry : ℕ) (ds : List Entry) → ((j : ℕ) (f : Entry) → j ≢ entry → slice_get ds j ≡ Some f → takes_up address f ≡ false)
     → is_taken_beside entry address ds ≡ false
-none_beside address entry ds fails = (λ i. none_any (takes_up address) (take entry ds) before i || none_any (takes_up address) (drop (entry + 1) ds) behind i)
+none_beside address entry ds fails = (λ i. none_any (takes_up address) (take entry ds) before i || none_any (takes_up address) (drop (entry + 1) ds) later i)
   where
     before : (j : ℕ) (f : Entry) → slice_get (take entry ds) j ≡ Some f → takes_up address f ≡ false
     before j f at = let there = from_taken entry j ds f at in let less = there.0 in fails j f (λ same. absurd (omega (arith, less, same))) there.1
 
-    behind : (j : ℕ) (f : Entry) → slice_get (drop (entry + 1) ds) j ≡ Some f → takes_up address f ≡ false
-    behind j f at = fails (entry + 1 + j) f (λ same. absurd (omega (arith, same))) (from_dropped (entry + 1) j ds f at)
+    later : (j : ℕ) (f : Entry) → slice_get (drop (entry + 1) ds) j ≡ Some f → takes_up address f ≡ false
+    later j f at = fails (entry + 1 + j) f (λ same. absurd (omega (arith, same))) (from_dropped (entry + 1) j ds f at)
 
 -- what is taken of the panel's entries is taken of the others
 pub taken_under : (n : Numbers) → AreNumbers n → (ds es : List Entry) → AreUnder n ds es → (i address : ℕ)
