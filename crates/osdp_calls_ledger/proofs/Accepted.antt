@@ -49,12 +49,12 @@ events_in [] = []
 events_in (ledger.Queue card ∷ steps) = card.event ∷ events_in steps
 events_in (_ ∷ steps) = events_in steps
 
-commands_more : (xs ys : List ledger.Step) → commands_in (xs ++ ys) ≡ commands_in xs ++ commands_in ys
+pub commands_more : (xs ys : List ledger.Step) → commands_in (xs ++ ys) ≡ commands_in xs ++ commands_in ys
 commands_more [] ys = refl
 commands_more (ledger.Submit order ∷ xs) ys = ap (λ cs. order.command ∷ cs) (commands_more xs ys)
 commands_more (_ ∷ xs) ys = commands_more xs ys
 
-events_more : (xs ys : List ledger.Step) → events_in (xs ++ ys) ≡ events_in xs ++ events_in ys
+pub events_more : (xs ys : List ledger.Step) → events_in (xs ++ ys) ≡ events_in xs ++ events_in ys
 events_more [] ys = refl
 events_more (ledger.Queue card ∷ xs) ys = ap (λ es. card.event ∷ es) (events_more xs ys)
 events_more (_ ∷ xs) ys = events_more xs ys
@@ -268,11 +268,11 @@ module _ {H : Type 0} (answer_of : H → Command → Answer) (after : H → Comm
       events_more now (steps_along answer_of after k steps next (after_steps now g))
       ∙ (λ i. call_events k step.call l g i ++ along_events k steps next (after_steps now g) i)
 
-before_commands : (place : ℕ) (es : List Event) → commands_in (links.queued_before place es) ≡ []
+pub before_commands : (place : ℕ) (es : List Event) → commands_in (links.queued_before place es) ≡ []
 before_commands place [] = refl
 before_commands place (e ∷ es) = before_commands (place + 1) es
 
-before_events : (place : ℕ) (es : List Event) → events_in (links.queued_before place es) ≡ es
+pub before_events : (place : ℕ) (es : List Event) → events_in (links.queued_before place es) ≡ es
 before_events place [] = refl
 before_events place (e ∷ es) = ap (λ xs. e ∷ xs) (before_events (place + 1) es)
 

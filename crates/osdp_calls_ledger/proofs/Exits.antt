@@ -22,7 +22,7 @@ use Rattle.osdp_calls_ledger.proofs.Allowing.{Allows, AllowsPanel, all_hold}
 
 -- ---- no event lapses
 
-abbrev NoLapse : ledger.Step → Type 0
+abbrev pub NoLapse : ledger.Step → Type 0
 NoLapse (ledger.Lapse card) = ⊥
 NoLapse _ = Unit {0}
 
@@ -30,7 +30,7 @@ plain_so : (step : ledger.Step) → IsPlain step → NoLapse step
 plain_so (ledger.Lapse card) plain = absurd plain
 plain_so _ plain = tt
 
-runs_exits : (steps : List ledger.Step) (h : History) → Each NoLapse steps → All LeftSo h.left → All LeftSo (runs steps h).left
+pub runs_exits : (steps : List ledger.Step) (h : History) → Each NoLapse steps → All LeftSo h.left → All LeftSo (runs steps h).left
 runs_exits [] h none all = all
 runs_exits (ledger.Lapse card ∷ steps) h none all = absurd none.0
 runs_exits (ledger.Leave card ∷ steps) h none all =

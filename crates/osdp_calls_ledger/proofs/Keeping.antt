@@ -47,13 +47,13 @@ pub record IsBefore (h : History) : Type 0 where
   pub closed : h.ledger.is_open ≡ false
   pub ended : h.ended ≡ []
 
-before_still : (place : ℕ) (es : List Event) (h : History) → IsBefore h → IsBefore (runs (queued_before place es) h)
+pub before_still : (place : ℕ) (es : List Event) (h : History) → IsBefore h → IsBefore (runs (queued_before place es) h)
 before_still place [] h is = is
 before_still place (e ∷ es) h is =
     let step = ledger.Queue (record { place = place; event = e }) in
     before_still (place + 1) es (steps_on step h) (record { ahead = is.ahead; closed = is.closed; ended = is.ended })
 
-switched_on : (h : History) → IsBefore h → steps_on (RestartPanel false) h ≡ h
+pub switched_on : (h : History) → IsBefore h → steps_on (RestartPanel false) h ≡ h
 switched_on h is =
     (λ i. record (Rattle.osdp_ledger.specs.History.noted (RestartPanel false) (record h { ended = is.ended i; ledger = record h.ledger { ahead = is.ahead i; is_open = is.closed i } })) {
       ledger = after (RestartPanel false) (record h.ledger { ahead = is.ahead i; is_open = is.closed i });
@@ -61,12 +61,12 @@ switched_on h is =
     ∙ (λ i. record h { ended = sym is.ended i; ledger = record h.ledger { ahead = sym is.ahead i; is_open = sym is.closed i } })
 
 -- steps without one that changes nothing
-allowed_without : (xs ys : List ledger.Step) (step : ledger.Step) (h : History) → steps_on step (runs xs h) ≡ runs xs h
+pub allowed_without : (xs ys : List ledger.Step) (step : ledger.Step) (h : History) → steps_on step (runs xs h) ≡ runs xs h
     → AreAllowed (xs ++ step ∷ ys) h → AreAllowed (xs ++ ys) h
 allowed_without [] ys step h same all = subst (AreAllowed ys) same all.1
 allowed_without (x ∷ xs) ys step h same all = (all.0, allowed_without xs ys step (steps_on x h) same all.1)
 
-runs_without : (xs ys : List ledger.Step) (step : ledger.Step) (h : History) → steps_on step (runs xs h) ≡ runs xs h
+pub runs_without : (xs ys : List ledger.Step) (step : ledger.Step) (h : History) → steps_on step (runs xs h) ≡ runs xs h
     → runs (xs ++ step ∷ ys) h ≡ runs (xs ++ ys) h
 runs_without [] ys step h same = ap (runs ys) same
 runs_without (x ∷ xs) ys step h same = runs_without xs ys step (steps_on x h) same

@@ -2,14 +2,13 @@
 use Rattle.std.proofs.Common.{◌≡◌, ◌+◌, ◌⊎◌, ℕ, true, false, inl, inr, List, [], ◌∷◌, ◌++◌, map, Some, refl, sym, subst, ap, ◌∙◌}
 use Rattle.std.specs.Prelude.{is_some, option_to_list}
 use Rattle.osdp_msg.specs.declared.command.Command.{Command}
-use Rattle.osdp_msg.specs.declared.event.Event.{Event}
 use Rattle.osdp_bus.specs.Buses.{device_of}
 use Rattle.osdp_bus.specs.declared.entry.Entry.{Entry}
 use Rattle.osdp_reader.specs.State.{ReaderState}
 use Rattle.osdp_reader.specs.declared.handler.Answer.{Answer}
 use Rattle.osdp_ledger.specs.Ledger as ledger
-use Rattle.osdp_ledger.specs.Ledger.{Ledger, Order, RestartPanel, after, new_ledger}
-use Rattle.osdp_ledger.specs.History.{AreAllowed, History, new_history, noted, runs, steps_on}
+use Rattle.osdp_ledger.specs.Ledger.{Order, RestartPanel, after, new_ledger}
+use Rattle.osdp_ledger.specs.History.{AreAllowed, History, new_history, runs}
 use Rattle.osdp_ledger.specs.Laws.{EventsHold, OrdersHold, TellsInTurn}
 use Rattle.osdp_link_ledger.specs.Steps.{after_steps, all_steps, queued_before}
 use Rattle.osdp_link_ledger.proofs.Ties.{runs_after}
@@ -28,7 +27,7 @@ use Rattle.osdp_calls.proofs.Powers.{outstanding_same, waiting_too}
 use Rattle.osdp_calls.proofs.Same.{IsNetOf}
 use Rattle.osdp_calls.proofs.Setting.{first_net, first_site, first_there, starts}
 use Rattle.osdp_calls_ledger.proofs.Calling.{call_shown, call_shows}
-use Rattle.osdp_calls_ledger.proofs.Keeping.{IsBefore}
+use Rattle.osdp_calls_ledger.proofs.Keeping.{allowed_without, before_still, runs_without, switched_on}
 use Rattle.osdp_calls_ledger.proofs.Seen.{in_turn, seen, seen_at, seen_of_link}
 use Rattle.osdp_calls_ledger.proofs.Shows.{Shown, Shows, shows_as, then_shows}
 use Rattle.osdp_entry_numbers.specs.Numbers.{IsIdle}
@@ -37,32 +36,6 @@ use Rattle.osdp_entry_numbers.specs.Promises.{IsOfPanel, OwnOrderDoesTheSame, Ow
 use Rattle.osdp_entry_numbers.proofs.Entries.{FromOther, IsEntry, IsIdleOne, from_other}
 use Rattle.osdp_entry_numbers.proofs.Following.{Follows, does_the_same, own_line_under, set_up_follows, still_follows}
 use Rattle.osdp_entry_numbers.proofs.Reading.{own_commands, own_events, own_exits}
-
--- ---- a panel that is switched on before anything has happened forgets nothing
-
-before_still : (place : ℕ) (es : List Event) (h : History) → IsBefore h → IsBefore (runs (queued_before place es) h)
-before_still place [] h is = is
-before_still place (e ∷ es) h is =
-    let step = ledger.Queue (record { place = place; event = e }) in
-    before_still (place + 1) es (steps_on step h) (record { ahead = is.ahead; closed = is.closed; ended = is.ended })
-
-switched_on : (h : History) → IsBefore h → steps_on (RestartPanel false) h ≡ h
-switched_on h is =
-    (λ i. record (noted (RestartPanel false) (record h { ended = is.ended i; ledger = record h.ledger { ahead = is.ahead i; is_open = is.closed i } })) {
-      ledger = after (RestartPanel false) (record h.ledger { ahead = is.ahead i; is_open = is.closed i });
-    })
-    ∙ (λ i. record h { ended = sym is.ended i; ledger = record h.ledger { ahead = sym is.ahead i; is_open = sym is.closed i } })
-
--- steps without one that changes nothing
-allowed_without : (xs ys : List ledger.Step) (step : ledger.Step) (h : History) → steps_on step (runs xs h) ≡ runs xs h
-    → AreAllowed (xs ++ step ∷ ys) h → AreAllowed (xs ++ ys) h
-allowed_without [] ys step h same all = subst (AreAllowed ys) same all.1
-allowed_without (x ∷ xs) ys step h same all = (all.0, allowed_without xs ys step (steps_on x h) same all.1)
-
-runs_without : (xs ys : List ledger.Step) (step : ledger.Step) (h : History) → steps_on step (runs xs h) ≡ runs xs h
-    → runs (xs ++ step ∷ ys) h ≡ runs (xs ++ ys) h
-runs_without [] ys step h same = ap (runs ys) same
-runs_without (x ∷ xs) ys step h same = runs_without xs ys step (steps_on x h) same
 
 module _ {H : Type 0} (answer_of : H → Command → Answer) (after_command : H → Command → H) where
   -- ---- a list of calls

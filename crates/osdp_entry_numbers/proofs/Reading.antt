@@ -1,7 +1,7 @@
 -- What the steps of a device's ledger accept, read off the panel's own bus: the commands and events of the calls. By none of them an event lapses.
-use Rattle.std.proofs.Common.{◌≡◌, ℕ, ◌+◌, Bool, true, false, cond, List, [], ◌∷◌, ◌++◌, map, Option, Some, None, refl, ap, ◌∙◌, inl, inr}
+use Rattle.std.proofs.Common.{◌≡◌, ℕ, ◌+◌, Bool, true, false, cond, List, [], ◌∷◌, ◌++◌, Option, Some, None, refl, ◌∙◌}
 use Rattle.std.specs.Prelude.{All, ◌==◌}
-use Rattle.std.proofs.lemmas.List.Elements.{All-append, All-cons, All-nil, All-push}
+use Rattle.std.proofs.lemmas.List.Elements.{All-nil}
 use Rattle.osdp_msg.specs.declared.command.Command.{Command}
 use Rattle.osdp_msg.specs.declared.event.Event.{Event}
 use Rattle.osdp_bus.specs.Buses.{BusState, device_of}
@@ -12,9 +12,9 @@ use Rattle.osdp_bus.specs.declared.fault.BusFault.{BusFault}
 use Rattle.osdp_bus_laws.specs.Calls as bus
 use Rattle.osdp_bus_laws.specs.Reports.{told_in}
 use Rattle.osdp_device.specs.Telling.{items_of}
-use Rattle.osdp_ledger.specs.History.{History, ThrownAway, new_history, runs, steps_on}
+use Rattle.osdp_ledger.specs.History.{new_history, runs}
 use Rattle.osdp_ledger.specs.Ledger as ledger
-use Rattle.osdp_ledger.specs.Ledger.{Card, Ledger, new_ledger}
+use Rattle.osdp_ledger.specs.Ledger.{Ledger, new_ledger}
 use Rattle.osdp_link_laws.proofs.Lines.{both, each_append, each_map}
 use Rattle.osdp_link_laws.proofs.Stages.{Each}
 use Rattle.osdp_link_ledger.specs.Steps.{after_steps, queued_before, queues, submits, withdraws, withdraws_event}
@@ -29,55 +29,17 @@ use Rattle.osdp_calls.specs.Handing.{heard}
 use Rattle.osdp_calls.specs.Lines.{InUse, Station}
 use Rattle.osdp_calls_ledger.specs.Promises.{LeftSo}
 use Rattle.osdp_calls_ledger.specs.Steps.{answered, device_steps, given_back, opening, panel_steps, reported, steps_at}
-use Rattle.osdp_calls_ledger.proofs.Accepted.{call_commands, call_events, commands_in, events_in, runs_accepted, runs_queued}
+use Rattle.osdp_calls_ledger.proofs.Accepted.{before_commands, before_events, call_commands, call_events, commands_in, commands_more, events_in, events_more, runs_accepted, runs_queued}
 use Rattle.osdp_calls_ledger.proofs.Allowing.{answered_done, opening_open, reported_done}
+use Rattle.osdp_calls_ledger.proofs.Exits.{NoLapse, runs_exits}
 use Rattle.osdp_entry_numbers.specs.OwnOrder.{OwnLine, OwnStep, after_own}
 use Rattle.osdp_entry_numbers.specs.Promises.{all_own_accepted, all_own_queued, own_accepted, own_along, own_restarts, own_steps, own_steps_from}
 
--- ---- commands and events, one list after the other
-
-commands_more : (xs ys : List ledger.Step) → commands_in (xs ++ ys) ≡ commands_in xs ++ commands_in ys
-commands_more [] ys = refl
-commands_more (ledger.Submit order ∷ xs) ys = ap (λ cs. order.command ∷ cs) (commands_more xs ys)
-commands_more (_ ∷ xs) ys = commands_more xs ys
-
-events_more : (xs ys : List ledger.Step) → events_in (xs ++ ys) ≡ events_in xs ++ events_in ys
-events_more [] ys = refl
-events_more (ledger.Queue card ∷ xs) ys = ap (λ es. card.event ∷ es) (events_more xs ys)
-events_more (_ ∷ xs) ys = events_more xs ys
-
-before_commands : (place : ℕ) (es : List Event) → commands_in (queued_before place es) ≡ []
-before_commands place [] = refl
-before_commands place (e ∷ es) = before_commands (place + 1) es
-
-before_events : (place : ℕ) (es : List Event) → events_in (queued_before place es) ≡ es
-before_events place [] = refl
-before_events place (e ∷ es) = ap (λ xs. e ∷ xs) (before_events (place + 1) es)
-
 -- ---- no event lapses
-
-abbrev NoLapse : ledger.Step → Type 0
-NoLapse (ledger.Lapse card) = ⊥
-NoLapse _ = Unit {0}
 
 done_so : (step : ledger.Step) → IsDone step → NoLapse step
 done_so (ledger.Lapse card) done = absurd done
 done_so _ done = tt
-
-runs_exits : (steps : List ledger.Step) (h : History) → Each NoLapse steps → All LeftSo h.left → All LeftSo (runs steps h).left
-runs_exits [] h none all = all
-runs_exits (ledger.Lapse card ∷ steps) h none all = absurd none.0
-runs_exits (ledger.Leave card ∷ steps) h none all =
-    runs_exits steps (steps_on (ledger.Leave card) h) none.1 (All-push LeftSo h.left _ all (inl refl))
-runs_exits (ledger.WithdrawEvent card ∷ steps) h none all =
-    runs_exits steps (steps_on (ledger.WithdrawEvent card) h) none.1 (All-push LeftSo h.left _ all (inr (inl refl)))
-runs_exits (ledger.RestartDevice ∷ steps) h none all =
-    runs_exits steps (steps_on ledger.RestartDevice h) none.1 (All-append LeftSo h.left _ all (thrown h.ledger.cards))
-  where
-    thrown : (cards : List Card) → All LeftSo (map (λ c. record { session = h.sessions; card = c; why = ThrownAway }) cards)
-    thrown [] = All-nil LeftSo
-    thrown (c ∷ cs) = All-cons LeftSo _ _ (inr (inr refl)) (thrown cs)
-runs_exits (step ∷ steps) h none all = runs_exits steps (steps_on step h) none.1 all
 
 submits_none : (f : Option BusFault) (command : Command) (g : Ledger) → Each NoLapse (changed_unless f [] (submits None command g))
 submits_none None command g = (tt, tt)
