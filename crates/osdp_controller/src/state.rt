@@ -100,6 +100,8 @@ impl Model for Held {
 
 impl Held {
     /// There is no session.
+    // It stands by itself: inlined, it leaves one more place for a command on the stack of all that make a controller.
+    #[inline(never)]
     pub(crate) fn new() -> Held
         ensures { result ≡ Closed }
     {
