@@ -25,8 +25,8 @@ ASKED = {
     ),
     "osdp_shared_line": (
         ("osdp_shared_line", "osdp_line_ledger", "osdp_calls", "osdp_calls_ledger"),
-        (("osdp_shared_line::programs::rule_suffices", "osdp_calls::calls_keep_apart"),
-         ("osdp_calls::calls_rule_suffices", "osdp_shared_line::each_is_a_link", "osdp_calls_ledger::one_device_holds_once", "osdp_calls_ledger::ordinary_is_undisturbed")),
+        (("osdp_shared_line::leaving::leaving_is_exact", "osdp_shared_line::first_rounds::rounds_happen", "osdp_shared_line::programs::rule_suffices", "osdp_calls::calls_keep_apart"),
+         ("osdp_calls::calls_rule_suffices", "osdp_shared_line::nobody_else_hears", "osdp_shared_line::each_is_a_link", "osdp_calls_ledger::one_device_holds_once", "osdp_calls_ledger::ordinary_is_undisturbed")),
         {"Addresses": ("Somewhere", "Sets", "SetsReader", "IsInOrder", "IsNameOf", "AreApart", "IsHeardByNobodyElse", "HasNoOther", "IsFreeFor", "IsSetUp", "NetMoveFits", "NetMovesFit"),
          "Programs": ("IsKnown", "KeepsRule", "KeepRule", "RestFits"), "Views": ("OpensQuietly",),
          "Restarts": ("KeepsDeviceOf", "KeepsReaderOf", "IsOrdinaryOf"), "Progress": ("IsReady", "IsEmpty", "AreRounds")},

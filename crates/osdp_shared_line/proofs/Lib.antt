@@ -12,10 +12,13 @@ pub mod Linking
 pub mod Still
 pub mod Reading
 pub mod Rounds
+mod FirstRounds
+mod TwoStations
 pub mod Openings
 pub mod Noting
 pub mod Ruling
 pub mod Saying
 pub mod Ruled
 pub mod Restarting
+mod LeftAlone
 pub mod Doing

@@ -3,6 +3,9 @@ pub mod Views
 pub mod Addresses
 pub mod Runs
 pub mod Progress
+pub mod FirstRounds
+pub mod TwoStations
 pub mod Programs
 pub mod Restarts
+pub mod Leaving
 pub mod Effects

@@ -7,6 +7,8 @@ ghost use Rattle.osdp_shared_line.specs.Runs.{EachIsALink};
 ghost use Rattle.osdp_shared_line.specs.Views.{EachMoveIsItsOwn};
 
 pub mod effects;
+pub mod first_rounds;
+pub mod leaving;
 pub mod programs;
 pub mod progress;
 pub mod promises;
