@@ -46,8 +46,11 @@ pub mod OneDevice
 pub mod ToldMoved
 pub mod Clean
 pub mod Addresses
+mod AskedMoves
 pub mod Doing
 pub mod Counting
 mod PastOpening
 mod Lapsing
+mod LapsingAsked
+mod HearingOn
 mod LapsingRuns

@@ -4,12 +4,15 @@ pub mod Headline
 pub mod OneHandler
 pub mod Sessions
 pub mod Progress
+pub mod HearingOn
 pub mod Refusals
 pub mod Addresses
+pub mod Asked
 pub mod Names
 pub mod Ends
 pub mod Ordinary
 pub mod Clean
 pub mod Effects
 pub mod Lapses
+pub mod LapsingAsked
 pub mod LapsingRuns

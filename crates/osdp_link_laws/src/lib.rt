@@ -12,6 +12,7 @@ ghost use Rattle.osdp_link_laws.specs.Clean.{GoesInTurn};
 ghost use Rattle.osdp_link_laws.specs.Refusals.{RefusesNoNumber, RefusesNoNumberWithoutRestart, SaysAllPlainly};
 ghost use Rattle.osdp_link_laws.specs.Sessions.{SessionsInARow};
 
+pub mod asked;
 pub mod effects;
 pub mod ends;
 pub mod lapses;

@@ -1,0 +1,45 @@
+-- A reader hears on until it restarts, and again from number 0 on.
+use Rattle.std.proofs.Common.{◌≡◌, Some, Result, Ok, Err, refl, sym, subst, ap, arith, inl, inr}
+use Rattle.osdp_frame.specs.Packet.{Packet}
+use Rattle.osdp_msg.specs.declared.command.Command.{Command}
+use Rattle.osdp_msg.specs.declared.fault.MsgFault.{MsgFault}
+use Rattle.osdp_msg.specs.declared.limits.Room.{Room}
+use Rattle.osdp_reader.specs.Queue.{unoffered}
+use Rattle.osdp_reader.specs.State.{ReaderState}
+use Rattle.osdp_reader.specs.Table as table
+use Rattle.osdp_reader.specs.Table.{command_in, kind_of}
+use Rattle.osdp_reader.specs.declared.config.ReaderConfig.{ReaderConfig}
+use Rattle.osdp_reader.specs.declared.handler.Answer.{Answer}
+use Rattle.osdp_link_laws.specs.HearingOn.{HearsOnUntilRestart}
+use Rattle.osdp_link_laws.specs.Link.{Link, RestartReader, after_move}
+use Rattle.osdp_link_laws.specs.Progress.{HearsOn, SetsNoAddress}
+use Rattle.osdp_link_laws.specs.Refusals.{KeepsReader}
+use Rattle.osdp_link_laws.proofs.Kept.{first_kept, moves_kept}
+use Rattle.osdp_link_laws.proofs.Lines.{each_of}
+
+module _ {H : Type 0} (answer_of : H → Command → Answer) (after : H → Command → H) where
+  -- what was acted on with number 0 leaves this number, unless the reader goes elsewhere
+  begun_at_zero : (c : Result Command MsgFault) (r : ReaderState H) (p : Packet) → ((command : Command) → c ≡ Ok command → SetsNoAddress command)
+      → (table.begun answer_of after c r p).reader.last ≡ Some 0
+  begun_at_zero (Err fault) r p stays = refl
+  begun_at_zero (Ok command) r p stays =
+      ap (λ o. (table.moved o (record r {
+        last = Some 0;
+        queue = unoffered r.queue;
+        handler = (table.answer_to answer_of after r.config r.handler command).handler;
+      })).last) (stays command refl)
+
+  restarts_deaf : (l : Link H) (config : ReaderConfig) (handler : H) (room : Room)
+      → HearsOn (after_move answer_of after (RestartReader config handler room) l) → ⊥
+  restarts_deaf l config handler room (inl none) = omega (arith, none)
+  restarts_deaf l config handler room (inr known) = absurd (let is = known.1 in cc)
+
+  pub hears_on : HearsOnUntilRestart answer_of after
+  hears_on = record {
+    kept = λ l moves begins keep. inl (moves_kept answer_of after moves l (each_of KeepsReader moves keep) (first_kept answer_of after l begins)).0;
+    restarted = restarts_deaf;
+    again = λ l p zero stays. inr (
+      0,
+      subst (λ k. (table.outcome answer_of after k l.reader p).reader.last ≡ Some 0) (sym zero) (begun_at_zero (command_in p) l.reader p stays),
+    );
+  }
