@@ -36,10 +36,10 @@ ASKED = {
         (("osdp_link_laws::asked::leaving_is_exact", "osdp_link_laws::asked::each_is_asked", "osdp_link_laws::asked::lapsing_asked_is_exact", "osdp_link_laws::asked::readers_hear_on",
           "osdp_shared_line::each_is_a_link", "osdp_line_ledger::each_acts_by_one_handler", "osdp_line_ledger::each_ordinary_ends_told"),
          ("osdp_shared_line::progress::each_comes_through", "osdp_shared_line::promises::each_refuses_no_number", "osdp_link_laws::refuses_no_number", "osdp_link_laws::comes_through",
-          "osdp_link_laws::lapses::holds_once_with_lapses")),
+          "osdp_link_laws::lapses::holds_once_with_lapses", "osdp_shared_line::first_rounds::rounds_happen")),
         {"Headline": ("MaySubmit", "SaysWhatFits", "SaysWhatFitsIf", "MoveFits", "MovesFit", "Begins"), "Addresses": ("SetsNoOther",), "OneHandler": ("KeepsHandler", "KeepsDevice", "KeepHandler"),
          "Ordinary": ("IsOrdinary", "IsSteady"), "Refusals": ("KeepsReader", "IsNoRefusal"), "Lapses": ("KeepsSession", "KeepSession"), "LapsingRuns": ("LeavesRoom", "LapsingFits", "AllFit"),
-         "Progress": ("IsClear", "AreClear", "SetsNoAddress", "NoComset", "HearsOn")},
+         "Progress": ("IsClear", "AreClear", "SetsNoAddress", "NoComset", "HearsOn", "AreDue", "AreLate")},
     ),
     "osdp_calls_instance": (
         ("osdp_calls_instance",),

@@ -21,8 +21,9 @@ pub fn each_is_asked<H: Handler>()
     ensures { EachIsAsked H.answer_of H.after }
 {}
 
-/// Lists of moves with lapses are asked no more than lists without: that each move fits. An event that is queued is also to have room beside the one
-/// that lapsed last. An event may lapse as soon as the reader has told it, and a lapse where none was ever told asks nothing.
+/// Each move of a list with lapses is asked what it is asked anyway, and an event that is queued is to have room also beside the one that lapsed last. A
+/// list in which nothing lapses is asked nothing more than that it fits. An event may lapse as soon as the reader has told it, and a lapse where none was
+/// ever told asks nothing.
 pub fn lapsing_asked_is_exact<H: Handler>()
     ensures { LapsingAskedIsExact H.answer_of H.after }
 {}

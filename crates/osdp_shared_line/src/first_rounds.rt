@@ -5,10 +5,9 @@ ghost use Rattle.osdp_shared_line.specs.TwoStations.{TwoStationsHaveRounds};
 
 use osdp_reader::Handler;
 
-/// From the first sessions on, what law `each_comes_through` asks of rounds holds exactly where the site's reader isn't busy and each reader's replies are
-/// of the table of replies.
+/// Rounds of two stations, each with an order, keep all that law `each_comes_through` asks, whatever their handlers are.
 ///
-/// Rounds of two stations, each with an order, keep all that the law asks, whatever their handlers are.
+/// From the first sessions on rounds keep it exactly where the site's reader isn't busy and each reader's replies are of the table of replies.
 pub fn rounds_happen<H: Handler>()
     ensures exact { FirstRoundsAreExact H.answer_of H.after }
     ensures stations { TwoStationsHaveRounds H.answer_of H.after }
