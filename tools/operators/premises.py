@@ -47,6 +47,11 @@ ASKED = {
         {"CPrograms": ("c_panel", "c_device"), "LinePrograms": ("IsWithdrawn", "PanelLineFits", "DeviceLineFits"), "OwnCalls": ("OwnFits", "FitsAt", "AllFit"), "SimulatedOrder": ("IsOrdered", "AllOrdered", "IsTaken", "AllRuled"),
          "SimulatedBus": ("sim_panel", "BurstFits", "HandsBytes"), "SimulatedPremises": ("OrdersNoComset", "HandsShort")},
     ),
+    "osdp_entry_numbers": (
+        ("osdp_entry_numbers",),
+        (("osdp_entry_numbers::entries_stand_in_any_order",), ("osdp_entry_numbers::own_order_holds_once",)),
+        {"Numbers": ("AreNumbers", "IsNewPanel", "IsIdle"), "OwnOrder": ("Fits", "LeavesAlone", "IsOwnSetUp", "OwnKeeps", "AllOwnKeep")},
+    ),
     "osdp_programs_ledger": (
         ("osdp_programs_ledger", "osdp_program_days"),
         (("osdp_program_days::a_day_in_c_keeps_the_premises", "osdp_program_days::a_day_by_lines_keeps_the_premises"),
@@ -55,8 +60,9 @@ ASKED = {
     ),
     "osdp_calls_time_laws": (
         ("osdp_calls_time_laws",),
-        (("osdp_calls_time_laws::timely_is_exact", "osdp_calls_time_laws::a_long_day_is_read_in_time"), ("osdp_calls_time_laws::timely_calls_open_quietly", "osdp_calls_time_laws::timely_ledger_holds_once")),
-        {"Moments": ("WaitsTwice", "KeepsClock", "IsTimely", "AllTimely", "KeepsElse", "AllKeepElse", "KeepsRuleElse", "AllKeepRuleElse")},
+        (("osdp_calls_time_laws::timely_is_exact", "osdp_calls_time_laws::a_long_day_is_read_in_time", "osdp_calls_time_laws::a_day_in_any_order_is_read_in_time"),
+         ("osdp_calls_time_laws::timely_calls_open_quietly", "osdp_calls_time_laws::timely_ledger_holds_once", "osdp_calls_time_laws::own_order_opens_quietly")),
+        {"OwnOrder": ("AllOwnTimely", "OwnKeepsElse", "AllOwnKeepElse"), "Moments": ("WaitsTwice", "KeepsClock", "IsTimely", "AllTimely", "KeepsElse", "AllKeepElse", "KeepsRuleElse", "AllKeepRuleElse")},
     ),
 }
 

@@ -65,7 +65,7 @@ module _ {H : Type 0} where
           let clock = k.clock in record { patient = k.patient; clock = omega (arith, clock, start, later); far = k.far; kept = k.kept }
 
       -- a call of a device that says nothing
-      rests : (next : InUse H) → t.start ≡ c.start → next.bus ≡ l.bus → next.said ≡ l.said → next.openings ≡ l.openings
+      pub rests : (next : InUse H) → t.start ≡ c.start → next.bus ≡ l.bus → next.said ≡ l.said → next.openings ≡ l.openings
           → ((k : ℕ) → begun_of (site_at k next.stations) ≡ begun_of (site_at k l.stations)) → Runs w (clock_after t c next) next
       rests next start bus said openings begun =
           runs_silent w t c l next r later (subst (IsKept w t.start t.at) (sym bus) (device_kept start)) said openings

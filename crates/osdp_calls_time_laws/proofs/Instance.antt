@@ -12,17 +12,21 @@ use Rattle.osdp_bus_laws.specs.Calls as bus
 use Rattle.osdp_link_laws.specs.Link.{new_account}
 use Rattle.osdp_reader.specs.declared.handler.Answer.{Answer}
 use Rattle.osdp_shared_line.specs.Line.{site_at}
+use Rattle.osdp_shared_line.specs.Programs.{Note}
 use Rattle.osdp_calls.specs.Calls.{OfPanel, Step, after_call, after_calls}
 use Rattle.osdp_calls.specs.Lines.{InUse, Station}
 use Rattle.osdp_calls.specs.Premises.{AllKeep, IsSetUp}
+use Rattle.osdp_calls.specs.Programs.{first_notes, notes_after}
 use Rattle.osdp_premises.specs.Deciding.{has_addresses, is_in_order, is_quiet}
 use Rattle.osdp_premises.specs.Exactly.{AllInRange}
+use Rattle.osdp_premises.specs.Ruling.{keeps_rule}
 use Rattle.osdp_premises.specs.LongDay.{answers, calls, first_line, long_day, station_at}
 use Rattle.osdp_premises.proofs.Exactly.{exact}
+use Rattle.osdp_premises.proofs.Ruling.{rule_exact}
 use Rattle.osdp_premises.proofs.LongDay.{AllRanges, all_range, day_keeps, id_fits, is_the_one, keep_at, no_bytes, room_fits}
 use Rattle.osdp_calls_time_laws.specs.Instance.{LongDayIsTimely, TwiceIsTooShort, brief, held_day, moment_in, one_line, timed}
 use Rattle.osdp_calls_time_laws.specs.Laws.{steps_of}
-use Rattle.osdp_calls_time_laws.specs.Moments.{AllKeepElse, clock_at}
+use Rattle.osdp_calls_time_laws.specs.Moments.{AllKeepElse, AllKeepRuleElse, clock_at}
 use Rattle.osdp_calls_time_laws.proofs.Deciding.{all_timely}
 
 brief_fits : IsBusConfig brief
@@ -96,6 +100,26 @@ module _ {H : Type 0} where
           else_keep (moment_in step.call before) steps next second.1 fits.1,
         )
 
+    -- the first so many calls keep to the rule in place of the premise on addresses, by a test
+    abbrev are_ruled : ℕ → List (Step H) → InUse H → (ℕ → Note) → Bool
+    are_ruled zero steps l notes = true
+    are_ruled (suc count) [] l notes = true
+    are_ruled (suc count) (step ∷ steps) l notes =
+        keeps_rule step.call l notes && are_ruled count steps (after_call answer_of after step.call step.places l) (notes_after step.call l notes)
+
+    rule_else : (count before : ℕ) (steps : List (Step H)) (l : InUse H) (notes : ℕ → Note) → are_ruled count steps l notes ≡ true
+        → AllKeep answer_of after steps l → AllKeepRuleElse answer_of after (timed before (take count steps)) l notes
+    rule_else zero before steps l notes is keep = tt
+    rule_else (suc count) before [] l notes is keep = tt
+    rule_else (suc count) before (step ∷ steps) l notes is keep =
+        let next = after_call answer_of after step.call step.places l in
+        let noted = notes_after step.call l notes in
+        let both = and_parts (keeps_rule step.call l notes) (are_ruled count steps next noted) is in
+        let k = keep.0 in (
+          record { in_order = k.in_order; rule = (rule_exact step.call l notes).0 both.0; in_range = k.in_range },
+          rule_else count (moment_in step.call before) steps next noted both.1 keep.1,
+        )
+
     pub long_day_timely : (handler other : H) → LongDayIsTimely answer_of after handler other
     unfolding items left_over decided reply_of reply_fault reply_at command_of command_fault command_at
     long_day_timely handler other =
@@ -105,6 +129,7 @@ module _ {H : Type 0} where
           waits = let fits : 398 < 400 = omega arith in fits;
           timely = all_timely answer_of after 199 (timed 0 (long_day handler other)) (clock_at 0) (first_line handler) refl;
           keep = else_of 0 (long_day handler other) (first_line handler) day.keep;
+          rule = rule_else 106 0 (long_day handler other) (first_line handler) (first_notes (first_line handler)) refl day.keep;
         }
 
     held_ranges : (handler : H) → AllRanges answer_of after (held_day handler) (one_line handler)

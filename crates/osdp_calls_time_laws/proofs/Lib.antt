@@ -11,3 +11,4 @@ pub mod Ruled
 pub mod Deciding
 pub mod Instance
 pub mod Reading
+pub mod OwnOrder

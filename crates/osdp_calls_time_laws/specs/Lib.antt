@@ -3,3 +3,4 @@ pub mod Laws
 pub mod Deciding
 pub mod Instance
 pub mod Reading
+pub mod OwnOrder

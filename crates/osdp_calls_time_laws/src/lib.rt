@@ -5,6 +5,7 @@
 ghost use Rattle.osdp_calls_time_laws.specs.Deciding.{TimelyIsExact};
 ghost use Rattle.osdp_calls_time_laws.specs.Instance.{LongDayIsTimely, TwiceIsTooShort};
 ghost use Rattle.osdp_calls_time_laws.specs.Laws.{TimelyCallsOpenQuietly, TimelyLedgerHoldsOnce, TimelyRuledHoldsOnce};
+ghost use Rattle.osdp_calls_time_laws.specs.OwnOrder.{OwnDayIsTimely, OwnOrderOpensQuietly};
 ghost use Rattle.osdp_calls_time_laws.specs.Reading.{ReadsAreHandedOver};
 
 use osdp_reader::Handler;
@@ -37,7 +38,8 @@ pub fn timely_is_exact<H: Handler>()
     ensures { TimelyIsExact H }
 {}
 
-/// The long day of `osdp_premises` is such a list of calls: each of its packets is read within 199 ms, and its quiet wait is 400 ms.
+/// The long day of `osdp_premises` is such a list of calls: each of its packets is read within 199 ms, and its quiet wait is 400 ms. Until a device comes
+/// back elsewhere its programs keep to the rule for programs, too.
 pub fn a_long_day_is_read_in_time<H: Handler>()
     ensures { (handler other : H) → LongDayIsTimely H.answer_of H.after handler other }
 {}
@@ -45,6 +47,19 @@ pub fn a_long_day_is_read_in_time<H: Handler>()
 /// A quiet wait of exactly 2w is too short: of one line with such a wait an opening isn't quiet. Each packet on it is read within w, and all else holds.
 pub fn twice_is_too_short<H: Handler>()
     ensures { (handler : H) → TwiceIsTooShort H.answer_of H.after handler }
+{}
+
+/// Each opening is quiet, too, where the panel's entries stand in any order, and some of ours are left out, under the same bounds on moments. So law
+/// `own_order_holds_once` of `osdp_entry_numbers` needs no premise on quiet openings. The moments are those of the panel's own calls.
+pub fn own_order_opens_quietly<H: Handler>()
+    ensures { OwnOrderOpensQuietly H.answer_of H.after }
+{
+    osdp_link_laws::reads_what_is_asked();
+}
+
+/// The day of `osdp_entry_numbers`, whose panel has its entries in three orders, is such a list of calls: each of its packets is read within 2 ms.
+pub fn a_day_in_any_order_is_read_in_time<H: Handler>()
+    ensures { (handler : H) → OwnDayIsTimely H.answer_of H.after handler }
 {}
 
 /// What a call reads by the laws in time of a bus is what it hands to its controllers. So a device of which nothing is read (law `silence_is_told`) is one whose controller

@@ -20,7 +20,7 @@ use Rattle.osdp_premises.proofs.Exactly.{fair_keep}
 use Rattle.osdp_premises.proofs.LongDay.{RangeOf, all_range, id_fits, is_set_up, key_fits, twice_fits}
 use Rattle.osdp_entry_numbers.specs.Day.{AnyOrder, KeepsRestart, around, back, between, day, exchanged, line_after, onward, own_line, without}
 use Rattle.osdp_entry_numbers.specs.Numbers.{AreNumbers, IsNewPanel}
-use Rattle.osdp_entry_numbers.specs.OwnOrder.{AllOwnKeep, Fits, LeavesAlone, OwnLine, OwnStep, after_own, ordered_step, turned}
+use Rattle.osdp_entry_numbers.specs.OwnOrder.{AllOwnKeep, Fits, LeavesAlone, OwnLine, OwnStep, after_own, ordered_step, own_view, turned}
 
 -- ---- the numbers
 
@@ -111,7 +111,7 @@ module _ {H : Type 0} (answer_of : H → Command → Answer) (after : H → Comm
         keep_all steps next both.1 fits.1,
       )
 
-  not_before : (handler : H) → IsSetUp (record (own_line handler).line { bus = (own_line handler).bus }) → ⊥
+  not_before : (handler : H) → IsSetUp (own_view (own_line handler)) → ⊥
   not_before handler up =
       let same : 20 ≡ 4 = ap (λ (b : BusState). address_at 1 b.devices.entries) up.bus in absurd (omega (arith, same))
 

@@ -1,5 +1,5 @@
 -- The ledger of each device, read off a panel whose entries stand in an order of its own, is that of its link.
-use Rattle.std.proofs.Common.{◌≡◌, ◌+◌, ◌⊎◌, ℕ, true, false, inl, inr, List, [], ◌∷◌, ◌++◌, map, Some, refl, sym, subst, ap, ◌∙◌}
+use Rattle.std.proofs.Common.{◌≡◌, ◌⊎◌, ℕ, true, false, inl, inr, List, [], ◌∷◌, ◌++◌, map, Some, refl, sym, subst, ap, ◌∙◌}
 use Rattle.std.specs.Prelude.{is_some, option_to_list}
 use Rattle.osdp_msg.specs.declared.command.Command.{Command}
 use Rattle.osdp_bus.specs.Buses.{device_of}
@@ -54,7 +54,7 @@ module _ {H : Type 0} (answer_of : H → Command → Answer) (after_command : H 
   here step a k g = own_steps answer_of after_command k step.call a g
 
   -- whose turn it is is nothing to the net
-  turned_net : (step : OwnStep H) (a : OwnLine H) (n : Net H) → IsNetOf a.line n → IsNetOf (turned step.call a) n
+  pub turned_net : (step : OwnStep H) (a : OwnLine H) (n : Net H) → IsNetOf a.line n → IsNetOf (turned step.call a) n
   turned_net step a n h = record { sites = h.sites; to_panel = h.to_panel; place = h.place; openings = h.openings; said = h.said }
 
   -- each of our devices has an entry there

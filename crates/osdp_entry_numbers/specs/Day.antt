@@ -14,7 +14,7 @@ use Rattle.osdp_calls.specs.Lines.{bus_with}
 use Rattle.osdp_calls.specs.Premises.{IsSetUp, Keeps}
 use Rattle.osdp_premises.specs.LongDay.{answers, asks, device_at, first_line, key, station_at, twice}
 use Rattle.osdp_entry_numbers.specs.Numbers.{Numbers}
-use Rattle.osdp_entry_numbers.specs.OwnOrder.{AllOwnKeep, IsOwnSetUp, OwnLine, OwnStep, after_all_own}
+use Rattle.osdp_entry_numbers.specs.OwnOrder.{AllOwnKeep, IsOwnSetUp, OwnLine, OwnStep, after_all_own, own_view}
 use Rattle.osdp_entry_numbers.specs.Promises.{own_steps_from}
 
 abbrev pub order : Order
@@ -110,7 +110,7 @@ module _ {H : Type 0} where
       pub up : IsOwnSetUp (own_line handler)
       pub keep : AllOwnKeep answer_of after day (own_line handler)
       -- what any calls are asked of the set-up and of both restarts of the panel: others come after ours, and ours are all there, in one order
-      pub between : IsSetUp (record (own_line handler).line { bus = (own_line handler).bus }) → ⊥
+      pub between : IsSetUp (own_view (own_line handler)) → ⊥
       pub fewer : KeepsRestart (20 ∷ 3 ∷ []) (line_after 12 handler) → ⊥
       pub turned : KeepsRestart (4 ∷ 20 ∷ 3 ∷ []) (line_after 18 handler) → ⊥
       -- the first session that opens is that of the second entry; with our entries first it would be that of the second of these

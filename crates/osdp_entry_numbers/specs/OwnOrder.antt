@@ -31,6 +31,10 @@ asked_in (bus.Tick now) b = asked_at now b
 asked_in _ b = None
 
 module _ {H : Type 0} where
+  -- the panel's own bus, beside the devices of the line
+  abbrev pub own_view : OwnLine H → InUse H
+  own_view a = record a.line { bus = a.bus }
+
   -- the call by the order of devices. One that names an entry that the panel doesn't have is refused: it brings nothing
   abbrev pub in_order : Call H → List ℕ → OwnLine H → Call H
   in_order (OfPanel call) ordered a = OfPanel (if has_entry (named call) a.bus then renumbered a.numbers.ordered call else bus.OnBytes [] 0)
