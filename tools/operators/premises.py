@@ -43,7 +43,7 @@ ASKED = {
     ),
     "osdp_calls_instance": (
         ("osdp_calls_instance",),
-        (("osdp_calls_instance::laws_speak_of_programs", "osdp_calls_instance::stands_on_calls"), ("osdp_calls_instance::calls_for_c_are_calls", "osdp_calls_instance::lines_are_calls", "osdp_calls_instance::run_keeps_order")),
+        (("osdp_calls_instance::laws_speak_of_programs", "osdp_calls_instance::run_keeps_rule", "osdp_calls_instance::stands_on_calls"), ("osdp_calls_instance::calls_for_c_are_calls", "osdp_calls_instance::lines_are_calls", "osdp_calls_instance::run_keeps_order")),
         {"CPrograms": ("c_panel", "c_device"), "LinePrograms": ("IsWithdrawn", "PanelLineFits", "DeviceLineFits"), "OwnCalls": ("OwnFits", "FitsAt", "AllFit"), "SimulatedOrder": ("IsOrdered", "AllOrdered", "IsTaken", "AllRuled"),
          "SimulatedBus": ("sim_panel", "BurstFits", "HandsBytes"), "SimulatedPremises": ("OrdersNoComset", "HandsShort")},
     ),

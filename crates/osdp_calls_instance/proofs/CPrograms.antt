@@ -2,11 +2,9 @@
 use Rattle.std.proofs.Common.{◌≡◌, ℕ, Bool, true, false, cond, List, [], ◌∷◌, map, Option, Some, None, Result, Ok, Err, refl, sym, subst, ap, ◌∙◌, arith}
 use Rattle.osdp_msg.specs.CommandTable.{command_of}
 use Rattle.osdp_msg.specs.NakReasons.{reason_of}
-use Rattle.osdp_msg.specs.declared.capability.Capability.{Capability}
 use Rattle.osdp_msg.specs.declared.command.Command.{Command}
 use Rattle.osdp_msg.specs.declared.event.Event.{Event}
 use Rattle.osdp_msg.specs.declared.fault.MsgFault.{MsgFault}
-use Rattle.osdp_msg.specs.declared.limits.Room.{Room}
 use Rattle.osdp_bus.specs.Buses.{BusState, new_bus}
 use Rattle.osdp_bus.specs.Machine.{add_refusal, after_add, changed_unless}
 use Rattle.osdp_bus.specs.declared.config.BusConfig.{BusConfig}
@@ -14,8 +12,8 @@ use Rattle.osdp_bus.specs.declared.fault.BusFault.{BusFault}
 use Rattle.osdp_bus.specs.declared.fault.BusFault.TheVariants as fault
 use Rattle.osdp_bus_laws.specs.Calls as bus
 use Rattle.osdp_device.specs.Deciding.{is_asked, pending_of, turned_by, with_question}
-use Rattle.osdp_device.specs.Program.{new_program, program_after, program_answer}
-use Rattle.osdp_frame.specs.Receiving.{Received, after_silence, after_take, after_tick, new_line}
+use Rattle.osdp_device.specs.Program.{program_after, program_answer}
+use Rattle.osdp_frame.specs.Receiving.{Received, after_silence, after_take, after_tick}
 use Rattle.osdp_device.specs.declared.program.ProgramAnswers.{ProgramAnswers}
 use Rattle.osdp_device.specs.declared.question.Question.{Question}
 use Rattle.osdp_device.specs.declared.question.Question.TheVariants.{Answered, Asked, NotAsked}
@@ -25,7 +23,7 @@ use Rattle.osdp_orders.specs.Orders.{AddEnds, PanelState, new_orders, with_new_q
 use Rattle.osdp_orders_laws.proofs.OfBus.{calls_of_the_bus}
 use Rattle.osdp_orders_laws.specs.OfTheBus.{bus_calls}
 use Rattle.osdp_reader.specs.Queue.{lacks_room}
-use Rattle.osdp_reader.specs.State.{ReaderState, new_reader}
+use Rattle.osdp_reader.specs.State.{ReaderState}
 use Rattle.osdp_reader.specs.declared.handler.Answer.{Answer}
 use Rattle.osdp_reader.specs.declared.handler.Answer.TheVariants as answer
 use Rattle.osdp_c_values.specs.Addresses.{device_address}
@@ -38,7 +36,6 @@ use Rattle.osdp_c_values.specs.Statuses.{number}
 use Rattle.osdp_c_values.specs.declared.machine.PanelMachine.{PanelMachine}
 use Rattle.osdp_c_values.specs.declared.machine.ReaderMachine.{ReaderMachine}
 use Rattle.osdp_c_values.specs.declared.settings.PanelSettings.{PanelSettings}
-use Rattle.osdp_c_values.specs.declared.settings.ReaderSettings.{ReaderSettings}
 use Rattle.osdp_c_values.specs.declared.states.StateList.{StateList}
 use Rattle.osdp_c_values.specs.declared.status.Status.{Status}
 use Rattle.osdp_c_values.specs.declared.status.Status.TheVariants as status

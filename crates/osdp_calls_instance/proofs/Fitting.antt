@@ -1,9 +1,17 @@
 -- Which calls of programs are those of which the laws speak.
-use Rattle.std.proofs.Common.{◌↔◌, List, [], ◌∷◌, Option, Some, None, refl}
+use Rattle.std.proofs.Common.{◌≢◌, ◌↔◌, refl, arith}
+use Rattle.osdp_device.specs.declared.events.Expired.{Expired}
+use Rattle.osdp_device.specs.declared.events.Expired.TheVariants.{InDoubt, Withdrawn}
+use Rattle.osdp_msg.specs.declared.event.Event.{Event}
 use Rattle.osdp_calls_instance.specs.Fitting.{CallsForCFit, LinesFit}
+use Rattle.osdp_calls_instance.specs.LinePrograms.{IsWithdrawn}
 
 pub c_fits : {H : Type 0} → CallsForCFit H
 c_fits = record { panel = λ call m. tt; device = λ call m. tt }
+
+withdrawn_exact : (gone : Expired) → IsWithdrawn gone ↔ ((event : Event) → gone ≢ InDoubt event)
+withdrawn_exact (Withdrawn event) = ((λ h other same. let e = same in cc), (λ all. tt))
+withdrawn_exact (InDoubt event) = ((λ h other same. absurd h), (λ all. absurd (all event refl)))
 
 pub lines_fit : {H : Type 0} → LinesFit H
 lines_fit = record {
@@ -13,4 +21,7 @@ lines_fit = record {
   nothing = λ s. tt;
   device = λ call s. ((λ h. h), (λ h. h));
   device_anew = λ config room gap s. ((λ h. h), (λ h. h));
+  withdrawn = withdrawn_exact;
+  leaves = refl;
+  taken_back = (omega arith, (tt, tt));
 }

@@ -14,6 +14,8 @@ mod SimulatedTakes
 mod SimulatedTaking
 mod SimulatedTaken
 mod SimulatedAddresses
+mod SimulatedRule
+mod SimulatedSteps
 mod SimulatedReads
 mod SimulatedRanges
 mod SimulatedKeeping

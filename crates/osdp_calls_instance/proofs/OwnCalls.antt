@@ -84,7 +84,7 @@ module _ {H : Type 0} where
       bus_is (NewDevice i config handler room gap) places l = keeps_bus (NewDevice i config handler room gap) places l tt
 
       -- the bus after a list of steps
-      each_bus : (steps : List (Step H)) (l : InUse H) → (after_calls answer_of after steps l).bus ≡ bus_after_each (map call_of steps) l.bus
+      pub each_bus : (steps : List (Step H)) (l : InUse H) → (after_calls answer_of after steps l).bus ≡ bus_after_each (map call_of steps) l.bus
       each_bus [] l = refl
       each_bus (step ∷ steps) l =
           each_bus steps (after_call answer_of after step.call step.places l)

@@ -1,8 +1,9 @@
 -- Where no COMSET is ordered, the calls of a run keep the premise on addresses.
 use Rattle.std.proofs.Common.{◌≡◌, ℕ, zero, suc, Bool, true, false, cond, List, [], ◌∷◌, ◌++◌, drop, length, map, Option, Some, None, sym, subst, ◌∙◌}
-use Rattle.std.specs.Prelude.{◌-◌}
+use Rattle.std.specs.Prelude.{◌-◌, All}
 use Rattle.osdp_msg.specs.declared.command.Command.{Command}
 use Rattle.osdp_controller.specs.Hearing.{comset_of}
+use Rattle.osdp_bus.specs.declared.config.BusConfig.{BusConfig}
 use Rattle.osdp_bus_laws.specs.Calls as bus
 use Rattle.osdp_device.specs.Hearing.{hears_bytes, reads_all, turns_left}
 use Rattle.osdp_frame.specs.Receiving.{Received, after_silence, after_take, count_taken}
@@ -24,11 +25,11 @@ use Rattle.osdp_calls.specs.Premises.{Addresses}
 use Rattle.osdp_calls_instance.proofs.SimulatedBus.{Here, goes}
 use Rattle.osdp_calls_instance.specs.LinePrograms.{handing, nexts, unless_done}
 use Rattle.osdp_calls_instance.specs.OwnCalls.{AtDevice, AtPanel, all_calls, calls_at}
-use Rattle.osdp_calls_instance.specs.SimulatedBus.{Begins, DeviceStep, HearsBurst, HearsRun, IsBusy, PanelStep, Queues, SimCall, Submits, Waits, all_hear, begin_calls, device_step_calls, line_at_first, panel_step_calls, programs_at_first, schedule_calls, sim_device, sim_panel, step_calls}
+use Rattle.osdp_calls_instance.specs.SimulatedBus.{AreItsCalls, Begins, DeviceStep, HearsBurst, HearsRun, IsBusy, PanelStep, Queues, SimCall, Submits, Waits, all_hear, begin_calls, device_step_calls, line_at_first, panel_step_calls, programs_at_first, schedule_calls, sim_device, sim_panel, step_calls}
 use Rattle.osdp_calls_instance.specs.SimulatedPremises.{AllAtAddresses, OrdersNoComset, RunKeepsAddresses}
 
 -- a call of the panel that gives nobody an address
-abbrev PanelGivesNone : bus.Call → Type 0
+abbrev pub PanelGivesNone : bus.Call → Type 0
 PanelGivesNone (bus.Submit k command) = comset_of command ≡ None
 PanelGivesNone (bus.Retarget k address) = ⊥
 PanelGivesNone _ = Unit {0}
@@ -38,7 +39,7 @@ both_each P [] ys a b = b
 both_each P (x ∷ xs) ys a b = (a.0, both_each P xs ys a.1 b)
 
 module _ {H : Type 0} where
-  abbrev GivesNone : Call H → Type 0
+  abbrev pub GivesNone : Call H → Type 0
   GivesNone (OfPanel call) = PanelGivesNone call
   GivesNone (NewDevice k config handler room gap) = ⊥
   GivesNone (NewPanel config addresses) = ⊥
@@ -141,10 +142,16 @@ module _ {H : Type 0} where
     all_at_addresses (step ∷ calls) l none =
         (none_given step.call l none.0, all_at_addresses calls (after_call answer_of after step.call step.places l) none.1)
 
-    pub run_keeps_addresses : RunKeepsAddresses answer_of after
-    run_keeps_addresses config readers steps gap calls none are =
-        all_at_addresses calls (line_at_first config gap readers) (subst (Each GivesNone) (sym are)
+    -- no call of a run gives anybody an address
+    pub run_gives_none : (config : BusConfig) (readers : List (Given H)) (steps : List SimStep) (gap : ℕ) (calls : List (Step H)) → All OrdersNoComset steps
+        → AreItsCalls answer_of after config readers steps gap calls → Each GivesNone (map (λ (step : Step H). step.call) calls)
+    run_gives_none config readers steps gap calls none are =
+        subst (Each GivesNone) (sym are)
         (all_give (begin_calls answer_of after 0 readers ++ schedule_calls answer_of after steps (set_up config readers))
         (programs_at_first answer_of after config gap readers)
         (both_each OwnGivesNone (begin_calls answer_of after 0 readers) _ (begins_give 0 readers)
-        (schedule_gives steps (set_up config readers) (each_of OrdersNoComset steps none)))))
+        (schedule_gives steps (set_up config readers) (each_of OrdersNoComset steps none))))
+
+    pub run_keeps_addresses : RunKeepsAddresses answer_of after
+    run_keeps_addresses config readers steps gap calls none are =
+        all_at_addresses calls (line_at_first config gap readers) (run_gives_none config readers steps gap calls none are)

@@ -1,11 +1,12 @@
--- The schedule is taken: step by step.
-use Rattle.std.proofs.Common.{◌≡◌, ◌<◌, ℕ, zero, suc, true, false, All, IfSome, List, [], ◌∷◌, Option, Some, None, get_or, refl, arith}
-use Rattle.std.specs.Prelude.{slice_index, take}
+-- The schedules are taken, step by step.
+use Rattle.std.proofs.Common.{◌≡◌, ◌<◌, ◌≤◌, ℕ, zero, suc, Bool, true, false, List, [], ◌∷◌, ◌++◌, length, refl, arith}
+use Rattle.std.proofs.lemmas.Bool.{and_parts, ltb-true}
+use Rattle.std.specs.Prelude.{nat_lt, slice_index, take}
 use Rattle.osdp_frame.specs.Bytes.{AreBytes}
 use Rattle.osdp_frame.specs.Held.{decided}
 use Rattle.osdp_frame.specs.Items.{items, left_over, packets_in}
 use Rattle.osdp_frame.specs.Packed.{packed}
-use Rattle.osdp_frame.specs.Packet.{IsPacket}
+use Rattle.osdp_frame.specs.Packet.{IsPacket, largest, packet_length}
 use Rattle.osdp_frame.specs.declared.check_kind.CheckKind.TheVariants.{Sum}
 use Rattle.osdp_msg.specs.CommandTable.{command_at, command_fault, command_of}
 use Rattle.osdp_msg.specs.ReplyFields.{KeypadFits}
@@ -13,22 +14,30 @@ use Rattle.osdp_msg.specs.ReplyTable.{reply_at, reply_fault, reply_of}
 use Rattle.osdp_msg.specs.declared.command.Command.{Command}
 use Rattle.osdp_bus.proofs.Defaults.{bus_in_range}
 use Rattle.osdp_link_laws.proofs.Lines.{each_all}
-use Rattle.osdp_link_laws.proofs.Stages.{Each}
 use Rattle.osdp_reader.specs.declared.handler.Answer.{Answer}
 use Rattle.osdp_sim.specs.Line.{handed}
 use Rattle.osdp_sim.specs.Steps.{SaysFit}
-use Rattle.osdp_sim.specs.declared.step.Move.TheVariants.{Deliver}
-use Rattle.osdp_sim_bus.specs.Runs.{run}
+use Rattle.osdp_sim.specs.declared.step.Move.{Move}
+use Rattle.osdp_sim.specs.declared.step.Move.TheVariants.{Deliver, Drop}
+use Rattle.osdp_sim.specs.declared.step.SimStep.{SimStep}
+use Rattle.osdp_sim_bus.specs.Runs.{AreSettings, run}
 use Rattle.osdp_sim_bus.specs.State.{LineState, ReaderSite, set_up}
+use Rattle.osdp_calls.specs.Programs.{first_notes}
+use Rattle.osdp_premises.specs.Deciding.{each_of}
 use Rattle.osdp_calls_instance.specs.Instance.{four}
-use Rattle.osdp_calls_instance.specs.SimulatedDay.{SomeScheduleIsTaken, some_steps, two_given}
+use Rattle.osdp_calls_instance.specs.OwnCalls.{all_calls}
+use Rattle.osdp_calls_instance.specs.SimulatedBus.{begin_calls, line_at_first, programs_at_first, schedule_calls, sim_device, sim_panel}
+use Rattle.osdp_calls_instance.specs.SimulatedDay.{SomeSchedulesAreTaken, moving_steps, some_steps, two_given}
+use Rattle.osdp_calls_instance.specs.SimulatedOrder.{IsTaken}
+use Rattle.osdp_calls_instance.specs.SimulatedPremises.{OrdersNoComset}
 use Rattle.osdp_calls_instance.specs.TwoEntries.{once}
 use Rattle.osdp_calls_instance.proofs.Keeping.{id_fits}
+use Rattle.osdp_calls_instance.proofs.SimulatedRule.{ruled_anywhere}
 
-are_bytes : (xs : List ℕ) → Each (λ b. b < 256) xs → AreBytes xs
-are_bytes [] each place = omega arith
-are_bytes (x ∷ xs) each zero = each.0
-are_bytes (x ∷ xs) each (suc place) = are_bytes xs each.1 place
+are_bytes : (xs : List ℕ) → each_of (λ b. nat_lt b 256) xs ≡ true → AreBytes xs
+are_bytes [] is place = omega arith
+are_bytes (x ∷ xs) is zero = ltb-true x 256 (and_parts (nat_lt x 256) (each_of (λ b. nat_lt b 256) xs) is).0
+are_bytes (x ∷ xs) is (suc place) = are_bytes xs (and_parts (nat_lt x 256) (each_of (λ b. nat_lt b 256) xs) is).1 place
 
 key_bytes : (i : ℕ) → slice_index (49 ∷ []) i < 256
 key_bytes zero = omega arith
@@ -37,83 +46,156 @@ key_bytes (suc i) = omega arith
 key_fits : KeypadFits (record { reader = 0; digits = record { items = 49 ∷ [] } })
 key_fits = record { reader = omega arith; room = omega arith; digits = key_bytes }
 
-opening_fits : IsPacket (packed false 0 0 Sum false 0 (97 ∷ 0 ∷ []))
-opening_fits = record {
-  address = omega arith;
-  sequence = omega arith;
+packet_fits : (reply : Bool) (address number : ℕ) (body : List ℕ) → address < 128 → number < 4 → each_of (λ b. nat_lt b 256) body ≡ true → 0 < length body
+    → packet_length (packed reply address number Sum false 0 body) ≤ largest → IsPacket (packed reply address number Sum false 0 body)
+packet_fits reply address number body there first bytes code room = record {
+  address = there;
+  sequence = first;
   reserved = omega arith;
-  body = are_bytes (97 ∷ 0 ∷ []) (omega arith, (omega arith, tt));
-  code = omega arith;
-  room = omega arith;
+  body = are_bytes body bytes;
+  code = code;
+  room = room;
 }
 
-answer_fits : IsPacket (packed true 0 0 Sum false 0 (69 ∷ 1 ∷ 2 ∷ 3 ∷ 4 ∷ 5 ∷ 6 ∷ 0 ∷ 0 ∷ 0 ∷ 7 ∷ 8 ∷ 9 ∷ []))
-answer_fits = record {
-  address = omega arith;
-  sequence = omega arith;
-  reserved = omega arith;
-  body = are_bytes (69 ∷ 1 ∷ 2 ∷ 3 ∷ 4 ∷ 5 ∷ 6 ∷ 0 ∷ 0 ∷ 0 ∷ 7 ∷ 8 ∷ 9 ∷ []) (
-    omega arith,
-    (
-      omega arith,
-      (
-        omega arith,
-        (
+-- an opening ID to an address, and what a device at an address answers to it
+opening_fits : (address : ℕ) → address < 128 → IsPacket (packed false address 0 Sum false 0 (97 ∷ 0 ∷ []))
+opening_fits address there = packet_fits false address 0 (97 ∷ 0 ∷ []) there (omega arith) refl (omega arith) (omega arith)
+
+answer_fits : (address : ℕ) → address < 128 → IsPacket (packed true address 0 Sum false 0 (69 ∷ 1 ∷ 2 ∷ 3 ∷ 4 ∷ 5 ∷ 6 ∷ 0 ∷ 0 ∷ 0 ∷ 7 ∷ 8 ∷ 9 ∷ []))
+answer_fits address there =
+    packet_fits true address 0 (69 ∷ 1 ∷ 2 ∷ 3 ∷ 4 ∷ 5 ∷ 6 ∷ 0 ∷ 0 ∷ 0 ∷ 7 ∷ 8 ∷ 9 ∷ []) there (omega arith) refl (omega arith) (omega arith)
+
+-- the COMSET, and its answer
+comset_fits : IsPacket (packed false 0 1 Sum false 0 (110 ∷ 5 ∷ 128 ∷ 37 ∷ 0 ∷ 0 ∷ []))
+comset_fits = packet_fits false 0 1 (110 ∷ 5 ∷ 128 ∷ 37 ∷ 0 ∷ 0 ∷ []) (omega arith) (omega arith) refl (omega arith) (omega arith)
+
+com_fits : IsPacket (packed true 0 1 Sum false 0 (84 ∷ 5 ∷ 128 ∷ 37 ∷ 0 ∷ 0 ∷ []))
+com_fits = packet_fits true 0 1 (84 ∷ 5 ∷ 128 ∷ 37 ∷ 0 ∷ 0 ∷ []) (omega arith) (omega arith) refl (omega arith) (omega arith)
+
+module _ {H : Type 0} (answer_of : H → Command → Answer) (after : H → Command → H) where
+  abbrev so_far : List SimStep → ℕ → H → LineState H
+  so_far steps count handler = run answer_of after (take count steps) (set_up once (two_given handler))
+
+  -- what the readers say to what a move hands them
+  abbrev Says : Move → LineState H → ReaderSite H → Type 0
+  Says move s site = SaysFit answer_of after (packets_in (handed move s.to_readers)) site.reader
+
+  settings : (handler : H) → AreSettings once (two_given handler)
+  settings handler = record { each = refl; bus = bus_in_range Sum four 1 ((omega arith, omega arith), omega arith, omega arith) (omega arith, omega arith) }
+
+  some_is_taken : (handler : H) → IsTaken answer_of after once (two_given handler) some_steps
+  unfolding items left_over decided reply_of reply_fault reply_at command_of command_fault command_at
+  some_is_taken handler =
+      let opened = so_far some_steps 3 handler in
+      let lost = so_far some_steps 7 handler in
+      record {
+        settings = settings handler;
+        well = refl;
+        bytes = (tt, (tt, (tt, (are_bytes (83 ∷ 0 ∷ 8 ∷ 0 ∷ 0 ∷ 97 ∷ 0 ∷ 68 ∷ []) refl, (tt, (tt, (tt, (are_bytes [] refl, (tt, (tt, tt))))))))));
+        short = (tt, (tt, (tt, (omega arith, (tt, (tt, (tt, (omega arith, (tt, (tt, tt))))))))));
+        fits = (
           omega arith,
           (
-            omega arith,
+            key_fits,
             (
-              omega arith,
+              opening_fits 0 (omega arith),
               (
-                omega arith,
+                each_all (Says Deliver opened) opened.sites ((id_fits, answer_fits 0 (omega arith), tt), ((tt, tt, tt), tt)),
+                (tt, (tt, (opening_fits 1 (omega arith), (each_all (Says Drop lost) lost.sites (tt, (tt, tt)), (tt, (tt, tt)))))),
+              ),
+            ),
+          ),
+        );
+      }
+
+  moving_is_taken : (handler : H) → IsTaken answer_of after once (two_given handler) moving_steps
+  unfolding items left_over decided reply_of reply_fault reply_at command_of command_fault command_at
+  moving_is_taken handler =
+      let opened = so_far moving_steps 2 handler in
+      let lost = so_far moving_steps 5 handler in
+      let moved = so_far moving_steps 8 handler in
+      let again = so_far moving_steps 12 handler in
+      record {
+        settings = settings handler;
+        well = refl;
+        bytes = (
+          tt,
+          (
+            tt,
+            (
+              are_bytes (83 ∷ 0 ∷ 8 ∷ 0 ∷ 0 ∷ 97 ∷ 0 ∷ 68 ∷ []) refl,
+              (
+                tt,
                 (
-                  omega arith,
+                  tt,
                   (
-                    omega arith,
+                    are_bytes [] refl,
                     (
-                      omega arith,
-                      (omega arith, (omega arith, (omega arith, tt))),
+                      tt,
+                      (
+                        tt,
+                        (
+                          are_bytes (handed Deliver moved.to_readers) refl,
+                          (tt, (tt, (tt, (are_bytes (handed Deliver again.to_readers) refl, (tt, tt))))),
+                        ),
+                      ),
                     ),
                   ),
                 ),
               ),
             ),
           ),
-        ),
-      ),
-    ),
-  );
-  code = omega arith;
-  room = omega arith;
-}
-
-opening_bytes : AreBytes (83 ∷ 0 ∷ 8 ∷ 0 ∷ 0 ∷ 97 ∷ 0 ∷ 68 ∷ [])
-opening_bytes = are_bytes (83 ∷ 0 ∷ 8 ∷ 0 ∷ 0 ∷ 97 ∷ 0 ∷ 68 ∷ [])
-    (omega arith, (omega arith, (omega arith, (omega arith, (omega arith, (omega arith, (omega arith, (omega arith, tt))))))))
-
-module _ {H : Type 0} (answer_of : H → Command → Answer) (after : H → Command → H) where
-  abbrev so_far : ℕ → H → LineState H
-  so_far count handler = run answer_of after (take count some_steps) (set_up once (two_given handler))
-
-  pub some_is_taken : SomeScheduleIsTaken answer_of after
-  unfolding items left_over decided reply_of reply_fault reply_at command_of command_fault command_at
-  some_is_taken handler = record {
-    settings = record { each = refl; bus = bus_in_range Sum four 1 ((omega arith, omega arith), omega arith, omega arith) (omega arith, omega arith) };
-    well = refl;
-    bytes = (tt, (tt, (tt, (opening_bytes, (tt, (tt, tt))))));
-    short = (tt, (tt, (tt, (omega arith, (tt, (tt, tt))))));
-    fits = (
-      omega arith,
-      (
-        key_fits,
-        (
-          opening_fits,
+        );
+        short = (tt, (tt, (omega arith, (tt, (tt, (omega arith, (tt, (tt, (omega arith, (tt, (tt, (tt, (omega arith, (tt, tt))))))))))))));
+        fits = (
+          (omega arith, omega arith),
           (
-            each_all (λ (site : ReaderSite H). SaysFit answer_of after (packets_in (handed Deliver (so_far 3 handler).to_readers)) site.reader)
-                (so_far 3 handler).sites ((id_fits, answer_fits, tt), ((tt, tt, tt), tt)),
-            (tt, (tt, tt)),
+            opening_fits 0 (omega arith),
+            (
+              each_all (Says Deliver opened) opened.sites ((id_fits, answer_fits 0 (omega arith), tt), ((tt, tt, tt), tt)),
+              (
+                tt,
+                (
+                  opening_fits 1 (omega arith),
+                  (
+                    each_all (Says Drop lost) lost.sites (tt, (tt, tt)),
+                    (
+                      tt,
+                      (
+                        comset_fits,
+                        (
+                          each_all (Says Deliver moved) moved.sites (((omega arith, omega arith), com_fits, tt), ((tt, tt, tt), tt)),
+                          (
+                            tt,
+                            (
+                              tt,
+                              (
+                                opening_fits 5 (omega arith),
+                                (each_all (Says Deliver again) again.sites ((id_fits, answer_fits 5 (omega arith), tt), ((tt, tt, tt), tt)), (tt, tt)),
+                              ),
+                            ),
+                          ),
+                        ),
+                      ),
+                    ),
+                  ),
+                ),
+              ),
+            ),
           ),
-        ),
-      ),
-    );
-  }
+        );
+      }
+
+  pub some_are_taken : (handler : H) → SomeSchedulesAreTaken answer_of after handler
+  unfolding items left_over decided reply_of reply_fault reply_at command_of command_fault command_at
+  some_are_taken handler =
+      let first = line_at_first once 20 (two_given handler) in
+      let own = begin_calls answer_of after 0 (two_given handler) ++ schedule_calls answer_of after moving_steps (set_up once (two_given handler)) in
+      record {
+        taken = some_is_taken handler;
+        no_comset = each_all OrdersNoComset some_steps (refl, (tt, (tt, (tt, (tt, (tt, (tt, (tt, (tt, (tt, tt))))))))));
+        moving = moving_is_taken handler;
+        ruled = λ calls are.
+            ruled_anywhere answer_of after (all_calls sim_panel (sim_device answer_of after) own (programs_at_first answer_of after once 20 (two_given handler)))
+            calls first (first_notes first) are (λ places. refl);
+      }

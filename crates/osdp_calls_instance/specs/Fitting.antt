@@ -1,7 +1,10 @@
 -- Which calls of programs the laws of programs speak of: nearly all. Left out are entries that can't be added as they stand, and lines by which a device
 -- lets an event go that is in doubt.
-use Rattle.std.specs.Prelude.{◌↔◌, ℕ, ◌≤◌, List, [], ◌∷◌, Option, Some, None}
+use Rattle.std.specs.Prelude.{◌≡◌, ◌≢◌, ◌↔◌, ℕ, ◌≤◌, false, List, [], ◌∷◌, Option, Some, None}
 use Rattle.std.specs.List.{AllByRecursion}
+use Rattle.osdp_device.specs.declared.events.Expired.{Expired}
+use Rattle.osdp_device.specs.declared.events.Expired.TheVariants.{InDoubt, Withdrawn}
+use Rattle.osdp_msg.specs.declared.event.Event.{Event}
 use Rattle.osdp_msg.specs.declared.limits.Room.{Room}
 use Rattle.osdp_frame.specs.declared.check_kind.CheckKind.TheVariants.{Crc}
 use Rattle.osdp_bus.specs.Buses.{new_bus}
@@ -14,10 +17,13 @@ use Rattle.osdp_line_calls.specs.ReaderCalls.{CallFits}
 use Rattle.osdp_line_calls.specs.ReaderSessions as device_sessions
 use Rattle.osdp_line_calls.specs.declared.panel_call.PanelCall.{PanelCall}
 use Rattle.osdp_line_calls.specs.declared.reader_call.ReaderCall.{ReaderCall}
+use Rattle.osdp_line_calls.specs.declared.reader_call.ReaderCall.TheVariants as to_device
 use Rattle.osdp_reader.specs.declared.config.ReaderConfig.{ReaderConfig}
 use Rattle.osdp_calls.specs.Sayings.{NoneRefused}
 use Rattle.osdp_calls_instance.specs.CPrograms as c
+use Rattle.osdp_calls_instance.specs.Instance.{device as device_settings}
 use Rattle.osdp_calls_instance.specs.LinePrograms as lines
+use Rattle.osdp_calls_instance.specs.SimulatedDay.{key}
 
 -- each call of a panel's handle is one, and so is each of a device's handle
 pub record CallsForCFit (H : Type 0) : Type 0 where
@@ -28,9 +34,15 @@ pub record CallsForCFit (H : Type 0) : Type 0 where
 abbrev pub two_addresses : List ℕ
 two_addresses = 5 ∷ 6 ∷ []
 
+-- a device to which no panel has spoken yet, and which lets an event go that is older than a second; a key was pressed there at moment 0
+abbrev pub pressed : device_sessions.Session
+pressed = lines.after_device_line (lines.SaysToDevice (Some (to_device.Event key)))
+    (device_sessions.new_session device_settings 4 20 (record { expire = 1000; told = false }))
+
 -- Each line to a panel is one, and a panel that is run anew is one exactly where its entries can be added, as two at different addresses can. Each line to a
 -- device that says nothing is one; one that says a call, exactly where its words are in their ranges and all events that leave by it were never
--- offered; and a device that is run anew, exactly where its gap is at least a millisecond.
+-- offered; and a device that is run anew, exactly where its gap is at least a millisecond. An event that leaves was never offered exactly where it isn't in
+-- doubt. So a line is one by which a key leaves two seconds after it was pressed.
 pub record LinesFit (H : Type 0) : Type 0 where
   pub panel : (said : Option PanelCall) (s : panel_sessions.Session) → (lines.line_panel {H = H}).Fits (lines.SaysToPanel said) s
   pub anew : (config : BusConfig) (addresses : List ℕ) (s : panel_sessions.Session)
@@ -41,3 +53,6 @@ pub record LinesFit (H : Type 0) : Type 0 where
       ↔ (CallFits call × AllByRecursion lines.IsWithdrawn (lines.leaving_by call s))
   pub device_anew : (config : ReaderConfig) (room gap : ℕ) (s : device_sessions.Session)
       → lines.line_device.Fits (lines.DeviceAnew config room gap) s ↔ (1 ≤ gap)
+  pub withdrawn : (gone : Expired) → lines.IsWithdrawn gone ↔ ((event : Event) → gone ≢ InDoubt event)
+  pub leaves : lines.leaving_by (to_device.At 2000) pressed ≡ Withdrawn key ∷ []
+  pub taken_back : lines.line_device.Fits (lines.SaysToDevice (Some (to_device.At 2000))) pressed

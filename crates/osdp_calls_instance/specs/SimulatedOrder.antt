@@ -1,16 +1,16 @@
 -- The places of what a run of a schedule over a bus reads: the calls that it is keep order and quiet openings, and so all premises.
-use Rattle.std.specs.Prelude.{◌≡◌, ℕ, ◌≤◌, true, All, List, [], ◌∷◌, Some, slice_get}
+use Rattle.std.specs.Prelude.{◌≡◌, ℕ, ◌≤◌, true, All, List, [], ◌∷◌}
 use Rattle.osdp_msg.specs.declared.command.Command.{Command}
 use Rattle.osdp_bus.specs.declared.config.BusConfig.{BusConfig}
 use Rattle.osdp_reader.specs.declared.handler.Answer.{Answer}
 use Rattle.osdp_shared_line.specs.Programs.{Note}
 use Rattle.osdp_sim.specs.Schedules.{HoldsAlong}
 use Rattle.osdp_sim.specs.declared.step.SimStep.{SimStep}
-use Rattle.osdp_sim_bus.specs.Runs.{AreSettings, FitAlong, is_well, run}
-use Rattle.osdp_sim_bus.specs.State.{Given, ReaderSite, set_up}
+use Rattle.osdp_sim_bus.specs.Runs.{AreSettings, FitAlong, is_well}
+use Rattle.osdp_sim_bus.specs.State.{Given, set_up}
 use Rattle.osdp_sim_bus.specs.Steps.{after_step}
-use Rattle.osdp_calls.specs.Calls.{Step, after_call, after_calls}
-use Rattle.osdp_calls.specs.Lines.{InUse, Station}
+use Rattle.osdp_calls.specs.Calls.{Step, after_call}
+use Rattle.osdp_calls.specs.Lines.{InUse}
 use Rattle.osdp_calls.specs.Premises.{AllKeep, InOrder, QuietOpening}
 use Rattle.osdp_calls.specs.Programs.{KeepsRule, first_notes, notes_after}
 use Rattle.osdp_calls_instance.specs.SimulatedBus.{AreItsCalls, HandsBytes, line_at_first}
@@ -55,3 +55,9 @@ module _ {H : Type 0} where
     abbrev pub RunKeepsOrder : Type 0
     RunKeepsOrder = (config : BusConfig) (readers : List (Given H)) (steps : List SimStep) (gap : ℕ) → 1 ≤ gap → IsTaken config readers steps
         → KeepsOrder config readers steps gap
+
+    -- Where no step orders a COMSET, the calls of a run keep to the rule, whichever places they have.
+    abbrev pub RunKeepsRule : Type 0
+    RunKeepsRule = (config : BusConfig) (readers : List (Given H)) (steps : List SimStep) (gap : ℕ) (calls : List (Step H)) → All OrdersNoComset steps
+        → AreItsCalls answer_of after config readers steps gap calls
+        → AllRuled calls (line_at_first config gap readers) (first_notes (line_at_first config gap readers))

@@ -10,9 +10,9 @@ ghost use Rattle.osdp_calls_instance.specs.LinePrograms.{LinesAreThese, PanelLin
 ghost use Rattle.osdp_calls_instance.specs.OwnCalls.{CallTheLine, StandsOnCalls};
 ghost use Rattle.osdp_calls_instance.specs.Rule.{TwoCallsKeepRule};
 ghost use Rattle.osdp_calls_instance.specs.SimulatedBus.{RunIsCalls, RunsFromASetUp};
-ghost use Rattle.osdp_calls_instance.specs.SimulatedDay.{SomeScheduleIsTaken};
-ghost use Rattle.osdp_calls_instance.specs.SimulatedOrder.{RunKeepsOrder};
-ghost use Rattle.osdp_calls_instance.specs.SimulatedPremises.{RunIsInRange, RunKeepsAddresses};
+ghost use Rattle.osdp_calls_instance.specs.SimulatedDay.{SomeSchedulesAreTaken};
+ghost use Rattle.osdp_calls_instance.specs.SimulatedOrder.{RunKeepsOrder, RunKeepsRule};
+ghost use Rattle.osdp_calls_instance.specs.SimulatedPremises.{RunIsInRange, RunKeepsAddresses, StepsAreExact};
 ghost use Rattle.osdp_calls_instance.specs.SimulatedReports.{RunTakesTheSame, RunTellsTheSame};
 ghost use Rattle.osdp_calls_instance.specs.TwoEntries.{TwoCallsKeep};
 ghost use Rattle.osdp_device.specs.Program.{program_after, program_answer};
@@ -74,11 +74,15 @@ pub fn lines_are_calls()
 
 /// The laws of programs leave out nearly none of the calls for C and of the lines. Of calls for C they speak of each, also of one that makes a device anew
 /// as another model. Of lines to a panel they speak of each, but of a run anew with entries that can't be added; two at different addresses can. Of lines
-/// to a device they leave out those by which an event leaves that is in doubt. And some schedule is taken.
+/// to a device they leave out those by which an event leaves that is in doubt; a line is one by which a key leaves that was never offered.
+///
+/// Of a schedule's steps they ask what goes over the line of one that hands the readers a burst alone, and a step orders no COMSET exactly where it is no
+/// order of one. Some schedule is taken that orders none, in which a session begins again. One is taken that orders one, and its run keeps to the rule.
 pub fn laws_speak_of_programs<H: Handler>()
     ensures c { CallsForCFit H }
     ensures lines { LinesFit H }
-    ensures schedule { SomeScheduleIsTaken H.answer_of H.after }
+    ensures steps { StepsAreExact H }
+    ensures schedules { (handler : H) → SomeSchedulesAreTaken H.answer_of H.after handler }
 {}
 
 /// A panel in C or by lines may stand on a line with any devices: what it calls are calls of the panel, which do to its bus what they do.
@@ -122,6 +126,11 @@ pub fn run_keeps_ranges_and_addresses<H: Handler>()
 {
     osdp_calls::ends_go_by_their_own_calls::<H>();
 }
+
+/// Where no step of such a schedule orders a COMSET, the calls of its run keep to the rule for programs that stands for the premise on addresses.
+pub fn run_keeps_rule<H: Handler>()
+    ensures { RunKeepsRule H.answer_of H.after }
+{}
 
 /// The calls that such a run is keep order and quiet openings, where fields are in their ranges and no step is refused. This asks that its settings are in
 /// their ranges too, and that no burst that comes to the readers is longer than a packet. Then each packet that the run reads is a copy of a burst that was
