@@ -6,7 +6,6 @@ use Rattle.std.specs.Prelude.{drop, slice_get}
 use Rattle.osdp_frame.specs.Receiving.{Received, after_silence, after_take, count_taken}
 use Rattle.osdp_msg.specs.declared.command.Command.{Command}
 use Rattle.osdp_msg.specs.declared.event.Event.{Event}
-use Rattle.osdp_bus.specs.Buses.{BusState}
 use Rattle.osdp_bus.specs.Machine.{changed_unless, submit_refusal_at}
 use Rattle.osdp_bus.specs.declared.config.BusConfig.{BusConfig}
 use Rattle.osdp_bus.specs.declared.fault.BusFault.{BusFault}
@@ -22,7 +21,6 @@ use Rattle.osdp_shared_line.specs.Line.{site_at}
 use Rattle.osdp_shared_line.proofs.Sites.{some_same}
 use Rattle.osdp_sim.specs.Line.{handed}
 use Rattle.osdp_sim.specs.Schedules.{HoldsAlong}
-use Rattle.osdp_sim.specs.Steps.{moment_after}
 use Rattle.osdp_sim.specs.declared.step.SimStep.{SimStep}
 use Rattle.osdp_sim.specs.declared.step.SimStep.TheVariants as step
 use Rattle.osdp_sim_bus.specs.Runs.{is_well, run}
@@ -38,9 +36,9 @@ use Rattle.osdp_calls.specs.Ends.{GoByTheirOwn, Held}
 use Rattle.osdp_calls.specs.Lines.{InUse}
 use Rattle.osdp_calls_instance.specs.LinePrograms.{handing, nexts, reading, unless_done}
 use Rattle.osdp_calls_instance.specs.OwnCalls.{AtDevice, AtPanel, IsLineOf, all_calls, calls_at}
-use Rattle.osdp_calls_instance.specs.SimulatedBus.{AreItsCalls, Begins, DeviceStep, HandsBytes, HearsBurst, HearsRun, IsBusy, Queues, SimCall, Submits, Waits, all_hear, begin_calls, burst_calls, line_at_first, panel_step_calls, programs_at_first, run_calls, schedule_calls, sim_device, sim_panel, step_calls}
+use Rattle.osdp_calls_instance.specs.SimulatedBus.{AreItsCalls, Begins, HandsBytes, HearsBurst, HearsRun, IsBusy, Queues, SimCall, Submits, all_hear, begin_calls, burst_calls, line_at_first, panel_step_calls, programs_at_first, schedule_calls, sim_device, sim_panel, step_calls}
 use Rattle.osdp_calls_instance.proofs.OwnCalls.{call_the_line, splits}
-use Rattle.osdp_calls_instance.proofs.SimulatedBus.{Follows, Here, all_follow, at_both, begins_so, fits_all, goes, step_follows, well_first, stations_are}
+use Rattle.osdp_calls_instance.proofs.SimulatedBus.{Follows, Here, at_both, begins_so, fits_all, goes, step_follows, well_first, stations_are}
 use Rattle.osdp_calls_instance.proofs.SimulatedEnds.{sim_devices_are, sim_panels_are}
 use Rattle.osdp_calls_instance.proofs.SimulatedReaders.{calls_more}
 

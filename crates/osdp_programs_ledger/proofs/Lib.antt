@@ -3,3 +3,4 @@ mod Entries
 pub mod Programs
 mod Standing
 mod Schedules
+mod OwnOrder

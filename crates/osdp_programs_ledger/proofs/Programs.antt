@@ -1,5 +1,5 @@
 -- The calls of programs are calls of a line in use, so what holds of these holds of them.
-use Rattle.std.proofs.Common.{◌≡◌, List, Some, subst}
+use Rattle.std.proofs.Common.{◌≡◌, Some, subst}
 use Rattle.osdp_msg.specs.declared.command.Command.{Command}
 use Rattle.osdp_bus.specs.Buses.{device_of}
 use Rattle.osdp_reader.specs.declared.handler.Answer.{Answer}

@@ -1,5 +1,5 @@
 -- Where the settings of a run are in their ranges, its entries can be added to its bus.
-use Rattle.std.proofs.Common.{◌≡◌, ◌≤◌, ◌<◌, ◌+◌, ℕ, suc, Bool, true, false, cond, List, [], ◌∷◌, ◌++◌, length, map, Some, None, refl, sym, subst, ap, arith, lt-ltb}
+use Rattle.std.proofs.Common.{◌≡◌, ◌≤◌, ◌+◌, ℕ, suc, Bool, true, false, cond, List, [], ◌∷◌, ◌++◌, length, map, Some, None, refl, sym, subst, ap, arith, lt-ltb}
 use Rattle.std.proofs.lemmas.Bool.{leb-true, lt-leb}
 use Rattle.std.proofs.lemmas.List.{length-append}
 use Rattle.std.specs.List.{list_all, list_any}

@@ -6,6 +6,7 @@ ghost use Rattle.osdp_calls_instance.specs.CPrograms.{c_device, c_panel};
 ghost use Rattle.osdp_calls_instance.specs.LinePrograms.{line_device, line_panel};
 ghost use Rattle.osdp_device.specs.Program.{program_after, program_answer};
 ghost use Rattle.osdp_device.specs.Status.{status_after, status_answer};
+ghost use Rattle.osdp_programs_ledger.specs.OwnOrder.{AnyProgramsKeep, OwnProgramsHoldOnce};
 ghost use Rattle.osdp_programs_ledger.specs.Programs.{ProgramsHoldOnce, RuledProgramsHoldOnce};
 ghost use Rattle.osdp_programs_ledger.specs.Schedules.{RunsHoldOnce};
 
@@ -51,4 +52,27 @@ pub fn runs_hold_once<H: Handler>()
     osdp_calls_ledger::ledger_holds_once::<H>();
     osdp_shared_line::each_is_a_link::<H>();
     osdp_link_laws::holds_once::<H>();
+}
+
+/// What programs in C are promised holds, too, where the panel's entries stand in any order, with entries of others between ours, and where the panel is made
+/// anew in another order, or without some of ours. It holds of each of our devices, with the entry that the panel has of it, if it has one. The premises are
+/// those of law `own_order_holds_once` of `osdp_entry_numbers`. Calls of programs that keep the premises of any calls keep these, where the panel's entries could be
+/// added as they stand.
+pub fn c_programs_hold_once_in_any_order()
+    ensures calls { OwnProgramsHoldOnce c_panel c_device program_answer program_after }
+    ensures less { AnyProgramsKeep c_panel c_device program_answer program_after }
+{
+    osdp_calls::ends_go_by_their_own_calls::<ProgramAnswers>();
+    osdp_calls_instance::calls_for_c_are_calls();
+    osdp_entry_numbers::own_order_holds_once::<ProgramAnswers>();
+}
+
+/// The same of lines to `osdp panel` and to `osdp reader`.
+pub fn line_programs_hold_once_in_any_order()
+    ensures calls { OwnProgramsHoldOnce line_panel line_device status_answer status_after }
+    ensures less { AnyProgramsKeep line_panel line_device status_answer status_after }
+{
+    osdp_calls::ends_go_by_their_own_calls::<DeviceStatus>();
+    osdp_calls_instance::lines_are_calls();
+    osdp_entry_numbers::own_order_holds_once::<DeviceStatus>();
 }
