@@ -144,18 +144,22 @@ class Stays(Rated):
     follows = False
 
 
-class Ghosts(Line):
+class Ghosts(Rated):
     """Now and then damage puts bytes before a packet, and changes one bit of its address and the same one of its sum, so that the sum doesn't tell it: the packet
-    seems to be another device's. Two such packets of a kind come at most for each address."""
+    seems to be another device's. Two such packets of a kind come at most for each address, one before a COM. The first COM is always such a packet."""
 
     def __init__(self, *words, **more):
         super().__init__(*words, **more | {"check": "sum"})
-        self.ghosts = Counter()
+        self.ghosts, self.sets = Counter(), False
 
     def say(self, burst):
-        bit = 1 << self.chance.randrange(7)
-        ghost = bytes([burst[0], burst[1] ^ bit, *burst[2:-1], burst[-1] ^ bit])
-        if sum(ghost) & 0xFF == 0 and self.ghosts[ghost[1]] < 2 and self.chance.random() < 0.2:
+        sets = burst[1] & 0x80 and burst[5] == COM and not self.sets
+        bits = [1 << at for at in self.chance.sample(range(7), 7 if sets else 1)]
+        made = [bytes([burst[0], burst[1] ^ bit, *burst[2:-1], burst[-1] ^ bit]) for bit in bits]
+        most = 2 if sets or self.sets else 1
+        ghost = next((each for each in made if sum(each) & 0xFF == 0 and self.ghosts[each[1]] < most), None)
+        if ghost and (sets or self.chance.random() < 0.2):
+            self.sets |= bool(sets)
             self.ghosts[ghost[1]] += 1
             self.heard.append((bytes(self.chance.choice((0xAA, 0x00, 0xFE)) for _ in range(9)) + ghost).hex().upper())
             return False
@@ -314,7 +318,9 @@ def damage_cases(loss, at, lost):
         lines = both(bursts(Damages, f"worn {seed} {loss}", loss), bursts(Line, f"sound {seed} {loss}", loss, 6))
         yield Case(f"damage on one of 2, where all have some, {at}", lines, (), (LOSES, REPEATED, ALIKE), (DAMAGED,), devices=(5, 6))
     for seed in range(10):
-        yield Case(f"ghost devices, {at}", bursts(Ghosts, f"ghosts {seed} {loss}", loss), allowed=(LOSES, *lost))
+        line, said = made(Ghosts, f"ghosts {seed} {loss}", loss, panel=type("Setting", (Sets,), {"setting": (5, RATE)}))
+        assert line.sets, "damage has made no COM"
+        yield Case(f"ghost devices, {at}", said, (f"5 was set to {RATE} bits a second",) if line.named else (), (LOSES, *lost))
         yield Case(f"devices that are rarely asked, {at}", with_rare(bursts(Line, f"rare {seed} {loss}", loss), seed), ("6 never answered",), lost, devices=(5, 6, 7))
 
 

@@ -2,7 +2,7 @@
 use Rattle.std.specs.Prelude.{ℕ, ◌+◌, ◌-◌, ◌*◌, ◌/◌, ◌^◌, ◌==◌, ◌&&◌, ◌||◌, not, nat_le, nat_lt, Bool, if◌then◌else◌, List, [], ◌∷◌, ◌++◌, codes}
 use Rattle.std.specs.Fmt.{decimal}
 use Rattle.osdp_tool_show.specs.declared.tally.Tally.{Tally}
-use Rattle.osdp_tool_monitor.specs.Counts.{more_if}
+use Rattle.osdp_tool_monitor.specs.Counts.{is_ghost, more_if}
 use Rattle.osdp_tool_monitor.specs.InTurn.{after_all}
 use Rattle.osdp_tool_monitor.specs.declared.counts.Counts.{Counts}
 use Rattle.osdp_tool_monitor.specs.declared.diagnosis.Survey.{Survey}
@@ -132,8 +132,9 @@ abbrev pub setting_lines : ℕ → Counts → List ℕ
 setting_lines address c =
     secure_lines address c ++ told_count (nat_le 1 c.rate) address (codes " was set to ") c.rate (codes " bits a second")
 
+-- nothing of an address that damage made
 abbrev pub device_lines : Survey → ℕ → Counts → List ℕ
-device_lines s address c = answer_lines s address c ++ (damage_lines s address c ++ setting_lines address c)
+device_lines s address c = if is_ghost c then [] else answer_lines s address c ++ (damage_lines s address c ++ setting_lines address c)
 
 unfoldable pub lines_from : Survey → ℕ → List Counts → List ℕ
 lines_from s address [] = []

@@ -324,7 +324,7 @@ fn push_settings(text: &mut String, address: u64, counts: &Counts) -> Result<(),
     push_count(text, rate >= 1, address, " was set to ", rate, after)
 }
 
-/// Writes all lines of a device.
+/// Writes all lines of a device; none of an address that damage made.
 fn push_device(
     text: &mut String,
     survey: Survey,
@@ -333,6 +333,9 @@ fn push_device(
 ) -> Result<(), AllocError>
     ensures { OnOk result (string_bytes text.new ≡ string_bytes text.old ++ device_lines survey address counts.now) }
 {
+    if counts.is_ghost() {
+        return Ok(());
+    }
     push_answers(text, survey, address, counts)?;
     push_damage(text, survey, address, counts)?;
     push_settings(text, address, counts)
