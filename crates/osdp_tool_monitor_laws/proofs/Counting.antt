@@ -28,15 +28,15 @@ use Rattle.osdp_tool_monitor.specs.Listening.{Listening, heard_item, heard_items
 use Rattle.osdp_tool_monitor_laws.specs.Counting.{CountsEachKind, CountsForgotten, CountsTheLine, Entry, accused, answered, brought, busy, capped, entries, how_many_at, is_busy, is_event, is_moved, is_nak, is_opened, is_poll, judged, moved, opened, polled, refused, repeated, sent}
 
 -- one more, up to a greatest number
-more_to : (most : ℕ) (test : Bool) (n : ℕ) → cond (test && ltb (min n most) most) (min n most + 1) (min n most) ≡ min (n + cond test 1 0) most
+pub more_to : (most : ℕ) (test : Bool) (n : ℕ) → cond (test && ltb (min n most) most) (min n most + 1) (min n most) ≡ min (n + cond test 1 0) most
 more_to most false n = ap (λ m. min m most) (omega arith)
 more_to most true n = cond_both (ltb (min n most) most) (min n most + 1) (min n most) (λ m. m ≡ min (n + 1) most)
     (λ below. let is = ltb-true (min n most) most below in omega (arith, is)) (λ full. let is = ltb-false (min n most) most full in omega (arith, is))
 
-more : (test : Bool) (n : ℕ) → more_if test (capped n) ≡ capped (n + cond test 1 0)
+pub more : (test : Bool) (n : ℕ) → more_if test (capped n) ≡ capped (n + cond test 1 0)
 more test n = more_to (2 ^ 64 - 1) test n
 
-from_none : (n : ℕ) → 0 + n ≡ n
+pub from_none : (n : ℕ) → 0 + n ≡ n
 from_none n = omega arith
 
 -- damage leaves the rows
@@ -74,7 +74,7 @@ module _ (f : Counts → ℕ) (adds : Entry → Counts → Bool) (a : ℕ)
   ]
 
 -- what a packet is counted as
-abbrev entry_of : Listening → Packet → Entry
+abbrev pub entry_of : Listening → Packet → Entry
 entry_of l p = record { packet = p; copy = copies_last l.knowledge p; found = told_in l p }
 
 pub long_after : (a : ℕ) (l : Listening) (p : Packet) → a < length l.counts → a < length (heard_item l (PacketItem p)).counts
@@ -87,7 +87,7 @@ module _ (f : Counts → ℕ) (kind : Entry → Bool) (a : ℕ)
     (packet : (p : Packet) (clean copy : Bool) (found : Found) (c : Counts)
     → f (after_packet p clean copy found c) ≡ more_if (kind (record { packet = p; copy = copy; found = found })) (f c))
     (damage : (c : Counts) → f (after_damage c) ≡ f c) where
-  abbrev here : Entry → Bool
+  abbrev pub here : Entry → Bool
   here e = eqb e.packet.address a && kind e
 
   along : (items : List RunItem) (l : Listening) (n : ℕ) → a < length l.counts → f (get_or l.counts a no_counts) ≡ capped n
@@ -108,7 +108,7 @@ module _ (f : Counts → ℕ) (kind : Entry → Bool) (a : ℕ)
       along items (heard_item l (RefusedItem fault)) n (kept_long (hit_by l.trail 7) l.counts within)
       (damaged f (λ x _. kind x) a packet damage (hit_by l.trail 7) l.counts within ∙ so_far)
 
-  counts_it : (standard : Bool) (items : List RunItem) → a < 128 → f no_counts ≡ 0
+  pub counts_it : (standard : Bool) (items : List RunItem) → a < 128 → f no_counts ≡ 0
       → f (get_or (heard_items (nothing_heard standard) items).counts a no_counts) ≡ how_many_at a kind (entries standard no_knowledge items)
   counts_it standard items within none =
       along items (nothing_heard standard) 0 (subst (λ m. a < m) (sym (length-replicate 128 no_counts)) within)
@@ -118,12 +118,12 @@ module _ (f : Counts → ℕ) (kind : Entry → Bool) (a : ℕ)
 -- ---- the columns
 
 -- what a packet to a device adds, and what a reply does
-by_reply : (P : Bool → Type 0) → P true → P false → (b : Bool) → P b
+pub by_reply : (P : Bool → Type 0) → P true → P false → (b : Bool) → P b
 by_reply P reply command true = reply
 by_reply P reply command false = command
 
 -- the kinds by which a reply is counted
-busy_same : (told : Result Reply MsgFault) → counts.is_busy (kind_of_reply told) ≡ is_busy told
+pub busy_same : (told : Result Reply MsgFault) → counts.is_busy (kind_of_reply told) ≡ is_busy told
 busy_same (Ok reply.Busy) = refl
 busy_same (Ok (reply.Nak n)) = by_reason n.reason
   where
@@ -132,7 +132,7 @@ busy_same (Ok (reply.Nak n)) = by_reason n.reason
     by_reason reason = refl
 busy_same told = refl
 
-nak_same : (told : Result Reply MsgFault) → counts.is_refused (kind_of_reply told) ≡ is_nak told
+pub nak_same : (told : Result Reply MsgFault) → counts.is_refused (kind_of_reply told) ≡ is_nak told
 nak_same (Ok (reply.Nak n)) = by_reason n.reason
   where
     by_reason : (reason : NakReason) → counts.is_refused (kind_of_reason reason) ≡ true
@@ -164,11 +164,11 @@ moved_same (Some (Moved place)) = refl
 moved_same o = refl
 
 module _ (p : Packet) (clean copy : Bool) (found : Found) (c : Counts) where
-  abbrev before : Counts
+  abbrev pub before : Counts
   before = after_any_packet p clean c
 
   -- by whether it is a reply
-  abbrev then_or : Bool → Counts
+  abbrev pub then_or : Bool → Counts
   then_or b = cond b (after_reply (kind_of_reply (reply_told p)) found before) (after_sent p copy found before)
 
   pub asked_step : (then_or p.reply).asked ≡ more_if (not p.reply) c.asked

@@ -1,7 +1,9 @@
-//! What the table of `osdp monitor` counts, said apart from it. The functions do nothing: their contracts are laws.
+//! What the table of `osdp monitor` counts and which diagnoses stand after it, said apart from them. The functions do nothing: their contracts are laws.
 #![tactic(auto)]
 
 ghost use Rattle.osdp_tool_monitor_laws.specs.Counting.{CountsEachKind, CountsForgotten, CountsTheLine};
+ghost use Rattle.osdp_tool_monitor_laws.specs.Faults.{CountsFaults, CountsRepliesOnce};
+ghost use Rattle.osdp_tool_monitor_laws.specs.Told.{TellsDiagnoses};
 ghost use Rattle.osdp_tool_monitor_laws.specs.Windows.{LinesAddUp, RowsAddUp, TellsWindows};
 
 /// Whatever was heard, each column of an address's row but `forgot` has how many packets of its kind came to the address or from it.
@@ -17,6 +19,22 @@ pub fn counts_forgotten()
 /// The line of counts has how many packets were judged on the whole line, and how many accusations there were.
 pub fn counts_the_line()
     ensures { CountsTheLine }
+{}
+
+/// Each reply of an address is counted once: as an answer, as BUSY, or as a NAK.
+pub fn counts_replies_once()
+    ensures { CountsRepliesOnce }
+{}
+
+/// Whatever was heard, each count of an address that a diagnosis alone reads has how many packets of its kind came to it or from it, or came with damage. The rate is that
+/// of its last COM.
+pub fn counts_faults()
+    ensures { CountsFaults }
+{}
+
+/// After the table stands a line for each diagnosis that holds of what was heard, device by device, and nothing else.
+pub fn tells_diagnoses()
+    ensures { TellsDiagnoses }
 {}
 
 /// Where a table was told before, the next one tells what came since, and after it the whole, as where none was told before.
