@@ -5,7 +5,7 @@ import sys
 TOP = os.path.dirname(os.path.dirname(os.path.realpath(__file__)))
 sys.dont_write_bytecode = True
 sys.path.insert(0, f"{TOP}/tools")
-from operators import code_operators, code_special, contracts, definition_operators, definitions, donors, generated, items, pairs, pinned, premises, shadows, short, spelling  # noqa: E402
+from operators import code_operators, code_special, contracts, definition_operators, definitions, donors, generated, items, pairs, pinned, premises, shadows, short, spelling, whole  # noqa: E402
 from operators.facts import Facts  # noqa: E402
 
 CODE = """/// Whether a < b.
@@ -103,6 +103,25 @@ fn one_case(&mut self) -> bool
     true
 }
 """
+# how much of what comes of a function its contract gives, by its head
+WHOLE = {
+    "fn f(a: u8) -> bool ensures { IsTrue result ↔ Fits a }": whole.WHOLE,
+    "fn f(a: u8) -> [u8; 2] ensures { result ≡ spelled a }": whole.WHOLE,
+    "fn f(out: &mut Vec<u8>, a: u8) -> Option<&[u8]> ensures rest { out.new.items ≡ g out.old.items } ensures answer { option_copied result ≡ g a }": whole.WHOLE,
+    "fn f(pair: &mut Pair) ensures left { pair.new.left ≡ 1 } ensures right { pair.new.right ≡ 2 }": whole.WHOLE,
+    "fn f(pair: &mut Pair) ensures left { pair.new.left ≡ 1 }": whole.VIEW,
+    "fn f(pair: &mut Pair) -> Result<(), Fault> ensures answer { result ≡ g pair.old } ensures good { OnOk result (pair.new ≡ g pair.old) } ensures bad { OnErr result (pair.new ≡ pair.old) }": whole.WHOLE,
+    "fn f(pair: &mut Pair) -> Result<(), Fault> ensures answer { result ≡ g pair.old } ensures good { OnOk result (pair.new ≡ g pair.old) }": whole.ON_OK,
+    "fn f(text: &mut String) -> Result<(), Fault> ensures { OnOk result (string_bytes text.new ≡ g text.old) }": whole.ON_OK,
+    "fn f(a: u8) -> Result<u8, Fault> ensures { IfOk result (λ v. v ≡ g a) }": whole.ON_OK,
+    "fn f(a: u8) -> u8 ensures { a < 3 → result ≡ 1 }": whole.OPEN,
+    "fn f(out: &mut Vec<u8>) ensures { IsWritten 3 out.old.items out.new.items }": whole.OPEN,
+    "fn f(list: &mut Ring) ensures { items_of list.new ≡ items_of list.old }": whole.VIEW,
+    "fn f(at: *mut u8) -> u8 ensures { result ≡ 1 }": whole.OPEN,
+    "fn f(out: Option<&mut u8>) -> u8 ensures { result ≡ 1 }": whole.OPEN,
+    "fn f<W: Write>(out: W) -> u8 ensures { result ≡ 1 }": whole.OPEN,
+    "fn f(a: u8) ensures { g a ≡ 1 }": whole.OPEN,
+}
 
 
 def lines_of(text, found):
@@ -152,6 +171,11 @@ def main():
     assert given["by_case"].left_sides() == ["result", "either: self.new", "either: self.new"], "two cases give a value"
     answers = pinned.functions(generated.read("crates/osdp_door/src/door.rt"))["answer"]
     assert answers.left_sides() == ["result", "self.new"], "a function of a trait has no contract"
+
+    for head, kind in WHOLE.items():
+        text = head + "\n{\n    g()\n}\n"
+        found = whole.kind(pinned.functions(text)["f"], items.File(text).units[0], head, {"Pair": {"left": "u8", "right": "u8"}})
+        assert found == kind, f"what a contract gives is told as {found}: {head}"
 
     file = items.File(CHANGING)
     made = lines_of(CHANGING, [*code_special.Special(file, file.units[1], Facts([file], [])).make()])

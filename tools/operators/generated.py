@@ -37,6 +37,12 @@ def paths_of(crate, part):
     return sorted(it for it in found if "/src/tests" not in it)
 
 
+@functools.cache
+def all_paths(part):
+    """Returns the files of all crates."""
+    return [it for crate in sorted(os.listdir(f"{TOP}/crates")) for it in paths_of(crate, part)]
+
+
 class Generated:
     """An edit that an operator makes."""
 

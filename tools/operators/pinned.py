@@ -40,11 +40,14 @@ class Function:
             opened = text.index("(", group_end(text, types))
         at = group_end(text, opened)
         self.given = text[opened + 1:at - 1]
-        self.returns, self.clauses, self.needs = "", list(of_trait), []
+        self.returns, self.clauses, self.needs = "", [], []
         told = re.compile(r"\s*->\s*").match(text, at)
         if told:
-            after = re.compile(r"\b(?:where|requires|ensures|decreases|diverges|ghost)\b|[{;]").search(text, told.end())
-            self.returns, at = text[told.end():after.start()].strip(), after.start()
+            at, end = told.end(), re.compile(r"\b(?:where|requires|ensures|decreases|diverges|ghost)\b|[{;]")
+            # an array's length stands after a `;`
+            while not end.match(text, at):
+                at = group_end(text, at) if text[at] in "[(" else at + 1
+            self.returns = text[told.end():at].strip()
         while clause := re.compile(r"\s*(?:(where)\b[^{;]*?(?=\b(?:requires|ensures|decreases)\b|\{)|(requires|ensures|decreases|ghost)\b)").match(text, at):
             at = clause.end()
             if not clause[1]:
@@ -52,6 +55,8 @@ class Function:
                 at = group_end(text, opened)
                 if clause[2] in ("ensures", "requires"):
                     (self.clauses if clause[2] == "ensures" else self.needs).append(" ".join(text[opened + 1:at - 1].split()))
+        # clauses of its own stand in place of those of its trait
+        self.clauses = self.clauses or list(of_trait)
         # what a trait declares has no body
         self.body = at if re.compile(r"\s*;").match(text, at) else text.index("{", at)
         self.end = group_end(text, self.body) if text[self.body] == "{" else at

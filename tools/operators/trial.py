@@ -9,7 +9,7 @@ import os
 import re
 from collections import Counter
 
-from . import generated, pairs, runs, shadows, variants
+from . import chains, generated, pairs, runs, shadows, variants
 
 ERROR = re.compile(r"^(?:\./)?(src/\S+?|specs/\S+?):(\d+):\d+: error(?:\[[\w-]+\])?: (.*)$", re.M)
 # why an edit is no text that compiles
@@ -17,6 +17,10 @@ UNREAD = re.compile(r"it can't be read|the edited text cannot be read|it did not
 REFUSED, EQUAL, SURVIVED, NOT_TRIED, BY_CODE = "refused", "equal", "survived", "not tried", "refused by code alone"
 # variants that are read together before any proof
 READ = 24
+# functions that are asked at most where the crate wasn't proved here
+MOST_ASKED = 40
+# crates from that of an edit up to one that is asked of it
+MOST_BETWEEN = 4
 
 
 def key_of(edit):
@@ -66,7 +70,7 @@ class Trial:
     def __init__(self, tools, copy, crate, budget, of_crate, told=print, asks_runs=False, log=None):
         self.tools, self.copy, self.crate, self.budget, self.variants = tools, copy, crate, budget, of_crate
         self.told, self.asks_runs, self.log = told, asks_runs, log
-        self.results, self.refusers, self.at_once = {}, {}, 1
+        self.results, self.refusers, self.at_once, self.log_of, self.through = {}, {}, 1, None, []
 
     def say(self, edit, result, why=""):
         # what the proofs let through, or a proof's shape alone stops, is asked of what runs
@@ -80,9 +84,14 @@ class Trial:
         elif os.environ.get("PLANTED_TELLS"):
             self.told(f"{self.crate}: {result}: {edit.name()}: {why[:160]}", flush=True)
 
-    def prove(self, count, edits, is_sample):
-        """Proves the variants unchanged: whole, or of a crate of laws, for a sample, what the edits ask first alone. Returns what was said where that fails, or None."""
+    def prove(self, count, edits, is_sample, proved=None):
+        """Proves the variants unchanged: whole, or of a crate of laws, for a sample, what the edits ask first alone. Returns what was said where that fails, or None.
+        Where it is known which functions are proved, nothing is proved again."""
         asks = None
+        if proved:
+            self.variants.functions, self.log_of, self.at_once = proved(self.crate), proved, count
+            self.variants.make(count)
+            return None
         if is_sample and self.is_of_laws():
             self.variants.functions = names_of_laws(self.crate)
             asks = sorted({name for it in edits for name in self.likely(it)})
@@ -92,7 +101,8 @@ class Trial:
 
     def try_all(self, edits):
         code = [it for it in edits if not it.is_definition()]
-        if self.at_once > 1:
+        # what is one run anyway isn't read by itself before
+        if self.at_once > 1 and len(code) > self.at_once:
             code = self.readable(code)
         alone = self.try_functions([it for it in code if it.unit.kind == "fn"])
         far = [it for it in edits if not hasattr(it, "start") and not self.is_within(it)]
@@ -101,6 +111,7 @@ class Trial:
         for it in far:
             if self.budget.left() > 0:
                 self.by_itself(it)
+        self.ask_above()
 
     def is_within(self, edit):
         """Whether the edit changes files of the crate alone."""
@@ -178,6 +189,10 @@ class Trial:
     def try_functions(self, waiting):
         """Tries edits of functions, and returns those of which a run with others shows nothing."""
         alone, stood = [], Counter()
+        if self.log_of:
+            for it in [one for one in waiting if not self.symbols(one)]:
+                self.say(it, NOT_TRIED, "the log has no function of this name")
+                waiting = [one for one in waiting if one is not it]
         while waiting and self.budget.left() > 0:
             loads, rest = self.spread(waiting, self.at_once)
             left = self.round(loads)
@@ -282,12 +297,98 @@ class Trial:
                 waiting[step + 1] += [it for it, asks in zip(batch, only) if not asks]
                 sure = [(it, asks) for it, asks in zip(batch, only) if asks]
                 left = self.asked([it for it, _ in sure], [asks for _, asks in sure]) if sure else []
+            elif self.log_of:
+                left = self.let_through(batch)
             else:
                 left = self.asked(batch, None)
             if left is None:
                 return
             if step < 2:
                 waiting[step + 1] += left
+
+    def let_through(self, batch):
+        """Asks the functions whose contracts reach each edit, where the crate wasn't proved here, so that a check of all of it would take long: so many of them at most."""
+        only = [self.reaching(it) for it in batch]
+        left = self.asked([it for it, asks in zip(batch, only) if asks], [it for it in only if it]) if any(only) else []
+        if left is None:
+            return None
+        self.through += [(it, len(only[batch.index(it)])) for it in [*left, *(it for it, asks in zip(batch, only) if not asks)]]
+        return []
+
+    def ask_above(self):
+        """Asks what the functions of its own crate let through of functions of crates above, in two of these at most that are near."""
+        waiting = {edit: [it for it in self.tools.USES if edit.is_definition() and self.above_in(it, edit)] for edit, _ in self.through}
+        asked = {edit: f"{count} functions of {self.crate}" for edit, count in self.through}
+        for _ in range(2):
+            groups = {}
+            for edit, over in waiting.items():
+                over.sort(key=lambda it: (len(self.between(it)), not it.endswith("_laws")))
+                if over and len(self.between(over[0])) <= MOST_BETWEEN:
+                    groups.setdefault(over.pop(0), []).append(edit)
+            for over, edits in groups.items():
+                for at in range(0, len(edits), 4):
+                    for edit, count, why in self.asked_above(over, edits[at:at + 4]):
+                        asked[edit] += f", {count} of {over}"
+                        if why:
+                            self.refused(edit, f"{over}: {why}")
+                            del waiting[edit]
+        for edit in waiting:
+            self.say(edit, SURVIVED, f"asked: {asked[edit]}; what else would reach it: {', '.join(waiting[edit]) or 'nothing'}")
+
+    def between(self, over):
+        """Returns the crates from this one up to one above."""
+        return tuple(it for it in self.tools.USES if it in (self.crate, over) or it in self.tools.below(over) and self.crate in self.tools.below(it))
+
+    def above_in(self, over, edit):
+        """Returns the functions of a crate above whose contracts, or those of their traits, reach a definition, the shortest proofs first."""
+        if self.crate not in self.tools.below(over) or over.endswith("_tests") or not (names := self.log_of(over)):
+            return []
+        words = self.words_over(edit.unit.name.partition(".")[0])
+        definitions, functions = citing(over)
+        named = re.compile(rf"Rattle\.{self.crate}\.specs\.[\w.]+\.\{{([^}}]*)\}}|\b{self.crate}::([\w:]+(?:\{{[^}}]*\}})?)")
+        taken = {word for text in texts_of(over) for it in named.findall(text) for word in re.findall(r"[^\W\d][\w'-]*", " ".join(it))} & words
+        if not taken:
+            return []
+        while more := {name for name, cited in definitions.items() if cited & taken} - taken:
+            taken |= more
+        found = {name for path, unit, contract, _ in functions if taken & contract for name in names if re.fullmatch(self.symbol(path, unit), name)}
+        found |= {name for name in names for it in taken if re.search(rf"\w{it}::\w+$", name)}
+        size = {name: sum(os.path.getsize(f"{at}/{it}") for at, _, files in os.walk(f"{generated.TOP}/crates/{over}/proofs/{name.replace('::', '/')}") for it in files) for name in found}
+        return sorted(found, key=size.get)[:8]
+
+    def words_over(self, word):
+        """Returns a definition's name, with the names of what cites it in its crate: definitions, and traits whose functions' contracts do."""
+        definitions, _ = citing(self.crate)
+        words = {word}
+        while more := {name for name, cited in definitions.items() if cited & words} - words:
+            words |= more
+        traits = re.compile(r"^pub(?:\([a-z]+\))? trait (\w+)[^\n]*\{\n(.*?)^\}", re.M | re.S)
+        return words | {name for path in generated.paths_of(self.crate, "src") for name, held in traits.findall(generated.read(path)) if words & {*re.findall(r"[^\W\d][\w'-]*", held)}}
+
+    def asked_above(self, over, edits):
+        """Asks functions of a crate above of each edit, in copies of the crates up to there. Yields each edit with how many were asked, and what refused it."""
+        laws = {edit: self.above_in(over, edit) for edit in edits}
+        copy = self.tools.Copy({over, *self.tools.below(over)})
+        try:
+            chain = chains.Chain(copy, self.between(over), self.budget)
+            saids = chain.ask(edits, [f"{over}::{it}" for it in dict.fromkeys(it for found in laws.values() for it in found)])
+        finally:
+            copy.remove()
+        for edit, said in zip(edits, saids or [""] * len(edits)):
+            refused = [it for it in laws[edit] if re.search(rf"^fn {over}::{re.escape(it)}: (not proved|no proof)", said, re.M)]
+            try:
+                yield edit, len(laws[edit]), refused and self.tools.refusal(said, [edit.path.split("/", 2)[2]])
+            except self.tools.Bad:
+                yield edit, len(laws[edit]), ""
+
+    def reaching(self, edit):
+        """Returns the functions whose contracts reach what an edit changes, the shortest proofs first."""
+        definitions, functions = citing(self.crate)
+        words = {edit.unit.name.partition(".")[0]}
+        while more := {name for name, cited in definitions.items() if cited & words} - words:
+            words |= more
+        over = [(path, unit) for path, unit, contract, body in functions if words & contract or words & body and not edit.is_definition()]
+        return sorted({name for path, unit in over for name in self.variants.functions if re.fullmatch(self.symbol(path, unit), name)}, key=self.size)[:MOST_ASKED]
 
     def asked(self, batch, only):
         """Asks these functions, or all, of each edit; returns the edits of which that shows nothing, or None at the end of the budget."""

@@ -1,5 +1,6 @@
 """Tries generated edits against the proofs of their crate: each must be refused by a goal. Which are tried, and what is told of them."""
 import collections
+import functools
 import os
 import random
 import re
@@ -7,7 +8,7 @@ import signal
 import subprocess
 import sys
 
-from . import chains, generated, premises, streams, variants
+from . import chains, generated, premises, streams, variants, whole
 from .trial import BY_CODE, EQUAL, NOT_TRIED, REFUSED, SURVIVED, Trial, key_of
 from .variants import Budget
 
@@ -31,13 +32,17 @@ def known_equal(crate):
     return found, is_whole
 
 
-def chosen(crate, tools, most, seed, is_wide=True):
-    """Returns edits of a crate: all, or so many, each kind of operator alike; and those among them that are known to be equal."""
+def chosen(crate, tools, most, seed, is_wide=True, is_left=False):
+    """Returns edits of a crate: all, or so many, each kind of operator alike; and those among them that are known to be equal. Of those that no contract decides
+    so many are taken that each is as likely as each other, and the first of them stay the same where more are wanted."""
     edits = generated.all_of(crate, tuple(tools.below(crate)), is_wide)
     meanings = generated.Meanings()
     equal, _ = known_equal(crate)
-    if most is None:
-        edits = [it for it in edits if meanings.is_new(it)]
+    if most is None or is_left:
+        edits = [it for it in edits if meanings.is_new(it) and not (is_left and whole.is_decided(it))]
+        if most is not None:
+            random.Random(f"{seed} {crate}").shuffle(edits)
+            edits = edits[:most]
     else:
         order = random.Random(f"{seed} {crate}")
         kinds = {}
@@ -94,10 +99,10 @@ def copies_for(crate, edits):
     return min(range(1, 11), key=cost)
 
 
-def try_crate(tools, crate, most, seed, budget, is_wide=True, kind=None, asks_runs=False, log=None, copies=None):
+def try_crate(tools, crate, most, seed, budget, is_wide=True, kind=None, asks_runs=False, log=None, copies=None, is_left=False, proved=None):
     """Tries edits of a crate, and returns how many of each result there were."""
     if kind is None:
-        edits, same = chosen(crate, tools, most, seed, is_wide)
+        edits, same = chosen(crate, tools, most, seed, is_wide, is_left)
     else:
         equal, _ = known_equal(crate)
         edits = streams.some_of(streams.all_of(kind, crate, tuple(tools.below(crate)), is_wide), most, f"{seed} {crate}")
@@ -112,7 +117,7 @@ def try_crate(tools, crate, most, seed, budget, is_wide=True, kind=None, asks_ru
         try:
             of_crate = variants.Variants(copy, crate, budget)
             trial = Trial(tools, copy, crate, budget, of_crate, asks_runs=asks_runs, log=log)
-            why = trial.prove(copies or copies_for(crate, left), left, most is not None)
+            why = trial.prove(copies or copies_for(crate, left), left, most is not None, proved and functools.partial(proved_in, proved))
             if why:
                 why = f"{crate}: not proved without any edit, so no edit shows anything:\n{why[-2000:]}"
                 if budget.seconds is None:
@@ -127,6 +132,17 @@ def try_crate(tools, crate, most, seed, budget, is_wide=True, kind=None, asks_ru
     print(f"{crate}: {len(edits) + len(same)} edits, " + ", ".join(f"{counts.get(it, 0)} {it}" for it in (REFUSED, BY_CODE, EQUAL, SURVIVED, NOT_TRIED))
           + f"; {budget.since() - used:.0f} seconds of a processor for {len(found)}", flush=True)
     return counts
+
+
+def proved_in(path, crate):
+    """Returns the functions of a crate that a log of a check has as proved, by the names that `--only` takes."""
+    return sorted(set(re.findall(rf"^fn {crate}::(\S+): proved", text_of(path), re.M)))
+
+
+@functools.cache
+def text_of(path):
+    with open(path, encoding="utf-8", errors="replace") as it:
+        return it.read()
 
 
 def changed_crates(since):
@@ -168,7 +184,7 @@ def main(tools, words):
     kind, words = words[0], words[1:]
     if kind == "--sample":
         return sample(tools, words)
-    given = {"--most": None, "--seed": "0", "--log": None, "--copies": None, "--minutes": None}
+    given = {"--most": None, "--seed": "0", "--log": None, "--copies": None, "--minutes": None, "--proved": None, "--jobs": "1"}
     for name in given:
         if name in words:
             place = words.index(name)
@@ -176,14 +192,14 @@ def main(tools, words):
             del words[place:place + 2]
     most, seed, log = given["--most"] and int(given["--most"]), given["--seed"], Log(given["--log"])
     budget = Budget(60 * float(given["--minutes"]) if given["--minutes"] else None)
-    copies = given["--copies"] and int(given["--copies"])
+    copies, variants.JOBS[:] = given["--copies"] and int(given["--copies"]), [given["--jobs"]]
     if kind == "--premises":
         return premises.main(tools, words, budget, log, copies)
     if kind == "--asked":
         return chains.main(tools, words, budget, log, copies)
-    only, is_wide, asks_runs = "--list" in words, "--wide" in words, "--runs" in words
+    only, is_wide, asks_runs, is_left = "--list" in words, "--wide" in words, "--runs" in words, "--left" in words
     kind = next((it for it in streams.KINDS if it in words), None)
-    words = [it.strip("/").removeprefix("crates/") for it in words if it not in ("--list", "--wide", "--runs", *streams.KINDS)]
+    words = [it.strip("/").removeprefix("crates/") for it in words if it not in ("--list", "--wide", "--runs", "--left", *streams.KINDS)]
     if kind in streams.LONG and most is None and not only:
         tools.stop(f"with {kind} so many are made that a sample alone is tried: say --most N")
     failed = 0
@@ -191,16 +207,16 @@ def main(tools, words):
         if crate not in tools.USES:
             tools.stop(f"no crate of crates.txt: {crate}")
         if only:
-            show(tools, crate, most, seed, is_wide, kind)
+            show(tools, crate, most, seed, is_wide, kind, is_left)
             continue
-        failed += try_crate(tools, crate, most, seed, budget, is_wide, kind, asks_runs, log, copies).get(SURVIVED, 0)
+        failed += try_crate(tools, crate, most, seed, budget, is_wide, kind, asks_runs, log, copies, is_left, given["--proved"]).get(SURVIVED, 0)
     return 1 if failed else 0
 
 
-def show(tools, crate, most, seed, is_wide, kind):
+def show(tools, crate, most, seed, is_wide, kind, is_left):
     """Prints the edits of a crate by their names, and how many they are."""
     below, count = tuple(tools.below(crate)), 0
-    for it in streams.all_of(kind, crate, below, is_wide) if kind else chosen(crate, tools, most, seed, is_wide)[0]:
+    for it in streams.all_of(kind, crate, below, is_wide) if kind else chosen(crate, tools, most, seed, is_wide, is_left)[0]:
         print(it.name())
         count += 1
     print(f"{crate}: {count} edits")

@@ -13,6 +13,8 @@ from . import generated
 RUNNER = "tries"
 # seconds of a processor after which a check is ended
 LONGEST = 3600
+# processes that a check may have
+JOBS = ["1"]
 
 
 class Budget:
@@ -166,7 +168,7 @@ class Variants:
         if self.names != [self.crate]:
             uses = ",".join(dict.fromkeys(["core", "std", *uses_of(self.crate)]))
             words = [*(it for name in names for it in ("--lib", f"{name}:{uses}=../{name}/src/lib.rt")), *words]
-        return ran(["rt", "check", "--jobs", "1", *words], self.room, self.budget)
+        return ran(["rt", "check", "--jobs", *JOBS, *words], self.room, self.budget)
 
     def check(self, loads, only=None):
         """Checks variants with these edits, one load for each, and of these the functions named alone, where `only` has a list for each load.
