@@ -1,5 +1,5 @@
 -- The rounds of two stations, by what is computed of them.
-use Rattle.std.proofs.Common.{◌≡◌, ◌<◌, ◌+◌, ℕ, zero, suc, true, List, [], ◌∷◌, Option, Some, None, is_some, refl, sym, subst, ap, arith}
+use Rattle.std.proofs.Common.{◌≡◌, ◌≤◌, ◌<◌, ◌+◌, ℕ, zero, suc, true, List, [], ◌∷◌, Option, Some, None, is_some, refl, sym, subst, ap, arith}
 use Rattle.std.specs.Prelude.{All, slice_index}
 use Rattle.osdp_msg.specs.CommandTable.{command_at, command_fault, command_of}
 use Rattle.osdp_msg.specs.ReplyFields.{CapabilityFits, PdIdFits}
@@ -32,6 +32,9 @@ id_fits =
     (bytes_of (1 ∷ 2 ∷ 3 ∷ 4 ∷ 5 ∷ 6 ∷ 0 ∷ 0 ∷ 0 ∷ 7 ∷ 8 ∷ 9 ∷ [])
     (omega arith, (omega arith, (omega arith, (omega arith, (omega arith, (omega arith, (omega arith, (omega arith, (omega arith, (omega arith, (omega arith, (omega arith, tt)))))))))))))
 
+caps_fit : (0 ≤ 477) × All CapabilityFits []
+caps_fit = (omega arith, each_all CapabilityFits [] tt)
+
 module _ {H : Type 0} (handler other : H) where
   -- what holds of both
   both : (Q : Site H → Type 0) → Q (station_at 3 handler) → Q (station_at 4 other) → (k : ℕ) (s : Site H)
@@ -50,7 +53,7 @@ module _ {H : Type 0} (handler other : H) where
   begins address h below k = record {
     quiet = (400, refl);
     address = below;
-    waiting = each_all MaySubmit [] tt;
+    waiting = each_all MaySubmit (Cap 0 ∷ []) (record { no_poll = λ e. let is = e in cc; fits = omega arith }, tt);
     to_reader = refl;
     to_controller = refl;
     account = refl;
@@ -65,7 +68,7 @@ module _ {H : Type 0} (handler other : H) where
         both (λ s. (j : ℕ) → Begins (view j s (two_stations handler other))) (begins 3 handler (omega arith)) (begins 4 other (omega arith)) k s is k;
     together = both (λ s. s.reader.config.address ≡ address_of s) refl refl;
     stored = both (λ s. s.reader.stored ≡ None) refl refl;
-    waiting = both (λ s. All NoComset s.controller.waiting) (each_all NoComset [] tt) (each_all NoComset [] tt);
+    waiting = both (λ s. All NoComset s.controller.waiting) (each_all NoComset (Cap 0 ∷ []) (refl, tt)) (each_all NoComset (Cap 0 ∷ []) (refl, tt));
     apart = λ j k s t differ at there same.
         let first = stands j s at in
         let second = stands k t there in
@@ -117,13 +120,13 @@ module _ {H : Type 0} (answer_of : H → Command → Answer) (after : H → Comm
     later = run answer_of after the_rounds (ordered answer_of after handler other)
 
     orders_fit : NetMovesFit answer_of after orders (two_stations handler other)
-    orders_fit = ((omega arith, λ s asked at accepted is. absurd (let e = is in cc)), ((omega arith, λ s asked at accepted is. absurd (let e = is in cc)), tt))
+    orders_fit = ((omega arith, λ s asked at accepted is. absurd (let e = is in cc)), tt)
 
     rounds_fit : NetMovesFit answer_of after the_rounds (ordered answer_of after handler other)
     unfolding reply_of reply_fault reply_at command_of command_fault command_at
     rounds_fit =
         all_at the_rounds (ordered answer_of after handler other)
-        (tt, (id_fits, (tt, (tt, (tt, (tt, (id_fits, (tt, (tt, ((omega arith, each_all CapabilityFits [] tt), (tt, (tt, (tt, (tt, ((omega arith, each_all CapabilityFits [] tt), (tt, tt))))))))))))))))
+        (tt, (id_fits, (tt, (tt, (tt, (tt, (id_fits, (tt, (tt, (caps_fit, (tt, (tt, (tt, (tt, (caps_fit, (tt, (tt, (caps_fit, (tt, (tt, tt))))))))))))))))))))
 
     is_empty : IsEmpty (ordered answer_of after handler other)
     is_empty = record { coming = none; to_panel = refl }
@@ -133,8 +136,11 @@ module _ {H : Type 0} (answer_of : H → Command → Answer) (after : H → Comm
         none (suc zero) s is = sym (ap (λ (t : Site H). t.coming) (some_same (the_site (site_at 1 (ordered answer_of after handler other).sites) handler) s is))
         none (suc (suc k)) s is = absurd cc
 
-    waits : All SetsNoAddress (Cap 0 ∷ [])
-    waits = each_all SetsNoAddress (Cap 0 ∷ []) (refl, tt)
+    both_wait : All SetsNoAddress (Cap 0 ∷ Cap 0 ∷ [])
+    both_wait = each_all SetsNoAddress (Cap 0 ∷ Cap 0 ∷ []) (refl, (refl, tt))
+
+    one_waits : All SetsNoAddress (Cap 0 ∷ [])
+    one_waits = each_all SetsNoAddress (Cap 0 ∷ []) (refl, tt)
 
     are_rounds : (k : ℕ) (first : Site H) → site_at k (two_stations handler other).sites ≡ Some first
         → is_some (site_at k (ordered answer_of after handler other).sites) ≡ true → is_some (site_at k later.sites) ≡ true
@@ -162,10 +168,10 @@ module _ {H : Type 0} (answer_of : H → Command → Answer) (after : H → Comm
       site = the_site (site_at 0 (ordered answer_of after handler other).sites) handler;
       last = the_site (site_at 0 later.sites) handler;
       rounds = are_rounds 0 (station_at 3 handler) refl refl refl
-          (record { clear = record { to_reader = refl; to_controller = refl; address = refl; ready = refl; issued = waits }; unended = waits });
+          (record { clear = record { to_reader = refl; to_controller = refl; address = refl; ready = refl; issued = both_wait }; unended = both_wait });
       range = in_range 3 handler;
-      due = (refl, (refl, tt));
-      late = (omega arith, (omega arith, tt));
+      due = (refl, (refl, (refl, tt)));
+      late = (omega arith, (omega arith, (omega arith, tt)));
     }
 
     second_has : HasRounds answer_of after handler other 1
@@ -175,7 +181,7 @@ module _ {H : Type 0} (answer_of : H → Command → Answer) (after : H → Comm
       site = the_site (site_at 1 (ordered answer_of after handler other).sites) handler;
       last = the_site (site_at 1 later.sites) handler;
       rounds = are_rounds 1 (station_at 4 other) refl refl refl
-          (record { clear = record { to_reader = refl; to_controller = refl; address = refl; ready = refl; issued = waits }; unended = waits });
+          (record { clear = record { to_reader = refl; to_controller = refl; address = refl; ready = refl; issued = one_waits }; unended = one_waits });
       range = in_range 4 other;
       due = (refl, (refl, tt));
       late = (omega arith, (omega arith, tt));

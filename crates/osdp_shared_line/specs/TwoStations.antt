@@ -1,10 +1,10 @@
--- Two stations on a line, an order for each, and rounds of both: the opening of each session, and then its order.
+-- Two stations on a line, an order that waits for each from the beginning, one more for the first, and rounds of both.
 use Rattle.std.specs.Prelude.{ℕ, List, [], ◌∷◌, None}
 use Rattle.osdp_frame.specs.declared.check_kind.CheckKind.TheVariants.{Sum}
 use Rattle.osdp_msg.specs.ReplyFields.{pd_id_at}
 use Rattle.osdp_msg.specs.declared.command.Command.{Command}
 use Rattle.osdp_msg.specs.declared.command.Command.TheVariants.{Cap}
-use Rattle.osdp_controller.specs.Machine.{after_begin, new_machine}
+use Rattle.osdp_controller.specs.Machine.{after_begin, after_submit, new_machine}
 use Rattle.osdp_controller.specs.Settings.{default_config}
 use Rattle.osdp_controller_laws.specs.Calls.{IsInRange}
 use Rattle.osdp_reader.specs.State.{new_reader}
@@ -21,19 +21,19 @@ abbrev pub device_at : ℕ → ReaderConfig
 device_at address =
     record { address = address; id = pd_id_at (1 ∷ 2 ∷ 3 ∷ 4 ∷ 5 ∷ 6 ∷ 0 ∷ 0 ∷ 0 ∷ 7 ∷ 8 ∷ 9 ∷ []); caps = record { items = [] } }
 
--- each round with its site and its moment: the opening of each session, and then its order
+-- each round with its site and its moment: the opening of each session, and then its orders
 abbrev pub turns : List (ℕ × ℕ)
-turns = (0, 400) ∷ (1, 400) ∷ (0, 800) ∷ (1, 800) ∷ []
+turns = (0, 400) ∷ (1, 400) ∷ (0, 800) ∷ (1, 800) ∷ (0, 1200) ∷ []
 
 module _ {H : Type 0} where
-  -- a first session was begun at the moment 0, and the device is new
+  -- a first session was begun at the moment 0, and an order waits for it; the device is new
   abbrev pub station_at : ℕ → H → Site H
   station_at address handler = record {
-    controller = after_begin 0 (new_machine (default_config address Sum) 1 100);
+    controller = after_submit (Cap 0) (after_begin 0 (new_machine (default_config address Sum) 2 100));
     reserved = None;
     reader = new_reader (device_at address) handler (record { messages = 1; bytes = 100 });
     coming = [];
-    account = new_account [] [];
+    account = new_account (Cap 0 ∷ []) [];
     earlier = [];
   }
 
@@ -41,7 +41,7 @@ module _ {H : Type 0} where
   two_stations handler other = record { sites = station_at 3 handler ∷ station_at 4 other ∷ []; to_panel = [] }
 
   abbrev pub orders : List (NetMove H)
-  orders = Submit 0 (Cap 0) ∷ Submit 1 (Cap 0) ∷ []
+  orders = Submit 0 (Cap 0) ∷ []
 
   module _ (answer_of : H → Command → Answer) (after : H → Command → H) where
     abbrev pub ordered : H → H → Net H

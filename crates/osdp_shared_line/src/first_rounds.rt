@@ -5,7 +5,7 @@ ghost use Rattle.osdp_shared_line.specs.TwoStations.{TwoStationsHaveRounds};
 
 use osdp_reader::Handler;
 
-/// Rounds of two stations, each with an order, keep all that law `each_comes_through` asks, whatever their handlers are.
+/// Rounds of two stations, whose orders wait from the beginning or come later, keep all that law `each_comes_through` asks, whatever their handlers are.
 ///
 /// From the first sessions on rounds keep it exactly where the site's reader isn't busy and each reader's replies are of the table of replies.
 pub fn rounds_happen<H: Handler>()
