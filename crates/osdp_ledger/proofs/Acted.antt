@@ -85,10 +85,6 @@ move_over (x ∷ xs) o how rest = ap (λ os. x.0 ∷ os) (move_over xs o how res
 pub below_more : (m n : ℕ) (done : List (Order × Reply)) → m ≤ n → Below m done → Below n done
 below_more m n done le h = All-weaker (λ (a : Order × Reply). a.0.place < m) (λ (a : Order × Reply). a.0.place < n) (λ a b. omega (arith, b, le)) done h
 
-pub bound_more : (acted : Option Reply) (first : ℕ) → bound acted first ≤ bound acted (first + 1)
-bound_more None first = omega arith
-bound_more (Some answer) first = omega arith
-
 pub has_end_more : (ended more : List (Order × End)) (o : Order) → HasEnd ended o → HasEnd (ended ++ more) o
 has_end_more ended more o (inl h) = inl (Contains-append_left ended more (o, InDoubt) h)
 has_end_more ended more o (inr h) = inr (Contains-append_left ended more (o, CutOff) h)

@@ -11,10 +11,6 @@ pub allowed_both : (xs ys : List Step) (h : History) → AreAllowed xs h → Are
 allowed_both [] ys h first second = second
 allowed_both (x ∷ xs) ys h first second = (first.0, allowed_both xs ys (steps_on x h) first.1 second)
 
-pub allowed_first : (xs ys : List Step) (h : History) → AreAllowed (xs ++ ys) h → AreAllowed xs h
-allowed_first [] ys h all = tt
-allowed_first (x ∷ xs) ys h all = (all.0, allowed_first xs ys (steps_on x h) all.1)
-
 pub allowed_second : (xs ys : List Step) (h : History) → AreAllowed (xs ++ ys) h → AreAllowed ys (runs xs h)
 allowed_second [] ys h all = all
 allowed_second (x ∷ xs) ys h all = allowed_second xs ys (steps_on x h) all.1

@@ -383,14 +383,8 @@ keeps (Act o answer) h may i = acted_upon o answer h may.1 i
 keeps (Settle o answer) h may i = settled o answer h may i
 keeps (Doubt o) h may i = doubted o h may i
 keeps Close h may i = closed h may i
-keeps (Queue c) h may i = i
-keeps (Offers c) h may i = i
-keeps (Report c) h may i = i
-keeps (Leave c) h may i = i
-keeps (WithdrawEvent c) h may i = i
-keeps (Lapse c) h may i = i
-keeps RestartDevice h may i = i
 keeps (RestartPanel on_wire) h may i = restarted on_wire h may i
+keeps _ h may i = i
 
 -- ---- sessions that ended over an order
 

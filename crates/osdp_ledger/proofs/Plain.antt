@@ -2,7 +2,7 @@
 use Rattle.std.proofs.Common.{◌≡◌, ◌≢◌, List, [], ◌∷◌, refl}
 use Rattle.std.specs.Prelude.{All}
 use Rattle.std.proofs.lemmas.List.Elements.{All-head, All-nil, All-push, All-tail}
-use Rattle.osdp_ledger.specs.Ledger.{Step, Submit, Withdraw, Open, Act, Settle, Doubt, Close, Queue, Offers, Report, Leave, WithdrawEvent, Lapse, RestartDevice, RestartPanel}
+use Rattle.osdp_ledger.specs.Ledger.{Step, Withdraw, Settle, Doubt, Leave, WithdrawEvent, Lapse, RestartDevice, RestartPanel}
 use Rattle.osdp_ledger.specs.History.{AfterReport, End, History, Lapsed, Left, TakenBack, ThrownAway, new_history, runs, steps_on}
 use Rattle.osdp_ledger.specs.Ledger as ledger
 use Rattle.osdp_ledger.specs.Plain.{AllTold, EndsTold, IsPlain, KeepsPower, PlainStepsEndTold, ThrowsNoneAway}
@@ -22,13 +22,7 @@ step_told (WithdrawEvent card) h plain is = absurd plain
 step_told (Lapse card) h plain is = absurd plain
 step_told RestartDevice h plain is = absurd plain
 step_told (RestartPanel on_wire) h plain is = absurd plain
-step_told (Submit order) h plain is = record { ended = is.ended; left = is.left }
-step_told Open h plain is = record { ended = is.ended; left = is.left }
-step_told (Act order answer) h plain is = record { ended = is.ended; left = is.left }
-step_told Close h plain is = record { ended = is.ended; left = is.left }
-step_told (Queue card) h plain is = record { ended = is.ended; left = is.left }
-step_told (Offers card) h plain is = record { ended = is.ended; left = is.left }
-step_told (Report card) h plain is = record { ended = is.ended; left = is.left }
+step_told _ h plain is = record { ended = is.ended; left = is.left }
 
 runs_told : (steps : List Step) (h : History) → All IsPlain steps → AllTold h → AllTold (runs steps h)
 runs_told [] h plain is = is

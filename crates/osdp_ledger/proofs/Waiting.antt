@@ -1,6 +1,6 @@
 -- What holds of the events: of their places, of the queue, and of what was offered.
 use Rattle.std.proofs.Common.{◌≡◌, ◌≤◌, ◌<◌, ◌+◌, ◌⊎◌, ◌==◌, ℕ, zero, suc, Bool, true, false, not, cond, List, [], ◌∷◌, ◌++◌, length, refl, sym, ap, ◌∙◌, arith}
-use Rattle.std.specs.Prelude.{All, AllPairs, Contains, map, drop, filter, if◌then◌else◌, slice_index_or}
+use Rattle.std.specs.Prelude.{All, AllPairs, Contains, map, filter, if◌then◌else◌, slice_index_or}
 use Rattle.std.proofs.lemmas.Bool.{eqb-true, eqb-false, eq-eqb, ne_eqb}
 use Rattle.std.proofs.lemmas.List.Elements.{All-append, All-cons, All-filter, All-head, All-push, All-tail, All-weaker, All-nil}
 use Rattle.osdp_ledger.specs.Ledger.{Card, NoOffer, Offer, Reported, Unreported}
@@ -174,10 +174,6 @@ rising_filter test low (c ∷ cs) h = by_test (rising_filter test (c.place + 1) 
     by_test rest true = (h.0, rest)
     by_test rest false = rising_less low (c.place + 1) (filter test cs) (omega (arith, h.0)) rest
 
-pub rising_drop : (low : ℕ) (cards : List Card) → Rising low cards → Rising low (drop 1 cards)
-rising_drop low [] h = tt
-rising_drop low (c ∷ cs) h = rising_less low (c.place + 1) cs (omega (arith, h.0)) h.1
-
 pub beyond_all : (shown : ℕ) (cards : List Card) → All (λ (d : Card). shown ≤ d.place) cards → Beyond shown cards
 beyond_all shown [] h = tt
 beyond_all shown (c ∷ cs) h = All-tail (λ (d : Card). shown ≤ d.place) c cs h
@@ -185,10 +181,6 @@ beyond_all shown (c ∷ cs) h = All-tail (λ (d : Card). shown ≤ d.place) c cs
 pub beyond_push : (shown : ℕ) (cards : List Card) (c : Card) → Beyond shown cards → shown ≤ c.place → Beyond shown (cards ++ c ∷ [])
 beyond_push shown [] c h le = All-nil (λ (d : Card). shown ≤ d.place)
 beyond_push shown (d ∷ ds) c h le = All-push (λ (d : Card). shown ≤ d.place) ds c h le
-
-pub beyond_drop : (shown : ℕ) (cards : List Card) → Beyond shown cards → Beyond shown (drop 1 cards)
-beyond_drop shown [] h = tt
-beyond_drop shown (c ∷ cs) h = beyond_all shown cs h
 
 pub beyond_filter : (test : Card → Bool) (shown : ℕ) (cards : List Card) → Beyond shown cards → Beyond shown (filter test cards)
 beyond_filter test shown [] h = tt
