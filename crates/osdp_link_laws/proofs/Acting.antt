@@ -98,24 +98,14 @@ module _ (fixed : ControllerConfig) {H : Type 0} where
       Offers Polling a.reply (record { events = events; capacity = capacity; room = room; offered = is_some told; ever_offered = is_some told || ever }) × (a.handler ≡ handler)
   polled [] capacity room ever answer_of after config handler = (refl, refl)
   polled (event.LocalState s ∷ rest) capacity room ever answer_of after config handler = ((refl, refl, (rest, refl)), refl)
-  polled (event.Inputs s ∷ rest) capacity room ever answer_of after config handler = ((refl, refl, (rest, refl)), refl)
-  polled (event.Outputs s ∷ rest) capacity room ever answer_of after config handler = ((refl, refl, (rest, refl)), refl)
-  polled (event.Readers s ∷ rest) capacity room ever answer_of after config handler = ((refl, refl, (rest, refl)), refl)
-  polled (event.Raw s ∷ rest) capacity room ever answer_of after config handler = ((refl, refl, (rest, refl)), refl)
-  polled (event.Formatted s ∷ rest) capacity room ever answer_of after config handler = ((refl, refl, (rest, refl)), refl)
-  polled (event.Keypad s ∷ rest) capacity room ever answer_of after config handler = ((refl, refl, (rest, refl)), refl)
+  polled (_ ∷ rest) capacity room ever answer_of after config handler = ((refl, refl, (rest, refl)), refl)
 
   -- the event that its answer tells is the front
   pub polled_front : (events : List Event) (answer_of : H → Command → Answer) (after : H → Command → H) (config : ReaderConfig) (handler : H)
       → option_to_list (event_in (event_or_answer answer_of after (event_for command.Poll events) config handler command.Poll).reply) ≡ take 1 events
   polled_front [] answer_of after config handler = refl
   polled_front (event.LocalState s ∷ rest) answer_of after config handler = refl
-  polled_front (event.Inputs s ∷ rest) answer_of after config handler = refl
-  polled_front (event.Outputs s ∷ rest) answer_of after config handler = refl
-  polled_front (event.Readers s ∷ rest) answer_of after config handler = refl
-  polled_front (event.Raw s ∷ rest) answer_of after config handler = refl
-  polled_front (event.Formatted s ∷ rest) answer_of after config handler = refl
-  polled_front (event.Keypad s ∷ rest) answer_of after config handler = refl
+  polled_front (_ ∷ rest) answer_of after config handler = refl
 
   -- the answer depends on the settings for ID and CAP alone
   pub same_answer : (answer_of : H → Command → Answer) (after : H → Command → H) (config other : ReaderConfig) (handler : H) (c : Command)

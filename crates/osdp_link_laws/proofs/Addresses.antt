@@ -34,7 +34,7 @@ use Rattle.osdp_reader.specs.declared.kind.Kind.TheVariants as kind
 use Rattle.osdp_reader.specs.Queue.{lacks_room}
 use Rattle.osdp_link_laws.specs.Headline.{MovesFit, MoveFits, MaySubmit}
 use Rattle.osdp_link_laws.specs.Link as link
-use Rattle.osdp_link_laws.specs.Link.{Delivered, Delivery, Link, Lost, Move, Queue as QueueEvent, Reopen, Repeated, RestartController, RestartReader, Retarget, SetBusy, SetHandler, Submit, Tick, ToController, ToReader, Withdraw, WithdrawEvent, after_move, run, LoseToReader, LoseToController, lost_at}
+use Rattle.osdp_link_laws.specs.Link.{Delivered, Delivery, Link, Lost, Move, Queue as QueueEvent, Reopen, Repeated, RestartController, RestartReader, Retarget, Submit, Tick, ToController, ToReader, Withdraw, after_move, run, LoseToReader, lost_at}
 use Rattle.osdp_link_laws.specs.Peers.{ReadsWhatIsAsked}
 use Rattle.osdp_link_laws.specs.Progress.{SetsNoAddress}
 use Rattle.osdp_link_laws.specs.Addresses.{SetsNoOther, StayWhereTheyAre}
@@ -54,11 +54,9 @@ AsksKept x = MovesNone x × CommandFits (exchange_command x)
 
 -- what is outstanding asks such a one
 abbrev Asks : State → Type 0
-Asks Closed = Unit {0}
-Asks (Quiet until) = Unit {0}
-Asks (Idle due) = Unit {0}
 Asks (Waiting until k o) = AsksKept o.exchange
 Asks (Pausing until o) = AsksKept o.exchange
+Asks _ = Unit {0}
 
 -- the frame of such an exchange
 abbrev Carries : Packet → Type 0
@@ -143,11 +141,9 @@ module _ (reads : ReadsWhatIsAsked) (address : ℕ) where
   pausing_well (Unreadable code) o s asks is = unread_well o.exchange code s is
 
   heard_well : (state : State) (number : ℕ) (a : ReplyMeaning) (s : Session) → Asks state → Stays address s → HeardWell (hears_in state number a s)
-  heard_well Closed number a s asks is = is
-  heard_well (Quiet until) number a s asks is = is
-  heard_well (Idle due) number a s asks is = is
   heard_well (Waiting until k o) number a s asks is = both HeardWell (is_numbered number a s) (waiting_hears a k o s) (ignores s) (waiting_well a k o s asks is) is
   heard_well (Pausing until o) number a s asks is = both HeardWell (is_numbered number a s) (pausing_hears a o s) (ignores s) (pausing_well a o s asks is) is
+  heard_well _ number a s asks is = is
 
   hears_well : (p : Packet) (now : ℕ) (s : Session) → Stays address s → HeardWell (hears p now s)
   hears_well p now s is =
@@ -174,15 +170,11 @@ module _ {H : Type 0} (answer_of : H → Command → Answer) (after : H → Comm
     taken_well c r p none is = not_moved (new_address c) _ none is
 
     outcome_well : (k : Kind) (r : ReaderState H) (p : Packet) → Carries p → r.config.address ≡ address → StaysThere (outcome answer_of after k r p)
-    outcome_well kind.Silent r p carries is = is
-    outcome_well kind.Secured r p carries is = is
     outcome_well kind.Zero r p (x, none, command) is =
         subst (λ c. StaysThere (begun answer_of after c r p)) (sym command) (begun_well (exchange_command x) r p (no_address x none) is)
-    outcome_well kind.Repeat r p carries is = is
     outcome_well kind.Taken r p (x, none, command) is =
         subst (λ c. StaysThere (taken answer_of after c r p)) (sym command) (taken_well (exchange_command x) r p (no_address x none) is)
-    outcome_well kind.Busy r p carries is = is
-    outcome_well kind.Wrong r p carries is = is
+    outcome_well _ r p carries is = is
 
   -- ---- a link
 
@@ -273,10 +265,7 @@ module _ {H : Type 0} (answer_of : H → Command → Answer) (after : H → Comm
     kept_well : (state : State) (ws : List Command) → Each IsKept ws → Each IsKept (controllers.kept_in state ws)
     kept_well Closed [] all = tt
     kept_well Closed (w ∷ ws) all = all.1
-    kept_well (Quiet until) ws all = all
-    kept_well (Idle due) ws all = all
-    kept_well (Waiting until k o) ws all = all
-    kept_well (Pausing until o) ws all = all
+    kept_well _ ws all = all
 
     retargets_keep : (refusal : Option ControllerFault) (address : ℕ) (l : Link H) → address ≡ here → Keeps l → Keeps (link.retargets refusal address l)
     retargets_keep (Some fault) address l same h = h
@@ -287,16 +276,12 @@ module _ {H : Type 0} (answer_of : H → Command → Answer) (after : H → Comm
     move_keeps (Submit c) l fits none same h =
         let refusal = controllers.submit_refusal c l.controller in submits_keeps refusal c l (accepted_kept refusal c fits none) h
     move_keeps (QueueEvent e) l fits none same h = queues_keeps (lacks_room e l.reader.queue) e l h
-    move_keeps WithdrawEvent l fits none same h = record { waiting = h.waiting; controller = h.controller; line = h.line; reader = h.reader }
-    move_keeps (SetBusy busy) l fits none same h = record { waiting = h.waiting; controller = h.controller; line = h.line; reader = h.reader }
     move_keeps (Tick now) l fits none same h = ticked_keeps now l h
     move_keeps (ToReader how) l fits none same h = to_reader_keeps how l.to_reader l refl h
     move_keeps (ToController how now) l fits none same h = to_controller_keeps how now l.to_controller l h
     move_keeps (Reopen now) l fits none same h = begins_keeps (controllers.begin_refusal l.controller) l.to_reader l.to_controller now l h
     move_keeps (LoseToReader place) l fits none same h =
         with_line l (lost_at place l.to_reader) (each_lost Carries place l.to_reader h.line) h
-    move_keeps (LoseToController place) l fits none same h = record { waiting = h.waiting; controller = h.controller; line = h.line; reader = h.reader }
-    move_keeps (SetHandler handler) l fits none same h = record { waiting = h.waiting; controller = h.controller; line = h.line; reader = h.reader }
     move_keeps Withdraw l fits none same h = record {
       waiting = kept_well l.controller.session.state l.controller.waiting h.waiting;
       controller = h.controller;
@@ -307,6 +292,7 @@ module _ {H : Type 0} (answer_of : H → Command → Answer) (after : H → Comm
     move_keeps (RestartReader config handler room) l fits none same h =
         record { waiting = h.waiting; controller = h.controller; line = h.line; reader = same }
     move_keeps (RestartController config room) l fits none same h = record { waiting = tt; controller = (tt, same); line = h.line; reader = h.reader }
+    move_keeps _ l fits none same h = record { waiting = h.waiting; controller = h.controller; line = h.line; reader = h.reader }
 
     run_keeps : (moves : List (Move H)) (l : Link H) → MovesFit answer_of after moves l → Each SetsNoAddress (all_submitted answer_of after moves l)
         → Each (SetsNoOther there here) moves → Keeps l

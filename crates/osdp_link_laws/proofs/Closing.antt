@@ -12,7 +12,7 @@ use Rattle.osdp_reader.specs.Table as reader
 use Rattle.osdp_reader.specs.declared.handler.Answer.{Answer}
 use Rattle.osdp_reader.specs.Queue.{lacks_room}
 use Rattle.osdp_link_laws.specs.Link as link
-use Rattle.osdp_link_laws.specs.Link.{Account, Delivered, Delivery, Link, Lost, Move, Queue as QueueEvent, Reopen, Repeated, RestartController, RestartReader, Retarget, SetBusy, SetHandler, Submit, Tick, ToController, ToReader, Withdraw, WithdrawEvent, after_move, after_report, LoseToReader, LoseToController}
+use Rattle.osdp_link_laws.specs.Link.{Delivered, Delivery, Link, Lost, Move, Queue as QueueEvent, Reopen, Repeated, RestartController, Retarget, Submit, Tick, ToController, ToReader, Withdraw, after_move, after_report}
 use Rattle.osdp_link_laws.proofs.Growing.{taken_takes}
 use Rattle.osdp_link_laws.proofs.Removed.{IsInside, closed_hears, closed_tick}
 
@@ -60,19 +60,14 @@ module _ {H : Type 0} (answer_of : H → Command → Answer) (after : H → Comm
   inside_over : (move : Move H) (l : Link H) → IsInside move → l.controller.session.state ≡ Closed → IsOver l (after_move answer_of after move l)
   inside_over (Submit c) l on closed = submits_over (submit_refusal c l.controller) c l closed
   inside_over (QueueEvent e) l on closed = queues_over (lacks_room e l.reader.queue) e l closed
-  inside_over (SetBusy busy) l on closed = (refl, closed)
-  inside_over WithdrawEvent l on closed = (refl, closed)
   inside_over (Tick now) l on closed = tick_over now l closed
   inside_over (ToReader how) l on closed = to_reader_over how l.to_reader l closed
   inside_over (ToController how now) l on closed = to_controller_over how now l.to_controller l closed
-  inside_over (LoseToReader place) l on closed = (refl, closed)
-  inside_over (LoseToController place) l on closed = (refl, closed)
-  inside_over (SetHandler handler) l on closed = (refl, closed)
-  inside_over (RestartReader config handler room) l on closed = (refl, closed)
   inside_over (Reopen now) l on closed = absurd on
   inside_over Withdraw l on closed = absurd on
   inside_over (Retarget address) l on closed = absurd on
   inside_over (RestartController config room) l on closed = absurd on
+  inside_over _ l on closed = (refl, closed)
 
   pub closed_same : (move : Move H) (l : Link H) → IsInside move → l.controller.session.state ≡ Closed
       → (after_move answer_of after move l).account.unsettled ≡ l.account.unsettled

@@ -14,7 +14,7 @@ use Rattle.osdp_controller.specs.declared.session.Session.{Session}
 use Rattle.osdp_reader.specs.declared.handler.Answer.{Answer}
 use Rattle.osdp_reader.specs.Queue.{lacks_room}
 use Rattle.osdp_link_laws.specs.Link as link
-use Rattle.osdp_link_laws.specs.Link.{Delivered, Delivery, Link, Lost, Move, Queue as QueueEvent, Reopen, Repeated, RestartController, RestartReader, Retarget, SetBusy, SetHandler, Submit, Tick, ToController, ToReader, Withdraw, WithdrawEvent, after_move, run, LoseToReader, LoseToController}
+use Rattle.osdp_link_laws.specs.Link.{Delivered, Delivery, Link, Lost, Move, Queue as QueueEvent, Reopen, Repeated, RestartController, Retarget, SetBusy, Submit, Tick, ToController, ToReader, Withdraw, after_move, run}
 use Rattle.osdp_link_laws.specs.Headline.{MoveFits, MovesFit}
 use Rattle.osdp_link_laws.proofs.Removed.{IsInside}
 
@@ -69,37 +69,27 @@ module _ {H : Type 0} (answer_of : H → Command → Answer) (after : H → Comm
   pub inside_keeps : IsKept P → (move : Move H) (l : Link H) → IsInside move → Has l → Has (after_move answer_of after move l)
   inside_keeps kept (Submit c) l on is = submits_keep (submit_refusal c l.controller) c l is
   inside_keeps kept (QueueEvent e) l on is = queues_keep (lacks_room e l.reader.queue) e l is
-  inside_keeps kept (SetBusy busy) l on is = is
-  inside_keeps kept WithdrawEvent l on is = is
   inside_keeps kept (Tick now) l on is = kept.tick now l.controller is
   inside_keeps kept (ToReader how) l on is = to_reader_keeps how l.to_reader l is
   inside_keeps kept (ToController how now) l on is = to_controller_keeps kept how now l.to_controller l is
-  inside_keeps kept (LoseToReader place) l on is = is
-  inside_keeps kept (LoseToController place) l on is = is
-  inside_keeps kept (SetHandler handler) l on is = is
-  inside_keeps kept (RestartReader config handler room) l on is = is
   inside_keeps kept (Reopen now) l on is = absurd on
   inside_keeps kept Withdraw l on is = absurd on
   inside_keeps kept (Retarget address) l on is = absurd on
   inside_keeps kept (RestartController config room) l on is = absurd on
+  inside_keeps kept _ l on is = is
 
   -- any move
   pub move_keeps : IsKept P → IsKeptOutside P → (move : Move H) (l : Link H) → MoveFits answer_of after move l → Has l → Has (after_move answer_of after move l)
   move_keeps kept out (Submit c) l fits is = inside_keeps kept (Submit c) l tt is
   move_keeps kept out (QueueEvent e) l fits is = inside_keeps kept (QueueEvent e) l tt is
-  move_keeps kept out WithdrawEvent l fits is = is
   move_keeps kept out (SetBusy busy) l fits is = inside_keeps kept (SetBusy busy) l tt is
   move_keeps kept out (Tick now) l fits is = inside_keeps kept (Tick now) l tt is
   move_keeps kept out (ToReader how) l fits is = inside_keeps kept (ToReader how) l tt is
   move_keeps kept out (ToController how now) l fits is = inside_keeps kept (ToController how now) l tt is
-  move_keeps kept out (LoseToReader place) l fits is = is
-  move_keeps kept out (LoseToController place) l fits is = is
-  move_keeps kept out (SetHandler handler) l fits is = is
-  move_keeps kept out (RestartReader config handler room) l fits is = is
-  move_keeps kept out Withdraw l fits is = is
   move_keeps kept out (Reopen now) l fits is = reopens_keep out (begin_refusal l.controller) l.to_reader l.to_controller now l refl is
   move_keeps kept out (Retarget address) l fits is = retargets_keep out (retarget_refusal address l.controller) address l refl is
   move_keeps kept out (RestartController config room) l fits is = out.restart config room fits
+  move_keeps kept out _ l fits is = is
 
   pub moves_keep : IsKept P → IsKeptOutside P → (moves : List (Move H)) (l : Link H) → MovesFit answer_of after moves l → Has l → Has (run answer_of after moves l)
   moves_keep kept out [] l fits is = is

@@ -16,7 +16,7 @@ use Rattle.osdp_reader.specs.declared.kind.Kind.{Kind}
 use Rattle.osdp_reader.specs.Queue.{lacks_room}
 use Rattle.osdp_link_laws.specs.Effects.{CountsRestarts, restarts_in}
 use Rattle.osdp_link_laws.specs.Link as link
-use Rattle.osdp_link_laws.specs.Link.{Account, Delivered, Delivery, Link, LoseToController, LoseToReader, Lost, Move, Queue as QueueEvent, Reopen, Repeated, RestartController, RestartReader, Retarget, SetBusy, SetHandler, Submit, Tick, ToController, ToReader, Withdraw, WithdrawEvent, after_move, after_report, run}
+use Rattle.osdp_link_laws.specs.Link.{Account, Delivered, Delivery, Link, Lost, Move, Queue as QueueEvent, Reopen, Repeated, RestartReader, Retarget, Submit, Tick, ToController, ToReader, after_move, after_report, run}
 use Rattle.osdp_link_laws.specs.Refusals.{KeepsReader}
 use Rattle.osdp_link_laws.proofs.Growing.{GoesOn, goes_on, taken_takes}
 
@@ -103,19 +103,13 @@ module _ {H : Type 0} (answer_of : H → Command → Answer) (after : H → Comm
       → Keeps l.account (after_move answer_of after move l).account
   keeps (Submit c) l reads same = submits_keeps (controllers.submit_refusal c l.controller) c l
   keeps (QueueEvent e) l reads same = queues_keeps (lacks_room e l.reader.queue) e l
-  keeps (SetBusy busy) l reads same = refl
-  keeps WithdrawEvent l reads same = refl
   keeps (Tick now) l reads same = told_keeps (ticks now l.controller.session l.controller.waiting).step.report l.account
   keeps (ToReader how) l reads same = to_reader_keeps how l.to_reader l
   keeps (ToController how now) l reads same = to_controller_keeps how now l.to_controller l
   keeps (Reopen now) l reads same = reopens_keeps (controllers.begin_refusal l.controller) l.to_reader l.to_controller now l same
-  keeps (LoseToReader place) l reads same = refl
-  keeps (LoseToController place) l reads same = refl
-  keeps (SetHandler handler) l reads same = refl
-  keeps Withdraw l reads same = refl
   keeps (Retarget address) l reads same = retargets_keeps (controllers.retarget_refusal address l.controller) address l
   keeps (RestartReader config handler room) l reads same = absurd reads
-  keeps (RestartController config room) l reads same = refl
+  keeps _ l reads same = refl
 
   -- ---- a list of moves inside a session
 

@@ -13,7 +13,7 @@ use Rattle.osdp_controller.specs.declared.config.ControllerConfig.{ControllerCon
 use Rattle.osdp_controller.specs.declared.fault.ControllerFault.{ControllerFault}
 use Rattle.osdp_controller.specs.declared.fault.ControllerFault.TheVariants.{NotClosed, OutOfRange}
 use Rattle.osdp_controller.specs.declared.state.State.{State}
-use Rattle.osdp_controller.specs.declared.state.State.TheVariants.{Closed, Quiet, Idle, Waiting, Pausing}
+use Rattle.osdp_controller.specs.declared.state.State.TheVariants.{Closed}
 use Rattle.osdp_reader.specs.Queue.{Queue as EventQueue, never_offered, released, withdrawn}
 use Rattle.osdp_reader.specs.Replies.{refused}
 use Rattle.osdp_reader.specs.State.{ReaderState, after_set_handler, new_reader}
@@ -119,10 +119,7 @@ none_back : (state : State) (all : List Command) → (state ≢ Closed) ⊎ (all
 none_back Closed [] why = (refl, refl)
 none_back Closed (c ∷ cs) (inl unclosed) = absurd (unclosed refl)
 none_back Closed (c ∷ cs) (inr none) = absurd cc
-none_back (Quiet until) all why = (refl, refl)
-none_back (Idle due) all why = (refl, refl)
-none_back (Waiting until k o) all why = (refl, refl)
-none_back (Pausing until o) all why = (refl, refl)
+none_back _ all why = (refl, refl)
 
 -- ---- an event is withdrawn
 
@@ -155,10 +152,7 @@ may_not : (state : State) (address : ℕ) → (state ≢ Closed) ⊎ (127 ≤ ad
     → (fault : ControllerFault) × (controllers.or_no_device (controllers.refused_unless_closed state) address ≡ Some fault)
 may_not Closed address (inl unclosed) = absurd (unclosed refl)
 may_not Closed address (inr large) = (OutOfRange, ap (λ b. cond b None (Some OutOfRange)) (le-ltb address 127 large))
-may_not (Quiet until) address why = (NotClosed, refl)
-may_not (Idle due) address why = (NotClosed, refl)
-may_not (Waiting until k o) address why = (NotClosed, refl)
-may_not (Pausing until o) address why = (NotClosed, refl)
+may_not _ address why = (NotClosed, refl)
 
 -- ---- a packet is lost
 

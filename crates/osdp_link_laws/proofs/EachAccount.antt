@@ -14,7 +14,7 @@ use Rattle.osdp_reader.specs.Table as reader
 use Rattle.osdp_reader.specs.declared.handler.Answer.{Answer}
 use Rattle.osdp_reader.specs.Queue.{lacks_room}
 use Rattle.osdp_link_laws.specs.Link as link
-use Rattle.osdp_link_laws.specs.Link.{Account, Delivered, Delivery, Link, LoseToController, LoseToReader, Lost, Move, Queue as QueueEvent, Reopen, Repeated, RestartController, RestartReader, Retarget, SetBusy, SetHandler, Submit, Tick, ToController, ToReader, Withdraw, WithdrawEvent, after_move, after_report, new_account}
+use Rattle.osdp_link_laws.specs.Link.{Account, Delivered, Delivery, Link, Lost, Move, Queue as QueueEvent, Reopen, Repeated, RestartController, RestartReader, Retarget, Submit, Tick, ToController, ToReader, Withdraw, WithdrawEvent, after_move, after_report, new_account}
 use Rattle.osdp_link_laws.specs.Ordinary.{IsOrdinary}
 use Rattle.osdp_link_laws.proofs.Growing.{taken_takes}
 use Rattle.osdp_link_laws.proofs.Stages.{Each}
@@ -84,16 +84,13 @@ module _ {H : Type 0} (answer_of : H → Command → Answer) (after : H → Comm
   pub each_kept : (move : Move H) (l : Link H) → IsOrdinary move → AllSo l → AllSo (after_move answer_of after move l)
   each_kept (Submit c) l ordinary all = submits (controllers.submit_refusal c l.controller) c l all
   each_kept (QueueEvent e) l ordinary all = queues (lacks_room e l.reader.queue) e l all
-  each_kept (SetBusy busy) l ordinary all = all
   each_kept (Tick now) l ordinary (is, before) = (told (ticks now l.controller.session l.controller.waiting).step.report l.account is, before)
   each_kept (ToReader how) l ordinary all = to_reader how l.to_reader l all
   each_kept (ToController how now) l ordinary all = to_controller how now l.to_controller l all
   each_kept (Reopen now) l ordinary all = reopens (controllers.begin_refusal l.controller) l.to_reader l.to_controller now l all
-  each_kept (LoseToReader place) l ordinary all = all
-  each_kept (LoseToController place) l ordinary all = all
-  each_kept (SetHandler handler) l ordinary all = all
   each_kept (Retarget address) l ordinary all = retargets (controllers.retarget_refusal address l.controller) address l all
   each_kept Withdraw l ordinary all = absurd ordinary
   each_kept WithdrawEvent l ordinary all = absurd ordinary
   each_kept (RestartReader config handler room) l ordinary all = absurd ordinary
   each_kept (RestartController config room) l ordinary all = absurd ordinary
+  each_kept _ l ordinary all = all

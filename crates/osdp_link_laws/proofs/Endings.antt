@@ -18,7 +18,7 @@ use Rattle.osdp_reader.specs.declared.handler.Answer.{Answer as HandlerAnswer}
 use Rattle.osdp_reader.specs.Queue.{lacks_room}
 use Rattle.osdp_link_laws.specs.Ends.{EndOnce, count, ends_in, lasting, untold, untold_by}
 use Rattle.osdp_link_laws.specs.Link as link
-use Rattle.osdp_link_laws.specs.Link.{Delivered, Delivery, Link, Lost, Move, Queue as QueueEvent, Reopen, Repeated, RestartController, RestartReader, Retarget, SetBusy, SetHandler, Submit, Tick, ToController, ToReader, Withdraw, WithdrawEvent, after_move, run, LoseToReader, LoseToController}
+use Rattle.osdp_link_laws.specs.Link.{Delivered, Delivery, Link, Lost, Move, Queue as QueueEvent, Reopen, Repeated, RestartController, Retarget, Submit, Tick, ToController, ToReader, after_move, run}
 use Rattle.osdp_link_laws.specs.Refusals.{reports, told_by, told_by_front}
 
 -- a session that lasted lasts on, or its end is told
@@ -90,8 +90,6 @@ module _ {H : Type 0} (answer_of : H → Command → HandlerAnswer) (after : H �
     counts : (move : Move H) (l : Link H) → Counts (count (tells_end (told_by move l)) + untold_by move l) l (after_move answer_of after move l)
     counts (Submit c) l = submitting (controllers.submit_refusal c l.controller) c l
     counts (QueueEvent e) l = queueing (lacks_room e l.reader.queue) e l
-    counts (SetBusy busy) l = omega arith
-    counts WithdrawEvent l = omega arith
     counts (Tick now) l =
         let s = l.controller.session in
         let t = ticks now s l.controller.waiting in
@@ -101,13 +99,9 @@ module _ {H : Type 0} (answer_of : H → Command → HandlerAnswer) (after : H �
     counts (ToReader how) l = to_reader l.to_reader how l
     counts (ToController how now) l = omega (arith, to_controller l.to_controller how now l)
     counts (Reopen now) l = reopening (controllers.begin_refusal l.controller) l.to_reader l.to_controller now l refl
-    counts (LoseToReader place) l = omega arith
-    counts (LoseToController place) l = omega arith
-    counts (SetHandler handler) l = omega arith
-    counts Withdraw l = omega arith
     counts (Retarget address) l = retargeting (controllers.retarget_refusal address l.controller) address l
-    counts (RestartReader config handler room) l = omega arith
     counts (RestartController config room) l = omega (arith, restarting (is_closed l.controller.session.state))
+    counts _ l = omega arith
 
     counts_all : (moves : List (Move H)) (l : Link H) → Counts (ends_in (reports answer_of after moves l) + untold answer_of after moves l) l (run answer_of after moves l)
     counts_all [] l = omega arith

@@ -22,7 +22,7 @@ use Rattle.osdp_reader.specs.declared.kind.Kind.{Kind}
 use Rattle.osdp_reader.specs.declared.kind.Kind.TheVariants as kind
 use Rattle.osdp_link_laws.specs.Headline.{Begins}
 use Rattle.osdp_link_laws.specs.Link as link
-use Rattle.osdp_link_laws.specs.Link.{Account, Delivered, Delivery, Link, LoseToController, LoseToReader, Lost, Move, Queue as QueueEvent, Reopen, Repeated, RestartController, RestartReader, Retarget, SetBusy, SetHandler, Submit, Tick, ToController, ToReader, Withdraw, WithdrawEvent, after_move, given_to, taken_command, after_report}
+use Rattle.osdp_link_laws.specs.Link.{Account, Delivered, Delivery, Link, Lost, Move, Queue as QueueEvent, Reopen, Repeated, Retarget, Submit, Tick, ToController, ToReader, after_move, taken_command, after_report}
 use Rattle.osdp_link_laws.proofs.Acting.{no_event, taken_is}
 use Rattle.osdp_link_laws.proofs.Lines.{each_append}
 use Rattle.osdp_link_laws.proofs.Stages.{Each}
@@ -64,13 +64,8 @@ module _ {H : Type 0} (answer_of : H → Command → Answer) (after : H → Comm
 
   kind_given : (k : Kind) (r : ReaderState H) (p : Packet) (front : List Event) (t : Account) → AreAnswers t
       → let o = outcome answer_of after k r p in AreAnswers (link.taken k o.command o.said front t)
-  kind_given kind.Silent r p front t are = are
-  kind_given kind.Secured r p front t are = are
-  kind_given kind.Zero r p front t are = are
-  kind_given kind.Repeat r p front t are = are
   kind_given kind.Taken r p front t are = taken_given (command_in p) r p front t are
-  kind_given kind.Busy r p front t are = are
-  kind_given kind.Wrong r p front t are = are
+  kind_given _ r p front t are = are
 
   submits_given : (refusal : Option ControllerFault) (c : Command) (l : Link H) → AreAnswers l.account → AreAnswers (link.submits refusal c l).account
   submits_given (Some fault) c l are = are
@@ -105,19 +100,12 @@ module _ {H : Type 0} (answer_of : H → Command → Answer) (after : H → Comm
   pub move_given : (move : Move H) (l : Link H) → AreAnswers l.account → AreAnswers (after_move answer_of after move l).account
   move_given (Submit c) l are = submits_given (controllers.submit_refusal c l.controller) c l are
   move_given (QueueEvent e) l are = queues_given (lacks_room e l.reader.queue) e l are
-  move_given (SetBusy busy) l are = are
-  move_given WithdrawEvent l are = are
   move_given (Tick now) l are = subst (Each IsAnswerOf) (sym (told_gives (ticks now l.controller.session l.controller.waiting).step.report l.account)) are
   move_given (ToReader how) l are = to_reader_given how l.to_reader l are
   move_given (ToController how now) l are = to_controller_given how now l.to_controller l are
   move_given (Reopen now) l are = reopens_given (controllers.begin_refusal l.controller) l.to_reader l.to_controller now l are
-  move_given (SetHandler handler) l are = are
-  move_given (LoseToReader place) l are = are
-  move_given (LoseToController place) l are = are
-  move_given Withdraw l are = are
   move_given (Retarget address) l are = retargets_given (controllers.retarget_refusal address l.controller) address l are
-  move_given (RestartReader config handler room) l are = are
-  move_given (RestartController config room) l are = are
+  move_given _ l are = are
 
   pub first_given : (l : Link H) → Begins l → AreAnswers l.account
   first_given l b = subst AreAnswers (sym b.account) tt

@@ -18,7 +18,7 @@ use Rattle.osdp_reader.specs.declared.kind.Kind.TheVariants as kind
 use Rattle.osdp_reader.specs.Table as reader
 use Rattle.osdp_reader.specs.Queue.{lacks_room}
 use Rattle.osdp_link_laws.specs.Link as link
-use Rattle.osdp_link_laws.specs.Link.{Account, Delivered, Delivery, Link, Lost, Move, Queue as QueueEvent, Reopen, Repeated, RestartController, RestartReader, Retarget, SetBusy, SetHandler, Submit, Tick, ToController, ToReader, Withdraw, WithdrawEvent, after_move, after_report, LoseToReader, LoseToController}
+use Rattle.osdp_link_laws.specs.Link.{Account, Delivered, Delivery, Link, Lost, Move, Queue as QueueEvent, Reopen, Repeated, RestartController, RestartReader, Retarget, Submit, Tick, ToController, ToReader, Withdraw, WithdrawEvent, after_move, after_report}
 use Rattle.osdp_link_laws.specs.Sessions.{accepted, queued, unless_full, submitted}
 use Rattle.osdp_link_laws.proofs.Removed.{IsInside}
 
@@ -107,18 +107,15 @@ module _ {H : Type 0} (answer_of : H → Command → Answer) (after : H → Comm
   inside_on (Submit c) l on = submits_on (controllers.submit_refusal c l.controller) c l
   inside_on (QueueEvent e) l on = queues_on (lacks_room e l.reader.queue) e l
   inside_on WithdrawEvent l on = (all_before l.account (link.withdraws_event l).account refl refl refl refl, refl)
-  inside_on (SetBusy busy) l on = (all_before l.account l.account refl refl refl refl, refl)
   inside_on (Tick now) l on = (told_keeps (ticks now l.controller.session l.controller.waiting).step.report l.account, refl)
   inside_on (ToReader how) l on = to_reader_on how l.to_reader l
   inside_on (ToController how now) l on = to_controller_on how now l.to_controller l
-  inside_on (LoseToReader place) l on = (all_before l.account l.account refl refl refl refl, refl)
-  inside_on (LoseToController place) l on = (all_before l.account l.account refl refl refl refl, refl)
-  inside_on (SetHandler handler) l on = (all_before l.account l.account refl refl refl refl, refl)
   inside_on (RestartReader config handler room) l on = (all_before l.account (link.reader_restarted l.account) refl refl refl refl, refl)
   inside_on (Reopen now) l on = absurd on
   inside_on Withdraw l on = absurd on
   inside_on (Retarget address) l on = absurd on
   inside_on (RestartController config room) l on = absurd on
+  inside_on _ l on = (all_before l.account l.account refl refl refl refl, refl)
 
   -- .. and no other move but the beginning of a session submits or queues anything
   abbrev pub GoesOnWith : List Command → List Event → Link H → Link H → Type 0
@@ -136,14 +133,4 @@ module _ {H : Type 0} (answer_of : H → Command → Answer) (after : H → Comm
   goes_on (Retarget address) l on = retargets_on (controllers.retarget_refusal address l.controller) address l
   goes_on (RestartController config room) l on = (as_before l.account (link.controller_restarted l.controller l.account) refl refl, refl)
   goes_on (Reopen now) l on = absurd on
-  goes_on (Submit c) l on = inside (Submit c) l tt
-  goes_on (QueueEvent e) l on = inside (QueueEvent e) l tt
-  goes_on (LoseToReader place) l on = inside (LoseToReader place) l tt
-  goes_on (LoseToController place) l on = inside (LoseToController place) l tt
-  goes_on WithdrawEvent l on = inside WithdrawEvent l tt
-  goes_on (SetBusy busy) l on = inside (SetBusy busy) l tt
-  goes_on (Tick now) l on = inside (Tick now) l tt
-  goes_on (ToReader how) l on = inside (ToReader how) l tt
-  goes_on (ToController how now) l on = inside (ToController how now) l tt
-  goes_on (SetHandler handler) l on = inside (SetHandler handler) l tt
-  goes_on (RestartReader config handler room) l on = inside (RestartReader config handler room) l tt
+  goes_on move l on = inside move l tt

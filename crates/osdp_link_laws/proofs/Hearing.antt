@@ -127,10 +127,8 @@ module _ (fixed : ControllerConfig) where
   -- no exchange is outstanding: a packet changes nothing
   rest_in : (state : State) (number n : ℕ) (a : ReplyMeaning) (s : Session) → Rests fixed state n s → hears_in state number a s ≡ ignores s
   rest_in Closed number n a s rests = refl
-  rest_in (Quiet until) number n a s rests = absurd rests
   rest_in (Idle due) number n a s rests = refl
-  rest_in (Waiting until k o) number n a s rests = absurd rests
-  rest_in (Pausing until o) number n a s rests = absurd rests
+  rest_in _ number n a s rests = absurd rests
 
   -- .. but the moment
   abbrev pub Passed : ℕ → Heard → Type 0

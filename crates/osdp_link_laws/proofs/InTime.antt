@@ -6,7 +6,7 @@ use Rattle.osdp_controller.specs.Machine.{after_begin, after_retarget, changed_u
 use Rattle.osdp_controller.specs.Sessions.{seen}
 use Rattle.osdp_controller.specs.Ticking.{ticks_in}
 use Rattle.osdp_controller.specs.declared.state.State.{State}
-use Rattle.osdp_controller.specs.declared.state.State.TheVariants.{Closed, Quiet, Idle, Waiting, Pausing}
+use Rattle.osdp_controller.specs.declared.state.State.TheVariants.{Closed}
 use Rattle.osdp_controller_laws.specs.Calls.{ComesDue, IsInRange, StaysInRange}
 use Rattle.osdp_controller_laws.specs.Runs.{Begin, Hear, Retarget as Target, Tick as TickCall}
 use Rattle.osdp_reader.specs.declared.handler.Answer.{Answer}
@@ -19,10 +19,7 @@ use Rattle.osdp_link_laws.proofs.Through.{comes_through, to_controller_closed, t
 
 or_open : (state : State) → (state ≡ Closed) ⊎ (state ≢ Closed)
 or_open Closed = inl refl
-or_open (Quiet until) = inr (λ e. absurd cc)
-or_open (Idle due) = inr (λ e. absurd cc)
-or_open (Waiting until sends o) = inr (λ e. absurd cc)
-or_open (Pausing until o) = inr (λ e. absurd cc)
+or_open _ = inr (λ e. absurd cc)
 
 module _ {H : Type 0} (answer_of : H → Command → Answer) (after : H → Command → H) (stays : StaysInRange) where
   abbrev Ranges : Link H → Type 0

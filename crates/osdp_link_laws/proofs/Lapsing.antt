@@ -12,11 +12,11 @@ use Rattle.osdp_reader.specs.State.{ReaderState}
 use Rattle.osdp_reader.specs.Table.{kind_of, outcome}
 use Rattle.osdp_reader.specs.declared.handler.Answer.{Answer}
 use Rattle.osdp_reader.specs.declared.kind.Kind.{Kind}
-use Rattle.osdp_reader.specs.declared.kind.Kind.TheVariants.{Silent, Secured, Zero, Repeat, Taken, Busy, Wrong}
+use Rattle.osdp_reader.specs.declared.kind.Kind.TheVariants.{Zero, Taken}
 use Rattle.std.specs.Prelude.{option_to_list}
 use Rattle.osdp_link_laws.specs.Lapses.{DifferByLapse, IsNotZero, IsNotZeroIf, KeepSession, KeepsSession, LapsesAreUnheard, NextBeginsWithout, Offers, SessionsHideLapses, StayInSession, StaysInSession, lapses}
 use Rattle.osdp_link_laws.specs.Link as link
-use Rattle.osdp_link_laws.specs.Link.{Delivered, Delivery, Link, LoseToController, LoseToReader, Lost, Move, Queue as QueueEvent, Reopen, Repeated, RestartController, RestartReader, Retarget, SetBusy, SetHandler, Submit, Tick, ToController, ToReader, Withdraw, WithdrawEvent, after_move, run}
+use Rattle.osdp_link_laws.specs.Link.{Delivered, Delivery, Link, Lost, Move, Queue as QueueEvent, Reopen, Repeated, RestartController, RestartReader, Retarget, Submit, ToController, ToReader, Withdraw, WithdrawEvent, after_move, run}
 use Rattle.osdp_link_laws.specs.Headline.{Begins, MaySubmit}
 use Rattle.osdp_link_laws.specs.Peers.{ReadEachOther}
 use Rattle.osdp_link_laws.proofs.InARow.{stands}
@@ -142,13 +142,9 @@ module _ {H : Type 0} where
 
       gets_so : (kind : Kind) (p : Packet) (rest : List Event) (room : Room) (l : Link H) → kind ≢ Zero
           → DifferFor event (gets_by kind p (lapses (off event rest room l))) (gets_by kind p (off event rest room l))
-      gets_so Silent p rest room l differs = yet rest room (gets_by Silent p l)
-      gets_so Secured p rest room l differs = yet rest room (gets_by Secured p l)
       gets_so Zero p rest room l differs = absurd (differs refl)
-      gets_so Repeat p rest room l differs = yet rest room (gets_by Repeat p l)
       gets_so Taken p rest room l differs = inl (taken_so p rest room l)
-      gets_so Busy p rest room l differs = yet rest room (gets_by Busy p l)
-      gets_so Wrong p rest room l differs = yet rest room (gets_by Wrong p l)
+      gets_so kind p rest room l differs = yet rest room (gets_by kind p l)
 
       to_reader_so : (how : Delivery) (ps : List Packet) (rest : List Event) (room : Room) (l : Link H)
           → IsNotZeroIf how ps (off event rest room l).reader
@@ -171,20 +167,16 @@ module _ {H : Type 0} where
           let before = offered_queue event rest room in
           let without : Queue = record { events = rest; capacity = room.messages; room = room.bytes; offered = false; ever_offered = false } in
           queues_so (lacks_room e before) (lacks_room e without) e rest room l (lacks_none e before stays) (lacks_none e without (room_without e event without stays))
-      moves_so (SetBusy busy) rest room l stays = yet rest room (after_move answer_of after (SetBusy busy) l)
-      moves_so (Tick now) rest room l stays = yet rest room (after_move answer_of after (Tick now) l)
       moves_so (ToReader how) rest room l stays = to_reader_so how l.to_reader rest room l stays
       moves_so (ToController how now) rest room l stays = to_controller_so how now l.to_controller rest room l
       moves_so (Reopen now) rest room l stays = absurd stays
-      moves_so (SetHandler handler) rest room l stays = yet rest room (after_move answer_of after (SetHandler handler) l)
       moves_so Withdraw rest room l stays = yet rest room (link.withdraws l)
       moves_so (Retarget address) rest room l stays = retargets_so (controllers.retarget_refusal address l.controller) address rest room l
       moves_so WithdrawEvent rest room l stays =
           yet (Rattle.std.specs.Prelude.drop 1 rest) room (record l { account = link.event_withdrawn (offered_queue event rest room) l.account })
       moves_so (RestartReader config handler room_for) rest room l stays = inl refl
       moves_so (RestartController config room_for) rest room l stays = yet rest room (link.restarts_controller config room_for l)
-      moves_so (LoseToReader place) rest room l stays = yet rest room (after_move answer_of after (LoseToReader place) l)
-      moves_so (LoseToController place) rest room l stays = yet rest room (after_move answer_of after (LoseToController place) l)
+      moves_so move rest room l stays = yet rest room (after_move answer_of after move l)
 
   module _ (answer_of : H → Command → Answer) (after : H → Command → H) where
     pub move_for : (move : Move H) (l : Link H) (event : Event) (rest : List Event) → Offers event rest l → StaysInSession move l
@@ -281,18 +273,7 @@ module _ {H : Type 0} where
     keeps_so (QueueEvent e) l past keeps = (keeps, tt)
     keeps_so (Reopen now) l past keeps = absurd keeps
     keeps_so (ToReader how) l past keeps = (not_zero_if how l.to_reader l.reader past.frames, tt)
-    keeps_so (Submit c) l past keeps = (tt, tt)
-    keeps_so (SetBusy busy) l past keeps = (tt, tt)
-    keeps_so (Tick now) l past keeps = (tt, tt)
-    keeps_so (ToController how now) l past keeps = (tt, tt)
-    keeps_so (SetHandler handler) l past keeps = (tt, tt)
-    keeps_so Withdraw l past keeps = (tt, tt)
-    keeps_so (Retarget address) l past keeps = (tt, tt)
-    keeps_so WithdrawEvent l past keeps = (tt, tt)
-    keeps_so (RestartReader config handler room) l past keeps = (tt, tt)
-    keeps_so (RestartController config room) l past keeps = (tt, tt)
-    keeps_so (LoseToReader place) l past keeps = (tt, tt)
-    keeps_so (LoseToController place) l past keeps = (tt, tt)
+    keeps_so _ l past keeps = (tt, tt)
 
     keep_so : (moves : List (Move H)) (l : Link H) → OpeningIsPast l → KeepSession answer_of after moves l → StayInSession answer_of after moves l
     keep_so [] l past keep = tt

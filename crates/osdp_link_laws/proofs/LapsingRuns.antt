@@ -16,12 +16,12 @@ use Rattle.osdp_reader.specs.Table as table
 use Rattle.osdp_reader.specs.Table.{command_in, kind_of, outcome}
 use Rattle.osdp_reader.specs.declared.handler.Answer.{Answer}
 use Rattle.osdp_reader.specs.declared.kind.Kind.{Kind}
-use Rattle.osdp_reader.specs.declared.kind.Kind.TheVariants.{Silent, Secured, Zero, Repeat, Taken, Busy, Wrong}
+use Rattle.osdp_reader.specs.declared.kind.Kind.TheVariants.{Zero, Taken}
 use Rattle.osdp_link_laws.specs.Headline.{EachIsOnce, MaySubmit, MoveFits, SaysWhatFitsIf}
 use Rattle.osdp_link_laws.specs.Lapses.{Offers, StaysInSession, lapses}
 use Rattle.osdp_link_laws.specs.LapsingRuns.{AllFit, AreInARowButLapsed, Doubtful, Lapse, LapsingFits, LapsingHoldsOnce, LapsingMove, LeavesRoom, Moves, after_lapsing, after_reopen, run_lapsing}
 use Rattle.osdp_link_laws.specs.Link as link
-use Rattle.osdp_link_laws.specs.Link.{Account, Delivered, Delivery, Link, LoseToController, LoseToReader, Lost, Move, Queue as QueueEvent, Reopen, Repeated, RestartController, RestartReader, Retarget, SetBusy, SetHandler, Submit, Tick, ToController, ToReader, Withdraw, WithdrawEvent, after_move, new_account}
+use Rattle.osdp_link_laws.specs.Link.{Account, Delivered, Delivery, Link, Lost, Move, Queue as QueueEvent, Reopen, Repeated, RestartController, RestartReader, Submit, ToReader, after_move}
 use Rattle.osdp_link_laws.specs.Peers.{ReadEachOther}
 use Rattle.osdp_link_laws.specs.Sessions.{Leaves, queued, submitted}
 use Rattle.osdp_link_laws.proofs.Devices.{IsDevice, move_there}
@@ -57,13 +57,9 @@ module _ {H : Type 0} (answer_of : H → Command → Answer) (after : H → Comm
 
   said_by : (kind : Kind) (event : Event) (rest : List Event) (room : Room) (l : Link H) (p : Packet) → kind ≢ Zero
       → (outcome answer_of after kind (lapses (off event rest room l)).reader p).said ≡ (outcome answer_of after kind (off event rest room l).reader p).said
-  said_by Silent event rest room l p differs = refl
-  said_by Secured event rest room l p differs = refl
   said_by Zero event rest room l p differs = absurd (differs refl)
-  said_by Repeat event rest room l p differs = refl
   said_by Taken event rest room l p differs = said_taken (command_in p) event rest room l p
-  said_by Busy event rest room l p differs = refl
-  said_by Wrong event rest room l p differs = refl
+  said_by _ event rest room l p differs = refl
 
   fits_front : (ps : List Packet) (event : Event) (rest : List Event) (room : Room) (l : Link H) → Each IsNumbered ps
       → SaysWhatFitsIf answer_of after Delivered ps (lapses (off event rest room l)).reader → SaysWhatFitsIf answer_of after Delivered ps (off event rest room l).reader
@@ -90,17 +86,9 @@ module _ {H : Type 0} (answer_of : H → Command → Answer) (after : H → Comm
       (fits_if how l.to_reader event rest room l all fits, not_zero_if answer_of after how l.to_reader (off event rest room l).reader all, tt)
   asked_off (Reopen now) event rest room l all on lapsed told tells fits leaves_room = absurd on
   asked_off (Submit c) event rest room l all on lapsed told tells fits leaves_room = (fits, tt, tt)
-  asked_off (SetBusy busy) event rest room l all on lapsed told tells fits leaves_room = (tt, tt, tt)
-  asked_off (Tick now) event rest room l all on lapsed told tells fits leaves_room = (tt, tt, tt)
-  asked_off (ToController how now) event rest room l all on lapsed told tells fits leaves_room = (tt, tt, tt)
-  asked_off (SetHandler handler) event rest room l all on lapsed told tells fits leaves_room = (tt, tt, tt)
-  asked_off Withdraw event rest room l all on lapsed told tells fits leaves_room = (tt, tt, tt)
-  asked_off (Retarget address) event rest room l all on lapsed told tells fits leaves_room = (tt, tt, tt)
-  asked_off WithdrawEvent event rest room l all on lapsed told tells fits leaves_room = (tt, tt, tt)
   asked_off (RestartReader config handler many) event rest room l all on lapsed told tells fits leaves_room = (fits, tt, tt)
   asked_off (RestartController config many) event rest room l all on lapsed told tells fits leaves_room = (fits, tt, tt)
-  asked_off (LoseToReader place) event rest room l all on lapsed told tells fits leaves_room = (tt, tt, tt)
-  asked_off (LoseToController place) event rest room l all on lapsed told tells fits leaves_room = (tt, tt, tt)
+  asked_off _ event rest room l all on lapsed told tells fits leaves_room = (tt, tt, tt)
 
   asked_without : (move : Move H) (event : Event) (rest : List Event) (l : Link H) → Offers event rest l → Each IsNumbered l.to_reader → IsNoReopen move
       → (lapsed told : List Event) → lapsed ≡ told ++ event ∷ []

@@ -20,7 +20,7 @@ use Rattle.osdp_controller.specs.declared.state.State.TheVariants.{Closed, Quiet
 use Rattle.osdp_reader.specs.declared.handler.Answer.{Answer}
 use Rattle.osdp_link_laws.specs.Headline.{IsBeginning, IsOnce, IsWithout, MoveFits, MaySubmit}
 use Rattle.osdp_link_laws.specs.Link as link
-use Rattle.osdp_link_laws.specs.Link.{Account, Link, Move, Queue as QueueEvent, Removal, Reopen, RestartController, RestartReader, Retarget, SetBusy, SetHandler, Submit, ThrownAway, Tick, ToController, ToReader, Withdraw, WithdrawEvent, Withdrawn, after_move, new_account, outstanding_command, LoseToReader, LoseToController}
+use Rattle.osdp_link_laws.specs.Link.{Account, Link, Move, Removal, Reopen, RestartController, Retarget, ThrownAway, Withdraw, Withdrawn, after_move, new_account, outstanding_command}
 use Rattle.osdp_link_laws.specs.Sessions.{removed_command}
 use Rattle.osdp_link_laws.proofs.Growing.{GoesOn, inside_on}
 use Rattle.osdp_link_laws.proofs.Moves.{Premises}
@@ -39,10 +39,8 @@ one_owed Polling a = omega arith
 one_owed (Asking c) a = omega arith
 
 pub one_owed_at : (at : Stage) → length (owed_at at) ≤ 1
-one_owed_at Fresh = omega arith
-one_owed_at (Behind past x) = omega arith
 one_owed_at (Level past x a) = one_owed x a
-one_owed_at (Rest n x a) = omega arith
+one_owed_at _ = omega arith
 
 -- what was withdrawn, and what is left, are what waited
 withdrawn_are : (cs : List Command) → map removed_command (map Withdrawn cs) ≡ cs
@@ -56,17 +54,11 @@ thrown_are (c ∷ cs) = ap (λ l. c ∷ l) (thrown_are cs)
 withdrawn_first : (state : State) (ws : List Command) → option_to_list (controllers.withdrawn_in state ws) ++ controllers.kept_in state ws ≡ ws
 withdrawn_first Closed [] = refl
 withdrawn_first Closed (w ∷ ws) = refl
-withdrawn_first (Quiet until) ws = refl
-withdrawn_first (Idle due) ws = refl
-withdrawn_first (Waiting until k o) ws = refl
-withdrawn_first (Pausing until o) ws = refl
+withdrawn_first _ ws = refl
 
 pub target_closed : (state : State) (address : ℕ) → controllers.or_no_device (controllers.refused_unless_closed state) address ≡ None → state ≡ Closed
 target_closed Closed address may = refl
-target_closed (Quiet until) address may = absurd cc
-target_closed (Idle due) address may = absurd cc
-target_closed (Waiting until k o) address may = absurd cc
-target_closed (Pausing until o) address may = absurd cc
+target_closed _ address may = absurd cc
 
 -- the command that a controller forgets is the pending one
 submitted_is : (x : Exchange) → option_to_list (submitted_command x) ≡ pending x
@@ -86,16 +78,12 @@ module _ (fixed : ControllerConfig) where
   waits_forget : (state : State) (s : Session) → Waits fixed state s → option_to_list (outstanding_command state) ≡ []
   waits_forget Closed s is = refl
   waits_forget (Quiet until) s is = refl
-  waits_forget (Idle due) s is = absurd is
-  waits_forget (Waiting until k o) s is = absurd is
-  waits_forget (Pausing until o) s is = absurd is
+  waits_forget _ s is = absurd is
 
   rests_forget : (state : State) (n : ℕ) (s : Session) → Rests fixed state n s → option_to_list (outstanding_command state) ≡ []
   rests_forget Closed n s is = refl
-  rests_forget (Quiet until) n s is = absurd is
   rests_forget (Idle due) n s is = refl
-  rests_forget (Waiting until k o) n s is = absurd is
-  rests_forget (Pausing until o) n s is = absurd is
+  rests_forget _ n s is = absurd is
 
   asks_forget : (state : State) (n : ℕ) (x : Exchange) (s : Session) → Asks fixed state n x s
       → given_up state x ++ option_to_list (outstanding_command state) ≡ pending x
@@ -306,17 +294,7 @@ module _ (fixed : ControllerConfig) {H : Type 0} (answer_of : H → Command → 
   moving given (Retarget address) l on fits h = going_retargets (controllers.retarget_refusal address l.controller) address l refl h
   moving given (RestartController config room) l on fits h = going_restarts config room l h
   moving given (Reopen now) l on fits h = absurd on
-  moving given (Submit c) l on fits h = going_inside given (Submit c) l tt fits h
-  moving given (QueueEvent e) l on fits h = going_inside given (QueueEvent e) l tt fits h
-  moving given (LoseToReader place) l on fits h = going_inside given (LoseToReader place) l tt fits h
-  moving given (LoseToController place) l on fits h = going_inside given (LoseToController place) l tt fits h
-  moving given WithdrawEvent l on fits h = going_inside given WithdrawEvent l tt fits h
-  moving given (SetBusy busy) l on fits h = going_inside given (SetBusy busy) l tt fits h
-  moving given (Tick now) l on fits h = going_inside given (Tick now) l tt fits h
-  moving given (ToReader how) l on fits h = going_inside given (ToReader how) l tt fits h
-  moving given (ToController how now) l on fits h = going_inside given (ToController how now) l tt fits h
-  moving given (SetHandler handler) l on fits h = going_inside given (SetHandler handler) l tt fits h
-  moving given (RestartReader config handler room) l on fits h = going_inside given (RestartReader config handler room) l tt fits h
+  moving given move l on fits h = going_inside given move l tt fits h
 
   -- what holds of a session says that all is once and in order
   pub is_once : (l : Link H) → IsWithout l.account.withdrawn l.account.queued l.account.stayed → Goes l → IsOnce l.account

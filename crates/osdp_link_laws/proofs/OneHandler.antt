@@ -28,7 +28,7 @@ use Rattle.osdp_reader.specs.declared.kind.Kind.TheVariants as kind
 use Rattle.osdp_reader_laws.specs.Answering.{handler_after_commands}
 use Rattle.osdp_link_laws.specs.Headline.{MovesFit}
 use Rattle.osdp_link_laws.specs.Link as link
-use Rattle.osdp_link_laws.specs.Link.{Account, Delivered, Delivery, Link, Lost, Move, Queue as QueueEvent, Reopen, Repeated, RestartController, RestartReader, Retarget, SetBusy, SetHandler, Submit, Tick, ToController, ToReader, Withdraw, WithdrawEvent, after_move, run, taken_command, after_report, LoseToReader, LoseToController}
+use Rattle.osdp_link_laws.specs.Link.{Account, Delivered, Delivery, Link, Lost, Move, Queue as QueueEvent, Reopen, Repeated, RestartController, RestartReader, Retarget, SetHandler, Submit, Tick, ToController, ToReader, Withdraw, WithdrawEvent, after_move, run, taken_command, after_report}
 use Rattle.osdp_link_laws.specs.OneHandler.{AreItsAnswers, GivesItsAnswers, IsSameModel, KeepHandler, KeepsDevice, KeepsHandler, handler_after, with_answers}
 use Rattle.osdp_link_laws.specs.Peers.{ReadEachOther}
 use Rattle.osdp_link_laws.proofs.Acting.{no_event, polled, same_answer, taken_is}
@@ -82,13 +82,9 @@ module _ {H : Type 0} (answer_of : H → Command → Answer) (after : H → Comm
       })
 
   outcome_model : (k : Kind) (r : ReaderState H) (p : Packet) → StaysModel r (outcome answer_of after k r p).reader
-  outcome_model kind.Silent r p = (refl, refl)
-  outcome_model kind.Secured r p = (refl, refl)
   outcome_model kind.Zero r p = begun_model (command_in p) r p
-  outcome_model kind.Repeat r p = (refl, refl)
   outcome_model kind.Taken r p = taken_model (command_in p) r p
-  outcome_model kind.Busy r p = (refl, refl)
-  outcome_model kind.Wrong r p = (refl, refl)
+  outcome_model _ r p = (refl, refl)
 
   abbrev KeepsModel : Link H → Link H → Type 0
   KeepsModel l m = StaysModel l.reader m.reader
@@ -126,19 +122,12 @@ module _ {H : Type 0} (answer_of : H → Command → Answer) (after : H → Comm
   model_kept : (move : Move H) (l : Link H) → KeepsHandler move l → KeepsModel l (after_move answer_of after move l)
   model_kept (Submit c) l keeps = submits_model (controllers.submit_refusal c l.controller) c l
   model_kept (QueueEvent e) l keeps = queues_model (lacks_room e l.reader.queue) e l
-  model_kept (SetBusy busy) l keeps = (refl, refl)
-  model_kept WithdrawEvent l keeps = (refl, refl)
-  model_kept (LoseToReader place) l keeps = (refl, refl)
-  model_kept (LoseToController place) l keeps = (refl, refl)
-  model_kept (Tick now) l keeps = (refl, refl)
   model_kept (ToReader how) l keeps = to_reader_model how l.to_reader l
   model_kept (ToController how now) l keeps = to_controller_model how now l.to_controller l
   model_kept (Reopen now) l keeps = reopens_model (controllers.begin_refusal l.controller) l.to_reader l.to_controller now l
-  model_kept (SetHandler handler) l keeps = (refl, refl)
-  model_kept Withdraw l keeps = (refl, refl)
   model_kept (Retarget address) l keeps = retargets_model (controllers.retarget_refusal address l.controller) address l
   model_kept (RestartReader config handler room) l keeps = keeps.1
-  model_kept (RestartController config room) l keeps = (refl, refl)
+  model_kept _ l keeps = (refl, refl)
 
 module _ {H : Type 0} (answer_of : H → Command → Answer) (after : H → Command → H) (settings : ReaderConfig) where
   one_more_answer : (h : H) (cs : List Command) (c : Command)
@@ -351,10 +340,7 @@ module _ {H : Type 0} (answer_of : H → Command → Answer) (after : H → Comm
       → AllAnswered start l → AllAnswered start (after_move answer_of after move l)
   move_answered given start (Submit c) l keeps s facts is = submits_answered start (controllers.submit_refusal c l.controller) c l is
   move_answered given start (QueueEvent e) l keeps s facts is = queues_answered start (lacks_room e l.reader.queue) e l is
-  move_answered given start (SetBusy busy) l keeps s facts is = is
   move_answered given start WithdrawEvent l keeps s facts is = others_answered start l (link.withdraws_event l).account l.reader.handler refl refl refl is
-  move_answered given start (LoseToReader place) l keeps s facts is = is
-  move_answered given start (LoseToController place) l keeps s facts is = is
   move_answered given start (Tick now) l keeps s facts (is, before) =
       (told_answered (handler_after answer_of after settings start l.earlier) (ticks now l.controller.session l.controller.waiting).step.report l.account l.reader.handler is, before)
   move_answered given start (ToReader how) l keeps s facts is =
@@ -371,6 +357,7 @@ module _ {H : Type 0} (answer_of : H → Command → Answer) (after : H → Comm
       others_answered start l (link.reader_restarted l.account) handler refl refl keeps.0 is
   move_answered given start (RestartController config room) l keeps s facts is =
       others_answered start l (link.controller_restarted l.controller l.account) l.reader.handler refl refl refl is
+  move_answered given start _ l keeps s facts is = is
 
   moves_answered : Assumed answer_of after → (start : H) (moves : List (Move H)) (l : Link H) → MovesFit answer_of after moves l
       → KeepHandler answer_of after moves l → Stands answer_of after l → IsSameModel l.reader.config settings → AllAnswered start l

@@ -33,7 +33,7 @@ use Rattle.osdp_reader.specs.declared.kind.Kind.TheVariants.{Silent, Secured, Ze
 use Rattle.osdp_reader.specs.Queue.{lacks_room}
 use Rattle.osdp_link_laws.specs.Headline.{Begins, MovesFit}
 use Rattle.osdp_link_laws.specs.Link as link
-use Rattle.osdp_link_laws.specs.Link.{Account, Delivered, Delivery, Link, LoseToController, LoseToReader, Lost, Move, Queue as QueueEvent, Reopen, Repeated, RestartController, RestartReader, Retarget, SetBusy, SetHandler, Submit, Tick, ToController, ToReader, Withdraw, WithdrawEvent, after_move, after_report, run}
+use Rattle.osdp_link_laws.specs.Link.{Account, Delivered, Delivery, Link, LoseToReader, Lost, Move, Queue as QueueEvent, Reopen, Repeated, RestartController, Retarget, Submit, Tick, ToController, ToReader, after_move, after_report, run}
 use Rattle.osdp_link_laws.specs.Peers.{ReadEachOther}
 use Rattle.osdp_link_laws.proofs.InARow.{Assumed, Stands, assumed, begins as begins_so, standing}
 use Rattle.osdp_link_laws.proofs.Lines.{both, each_append, each_lost, each_map, runs_each}
@@ -121,13 +121,11 @@ pausing_on (Plain a) o s goes asks = answer_on o.exchange a s asks.0
 pausing_on (Unreadable code) o s goes asks = unread_on o.exchange code s asks.0
 
 inside_on : (state : State) (number : ℕ) (a : ReplyMeaning) (s : Session) → s.state ≡ state → Goes s → HearsOn (hears_in state number a s)
-inside_on Closed number a s is goes = goes
-inside_on (Quiet until) number a s is goes = goes
-inside_on (Idle due) number a s is goes = goes
 inside_on (Waiting until k o) number a s is goes =
     both HearsOn (is_numbered number a s) (waiting_hears a k o s) (ignores s) (waiting_on a k o s (subst (λ st. AsksOn st s.number) is goes)) goes
 inside_on (Pausing until o) number a s is goes =
     both HearsOn (is_numbered number a s) (pausing_hears a o s) (ignores s) (pausing_on a o s goes (subst (λ st. AsksOn st s.number) is goes)) goes
+inside_on _ number a s is goes = goes
 
 hear_on : (p : Packet) (now : ℕ) (s : Session) → Goes s → Goes (hears p now s).session
 hear_on p now s goes =
@@ -214,7 +212,6 @@ module _ {H : Type 0} where
     pub past_on : (move : Move H) (l : Link H) → IsNoReopen move → OpeningIsPast l → OpeningIsPast (after_move answer_of after move l)
     past_on (Submit c) l on is = submits_past (controllers.submit_refusal c l.controller) c l is
     past_on (QueueEvent e) l on is = queues_past (lacks_room e l.reader.queue) e l is
-    past_on (SetBusy busy) l on is = record { frames = is.frames; controller = is.controller }
     past_on (Tick now) l on is =
         let t = tick_on l.controller.session.state (seen now l.controller.session) l.controller.waiting refl is.controller in
         record {
@@ -224,14 +221,10 @@ module _ {H : Type 0} where
     past_on (ToReader how) l on is = to_reader_past how l.to_reader l refl is
     past_on (ToController how now) l on is = to_controller_past how now l.to_controller l is
     past_on (Reopen now) l on is = absurd on
-    past_on (SetHandler handler) l on is = record { frames = is.frames; controller = is.controller }
-    past_on Withdraw l on is = record { frames = is.frames; controller = is.controller }
     past_on (Retarget address) l on is = retargets_past (controllers.retarget_refusal address l.controller) address l is
-    past_on WithdrawEvent l on is = record { frames = is.frames; controller = is.controller }
-    past_on (RestartReader config handler room) l on is = record { frames = is.frames; controller = is.controller }
     past_on (RestartController config room) l on is = record { frames = is.frames; controller = tt }
     past_on (LoseToReader place) l on is = record { frames = each_lost IsNumbered place l.to_reader is.frames; controller = is.controller }
-    past_on (LoseToController place) l on is = record { frames = is.frames; controller = is.controller }
+    past_on _ l on is = record { frames = is.frames; controller = is.controller }
 
 -- ---- a frame that the reader takes is of an exchange after the opening
 
@@ -241,10 +234,6 @@ module _ (fixed : ControllerConfig) where
 
   number_of : (x : Exchange) (n : ℕ) (p : Packet) → IsNumbered p → IsFrame fixed x n p → n ≢ 0
   number_of x n p above is zero_number = above (ap (λ (q : Packet). q.sequence) is ∙ zero_number)
-
-  old_numbered : (past : Past) (p : Packet) → number_after past ≢ 0 → (q : Packet) → IsNumbered q → IsOldFrame fixed past q → IsOldFrame fixed past p → IsNumbered p
-  old_numbered Start p above q numbered was is = absurd is
-  old_numbered (After n y b) p above q numbered was is = frame_numbered y n p (number_of y n q numbered was) is
 
   asks_on : (state : State) (n : ℕ) (x : Exchange) (s : Session) → IsLater x → n ≢ 0 → s.state ≡ state → Asks fixed state n x s → Goes s
   asks_on Closed n x s above more at asks = subst (λ st. AsksOn st s.number) (sym at) tt
@@ -258,9 +247,7 @@ module _ (fixed : ControllerConfig) where
   rests_on : (state : State) (n : ℕ) (s : Session) → s.state ≡ state → Rests fixed state n s → Goes s
   rests_on Closed n s at rests_at = subst (λ st. AsksOn st s.number) (sym at) tt
   rests_on (Idle due) n s at rests_at = subst (λ st. AsksOn st s.number) (sym at) tt
-  rests_on (Quiet until) n s at rests_at = absurd rests_at
-  rests_on (Waiting until k o) n s at rests_at = absurd rests_at
-  rests_on (Pausing until o) n s at rests_at = absurd rests_at
+  rests_on _ n s at rests_at = absurd rests_at
 
   is_later : (past : Past) (x : Exchange) → number_after past ≢ 0 → IsAsked past x → IsLater x
   is_later Start x above asked = absurd (above refl)
@@ -355,13 +342,8 @@ module _ {H : Type 0} where
     -- but for a command that is taken nothing is offered
     gets_offers : (kind : Kind) (p : Packet) (r : ReaderState H) (t : Account) → kind ≢ Taken
         → (link.taken kind (outcome answer_of after kind r p).command (outcome answer_of after kind r p).said (link.front_of r) t).offered ≡ t.offered
-    gets_offers Silent p r t differs = refl
-    gets_offers Secured p r t differs = refl
-    gets_offers Zero p r t differs = refl
-    gets_offers Repeat p r t differs = refl
     gets_offers Taken p r t differs = absurd (differs refl)
-    gets_offers Busy p r t differs = refl
-    gets_offers Wrong p r t differs = refl
+    gets_offers _ p r t differs = refl
 
     -- what a packet brings that the reader may take
     data IsTakenOrNot (r : ReaderState H) (p : Packet) : Type 0 where
@@ -417,26 +399,16 @@ module _ {H : Type 0} where
       one_past (QueueEvent e) l h is =
           as_none l (after_move answer_of after (QueueEvent e) l) (queues_offers (lacks_room e l.reader.queue) e l)
           (past_on answer_of after (QueueEvent e) l tt) is
-      one_past (SetBusy busy) l h is = as_none l (after_move answer_of after (SetBusy busy) l) refl (past_on answer_of after (SetBusy busy) l tt) is
       one_past (Tick now) l h is =
           as_none l (after_move answer_of after (Tick now) l) (report_offers (ticks now l.controller.session l.controller.waiting).step.report l.account)
           (past_on answer_of after (Tick now) l tt) is
       one_past (ToController how now) l h is =
           as_none l (after_move answer_of after (ToController how now) l) (to_controller_offers how now l.to_controller l)
           (past_on answer_of after (ToController how now) l tt) is
-      one_past (SetHandler handler) l h is = as_none l (after_move answer_of after (SetHandler handler) l) refl (past_on answer_of after (SetHandler handler) l tt) is
-      one_past Withdraw l h is = as_none l (after_move answer_of after Withdraw l) refl (past_on answer_of after Withdraw l tt) is
       one_past (Retarget address) l h is =
           as_none l (after_move answer_of after (Retarget address) l) (retargets_offers (controllers.retarget_refusal address l.controller) address l)
           (past_on answer_of after (Retarget address) l tt) is
-      one_past WithdrawEvent l h is = as_none l (after_move answer_of after WithdrawEvent l) refl (past_on answer_of after WithdrawEvent l tt) is
-      one_past (RestartReader config handler room) l h is =
-          as_none l (after_move answer_of after (RestartReader config handler room) l) refl (past_on answer_of after (RestartReader config handler room) l tt) is
-      one_past (RestartController config room) l h is =
-          as_none l (after_move answer_of after (RestartController config room) l) refl (past_on answer_of after (RestartController config room) l tt) is
-      one_past (LoseToReader place) l h is = as_none l (after_move answer_of after (LoseToReader place) l) refl (past_on answer_of after (LoseToReader place) l tt) is
-      one_past (LoseToController place) l h is =
-          as_none l (after_move answer_of after (LoseToController place) l) refl (past_on answer_of after (LoseToController place) l tt) is
+      one_past move l h is = as_none l (after_move answer_of after move l) refl (past_on answer_of after move l tt) is
 
       all_past : Assumed answer_of after → (moves : List (Move H)) (l : Link H) → MovesFit answer_of after moves l → Stands answer_of after l
           → NoneOfferedOrPast l → NoneOfferedOrPast (run answer_of after moves l)

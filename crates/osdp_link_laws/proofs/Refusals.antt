@@ -7,7 +7,7 @@ use Rattle.osdp_controller.specs.declared.report.Report.{Report}
 use Rattle.osdp_controller.specs.declared.report.Report.TheVariants as report
 use Rattle.osdp_reader.specs.declared.handler.Answer.{Answer}
 use Rattle.osdp_link_laws.specs.Headline.{MovesFit}
-use Rattle.osdp_link_laws.specs.Link.{Link, Move, Queue as QueueEvent, Reopen, RestartController, RestartReader, Retarget, SetBusy, SetHandler, Submit, Tick, ToController, ToReader, Withdraw, WithdrawEvent, after_move, run, LoseToReader, LoseToController}
+use Rattle.osdp_link_laws.specs.Link.{Link, Move, Tick, ToController, after_move, run}
 use Rattle.osdp_link_laws.specs.Peers.{IsPlainlySaid, ReadEachOther}
 use Rattle.osdp_link_laws.specs.Refusals.{IsNoRefusal, IsOtherCause, KeepsReader, RefusesNoNumber, RefusesNoNumberWithoutRestart, SaysAllPlainly, reports, told_by, told_by_front}
 use Rattle.osdp_link_laws.proofs.Deliveries.{all_said}
@@ -46,19 +46,7 @@ module _ {H : Type 0} (answer_of : H → Command → Answer) (after : H → Comm
   told_so given (ToController how now) l s never =
       refuses_none (told_by_front how l.to_controller now l.controller.session)
       (front_so how l.to_controller now l.controller.session (says_plainly given l s never))
-  told_so given (Submit c) l s never = tt
-  told_so given (QueueEvent e) l s never = tt
-  told_so given (SetBusy busy) l s never = tt
-  told_so given WithdrawEvent l s never = tt
-  told_so given (ToReader how) l s never = tt
-  told_so given (Reopen now) l s never = tt
-  told_so given (LoseToReader place) l s never = tt
-  told_so given (LoseToController place) l s never = tt
-  told_so given (SetHandler handler) l s never = tt
-  told_so given Withdraw l s never = tt
-  told_so given (Retarget address) l s never = tt
-  told_so given (RestartReader config handler room) l s never = tt
-  told_so given (RestartController config room) l s never = tt
+  told_so given _ l s never = tt
 
   each_so : Assumed answer_of after → (moves : List (Move H)) (l : Link H) → MovesFit answer_of after moves l → Each KeepsReader moves
       → Stands answer_of after l → AllKept l → Each IsNoRefusal (reports answer_of after moves l)

@@ -23,7 +23,7 @@ use Rattle.osdp_reader.specs.Table as reader
 use Rattle.osdp_reader.specs.Queue.{lacks_room}
 use Rattle.osdp_link_laws.specs.Headline.{MoveFits}
 use Rattle.osdp_link_laws.specs.Link as link
-use Rattle.osdp_link_laws.specs.Link.{Account, Delivered, Delivery, Link, Lost, Move, Queue as QueueEvent, Removal, Reopen, Repeated, RestartController, RestartReader, Retarget, SetBusy, SetHandler, Submit, ThrownAway, Tick, ToController, ToReader, Withdraw, WithdrawEvent, Withdrawn, after_move, outstanding_command, after_report, LoseToReader, LoseToController}
+use Rattle.osdp_link_laws.specs.Link.{Account, Delivered, Delivery, Link, Lost, Move, Queue as QueueEvent, Reopen, Repeated, RestartController, RestartReader, Retarget, SetBusy, SetHandler, Submit, Tick, ToController, ToReader, Withdraw, WithdrawEvent, after_move, after_report, LoseToReader, LoseToController}
 use Rattle.osdp_link_laws.specs.Sessions.{removed_command}
 use Rattle.osdp_link_laws.proofs.Deliveries.{coming_to_controller, coming_to_reader, missing_to_controller, missing_to_reader}
 use Rattle.osdp_link_laws.proofs.Lines.{both}
@@ -113,10 +113,7 @@ module _ (fixed : ControllerConfig) {H : Type 0} (answer_of : H → Command → 
   moving_inside given (SetHandler handler) l on fits (s, at, h) = (s, at, being_otherwise fixed answer_of after s l.reader.busy handler at l h)
   moving_inside given (RestartReader config handler room) l on fits (s, at, h) =
       (Now, at, restarting_reader fixed answer_of after config handler room s at l h)
-  moving_inside given (Reopen now) l on fits h = absurd on
-  moving_inside given Withdraw l on fits h = absurd on
-  moving_inside given (Retarget address) l on fits h = absurd on
-  moving_inside given (RestartController config room) l on fits h = absurd on
+  moving_inside given _ l on fits h = absurd on
 
   -- ---- the same after the end, with commands counted so
 
@@ -201,7 +198,4 @@ module _ (fixed : ControllerConfig) {H : Type 0} (answer_of : H → Command → 
   closed_inside given w u (SetHandler handler) l on fits closed h = moving_inside given (SetHandler handler) (as_if w u l) tt tt h
   closed_inside given w u (RestartReader config handler room) l on fits closed h =
       moving_inside given (RestartReader config handler room) (as_if w u l) tt fits h
-  closed_inside given w u (Reopen now) l on fits closed h = absurd on
-  closed_inside given w u Withdraw l on fits closed h = absurd on
-  closed_inside given w u (Retarget address) l on fits closed h = absurd on
-  closed_inside given w u (RestartController config room) l on fits closed h = absurd on
+  closed_inside given w u _ l on fits closed h = absurd on

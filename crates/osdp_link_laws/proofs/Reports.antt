@@ -70,24 +70,20 @@ answered_so Polling a s = polled_so (event_in a) a
 answered_so (Asking c) a s = command_so (moved_by (comset_of c) (com_of a)) c a s refl
 
 busy_so : (state : State) (number : ℕ) (s : Session) → HeardSo (hears_in state number NotTaken s)
-busy_so Closed number s = tt
-busy_so (Quiet until) number s = tt
-busy_so (Idle due) number s = tt
 busy_so (Waiting until k o) number s =
     both HeardSo (is_numbered number NotTaken s) (hears_busy o s) (ignores s)
     (both HeardSo (ltb s.config.busy_limit (o.busies + 1)) (loses TooBusy o s)
     (record { session = record s { state = Pausing (later s.config.busy_wait s) (record o { busies = o.busies + 1 }) }; report = None })
     refl tt) tt
 busy_so (Pausing until o) number s = both HeardSo (is_numbered number NotTaken s) (ignores s) (ignores s) tt tt
+busy_so _ number s = tt
 
 plain_so : (state : State) (number : ℕ) (a : Reply) (s : Session) → HeardSo (hears_in state number (Plain a) s)
-plain_so Closed number a s = tt
-plain_so (Quiet until) number a s = tt
-plain_so (Idle due) number a s = tt
 plain_so (Waiting until k o) number a s =
     both HeardSo (is_numbered number (Plain a) s) (waiting_hears (Plain a) k o s) (ignores s) (answered_so o.exchange a s) tt
 plain_so (Pausing until o) number a s =
     both HeardSo (is_numbered number (Plain a) s) (pausing_hears (Plain a) o s) (ignores s) (answered_so o.exchange a s) tt
+plain_so _ number a s = tt
 
 pub heard_so : (p : Packet) (now : ℕ) (s : Session) → IsPlainlySaid p → MayBring (hears p now s).report
 heard_so p now s (inl busy) =

@@ -10,7 +10,7 @@ use Rattle.osdp_controller.specs.declared.config.ControllerConfig.{ControllerCon
 use Rattle.osdp_controller.specs.declared.exchange.Exchange.{Exchange}
 use Rattle.osdp_controller.specs.declared.exchange.Exchange.TheVariants.{Opening, Polling, Asking}
 use Rattle.osdp_controller.specs.declared.state.State.{State}
-use Rattle.osdp_controller.specs.declared.state.State.TheVariants.{Closed, Quiet, Idle, Waiting, Pausing}
+use Rattle.osdp_controller.specs.declared.state.State.TheVariants.{Closed}
 use Rattle.osdp_reader.specs.declared.handler.Answer.{Answer}
 use Rattle.osdp_reader.specs.State.{ReaderState}
 use Rattle.osdp_link_laws.specs.Headline.{IsBeginning, asked}
@@ -46,10 +46,7 @@ owed_command (Asking c) a = refl
 -- a session that lasts has told nothing unsettled
 given_none : (state : State) (x : Exchange) → (state ≡ Closed → ⊥) → given_up state x ≡ []
 given_none Closed x lasts = absurd (lasts refl)
-given_none (Quiet until) x lasts = refl
-given_none (Idle due) x lasts = refl
-given_none (Waiting until k o) x lasts = refl
-given_none (Pausing until o) x lasts = refl
+given_none _ x lasts = refl
 
 given_none_at : (at : Stage) (state : State) → (state ≡ Closed → ⊥) → given_up_at at state ≡ []
 given_none_at Fresh state lasts = refl
@@ -201,7 +198,4 @@ module _ (fixed : ControllerConfig) {H : Type 0} (answer_of : H → Command → 
 
   pub lasts_or_leaves : (state : State) (l : Link H) → l.controller.session.state ≡ state → Goes fixed answer_of after l → LastsOrLeaves state l
   lasts_or_leaves Closed l is h = leaves l h is
-  lasts_or_leaves (Quiet until) l is h = lasts l h (λ e. absurd (let f = sym is ∙ e in cc))
-  lasts_or_leaves (Idle due) l is h = lasts l h (λ e. absurd (let f = sym is ∙ e in cc))
-  lasts_or_leaves (Waiting until k o) l is h = lasts l h (λ e. absurd (let f = sym is ∙ e in cc))
-  lasts_or_leaves (Pausing until o) l is h = lasts l h (λ e. absurd (let f = sym is ∙ e in cc))
+  lasts_or_leaves _ l is h = lasts l h (λ e. absurd (let f = sym is ∙ e in cc))

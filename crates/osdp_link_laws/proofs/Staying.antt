@@ -21,7 +21,7 @@ use Rattle.osdp_reader.specs.declared.handler.Answer.{Answer}
 use Rattle.osdp_reader.specs.declared.kind.Kind.{Kind}
 use Rattle.osdp_reader.specs.declared.kind.Kind.TheVariants as kind
 use Rattle.osdp_link_laws.specs.Link as link
-use Rattle.osdp_link_laws.specs.Link.{Account, Delivered, Delivery, Link, LoseToController, LoseToReader, Lost, Move, Queue as QueueEvent, Reopen, Repeated, RestartController, RestartReader, Retarget, SetBusy, SetHandler, Submit, Tick, ToController, ToReader, Withdraw, WithdrawEvent, after_move, after_report, unoffered_in}
+use Rattle.osdp_link_laws.specs.Link.{Account, Delivered, Delivery, Link, Lost, Move, Queue as QueueEvent, Reopen, Repeated, RestartController, RestartReader, Retarget, Submit, Tick, ToController, ToReader, Withdraw, WithdrawEvent, after_move, after_report, unoffered_in}
 use Rattle.osdp_link_laws.specs.Sessions.{queued, unless_full}
 use Rattle.osdp_link_laws.proofs.Growing.{GoesOn, taken_takes}
 use Rattle.osdp_link_laws.proofs.Lines.{both}
@@ -89,13 +89,9 @@ module _ {H : Type 0} (answer_of : H → Command → Answer) (after : H → Comm
       (released_tail r.queue) (offering_tail told (released r.queue)))
 
   outcome_tail : (k : Kind) (r : ReaderState H) (p : Packet) → Leaves r (reader.outcome answer_of after k r p).reader
-  outcome_tail kind.Silent r p = same_tail r.queue
-  outcome_tail kind.Secured r p = same_tail r.queue
   outcome_tail kind.Zero r p = begun_tail (command_in p) r p
-  outcome_tail kind.Repeat r p = same_tail r.queue
   outcome_tail kind.Taken r p = taken_tail (command_in p) r p
-  outcome_tail kind.Busy r p = same_tail r.queue
-  outcome_tail kind.Wrong r p = same_tail r.queue
+  outcome_tail _ r p = same_tail r.queue
 
   hears_tail : (r : ReaderState H) (p : Packet) → Leaves r (reader.hears answer_of after r p).reader
   hears_tail r p = outcome_tail (reader.kind_of r p) r p
@@ -220,13 +216,9 @@ module _ {H : Type 0} (answer_of : H → Command → Answer) (after : H → Comm
   pub events_go : (move : Move H) (l : Link H) → GoesOn move → Going (queued move l) l (after_move answer_of after move l)
   events_go (Submit c) l on = submits_go (controllers.submit_refusal c l.controller) c l
   events_go (QueueEvent e) l on = queues_go (lacks_room e l.reader.queue) e l
-  events_go (SetBusy busy) l on = unchanged l
   events_go (Tick now) l on = tells (ticks now l.controller.session l.controller.waiting).step.report l
   events_go (ToReader how) l on = to_reader_go how l.to_reader l
   events_go (ToController how now) l on = to_controller_go how now l.to_controller l
-  events_go (LoseToReader place) l on = unchanged l
-  events_go (LoseToController place) l on = unchanged l
-  events_go (SetHandler handler) l on = unchanged l
   events_go Withdraw l on = same_as l (link.withdraws l).account (same_events l.account (link.withdraws l).account refl refl refl)
   events_go (Retarget address) l on = retargets_go (controllers.retarget_refusal address l.controller) address l
   events_go WithdrawEvent l on = withdraws_go l
@@ -239,3 +231,4 @@ module _ {H : Type 0} (answer_of : H → Command → Answer) (after : H → Comm
   events_go (RestartController config room) l on =
       let t = link.controller_restarted l.controller l.account in same_as l t (same_events l.account t refl refl refl)
   events_go (Reopen now) l on = absurd on
+  events_go _ l on = unchanged l

@@ -77,10 +77,7 @@ module _ (fixed : ControllerConfig) where
 
   pub asks_seen : (state : State) (n : ℕ) (x : Exchange) (s : Session) (now : ℕ) → Asks fixed state n x s → Asks fixed state n x (seen now s)
   asks_seen Closed n x s now asks = tt
-  asks_seen (Quiet until) n x s now asks = asks
-  asks_seen (Idle due) n x s now asks = asks
-  asks_seen (Waiting until k o) n x s now asks = asks
-  asks_seen (Pausing until o) n x s now asks = asks
+  asks_seen _ n x s now asks = asks
 
   pub ticks_asking : (n : ℕ) (x : Exchange) (s : Session) (waiting : List Command) (now : ℕ) → Asks fixed s.state n x s
       → StillAsks n x (given_up s.state x) waiting (ticks now s waiting)
@@ -115,7 +112,6 @@ module _ (fixed : ControllerConfig) where
       → Begun (After n x r) (next_sequence n) waiting (ticks_in state s waiting) ⊎ Unchanged (RestsOn n) waiting (ticks_in state s waiting)
   tick_resting Closed n x r s waiting e rests may =
       inr (refl, refl, refl, subst (λ st. Rests fixed st n s) (sym e) rests)
-  tick_resting (Quiet until) n x r s waiting e rests may = absurd rests
   tick_resting (Idle due) n x r s [] e rests may =
       both (λ t. Begun (After n x r) (next_sequence n) [] t ⊎ Unchanged (RestsOn n) [] t) (leb due s.greatest)
       (begins Polling (next_sequence s.number) s []) (stays s [])
@@ -125,15 +121,11 @@ module _ (fixed : ControllerConfig) where
   tick_resting (Idle due) n x r s (command ∷ rest) e rests may =
       inl (subst (λ k. Begun (After n x r) (next_sequence n) (command ∷ rest) (begins (Asking command) (next_sequence k) s rest)) (sym rests.1)
       (begun (After n x r) (Asking command) (next_sequence n) s (command ∷ rest) rest may.0 refl rests.0))
-  tick_resting (Waiting until k o) n x r s waiting e rests may = absurd rests
-  tick_resting (Pausing until o) n x r s waiting e rests may = absurd rests
+  tick_resting _ n x r s waiting e rests may = absurd rests
 
   pub rests_seen : (state : State) (n : ℕ) (s : Session) (now : ℕ) → Rests fixed state n s → Rests fixed state n (seen now s)
   rests_seen Closed n s now rests = tt
-  rests_seen (Quiet until) n s now rests = rests
-  rests_seen (Idle due) n s now rests = rests
-  rests_seen (Waiting until k o) n s now rests = rests
-  rests_seen (Pausing until o) n s now rests = rests
+  rests_seen _ n s now rests = rests
 
   pub ticks_resting : (n : ℕ) (x : Exchange) (r : Reply) (s : Session) (waiting : List Command) (now : ℕ) → Rests fixed s.state n s
       → Each MaySubmit waiting
@@ -149,16 +141,11 @@ module _ (fixed : ControllerConfig) where
       both (λ t. Begun Start 0 waiting t ⊎ Unchanged WaitsOn waiting t) (leb until s.greatest) (begins Opening 0 s waiting) (stays s waiting)
       (inl (begun Start Opening 0 s waiting waiting tt refl waits))
       (inr (refl, refl, refl, subst (λ st. Waits fixed st s) (sym e) waits))
-  tick_waiting (Idle due) s waiting e waits = absurd waits
-  tick_waiting (Waiting until k o) s waiting e waits = absurd waits
-  tick_waiting (Pausing until o) s waiting e waits = absurd waits
+  tick_waiting _ s waiting e waits = absurd waits
 
   pub waits_seen : (state : State) (s : Session) (now : ℕ) → Waits fixed state s → Waits fixed state (seen now s)
   waits_seen Closed s now waits = waits
-  waits_seen (Quiet until) s now waits = waits
-  waits_seen (Idle due) s now waits = waits
-  waits_seen (Waiting until k o) s now waits = waits
-  waits_seen (Pausing until o) s now waits = waits
+  waits_seen _ s now waits = waits
 
   pub ticks_waiting : (s : Session) (waiting : List Command) (now : ℕ) → Waits fixed s.state s
       → Begun Start 0 waiting (ticks now s waiting) ⊎ Unchanged WaitsOn waiting (ticks now s waiting)

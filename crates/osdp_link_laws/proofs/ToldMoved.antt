@@ -13,7 +13,7 @@ use Rattle.osdp_controller.specs.Answers.{meaning_of as said_by}
 use Rattle.osdp_controller.specs.declared.meaning.ReplyMeaning.TheVariants.{NumberRefused}
 use Rattle.osdp_controller.specs.declared.session.Session.{Session}
 use Rattle.osdp_controller.specs.declared.state.State.{State}
-use Rattle.osdp_controller.specs.declared.state.State.TheVariants.{Closed, Quiet, Idle, Waiting, Pausing}
+use Rattle.osdp_controller.specs.declared.state.State.TheVariants.{Waiting, Pausing}
 use Rattle.osdp_controller.specs.Sessions.{seen}
 use Rattle.osdp_controller.specs.declared.report.Report.{Report}
 use Rattle.osdp_controller.specs.declared.report.Report.TheVariants as report
@@ -22,7 +22,7 @@ use Rattle.osdp_reader.specs.declared.handler.Answer.{Answer}
 use Rattle.osdp_reader.specs.Replies.{not_processed}
 use Rattle.osdp_reader.specs.Table.{answer_to}
 use Rattle.osdp_link_laws.specs.Headline.{MovesFit, IsOnce, MoveFits}
-use Rattle.osdp_link_laws.specs.Link.{Account, Delivered, Delivery, Link, LoseToController, LoseToReader, Move, Queue as QueueEvent, Reopen, Repeated, RestartController, RestartReader, Retarget, SetBusy, SetHandler, Submit, Tick, ToController, ToReader, Withdraw, WithdrawEvent, after_move, after_report}
+use Rattle.osdp_link_laws.specs.Link.{Account, Delivered, Delivery, Link, Move, Repeated, Tick, ToController, after_move, after_report}
 use Rattle.osdp_link_laws.specs.Link as link
 use Rattle.osdp_link_laws.specs.Names.{IsNoDevice, IsToldAsAsked, TellAsAsked}
 use Rattle.osdp_link_laws.specs.Peers.{ReadEachOther}
@@ -62,13 +62,11 @@ brought (Some (report.Unread c code)) is = is
 brought r is = tt
 
 refused_so : (state : State) (number : ℕ) (s : Session) → MayTell (hears_in state number NumberRefused s).report
-refused_so Closed number s = tt
-refused_so (Quiet until) number s = tt
-refused_so (Idle due) number s = tt
 refused_so (Waiting until k o) number s =
     both (λ h. MayTell h.report) (is_numbered number NumberRefused s) (waiting_hears NumberRefused k o s) (ignores s) tt tt
 refused_so (Pausing until o) number s =
     both (λ h. MayTell h.report) (is_numbered number NumberRefused s) (pausing_hears NumberRefused o s) (ignores s) tt tt
+refused_so _ number s = tt
 
 heard_read : (p : Packet) (now : ℕ) (s : Session) → IsRead p → MayTell (hears p now s).report
 heard_read p now s (inl plain) = brought (hears p now s).report (heard_so p now s plain)
@@ -117,19 +115,7 @@ module _ {H : Type 0} (answer_of : H → Command → Answer) (after : H → Comm
       front_told answer_of after how l.to_controller now l
       (all_read h.fixed answer_of after held.0 (given h.fixed h.device) held.1 (as_waiting l) held.2)
       (move_given answer_of after (ToController how now) l are) (is_once_now answer_of after new next)
-  move_told given (Submit c) l fits h are = tt
-  move_told given (QueueEvent e) l fits h are = tt
-  move_told given (SetBusy busy) l fits h are = tt
-  move_told given WithdrawEvent l fits h are = tt
-  move_told given (ToReader how) l fits h are = tt
-  move_told given (Reopen now) l fits h are = tt
-  move_told given (SetHandler handler) l fits h are = tt
-  move_told given (LoseToReader place) l fits h are = tt
-  move_told given (LoseToController place) l fits h are = tt
-  move_told given Withdraw l fits h are = tt
-  move_told given (Retarget address) l fits h are = tt
-  move_told given (RestartReader config handler room) l fits h are = tt
-  move_told given (RestartController config room) l fits h are = tt
+  move_told given _ l fits h are = tt
 
   each_told : Assumed answer_of after → (moves : List (Move H)) (l : Link H) → MovesFit answer_of after moves l → Stands answer_of after l
       → AreAnswers answer_of after l.account → Each IsToldAsAsked (reports answer_of after moves l)

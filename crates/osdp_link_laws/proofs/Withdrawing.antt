@@ -31,16 +31,6 @@ pub record Splits (q : Queue) : Type 0 where
 
 splits_by : (events : List Event) (capacity room : ℕ) (offered ever : Bool)
     → Splits (record { events = events; capacity = capacity; room = room; offered = offered; ever_offered = ever })
-splits_by [] capacity room offered false = record {
-  one = [];
-  rest = [];
-  events = refl;
-  new = refl;
-  taken = refl;
-  old_tail = refl;
-  new_tail = refl;
-  few = inr (refl, refl);
-}
 splits_by (e ∷ rest) capacity room offered false = record {
   one = e ∷ [];
   rest = rest;
@@ -51,26 +41,6 @@ splits_by (e ∷ rest) capacity room offered false = record {
   new_tail = refl;
   few = inl (e, refl);
 }
-splits_by [] capacity room offered true = record {
-  one = [];
-  rest = [];
-  events = refl;
-  new = refl;
-  taken = refl;
-  old_tail = refl;
-  new_tail = refl;
-  few = inr (refl, refl);
-}
-splits_by (f ∷ []) capacity room offered true = record {
-  one = [];
-  rest = [];
-  events = refl;
-  new = refl;
-  taken = refl;
-  old_tail = refl;
-  new_tail = refl;
-  few = inr (refl, refl);
-}
 splits_by (f ∷ e ∷ rest) capacity room offered true = record {
   one = e ∷ [];
   rest = rest;
@@ -80,6 +50,26 @@ splits_by (f ∷ e ∷ rest) capacity room offered true = record {
   old_tail = refl;
   new_tail = refl;
   few = inl (e, refl);
+}
+splits_by [] capacity room offered false = record {
+  one = [];
+  rest = [];
+  events = refl;
+  new = refl;
+  taken = refl;
+  old_tail = refl;
+  new_tail = refl;
+  few = inr (refl, refl);
+}
+splits_by _ capacity room offered true = record {
+  one = [];
+  rest = [];
+  events = refl;
+  new = refl;
+  taken = refl;
+  old_tail = refl;
+  new_tail = refl;
+  few = inr (refl, refl);
 }
 
 pub splits : (q : Queue) → Splits q

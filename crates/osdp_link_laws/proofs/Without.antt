@@ -18,16 +18,6 @@ module _ {A : Type 0} where
   without_all [] = (refl, refl)
   without_all (x ∷ xs) = inr (xs, refl, without_all xs)
 
-  -- what is left out, and what is kept, of two lists one after the other
-  pub without_both : (out all kept more others rest : List A) → IsWithout out all kept → IsWithout more others rest
-      → IsWithout (out ++ more) (all ++ others) (kept ++ rest)
-  without_both out [] kept more others rest (none, nothing) after =
-      subst (λ o. IsWithout (o ++ more) others (kept ++ rest)) (sym none) (subst (λ k. IsWithout more others (k ++ rest)) (sym nothing) after)
-  without_both out (x ∷ all) kept more others rest (inl (ks, is, before)) after =
-      inl (ks ++ rest, ap (λ l. l ++ rest) is, without_both out all ks more others rest before after)
-  without_both out (x ∷ all) kept more others rest (inr (os, is, before)) after =
-      inr (os ++ more, ap (λ l. l ++ more) is, without_both os all kept more others rest before after)
-
   pub without_keeps : (out all kept more : List A) → IsWithout out all kept → IsWithout out (all ++ more) (kept ++ more)
   without_keeps out [] kept more (none, nothing) =
       subst (λ o. IsWithout o more (kept ++ more)) (sym none) (subst (λ k. IsWithout [] more (k ++ more)) (sym nothing) (without_none more))
