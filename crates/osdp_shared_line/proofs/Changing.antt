@@ -50,10 +50,7 @@ not_both b holds fails = cc
 
 pub was_closed : (state : State) → controllers.refused_unless_closed state ≡ None → state ≡ Closed
 was_closed Closed is = refl
-was_closed (Quiet until) is = absurd cc
-was_closed (Idle due) is = absurd cc
-was_closed (Waiting until k o) is = absurd cc
-was_closed (Pausing until o) is = absurd cc
+was_closed _ is = absurd cc
 
 -- a controller that may be set to an address is closed, and that is a device's
 pub may_retarget : (address : ℕ) (state : State) → controllers.or_no_device (controllers.refused_unless_closed state) address ≡ None
@@ -81,10 +78,7 @@ set_is _ to is = absurd cc
 pub left_withdrawn : (state : State) (ws : List Command) → AreLeft (asked_in state ++ ws) (asked_in state ++ controllers.kept_in state ws)
 left_withdrawn Closed [] = ([], refl)
 left_withdrawn Closed (c ∷ cs) = (c ∷ [], refl)
-left_withdrawn (Quiet until) ws = ([], refl)
-left_withdrawn (Idle due) ws = ([], refl)
-left_withdrawn (Waiting until k o) ws = ([], refl)
-left_withdrawn (Pausing until o) ws = ([], refl)
+left_withdrawn _ ws = ([], refl)
 
 -- nothing is read, or what stands at one place
 pub data IsRead (old new : List (ℕ × Packet)) : Type 0 where

@@ -196,15 +196,13 @@ module _ (here : ℕ) where
 
   in_well : (state : State) (number : ℕ) (a : ReplyMeaning) (s : Session) → s.state ≡ state → s.config.address ≡ here
       → HearsWell here (asked_in state) (hears_in state number a s)
-  in_well Closed number a s is at = keeps [] (ignores s) at (ap asked_in is)
-  in_well (Quiet until) number a s is at = keeps [] (ignores s) at (ap asked_in is)
-  in_well (Idle due) number a s is at = keeps [] (ignores s) at (ap asked_in is)
   in_well (Waiting until k o) number a s is at =
       both (HearsWell here (asked_by o.exchange)) (is_numbered number a s) (waiting_hears a k o s) (ignores s)
       (waiting_well a k o s at (ap asked_in is)) (keeps (asked_by o.exchange) (ignores s) at (ap asked_in is))
   in_well (Pausing until o) number a s is at =
       both (HearsWell here (asked_by o.exchange)) (is_numbered number a s) (pausing_hears a o s) (ignores s)
       (pausing_well a o s at (ap asked_in is)) (keeps (asked_by o.exchange) (ignores s) at (ap asked_in is))
+  in_well _ number a s is at = keeps [] (ignores s) at (ap asked_in is)
 
 pub hears_well : (p : Packet) (now : ℕ) (s : Session) → HearsWell s.config.address (asked_in s.state) (hears p now s)
 hears_well p now s =

@@ -12,7 +12,7 @@ use Rattle.osdp_link_laws.specs.Link as link
 use Rattle.osdp_link_laws.specs.Link.{Link, Move, after_move}
 use Rattle.osdp_shared_line.specs.Effects.{ChangesNoOther, EachDoesAsOnALink, EachRetargets, EachWithdraws, EachWithdrawsEvents, IsChanged}
 use Rattle.osdp_shared_line.specs.Line as line
-use Rattle.osdp_shared_line.specs.Line.{LoseToPanel, LoseToReader, Net, NetMove, Queue, Reopen, RestartPanel, RestartReader, Retarget, SetBusy, SetHandler, Site, Submit, Tick, ToPanel, ToReader, Withdraw, WithdrawEvent, after_net, calls, is_comset_refused, is_retarget_accepted, is_retarget_refused, site_at}
+use Rattle.osdp_shared_line.specs.Line.{LoseToReader, Net, NetMove, Queue, Reopen, RestartPanel, RestartReader, Retarget, SetBusy, SetHandler, Site, Submit, Withdraw, WithdrawEvent, after_net, calls, is_comset_refused, is_retarget_refused, site_at}
 use Rattle.osdp_shared_line.specs.Views.{OpensQuietly, move_of, one_if, view}
 use Rattle.osdp_shared_line.proofs.Changing.{may_retarget}
 use Rattle.osdp_shared_line.proofs.Moving.{each_is_its_own, one_is}
@@ -133,8 +133,4 @@ module _ {H : Type 0} (answer_of : H → Command → Answer) (after : H → Comm
       others_stay (λ s. false) (calls answer_of after (link.Reopen now)) i k (site_at i n.sites) n (λ e. other (e ∙ speaks))
   changes_no_other n (RestartReader i config h room) j k speaks other =
       others_stay (λ s. false) (calls answer_of after (link.RestartReader config h room)) i k (site_at i n.sites) n (λ e. other (e ∙ speaks))
-  changes_no_other n (Tick i now) j k speaks other = absurd speaks
-  changes_no_other n (ToReader i how) j k speaks other = absurd speaks
-  changes_no_other n (ToPanel how now) j k speaks other = absurd speaks
-  changes_no_other n (LoseToPanel place) j k speaks other = absurd speaks
-  changes_no_other n (RestartPanel settings) j k speaks other = absurd speaks
+  changes_no_other n _ j k speaks other = absurd speaks

@@ -26,11 +26,6 @@ module _ {A : Type 0} (P : A → Type 0) where
   nowhere [] none = tt
   nowhere (x ∷ xs) none = (λ is. none (inl is), nowhere xs (λ is. none (inr is)))
 
-  pub not_each : (xs : List A) → Each (λ x. P x → ⊥) xs → Somewhere P xs → ⊥
-  not_each [] none is = is
-  not_each (x ∷ xs) none (inl here) = none.0 here
-  not_each (x ∷ xs) none (inr there) = not_each xs none.1 there
-
   -- ---- without one
 
   pub somewhere_kept : (place : ℕ) (xs : List A) → Somewhere P (lost_at place xs) → Somewhere P xs
@@ -43,8 +38,3 @@ module _ {A : Type 0} (P : A → Type 0) where
   each_kept place [] all = tt
   each_kept zero (x ∷ xs) all = all.1
   each_kept (suc place) (x ∷ xs) all = (all.0, each_kept place xs all.1)
-
-pub somewhere_map : {A : Type 0} (P Q : A → Type 0) → ((x : A) → P x → Q x) → (xs : List A) → Somewhere P xs → Somewhere Q xs
-somewhere_map P Q f [] is = is
-somewhere_map P Q f (x ∷ xs) (inl here) = inl (f x here)
-somewhere_map P Q f (x ∷ xs) (inr there) = inr (somewhere_map P Q f xs there)

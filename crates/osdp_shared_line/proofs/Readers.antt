@@ -69,12 +69,10 @@ module _ {H : Type 0} where
     outcome_well : (k : Kind) (r : ReaderState H) (p : Packet) → p.address ≡ r.config.address → StoresOwn r
         → ReadsWell r.config.address p (outcome answer_of after k r p)
     outcome_well kind.Silent r p here own = record { goes = inl refl; said = tt; stored = own }
-    outcome_well kind.Secured r p here own = record { goes = inl refl; said = here; stored = own }
     outcome_well kind.Zero r p here own = begun_well (command_in p) r p here refl own
     outcome_well kind.Repeat r p here own = record { goes = inl refl; said = own; stored = own }
     outcome_well kind.Taken r p here own = taken_well (command_in p) r p here refl own
-    outcome_well kind.Busy r p here own = record { goes = inl refl; said = here; stored = own }
-    outcome_well kind.Wrong r p here own = record { goes = inl refl; said = here; stored = own }
+    outcome_well _ r p here own = record { goes = inl refl; said = here; stored = own }
 
     pub reads_well : (r : ReaderState H) (p : Packet) → p.address ≡ r.config.address → StoresOwn r
         → ReadsWell r.config.address p (hears answer_of after r p)

@@ -68,9 +68,6 @@ module _ {H : Type 0} (answer_of : H → Command → Answer) (after : H → Comm
           (soft k s s (notes k) n.to_panel left (as_is s) (keeps k s) (h.sites k s at)) (λ a known. known)
 
       module _ (k : ℕ) (s : Site H) (at : site_at k n.sites ≡ Some s) (here : eqb (address_of s) q.1.address ≡ true) (there : address_of s ≡ q.1.address) where
-        heard : controller.Heard
-        heard = controller.hears q.1 now s.controller.session
-
         noted : IsNoted k s (notes k) n.to_panel
         noted = h.sites k s at
 
