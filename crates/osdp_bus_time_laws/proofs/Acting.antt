@@ -2,7 +2,7 @@
 use Rattle.std.proofs.Common.{◌≡◌, ◌∙◌, ap, sym, ℕ, zero, suc, ◌≤◌, ◌||◌, Bool, true, false, max, List, [], ◌∷◌, Some, None, arith}
 use Rattle.std.specs.List.{list_any}
 use Rattle.osdp_controller.specs.declared.state.State.{State}
-use Rattle.osdp_controller.specs.declared.state.State.TheVariants.{Closed, Quiet, Idle, Waiting, Pausing}
+use Rattle.osdp_controller.specs.declared.state.State.TheVariants.{Closed}
 use Rattle.osdp_controller.specs.Machine.{is_outstanding}
 use Rattle.osdp_controller.specs.Sessions.{seen as seen_by}
 use Rattle.osdp_controller.specs.States.{is_idle}
@@ -48,10 +48,7 @@ either_acts true y none h = cc
 
 never_idle : (state : State) → is_outstanding state ≡ true → is_idle state ≡ true → {A : Type 0} → A
 never_idle Closed out idle = cc
-never_idle (Quiet until) out idle = cc
-never_idle (Idle due) out idle = cc
-never_idle (Waiting until sends o) out idle = cc
-never_idle (Pausing until o) out idle = cc
+never_idle _ out idle = cc
 
 -- a tick that is owed while an entry holds the line comes once the moment of this one is reached
 pub owed_from : (call : Call) (b : BusState) (entry at : ℕ) (d : Entry) → b.held ≡ [] → has_report b ≡ false → holder b ≡ Some entry → device_of entry b ≡ Some d

@@ -86,11 +86,9 @@ pausing_on (Plain reply) o s on = answered_on o.exchange reply s on
 pausing_on (Unreadable code) o s on = unread_on o.exchange code s on
 
 numbered_on : (state : State) (a : ReplyMeaning) (s : Session) → is_quiet s.state ≡ false → NotQuiet (numbered_in state a s)
-numbered_on Closed a s on = on
-numbered_on (Quiet until) a s on = on
-numbered_on (Idle due) a s on = on
 numbered_on (Waiting until sends o) a s on = waiting_on a sends o s on
 numbered_on (Pausing until o) a s on = pausing_on a o s on
+numbered_on _ a s on = on
 
 heard_on : (p : Packet) (now : ℕ) (s : Session) → is_quiet s.state ≡ false → NotQuiet (hears p now s)
 heard_on p now s on = either_frame NotQuiet p now s (λ from number. numbered_on s.state (meaning_of p) (seen now s) on) on
@@ -99,18 +97,13 @@ heard_on p now s on = either_frame NotQuiet p now s (λ from number. numbered_on
 
 begins_at_rest : (n : ℕ) (state : State) (s : Session) (w : List Command) → is_quiet state ≡ false → is_outstanding state ≡ false → acts (ticks_in state s w).step ≡ true
     → is_idle state ≡ true
-begins_at_rest n Closed s w on out due = cc
-begins_at_rest n (Quiet until) s w on out due = cc
 begins_at_rest n (Idle at) s w on out due = refl
-begins_at_rest n (Waiting until sends o) s w on out due = cc
-begins_at_rest n (Pausing until o) s w on out due = cc
+begins_at_rest n _ s w on out due = cc
 
 not_quiet : (state : State) → is_under_way state ≡ true → is_quiet state ≡ false
 not_quiet Closed under = cc
 not_quiet (Quiet until) under = cc
-not_quiet (Idle due) under = refl
-not_quiet (Waiting until sends o) under = refl
-not_quiet (Pausing until o) under = refl
+not_quiet _ under = refl
 
 abbrev OnItsWay : List Command → Entry → Type 0
 OnItsWay w d = (is_quiet d.controller.session.state ≡ false) × (d.controller.waiting ≡ w)
@@ -157,13 +150,10 @@ abbrev Polls : Ticked → Type 0
 Polls t = acts t.step ≡ true → (exchange_in t.session.state ≡ Some Polling) × (t.waiting ≡ [])
 
 poll_tells : (state : State) (s : Session) (w : List Command) → is_idle state ≡ true → w ≡ [] → Polls (ticks_in state s w)
-poll_tells Closed s w idle none = cc
-poll_tells (Quiet until) s w idle none = cc
 poll_tells (Idle at) s w idle none =
     subst (λ (l : List Command). Polls (idle_ticks l at s)) (sym none)
     (either_way Polls (nat_le at s.greatest) (begins Polling (next_sequence s.number) s []) (stays s []) (λ b h. (refl, refl)) (λ b h. cc))
-poll_tells (Waiting until sends o) s w idle none = cc
-poll_tells (Pausing until o) s w idle none = cc
+poll_tells _ s w idle none = cc
 
 pub polls_else : (b : BusState) → PollsElse b
 polls_else b call entry d there under waits begun =

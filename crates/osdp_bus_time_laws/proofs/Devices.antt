@@ -8,7 +8,7 @@ use Rattle.osdp_frame.specs.Packet.{Packet}
 use Rattle.osdp_msg.specs.declared.command.Command.{Command}
 use Rattle.osdp_controller.specs.declared.config.ControllerConfig.{ControllerConfig}
 use Rattle.osdp_controller.specs.declared.state.State.{State}
-use Rattle.osdp_controller.specs.declared.state.State.TheVariants.{Closed, Quiet, Idle, Waiting, Pausing}
+use Rattle.osdp_controller.specs.declared.state.State.TheVariants.{Closed}
 use Rattle.osdp_controller.specs.Machine.{Machine}
 use Rattle.osdp_controller.specs.Sessions.{seen as seen_by}
 use Rattle.osdp_controller.proofs.Choices.{either_way}
@@ -194,10 +194,7 @@ kept_begun c g now d near k =
 
 at_address : (c : ControllerConfig) (address greatest : ℕ) (state : State) → WaitsItsTime c greatest state → WaitsItsTime (record c { address = address }) greatest state
 at_address c address greatest Closed w = tt
-at_address c address greatest (Quiet until) w = w
-at_address c address greatest (Idle due) w = w
-at_address c address greatest (Waiting until sends o) w = w
-at_address c address greatest (Pausing until o) w = w
+at_address c address greatest _ w = w
 
 kept_retargeted : (c : BusConfig) (g address : ℕ) (d : Entry) → Kept c g d → Kept c g (entry_retargets address d)
 kept_retargeted c g address d k =
@@ -244,11 +241,8 @@ same_config (Begin at now) b = begin_config (begin_refusal_at at b) at now b
 same_config (OnBytes bytes now) b = bytes_config bytes now b
 same_config (OnSilence now) b = refl
 same_config (Tick now) b = (stays_tick now b).config
-same_config (Add address) b = (stays_call (Add address) b tt).config
-same_config (Submit at command) b = (stays_call (Submit at command) b tt).config
-same_config (Withdraw at) b = (stays_call (Withdraw at) b tt).config
-same_config (Retarget at address) b = (stays_call (Retarget at address) b tt).config
 same_config NextReport b = refl
+same_config call b = (stays_call call b tt).config
 
 pub well_call : (call : Call) (b : BusState) → Well b → Well (after_call call b)
 well_call call b w =

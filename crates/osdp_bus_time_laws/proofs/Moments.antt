@@ -11,7 +11,7 @@ use Rattle.osdp_bus.specs.Deadlines.{acts}
 use Rattle.osdp_bus.specs.Entries.{holds, is_entry_due}
 use Rattle.osdp_bus.specs.Machine.{begin_refusal_at}
 use Rattle.osdp_bus.proofs.Waiting.{any_at, free_acts, free_ends, held_acts, held_ends}
-use Rattle.osdp_bus_laws.specs.Calls.{Call, Add, Begin, Submit, Withdraw, Retarget, OnBytes, OnSilence, Tick, NextReport, after_call}
+use Rattle.osdp_bus_laws.specs.Calls.{Call, Begin, OnBytes, OnSilence, Tick, after_call}
 use Rattle.osdp_bus_laws.proofs.Moments.{moments_are_seen}
 use Rattle.osdp_bus_time_laws.specs.Clock.{DoneBy, IsBy, ends_duty}
 
@@ -26,15 +26,11 @@ begin_sees entry now b None is = inr (now, (moments_are_seen b).brought (Begin e
 begin_sees entry now b (Some fault) is = inl ((moments_are_seen b).kept (Begin entry now) (λ at brings. let none = brings.0 in cc))
 
 sees : (call : Call) (b : BusState) → Sees call b
-sees (Add address) b = inl ((moments_are_seen b).kept (Add address) (λ at brings. brings))
 sees (Begin entry now) b = begin_sees entry now b (begin_refusal_at entry b) refl
-sees (Submit entry command) b = inl ((moments_are_seen b).kept (Submit entry command) (λ at brings. brings))
-sees (Withdraw entry) b = inl ((moments_are_seen b).kept (Withdraw entry) (λ at brings. brings))
-sees (Retarget entry address) b = inl ((moments_are_seen b).kept (Retarget entry address) (λ at brings. brings))
 sees (OnBytes bytes now) b = inr (now, (moments_are_seen b).brought (OnBytes bytes now) now refl, λ limit by. by)
 sees (OnSilence now) b = inr (now, (moments_are_seen b).brought (OnSilence now) now refl, λ limit by. by)
 sees (Tick now) b = inr (now, (moments_are_seen b).brought (Tick now) now refl, λ limit by. by)
-sees NextReport b = inl ((moments_are_seen b).kept NextReport (λ at brings. brings))
+sees call b = inl ((moments_are_seen b).kept call (λ at brings. brings))
 
 grows_by : (call : Call) (b : BusState) → Sees call b → b.greatest ≤ (after_call call b).greatest
 grows_by call b (inl same) = omega arith
@@ -55,10 +51,6 @@ within_limit limit call b before by = limit_by limit call b before by (sees call
 abbrev pub as_tick : Bool → ℕ → CallOf
 as_tick true now = TickOf now
 as_tick false now = BeginOf now
-
-pub tick_by : (ticks : Bool) (now limit : ℕ) → now ≤ limit → IsByOf limit (as_tick ticks now)
-tick_by true now limit near = near
-tick_by false now limit near = near
 
 pub by_tick : (ticks : Bool) (now limit : ℕ) → IsByOf limit (as_tick ticks now) → now ≤ limit
 by_tick true now limit near = near

@@ -9,7 +9,7 @@ use Rattle.osdp_msg.specs.declared.command.Command.{Command}
 use Rattle.osdp_controller.specs.declared.config.ControllerConfig.{ControllerConfig}
 use Rattle.osdp_controller.specs.declared.session.Session.{Session}
 use Rattle.osdp_controller.specs.declared.state.State.{State}
-use Rattle.osdp_controller.specs.declared.state.State.TheVariants.{Closed, Quiet, Idle, Waiting, Pausing}
+use Rattle.osdp_controller.specs.declared.state.State.TheVariants.{Idle, Waiting, Pausing}
 use Rattle.osdp_controller.specs.Machine.{is_outstanding}
 use Rattle.osdp_controller.specs.States.{is_closed, is_idle}
 use Rattle.osdp_controller.specs.Ticking.{ticks}
@@ -53,11 +53,9 @@ waits_withdrawn least d some stands =
     subst (λ t. least ≤ length (if t then drop 1 d.controller.waiting else d.controller.waiting)) (sym stands) some
 
 pub not_idle : (state : State) → is_outstanding state ≡ true → is_idle state ≡ false
-not_idle Closed out = cc
-not_idle (Quiet until) out = cc
-not_idle (Idle due) out = cc
 not_idle (Waiting until sends o) out = refl
 not_idle (Pausing until o) out = refl
+not_idle _ out = cc
 
 -- an exchange that goes on takes none
 waits_ticked : (least g : ℕ) (d : Entry) → holds d ≡ true → Waits least d → Waits least (entry_ticks g d)
@@ -146,11 +144,8 @@ rest_due wait e b d kept idle near interval = by_state d.controller.session.stat
     settings = ap (λ (c : ControllerConfig). c.poll_interval) kept.config
 
     by_state : (state : State) → is_idle state ≡ true → WaitsItsTime d.controller.session.config d.controller.session.greatest state → until_of state ≤ e + wait
-    by_state Closed h timely = cc
-    by_state (Quiet until) h timely = cc
     by_state (Idle due) h timely = (let same = settings in let reached = kept.reached in omega arith)
-    by_state (Waiting until sends o) h timely = cc
-    by_state (Pausing until o) h timely = cc
+    by_state _ h timely = cc
 
 rest_ready : (wait least e : ℕ) (b : BusState) (d : Entry) → Kept b.config b.greatest d → is_under_way d.controller.session.state ≡ true → holds d ≡ false
     → least ≤ length d.controller.waiting → b.greatest ≤ e → Begun wait least b → Ready (e + wait) least d

@@ -1,6 +1,6 @@
 -- The exchange that is outstanding ends in time.
 use Rattle.std.proofs.Common.{◌≡◌, ◌∙◌, ◌⊎◌, ap, sym, subst, inl, inr, ℕ, ◌+◌, ◌≤◌, ◌<◌, ◌||◌, Bool, true, false, max, List, [], ◌∷◌, Some, refl, arith}
-use Rattle.std.specs.Prelude.{All, is_some, nat_le, not}
+use Rattle.std.specs.Prelude.{All, is_some, nat_le}
 use Rattle.std.proofs.lemmas.Bool.Decides.{leb_tells}
 use Rattle.std.proofs.lemmas.List.Elements.{All-head, All-tail}
 use Rattle.osdp_frame.specs.Packet.{Packet, next_sequence}
@@ -35,7 +35,7 @@ use Rattle.osdp_bus.specs.Deadlines.{acts}
 use Rattle.osdp_bus.specs.Entries.{entry_hears, entry_ticks, holds, is_entry_due}
 use Rattle.osdp_bus.specs.Settings.{controller_config}
 use Rattle.osdp_bus.specs.Ticking.{BusTicked, bus_ticks, ticks_with}
-use Rattle.osdp_bus_laws.specs.Calls.{Call, Add, Begin, Submit, Withdraw, Retarget, OnBytes, OnSilence, Tick, NextReport, after_call}
+use Rattle.osdp_bus_laws.specs.Calls.{Call, Tick, after_call}
 use Rattle.osdp_bus_laws.specs.Exchanges.{IsOutstandingAt}
 use Rattle.osdp_bus_laws.specs.Fairness.{Begins}
 use Rattle.osdp_bus_laws.specs.Turns.{asking, judged}
@@ -77,10 +77,6 @@ may_be_busy (call ∷ calls) b all =
 or_second : (x y : Bool) → y ≡ true → (x || y) ≡ true
 or_second true y h = refl
 or_second false y h = h
-
-not_true : (x : Bool) → not x ≡ true → x ≡ false
-not_true true h = cc
-not_true false h = refl
 
 pub stands_not_closed : (d : Entry) → holds d ≡ true → is_closed d.controller.session.state ≡ false
 stands_not_closed d stands = by_state d.controller.session.state stands
@@ -290,14 +286,7 @@ module _ (late e : ℕ) (c : ControllerConfig) (more : ℕ) (many : c.sends ≡ 
       (owed : (at : ℕ) → IsOwed at call b → DoneBy (at + late) (call ∷ calls) b) (config : d.controller.session.config ≡ c)
       (phase : Ph (moments (call ∷ calls) b) d.controller.session.state b.greatest) → After call calls b entry d well there stands owed config phase
   place_by (Tick now) calls b entry d well there stands owed config phase = place_tick (Tick now) calls b entry d well there stands owed config phase now refl
-  place_by (Add address) calls b entry d well there stands owed config phase = place_other (Add address) calls b entry d well there stands owed config phase refl
-  place_by (Begin at now) calls b entry d well there stands owed config phase = place_other (Begin at now) calls b entry d well there stands owed config phase refl
-  place_by (Submit at command) calls b entry d well there stands owed config phase = place_other (Submit at command) calls b entry d well there stands owed config phase refl
-  place_by (Withdraw at) calls b entry d well there stands owed config phase = place_other (Withdraw at) calls b entry d well there stands owed config phase refl
-  place_by (Retarget at address) calls b entry d well there stands owed config phase = place_other (Retarget at address) calls b entry d well there stands owed config phase refl
-  place_by (OnBytes bytes now) calls b entry d well there stands owed config phase = place_other (OnBytes bytes now) calls b entry d well there stands owed config phase refl
-  place_by (OnSilence now) calls b entry d well there stands owed config phase = place_other (OnSilence now) calls b entry d well there stands owed config phase refl
-  place_by NextReport calls b entry d well there stands owed config phase = place_other NextReport calls b entry d well there stands owed config phase refl
+  place_by call calls b entry d well there stands owed config phase = place_other call calls b entry d well there stands owed config phase refl
 
   -- ---- all calls
 

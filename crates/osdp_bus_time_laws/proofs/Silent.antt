@@ -9,7 +9,7 @@ use Rattle.osdp_controller.specs.declared.report.LostCause.TheVariants.{NoReply}
 use Rattle.osdp_controller.specs.declared.report.Report.TheVariants.{Lost}
 use Rattle.osdp_controller.specs.declared.session.Session.{Session}
 use Rattle.osdp_controller.specs.declared.state.State.{State}
-use Rattle.osdp_controller.specs.declared.state.State.TheVariants.{Closed, Quiet, Idle, Waiting, Pausing}
+use Rattle.osdp_controller.specs.declared.state.State.TheVariants.{Waiting, Pausing}
 use Rattle.osdp_controller.specs.Exchanges.{submitted_command}
 use Rattle.osdp_controller.specs.Machine.{is_outstanding}
 use Rattle.osdp_controller.specs.Sessions.{seen as seen_by}
@@ -143,15 +143,13 @@ abbrev TellsLost : Ticked → Type 0
 TellsLost t = is_outstanding t.session.state ≡ false → (cause : LostCause) × ((command : Option Command) × (t.step.report ≡ Some (Lost cause command)))
 
 gives_lost : (state : State) (s : Session) (w : List Command) → is_outstanding state ≡ true → is_outstanding s.state ≡ true → TellsLost (ticks_in state s w)
-gives_lost Closed s w stands out = cc
-gives_lost (Quiet until) s w stands out = cc
-gives_lost (Idle due) s w stands out = cc
 gives_lost (Waiting until sends o) s w stands out =
     either_way TellsLost (nat_le until s.greatest) (tries_again sends o s w) (stays s w)
     (λ b. either_way TellsLost (nat_lt sends s.config.sends) (sends_frame (sends + 1) o s w) (gives_up o s w) (λ f free. cc)
     (λ f free. (NoReply, (submitted_command o.exchange, refl)))) (λ b free. cc)
 gives_lost (Pausing until o) s w stands out =
     either_way TellsLost (nat_le until s.greatest) (sends_frame 1 o s w) (stays s w) (λ b free. cc) (λ b free. cc)
+gives_lost _ s w stands out = cc
 
 lost_by : (call : Call) (b : BusState) (entry : ℕ) (d : Entry) → holds d ≡ true → (IsOutstandingAt entry (after_call call b) → ⊥) → Leaves call b entry d
     → IsLost entry (after_call call b)

@@ -4,14 +4,14 @@ use Rattle.std.specs.Prelude.{◌⊎◌, is_some, nat_eq, not}
 use Rattle.std.proofs.lemmas.Bool.{eqb-true, eqb-false}
 use Rattle.osdp_controller.specs.declared.report.Report.TheVariants.{Lost}
 use Rattle.osdp_controller.specs.declared.state.State.{State}
-use Rattle.osdp_controller.specs.declared.state.State.TheVariants.{Closed, Quiet, Idle, Waiting, Pausing}
+use Rattle.osdp_controller.specs.declared.state.State.TheVariants.{Idle}
 use Rattle.osdp_controller.specs.Machine.{is_outstanding}
 use Rattle.osdp_controller.specs.States.{is_closed, is_idle}
 use Rattle.osdp_bus.specs.declared.entry.Entry.{Entry}
 use Rattle.osdp_bus.specs.Buses.{BusState, device_of, has_report}
 use Rattle.osdp_bus.specs.Deadlines.{acts}
 use Rattle.osdp_bus.specs.Entries.{holds}
-use Rattle.osdp_bus_laws.specs.Calls.{Call, Add, Begin, Submit, Withdraw, Retarget, OnBytes, OnSilence, Tick, NextReport, after_call}
+use Rattle.osdp_bus_laws.specs.Calls.{Call, Tick, after_call}
 use Rattle.osdp_bus_laws.specs.Exchanges.{IsOutstandingAt}
 use Rattle.osdp_bus_laws.specs.Fairness.{Begins}
 use Rattle.osdp_bus_laws.proofs.Exchanging.{has_one_exchange}
@@ -29,11 +29,8 @@ use Rattle.osdp_bus_time_laws.proofs.Turning.{decide, ends_later, has_its_turn}
 -- ---- an open entry
 
 idle_lives : (state : State) → is_idle state ≡ true → (is_closed state ≡ false) × (is_outstanding state ≡ false)
-idle_lives Closed idle = cc
-idle_lives (Quiet until) idle = cc
 idle_lives (Idle due) idle = (refl, refl)
-idle_lives (Waiting until sends o) idle = cc
-idle_lives (Pausing until o) idle = cc
+idle_lives _ idle = cc
 
 interval_first : (g interval late others : ℕ) → (g + interval) + late + others ≡ g + (interval + late + others)
 interval_first g interval late others = omega arith
@@ -52,14 +49,7 @@ open_are_asked b well late time n entry calls idle keeps =
 
 no_duty : (call : Call) (b : BusState) → has_report b ≡ true → ends_duty call b ≡ false
 no_duty (Tick now) b told = ap not told
-no_duty (Add address) b told = refl
-no_duty (Begin at now) b told = refl
-no_duty (Submit at command) b told = refl
-no_duty (Withdraw at) b told = refl
-no_duty (Retarget at address) b told = refl
-no_duty (OnBytes bytes now) b told = refl
-no_duty (OnSilence now) b told = refl
-no_duty NextReport b told = refl
+no_duty _ b told = refl
 
 due_report : (b : BusState) (other : Bool) → has_report b ≡ true → (has_report b || other) ≡ true
 due_report b other told = ap (λ t. t || other) told

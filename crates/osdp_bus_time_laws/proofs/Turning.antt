@@ -83,14 +83,10 @@ no_tick call b other k begun = other begun.now begun.tick
 
 pub decide : (call : Call) (b : BusState) → ((k : ℕ) × Begins call k b) ⊎ NoneBegins call b
 decide (Tick now) b = decided_tick now b (has_report b) refl
-decide (Add address) b = inr (no_tick (Add address) b (λ now is. cc))
 decide (Begin at now) b = inr (no_tick (Begin at now) b (λ at is. cc))
-decide (Submit at command) b = inr (no_tick (Submit at command) b (λ now is. cc))
-decide (Withdraw at) b = inr (no_tick (Withdraw at) b (λ now is. cc))
-decide (Retarget at address) b = inr (no_tick (Retarget at address) b (λ now is. cc))
 decide (OnBytes bytes now) b = inr (no_tick (OnBytes bytes now) b (λ at is. cc))
 decide (OnSilence now) b = inr (no_tick (OnSilence now) b (λ at is. cc))
-decide NextReport b = inr (no_tick NextReport b (λ now is. cc))
+decide call b = inr (no_tick call b (λ now is. cc))
 
 quiet_by : (call : Call) (b : BusState) → NoneBegins call b → Who call b → Quiet b (after_call call b)
 quiet_by call b none (inl (k, begun)) = absurd (none k begun)
@@ -257,10 +253,6 @@ is_there n entry d calls b few at =
     let most = within_few n calls b few in let within = at_length b.devices.entries entry d at in omega arith
 
 -- ---- its turn
-
--- arithmetic on moments alone
-fits_later : (e late a c n end : ℕ) → e + late + a ≤ end → n ≤ e + late → c ≤ a → n + c ≤ end
-fits_later e late a c n end fits near less = omega arith
 
 module _ (late : ℕ) (time : ℕ → ℕ) (n own from least : ℕ) where
   abbrev pub last : ℕ
