@@ -26,7 +26,7 @@ use Rattle.osdp_controller.specs.declared.report.Report.{Report}
 use Rattle.osdp_controller.specs.declared.report.Report.TheVariants as report
 use Rattle.osdp_controller.specs.declared.session.Session.{Session}
 use Rattle.osdp_controller.specs.declared.state.State.{State}
-use Rattle.osdp_controller.specs.declared.state.State.TheVariants.{Closed, Quiet, Idle, Waiting, Pausing}
+use Rattle.osdp_controller.specs.declared.state.State.TheVariants.{Waiting, Pausing}
 use Rattle.osdp_link_laws.specs.Names.{IsNoDevice, IsToldAsAsked}
 use Rattle.osdp_bus_links.proofs.Names.{freed_by, freed_for}
 use Rattle.osdp_link_laws.proofs.Lines.{both, each_rest}
@@ -180,9 +180,6 @@ module _ (r : Option ℕ) (here : ℕ) (ws : List Command) where
 
   in_well : (state : State) (number : ℕ) (a : ReplyMeaning) (s : Session) → s.state ≡ state → s.config.address ≡ here → Each CommandFits (asked_in s.state ++ ws)
       → One r (asked_in s.state ++ ws) → HeardWell a (hears_in state number a s)
-  in_well Closed number a s is at fits one = stays_well a (ignores s) refl at fits one
-  in_well (Quiet until) number a s is at fits one = stays_well a (ignores s) refl at fits one
-  in_well (Idle due) number a s is at fits one = stays_well a (ignores s) refl at fits one
   in_well (Waiting until k o) number a s is at fits one =
       both (HeardWell a) (is_numbered number a s) (waiting_hears a k o s) (ignores s)
       (waiting_well a k o s at fits one (subst (λ q. Each CommandFits (asked_in q ++ ws)) is fits) (subst (λ q. One r (asked_in q ++ ws)) is one))
@@ -191,6 +188,7 @@ module _ (r : Option ℕ) (here : ℕ) (ws : List Command) where
       both (HeardWell a) (is_numbered number a s) (pausing_hears a o s) (ignores s)
       (pausing_well a o s at fits one (subst (λ q. Each CommandFits (asked_in q ++ ws)) is fits) (subst (λ q. One r (asked_in q ++ ws)) is one))
       (stays_well a (ignores s) refl at fits one)
+  in_well _ number a s is at fits one = stays_well a (ignores s) refl at fits one
 
   -- nothing happens, or the packet is from the reader at this address
   pub heard_well : (p : Packet) (now : ℕ) (s : Session) → s.config.address ≡ here → Each CommandFits (asked_in s.state ++ ws) → One r (asked_in s.state ++ ws)

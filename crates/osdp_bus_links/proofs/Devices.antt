@@ -6,12 +6,11 @@ use Rattle.osdp_msg.specs.declared.command.Command.TheVariants as command
 use Rattle.osdp_msg.specs.declared.command_fields.Communication.{Communication}
 use Rattle.osdp_controller.specs.declared.report.Report.{Report}
 use Rattle.osdp_controller.specs.declared.report.Report.TheVariants as report
-use Rattle.osdp_bus.specs.Buses.{BusState}
 use Rattle.osdp_bus.specs.Entries as devices
 use Rattle.osdp_bus.specs.Entries.{freed_with, reserved_after, reserved_for}
 use Rattle.osdp_shared_line.specs.Line as line
 use Rattle.osdp_shared_line.specs.Line.{Site, asked_for, changed, freed_by, freed_for, site_at}
-use Rattle.osdp_bus_links.specs.Links.{IsBusOf, device_of}
+use Rattle.osdp_bus_links.specs.Links.{device_of}
 
 or_assoc : (a b c : Bool) → (a || b) || c ≡ a || (b || c)
 or_assoc true b c = refl
@@ -75,13 +74,3 @@ freed_same (Some (report.Moved c d)) r = done_same c r
 freed_same (Some _) r = refl
 
 -- ---- a bus of these sites
-
--- the same bus, with its devices written out
-abbrev pub with_sites : {H : Type 0} → List (Site H) → BusState → BusState
-with_sites ss b = record b { devices = record { entries = map device_of ss; report = None }; held = [] }
-
-pub is_with : {H : Type 0} (b : BusState) (ss : List (Site H)) → IsBusOf b ss → b ≡ with_sites ss b
-is_with b ss h =
-    ap (λ es. record b { devices = record { entries = es; report = b.devices.report } }) h.entries
-    ∙ ap (λ r. record b { devices = record { entries = map device_of ss; report = r } }) h.report
-    ∙ ap (λ l. record b { devices = record { entries = map device_of ss; report = None }; held = l }) h.held

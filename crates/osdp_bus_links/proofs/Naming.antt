@@ -25,7 +25,7 @@ use Rattle.osdp_reader.specs.declared.handler.Answer.{Answer}
 use Rattle.osdp_reader.specs.Queue.{lacks_room}
 use Rattle.osdp_link_laws.specs.Headline.{MoveFits, SaysWhatFitsIf}
 use Rattle.osdp_link_laws.specs.Link as link
-use Rattle.osdp_link_laws.specs.Link.{Delivered, Delivery, Link, LoseToController, LoseToReader, Lost, Move, Queue as QueueEvent, Reopen, Repeated, RestartController, RestartReader, Retarget, SetBusy, SetHandler, Submit, Tick, ToController, ToReader, Withdraw, WithdrawEvent, after_move, run}
+use Rattle.osdp_link_laws.specs.Link.{Delivered, Delivery, Link, Lost, Move, Queue as QueueEvent, Reopen, Repeated, SetBusy, Submit, Tick, ToController, ToReader, after_move}
 use Rattle.osdp_link_laws.specs.Names.{IsCommandTo, IsReplyFrom, NamesOne}
 use Rattle.osdp_bus_links.proofs.Names.{IsName, MayAsk, MayMove, MovesController, MovesReader, accepted_for, asked_for, freed_by, IsUsual, reserved_after}
 use Rattle.osdp_link_laws.specs.Peers.{ReadsWhatIsAnswered, ReadsWhatIsAsked}
@@ -476,11 +476,4 @@ module _ {H : Type 0} (answer_of : H → Command → Answer) (after : H → Comm
       (each_of (IsReplyFrom device) l.to_controller one.replies) told h
   keeps_move asked answered (Reopen now) r l device one usual fits told may h =
       reopening (controllers.begin_refusal l.controller) l.to_reader l.to_controller now r l refl h
-  keeps_move asked answered (SetHandler handler) r l device one usual fits told may h = absurd usual
-  keeps_move asked answered WithdrawEvent r l device one usual fits told may h = absurd usual
-  keeps_move asked answered Withdraw r l device one usual fits told may h = absurd usual
-  keeps_move asked answered (Retarget address) r l device one usual fits told may h = absurd usual
-  keeps_move asked answered (RestartReader config handler room) r l device one usual fits told may h = absurd usual
-  keeps_move asked answered (RestartController config room) r l device one usual fits told may h = absurd usual
-  keeps_move asked answered (LoseToReader place) r l device one usual fits told may h = absurd usual
-  keeps_move asked answered (LoseToController place) r l device one usual fits told may h = absurd usual
+  keeps_move asked answered _ r l device one usual fits told may h = absurd usual
