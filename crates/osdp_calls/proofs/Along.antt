@@ -4,8 +4,7 @@ use Rattle.osdp_msg.specs.declared.command.Command.{Command}
 use Rattle.osdp_reader.specs.declared.handler.Answer.{Answer}
 use Rattle.osdp_link_laws.proofs.Stages.{Each}
 use Rattle.osdp_shared_line.specs.Addresses.{IsSetUp, NetMoveFits, NetMovesFit, NobodyElseHears}
-use Rattle.osdp_shared_line.specs.Line as line
-use Rattle.osdp_shared_line.specs.Line.{LoseToPanel, LoseToReader, Net, NetMove, Queue, Reopen, RestartPanel, RestartReader, Retarget, SetBusy, Site, Submit, Tick, ToPanel, ToReader, Withdraw, after_net, run, site_at}
+use Rattle.osdp_shared_line.specs.Line.{Net, NetMove, Reopen, RestartPanel, RestartReader, Retarget, Site, Submit, ToPanel, after_net, run, site_at}
 use Rattle.osdp_shared_line.specs.Programs.{KeepRule, KeepsRule, Note, RestFits, RuleSuffices, no_notes, note_after, noted_at, notes_after}
 use Rattle.osdp_shared_line.specs.Views.{HeardByOwn}
 use Rattle.osdp_calls.proofs.Losing.{IsStill, run_then}
@@ -21,37 +20,19 @@ module _ {H : Type 0} where
 
   pub still_free : (move : NetMove H) → IsStill move → IsFree move
   still_free (Submit k command) still = still
-  still_free (Queue k event) still = tt
-  still_free (SetBusy k busy) still = tt
-  still_free (line.SetHandler k handler) still = tt
-  still_free (Withdraw k) still = tt
-  still_free (line.WithdrawEvent k) still = tt
   still_free (Retarget k address) still = still
-  still_free (Tick k now) still = tt
-  still_free (ToReader k how) still = tt
-  still_free (ToPanel how now) still = tt
-  still_free (LoseToReader k place) still = tt
-  still_free (LoseToPanel place) still = tt
-  still_free (Reopen k now) still = tt
   still_free (RestartReader k config handler room) still = still
   still_free (RestartPanel settings) still = still
+  still_free _ still = tt
 
   still_note : (j : ℕ) (s : Site H) (move : NetMove H) (n : Net H) (note : Note) → IsStill move → note_after j s move n note ≡ note
   still_note j s (Submit k command) n note still = absurd still
-  still_note j s (Queue k event) n note still = refl
-  still_note j s (SetBusy k busy) n note still = refl
-  still_note j s (line.SetHandler k handler) n note still = refl
-  still_note j s (Withdraw k) n note still = refl
-  still_note j s (line.WithdrawEvent k) n note still = refl
   still_note j s (Retarget k address) n note still = absurd still
-  still_note j s (Tick k now) n note still = refl
-  still_note j s (ToReader k how) n note still = refl
   still_note j s (ToPanel how now) n note still = absurd still
-  still_note j s (LoseToReader k place) n note still = refl
-  still_note j s (LoseToPanel place) n note still = refl
   still_note j s (Reopen k now) n note still = absurd still
   still_note j s (RestartReader k config handler room) n note still = absurd still
   still_note j s (RestartPanel settings) n note still = absurd still
+  still_note j s _ n note still = refl
 
   still_noted : (move : NetMove H) (n : Net H) (notes : ℕ → Note) → IsStill move → notes_after move n notes ≡ notes
   still_noted move n notes still = λ i j. at j (site_at j n.sites) i

@@ -1,16 +1,16 @@
 -- A controller of the bus and that of its site, from call to call.
 use Rattle.std.proofs.Common.{◌≡◌, ◌≤◌, ℕ, ◌+◌, max, Bool, true, false, cond, Option, Some, None, refl, sym, ap, ◌∙◌, arith}
-use Rattle.std.specs.Prelude.{◌&&◌, ◌^◌, ◌-◌, min, option_map}
+use Rattle.std.specs.Prelude.{◌&&◌, ◌^◌, ◌-◌, min}
 use Rattle.osdp_frame.specs.Packet.{Packet}
 use Rattle.osdp_msg.specs.declared.command.Command.{Command}
 use Rattle.osdp_controller.specs.Answers.{meaning_of}
 use Rattle.osdp_controller.specs.Hearing.{Heard, hears, hears_in, ignores, is_from_reader}
-use Rattle.osdp_controller.specs.Machine.{Machine, after_begin, after_retarget, after_submit, begin_refusal, refused_unless_closed, retarget_refusal}
+use Rattle.osdp_controller.specs.Machine.{Machine, after_begin, after_retarget, after_submit, refused_unless_closed}
 use Rattle.osdp_controller.specs.Sessions.{seen}
 use Rattle.osdp_controller.specs.Ticking.{Ticked, ticks, ticks_in}
 use Rattle.osdp_controller.specs.declared.session.Session.{Session}
 use Rattle.osdp_controller.specs.declared.state.State.{State}
-use Rattle.osdp_controller.specs.declared.state.State.TheVariants.{Closed, Quiet, Idle, Waiting, Pausing}
+use Rattle.osdp_controller.specs.declared.state.State.TheVariants.{Closed, Quiet}
 use Rattle.osdp_calls.proofs.Same.{Controls, IsSame, IsToOpen, at_moment}
 
 -- ---- moments
@@ -99,10 +99,7 @@ opened_ticks began top m c is =
 
 pub closed_of : (st : State) → refused_unless_closed st ≡ None → st ≡ Closed
 closed_of Closed is = refl
-closed_of (Quiet until) is = absurd cc
-closed_of (Idle due) is = absurd cc
-closed_of (Waiting until sends o) is = absurd cc
-closed_of (Pausing until o) is = absurd cc
+closed_of _ is = absurd cc
 
 pub is_to_open : (top at : ℕ) (m c : Machine) → top ≤ at → m.session.state ≡ Closed → IsSame top m c → IsToOpen at at (after_begin at m) c
 is_to_open top at m c le shut is = record {

@@ -123,17 +123,11 @@ module _ {H : Type 0} where
 
     module _ (l : InUse H) (n : Net H) (notes noted : ℕ → Note) (h : IsNetOf l n) (path : Path answer_of after n0 n noted) (agree : AllAgree l notes noted) where
       panel_addresses : (call : panel.Call) → PanelKeepsRule call l.bus notes → InRange answer_of after (OfPanel call) l → PanelAddresses call l
-      panel_addresses (panel.Add address) rule range = tt
-      panel_addresses (panel.Begin entry now) rule range = tt
       panel_addresses (panel.Submit k command) rule range =
           λ t there none asked asks. submit_premise answer_of after suffices n0 up l n notes noted h path agree k command range rule t there none asked asks
-      panel_addresses (panel.Withdraw k) rule range = tt
       panel_addresses (panel.Retarget k address) rule range =
           λ t there none. retarget_premise answer_of after suffices n0 up l n notes noted h path agree k address rule t there none
-      panel_addresses (panel.OnBytes bytes now) rule range = tt
-      panel_addresses (panel.OnSilence now) rule range = tt
-      panel_addresses (panel.Tick now) rule range = tt
-      panel_addresses panel.NextReport rule range = tt
+      panel_addresses _ rule range = tt
 
       pub call_addresses : (call : Call H) → KeepsRule call l notes → InRange answer_of after call l → Addresses call l
       call_addresses (OfPanel call) rule range = panel_addresses call rule range

@@ -9,7 +9,7 @@ use Rattle.osdp_frame.specs.Receiving.{after_silence, after_take, after_tick}
 use Rattle.osdp_link_laws.specs.Link as link
 use Rattle.osdp_link_laws.specs.Link.{Link, Move}
 use Rattle.osdp_link_laws.specs.Sessions as sessions
-use Rattle.osdp_link_laws.specs.Sessions.{all_submitted, queued, submitted}
+use Rattle.osdp_link_laws.specs.Sessions.{queued, submitted}
 use Rattle.osdp_link_laws.proofs.Lines.{each_append, each_map, each_of}
 use Rattle.osdp_link_laws.proofs.Stages.{Each}
 use Rattle.osdp_reader.specs.State.{ReaderState}
@@ -177,10 +177,6 @@ module _ {H : Type 0} (answer_of : H → Command → Answer) (after : H → Comm
       record { site = o.site; there = o.at; reader = same.reader; account = same.account; earlier = same.earlier; entry = o.device; is_entry = o.entry; controller = same.controller }
 
   -- ---- what is submitted and queued
-
-  pub commands_counted : (ms : List (Move H)) (l : Link H) → all_submitted answer_of after ms l ≡ counted answer_of after submitted ms l
-  commands_counted [] l = refl
-  commands_counted (m ∷ ms) l = ap (λ xs. submitted m l ++ xs) (commands_counted ms (link.after_move answer_of after m l))
 
   pub events_counted : (ms : List (Move H)) (l : Link H) → sessions.all_queued answer_of after ms l ≡ counted answer_of after queued ms l
   events_counted [] l = refl

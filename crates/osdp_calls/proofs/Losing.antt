@@ -19,10 +19,6 @@ pub data Sub {A : Type 0} : List A → List A → Type 0 where
   SubKeep : (x : A) (xs ys : List A) → Sub xs ys → Sub (x ∷ xs) (x ∷ ys)
   SubLeave : (x : A) (xs ys : List A) → Sub xs ys → Sub xs (x ∷ ys)
 
-pub sub_all : {A : Type 0} (xs : List A) → Sub xs xs
-sub_all [] = SubNil
-sub_all (x ∷ xs) = SubKeep x xs xs (sub_all xs)
-
 -- what passes a test that fewer pass
 pub those_sub : (f g : ℕ → Burst → Bool) (i : ℕ) (bs : List Burst) → ((j : ℕ) (b : Burst) → f j b ≡ true → g j b ≡ true) → Sub (those f i bs) (those g i bs)
 those_sub f g i [] fewer = SubNil
@@ -115,9 +111,6 @@ module _ {H : Type 0} (answer_of : H → Command → Answer) (after : H → Comm
 
   pub then_reaches : (a b c : Net H) → Reaches a b → Reaches b c → Reaches a c
   then_reaches a b c x y = (joins a b c x y).reached
-
-  pub one_move : (move : NetMove H) (n : Net H) → IsPlain move → NetMoveFits answer_of after move n → Reaches n (after_net answer_of after move n)
-  one_move move n plain fits = record { moves = move ∷ []; fit = (fits, tt); run = refl; plain = (plain, tt) }
 
   -- .. by losses alone
   pub record Loses (n m : Net H) : Type 0 where

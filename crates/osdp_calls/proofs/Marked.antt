@@ -63,12 +63,7 @@ module _ {H : Type 0} where
 
   told_on : (r : Report) (t : Station H) → reported_in (hears_of r t) ≡ after_told (Some r) (reported_in t)
   told_on (report.Opened id) t = refl
-  told_on (report.Settled command answer) t = refl
-  told_on (report.Moved command answered) t = refl
-  told_on (report.Event event) t = refl
-  told_on (report.PollAnswered answer) t = refl
-  told_on (report.Unread command code) t = refl
-  told_on (report.Lost cause command) t = refl
+  told_on _ t = refl
 
   hear_then : (xs ys : List (ℕ × Report)) (ts : List (Station H)) → all_hear (xs ++ ys) ts ≡ all_hear ys (all_hear xs ts)
   hear_then [] ys ts = refl

@@ -249,15 +249,13 @@ module _ (n : ℕ) (begun : Option ℕ) (all : List (List Event)) (x : Told) whe
   pausing_so (Unreadable code) o s w = unread_so o.exchange code s w
 
   inside_so : (state : State) (number : ℕ) (a : ReplyMeaning) (s : Session) → s.state ≡ state → Before s → After (hears_in state number a s)
-  inside_so Closed number a s is h = h
-  inside_so (Quiet until) number a s is h = h
-  inside_so (Idle due) number a s is h = h
   inside_so (Waiting until k o) number a s is h =
       both After (is_numbered number a s) (waiting_hears a k o s) (ignores s)
       (waiting_so a k o s (h, subst (λ st. ByState st begun h.sessions x.memory.in_session) is h.stands)) h
   inside_so (Pausing until o) number a s is h =
       both After (is_numbered number a s) (pausing_hears a o s) (ignores s)
       (pausing_so a o s (h, subst (λ st. ByState st begun h.sessions x.memory.in_session) is h.stands)) h
+  inside_so _ number a s is h = h
 
   pub heard_marks : (p : Packet) (now : ℕ) (s : Session) → Agrees n s.state begun all x
       → Agrees n (hears p now s).session.state begun (after_told (hears p now s).report all) (next_told (hears p now s).report x)

@@ -49,18 +49,12 @@ pub record Agrees (o : Option ℕ) (state : State) (x y : Note) : Type 0 where
 
 pub same_begun : (state : State) (x y : Bool) → y ≡ x → SameBegun None state x y
 same_begun Closed x y is = tt
-same_begun (Quiet until) x y is = is
-same_begun (Idle due) x y is = is
-same_begun (Waiting until sends o) x y is = is
-same_begun (Pausing until o) x y is = is
+same_begun _ x y is = is
 
 -- a session that is not closed stays so, or closes
 begun_next : (before next : State) (x y : Bool) → (before ≡ Closed → next ≡ Closed) → SameBegun None before x y → SameBegun None next x y
 begun_next Closed next x y closes is = subst (λ st. SameBegun None st x y) (sym (closes refl)) tt
-begun_next (Quiet until) next x y closes is = same_begun next x y is
-begun_next (Idle due) next x y closes is = same_begun next x y is
-begun_next (Waiting until sends o) next x y closes is = same_begun next x y is
-begun_next (Pausing until o) next x y closes is = same_begun next x y is
+begun_next _ next x y closes is = same_begun next x y is
 
 pub agrees_next : (o : Option ℕ) (before next : State) (x y : Note) → (before ≡ Closed → next ≡ Closed) → (IsOpening before → IsOpening next)
     → Agrees o before x y → Agrees o next x y

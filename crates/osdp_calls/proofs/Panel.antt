@@ -60,9 +60,6 @@ module _ {H : Type 0} where
 
   -- ---- who is at a packet's address
 
-  abbrev pub P : InUse H → ℕ → Entry → Station H → Site H → Type 0
-  P l = Sites l
-
   pub data AtAddress (l : InUse H) (p : Packet) (now i : ℕ) (ds : List Entry) (ts : List (Station H)) (ss : List (Site H)) : Type 0 where
     NoneThere : ((j : ℕ) → first_from i (is_at p.address) ds ≡ Some j → (x : ℕ) → j ≡ i + x → site_at x ts ≡ None) → AtAddress l p now i ds ts ss
     OneThere : (k j : ℕ) → j ≡ i + k → (d : Entry) (t : Station H) (s : Site H) → first_from i (is_at p.address) ds ≡ Some j

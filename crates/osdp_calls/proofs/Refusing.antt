@@ -280,12 +280,7 @@ module _ {H : Type 0} where
       subst (Each (Tells k)) (sym told)
       (each_append (Tells k) (told_by_all (max l.bus.greatest now) ps l.bus.devices) (told_by_ticking (asked_at now l.bus) before)
       (reads now ps order) (ticks_tell k (asked_at now l.bus) before))
-  call_tells k places l reads (bus.Add address) order = tt
-  call_tells k places l reads (bus.Begin entry now) order = tt
-  call_tells k places l reads (bus.Submit entry command) order = tt
-  call_tells k places l reads (bus.Withdraw entry) order = tt
-  call_tells k places l reads (bus.Retarget entry address) order = tt
-  call_tells k places l reads bus.NextReport order = tt
+  call_tells k places l reads _ order = tt
 
   pub calls_refuse_no_number : (answer_of : H → Command → Answer) (after : H → Command → H) → NobodyElseHears answer_of after
       → EachRefusesNoNumber answer_of after → CallsRefuseNoNumber answer_of after

@@ -70,12 +70,10 @@ module _ {H : Type 0} where
 
     says_replies : (k : Kind) (r : ReaderState H) (p : Packet) → StoresReply r → SaysReplies (outcome answer_of after k r p)
     says_replies kind.Silent r p is = record { said = tt; stored = is }
-    says_replies kind.Secured r p is = record { said = refl; stored = is }
     says_replies kind.Zero r p is = begun_replies (command_in p) r p is
     says_replies kind.Repeat r p is = record { said = is; stored = is }
     says_replies kind.Taken r p is = taken_replies (command_in p) r p is
-    says_replies kind.Busy r p is = record { said = refl; stored = is }
-    says_replies kind.Wrong r p is = record { said = refl; stored = is }
+    says_replies _ r p is = record { said = refl; stored = is }
 
     pub hears_replies : (r : ReaderState H) (p : Packet) → StoresReply r → SaysReplies (hears answer_of after r p)
     hears_replies r p is = says_replies (kind_of r p) r p is

@@ -1,5 +1,5 @@
 -- What goes out at a call is what is said.
-use Rattle.std.proofs.Common.{◌≡◌, ◌||◌, ℕ, not, Bool, true, false, cond, List, [], ◌∷◌, ◌++◌, map, Option, Some, None, refl, sym, subst, ap, ◌∙◌, append-nil, append_assoc, is_some}
+use Rattle.std.proofs.Common.{◌≡◌, ◌||◌, ℕ, Bool, true, false, cond, List, [], ◌∷◌, ◌++◌, map, Option, Some, None, refl, sym, subst, ap, ◌∙◌, append-nil, append_assoc, is_some}
 use Rattle.std.specs.Option.{option_map}
 use Rattle.std.specs.Prelude.{option_to_list}
 use Rattle.osdp_frame.specs.Items.{whole_packets}
@@ -9,13 +9,11 @@ use Rattle.osdp_msg.specs.declared.command.Command.{Command}
 use Rattle.osdp_msg.specs.declared.command.Command.TheVariants.{Poll}
 use Rattle.osdp_msg.specs.declared.event.Event.{Event}
 use Rattle.osdp_msg.specs.declared.reply.Reply.{Reply}
-use Rattle.osdp_bus.specs.Buses.{BusState, has_report, holder, new_bus, seen}
-use Rattle.osdp_bus.specs.Hearing.{ends_run}
+use Rattle.osdp_bus.specs.Buses.{new_bus}
 use Rattle.osdp_bus.specs.Machine.{after_add, changed_unless, new_device}
-use Rattle.osdp_bus.specs.Ticking.{BusTicked, bus_ticks, is_due_at, is_held_and_due, next_due, stays, ticks_at, ticks_by}
+use Rattle.osdp_bus.specs.Ticking.{BusTicked, bus_ticks}
 use Rattle.osdp_bus.specs.declared.config.BusConfig.{BusConfig}
 use Rattle.osdp_bus_laws.specs.Calls as bus
-use Rattle.osdp_bus_laws.specs.Turns.{judged}
 use Rattle.osdp_device.specs.Saying.{but_poll, said_to, speaks, taken_by}
 use Rattle.osdp_device.specs.Telling.{items_of}
 use Rattle.osdp_link_laws.specs.Link.{Account, front_of, taken, taken_command}
@@ -26,7 +24,7 @@ use Rattle.osdp_reader.specs.Table.{hears, kind_of, outcome}
 use Rattle.osdp_reader.specs.declared.handler.Answer.{Answer}
 use Rattle.osdp_reader.specs.declared.kind.Kind.{Kind}
 use Rattle.osdp_reader.specs.declared.kind.Kind.TheVariants as kind
-use Rattle.osdp_calls.specs.Calls.{after_next, answers, asked_at, asked_by_holder, by_device, first_answered, panel_says, read_up_to, reply_to, said_for}
+use Rattle.osdp_calls.specs.Calls.{after_next, answers, asked_at, by_device, first_answered, panel_says, read_up_to, reply_to, said_for}
 use Rattle.osdp_calls.specs.Lines.{Burst, InUse, Station, bus_with}
 use Rattle.osdp_calls.specs.Sayings.{AddsMakeTheBus, ByDevice, IsSaid, NoneRefused, ReadsToFirst, SaysWhatGoesOut, acted_on, after_hearing, for_ours}
 use Rattle.osdp_calls.proofs.Replying.{told_first, reader_with}
@@ -34,33 +32,6 @@ use Rattle.osdp_shared_line.specs.Line.{site_at}
 use Rattle.osdp_calls.proofs.Lasting.{noted_keeps}
 
 -- ---- who is asked says what goes out
-
-abbrev Asked : BusTicked → Option ℕ → Type 0
-Asked t None = t.sent ≡ None
-Asked t (Some entry) = Unit {0}
-
-asks : (rests : Bool) (o : Option ℕ) (b : BusState) → Asked (cond rests (stays b) (ticks_at o b)) (cond rests None o)
-asks true o b = refl
-asks false None b = refl
-asks false (Some entry) b = tt
-
-by_holder : (o : Option ℕ) (b : BusState) → Asked (ticks_by o b) (asked_by_holder o b)
-by_holder None b = asks (has_report (ends_run b)) (next_due (ends_run b)) (ends_run b)
-by_holder (Some entry) b = by_due (is_due_at entry b)
-  where
-    by_due : (x : Bool) → Asked
-        (cond x (cond (has_report (ends_run b) || not (is_held_and_due entry (ends_run b))) (stays (ends_run b)) (ticks_at (Some entry) (ends_run b))) (stays b))
-        (cond x (cond (has_report (ends_run b) || not (is_held_and_due entry (ends_run b))) None (Some entry)) None)
-    by_due true = asks (has_report (ends_run b) || not (is_held_and_due entry (ends_run b))) (Some entry) (ends_run b)
-    by_due false = refl
-
-asked_says : (now : ℕ) (b : BusState) → Asked (bus_ticks now b) (asked_at now b)
-asked_says now b = by_report (has_report b)
-  where
-    by_report : (x : Bool) → Asked (cond x (stays (seen now b)) (ticks_by (holder (judged now b)) (judged now b)))
-        (cond x None (asked_by_holder (holder (judged now b)) (judged now b)))
-    by_report true = refl
-    by_report false = by_holder (holder (judged now b)) (judged now b)
 
 -- ---- entries
 

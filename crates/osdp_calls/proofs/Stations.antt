@@ -13,7 +13,7 @@ use Rattle.osdp_shared_line.specs.Line.{Net, NetMove, SetBusy, Site, after_net, 
 use Rattle.osdp_shared_line.proofs.Sites.{some_same}
 use Rattle.osdp_calls.specs.Calls.{changes_at, on_station}
 use Rattle.osdp_calls.specs.Lines.{InUse, Station}
-use Rattle.osdp_calls.proofs.Losing.{IsLoss, IsPlain, IsStill, Reaches, one_move, stays}
+use Rattle.osdp_calls.proofs.Losing.{IsLoss, IsPlain, Reaches, stays}
 use Rattle.osdp_calls.proofs.Matching.{FoundAt, Match, Nobody, Somebody, changed_same, found, set_station}
 use Rattle.osdp_calls.proofs.Same.{IsNetOf, IsSiteOf, read_so, sites_so}
 
@@ -90,10 +90,6 @@ module _ {H : Type 0} where
       pub reached : Reaches answer_of after n net
       pub same : IsNetOf l net
 
-    pub by_move : (move : NetMove H) (l : InUse H) (n : Net H) → IsPlain move → NetMoveFits answer_of after move n → IsNetOf l (after_net answer_of after move n)
-        → Refines n l
-    by_move move l n plain fits same = record { net = after_net answer_of after move n; reached = one_move answer_of after move n plain fits; same = same }
-
     pub by_none : (l : InUse H) (n : Net H) → IsNetOf l n → Refines n l
     by_none l n same = record { net = n; reached = stays answer_of after n; same = same }
 
@@ -101,10 +97,6 @@ module _ {H : Type 0} where
     pub record Makes (Q : List (NetMove H) → Type 0) (n : Net H) (l : InUse H) : Type 0 where
       pub refines : Refines n l
       pub made : Q refines.reached.moves
-
-    -- .. still ones
-    abbrev pub RestsTo : Net H → InUse H → Type 0
-    RestsTo n l = Makes (Each IsStill) n l
 
     -- .. losses alone
     abbrev pub LosesTo : Net H → InUse H → Type 0

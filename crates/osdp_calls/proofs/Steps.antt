@@ -21,7 +21,7 @@ use Rattle.osdp_link_laws.proofs.Stages.{Each}
 use Rattle.osdp_reader.specs.declared.handler.Answer.{Answer}
 use Rattle.osdp_reader.specs.Queue.{lacks_room}
 use Rattle.osdp_shared_line.specs.Addresses.{NetMoveFits, NetMovesFit, Somewhere}
-use Rattle.osdp_shared_line.specs.Line.{LoseToPanel, LoseToReader, Net, NetMove, Queue, Reopen, RestartPanel, RestartReader, Retarget, SetBusy, Site, Submit, Tick, ToPanel, ToReader, Withdraw, after_net, is_comset_refused, run, site_at}
+use Rattle.osdp_shared_line.specs.Line.{Net, NetMove, Queue, RestartPanel, RestartReader, Retarget, SetBusy, Site, Submit, Tick, Withdraw, after_net, is_comset_refused, run, site_at}
 use Rattle.osdp_shared_line.specs.Line as line
 use Rattle.osdp_shared_line.specs.Views.{one_if, view}
 use Rattle.osdp_calls.specs.Accepted.{accepted_by, queued_by}
@@ -91,14 +91,7 @@ module _ {H : Type 0} where
   plain_of call (line.WithdrawEvent k) plain = absurd plain
   plain_of call (RestartReader k config handler room) plain = absurd plain
   plain_of call (RestartPanel settings) plain = absurd plain
-  plain_of call (SetBusy k busy) plain = tt
-  plain_of call (Retarget k address) plain = tt
-  plain_of call (Tick k now) plain = tt
-  plain_of call (ToReader k how) plain = tt
-  plain_of call (ToPanel how now) plain = tt
-  plain_of call (LoseToReader k place) plain = tt
-  plain_of call (LoseToPanel place) plain = tt
-  plain_of call (Reopen k now) plain = tt
+  plain_of call _ plain = tt
 
   plain_gives : (move : NetMove H) → IsPlain move → GivesNone move
   plain_gives (Submit k command) plain = plain

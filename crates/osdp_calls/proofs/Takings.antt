@@ -69,12 +69,7 @@ untold = record { marks = []; memory = nothing_yet }
 
 next_memory : (r : Report) (x : Told) → (next r x).memory ≡ remembers r x.memory
 next_memory (report.Opened id) x = refl
-next_memory (report.Settled command answer) x = refl
-next_memory (report.Moved command answered) x = refl
-next_memory (report.Event event) x = refl
-next_memory (report.PollAnswered answer) x = refl
-next_memory (report.Unread command code) x = refl
-next_memory (report.Lost cause command) x = refl
+next_memory _ x = refl
 
 module _ (k : ℕ) where
   -- what is told of the entry is what is remembered of it
@@ -112,12 +107,7 @@ module _ (k : ℕ) where
 
       of_other : (r : Report) → (entry == k) ≡ false → event_of k (Some (entry, r)) (may_be_again r (memory_at entry remembered)) ≡ []
       of_other (report.Event e) other = ap (λ b. cond b ((e, may_be_again (report.Event e) (memory_at entry remembered)) ∷ []) []) other
-      of_other (report.Opened id) other = refl
-      of_other (report.Settled command answer) other = refl
-      of_other (report.Moved command answered) other = refl
-      of_other (report.PollAnswered answer) other = refl
-      of_other (report.Unread command code) other = refl
-      of_other (report.Lost cause command) other = refl
+      of_other _ other = refl
 
 -- ---- lists of calls, in parts
 
@@ -189,17 +179,7 @@ module _ {H : Type 0} (answer_of : H → Command → Answer) (after : H → Comm
 
   one_told : (call : Call H) (l : InUse H) → told_along (one_panel_call call) l.bus ≡ told_by {H = H} 0 0 answer_of after call l
   one_told (OfPanel call) l = append-nil (told_in call l.bus)
-  one_told (SubmitEvent i event) l = refl
-  one_told (SetBusy i busy) l = refl
-  one_told (SetHandler i handler) l = refl
-  one_told (WithdrawEvent i) l = refl
-  one_told (Take i bytes now) l = refl
-  one_told (TickDevice i now) l = refl
-  one_told (Silence i now) l = refl
-  one_told (Next i) l = refl
-  one_told (Pending i) l = refl
-  one_told (NewDevice i config handler room gap) l = refl
-  one_told (NewPanel config addresses) l = refl
+  one_told _ l = refl
 
   steps_tell : (n : ℕ) (steps : List (Step H)) (l : InUse H) (x : Told) → Each (λ (step : Step H). KeepsPanel step.call) steps
       → Tells n k l.bus.devices.entries l.stations x
