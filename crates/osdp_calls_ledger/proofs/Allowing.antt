@@ -97,10 +97,7 @@ module _ (P : ledger.Step → Type 0) (plain : (step : ledger.Step) → IsPlain 
       done (reported k (told_in (bus.OnBytes bytes now) b) g) (reported_done k (told_in (bus.OnBytes bytes now) b) g)
   panel_holds (bus.OnSilence now) b g allows =
       done (reported k (told_in (bus.OnSilence now) b) g) (reported_done k (told_in (bus.OnSilence now) b) g)
-  panel_holds (bus.Add address) b g allows = tt
-  panel_holds (bus.Begin i now) b g allows = tt
-  panel_holds (bus.Retarget i address) b g allows = tt
-  panel_holds bus.NextReport b g allows = tt
+  panel_holds _ b g allows = tt
 
   restarts_hold : (q : Option Entry) → ((on_wire : Bool) → P (RestartPanel on_wire)) → Each P (panel_restarts q)
   restarts_hold None holds = tt

@@ -4,7 +4,7 @@ use Rattle.std.proofs.lemmas.Bool.Decides.{eqb_tells}
 use Rattle.std.specs.Prelude.{◌==◌, nat_le}
 use Rattle.osdp_frame.specs.Packet.{Packet}
 use Rattle.osdp_msg.specs.declared.command.Command.{Command}
-use Rattle.osdp_controller.specs.Machine.{Machine, after_begin, begin_refusal}
+use Rattle.osdp_controller.specs.Machine.{Machine, after_begin}
 use Rattle.osdp_controller.specs.Sessions as clocks
 use Rattle.osdp_controller.specs.States.{is_closed}
 use Rattle.osdp_controller.specs.Ticking as ticking
@@ -12,7 +12,7 @@ use Rattle.osdp_controller.specs.Ticking.{Ticked, ticks, ticks_in}
 use Rattle.osdp_controller.specs.declared.exchange.Exchange.TheVariants.{Opening as OpeningExchange}
 use Rattle.osdp_controller.specs.declared.session.Session.{Session}
 use Rattle.osdp_controller.specs.declared.state.State.{State}
-use Rattle.osdp_controller.specs.declared.state.State.TheVariants.{Closed, Quiet, Idle, Waiting, Pausing}
+use Rattle.osdp_controller.specs.declared.state.State.TheVariants.{Closed, Quiet}
 use Rattle.osdp_bus.specs.Buses.{device_of}
 use Rattle.osdp_bus.specs.Entries.{step_of}
 use Rattle.osdp_bus.specs.Ticking.{ticks_at, ticks_with}
@@ -50,10 +50,7 @@ use Rattle.osdp_calls.proofs.Lasting.{heard_keeps, says_keep}
 
 opens_none : (st : State) → opens st None ≡ []
 opens_none Closed = refl
-opens_none (Quiet until) = refl
-opens_none (Idle due) = refl
-opens_none (Waiting until sends o) = refl
-opens_none (Pausing until o) = refl
+opens_none _ = refl
 
 either_first : (st : State) (s : Session) (waiting : List Command) (g : Ledger)
     → opens st (ticks_in st s waiting).step.frame ++ told (ticks_in st s waiting).step.report g
@@ -62,9 +59,7 @@ either_first (Quiet until) s waiting g =
     both (λ (t : Ticked). opens (Quiet until) t.step.frame ++ told t.step.report g ≡ told t.step.report g ++ opens (Quiet until) t.step.frame)
     (nat_le until s.greatest) (ticking.begins OpeningExchange 0 s waiting) (ticking.stays s waiting) refl refl
 either_first Closed s waiting g = refl
-either_first (Idle due) s waiting g = sym (append-nil (told (ticks_in (Idle due) s waiting).step.report g))
-either_first (Waiting until sends o) s waiting g = sym (append-nil (told (ticks_in (Waiting until sends o) s waiting).step.report g))
-either_first (Pausing until o) s waiting g = sym (append-nil (told (ticks_in (Pausing until o) s waiting).step.report g))
+either_first st s waiting g = sym (append-nil (told (ticks_in st s waiting).step.report g))
 
 pub nothing_sent : (k : ℕ) (o : Option ℕ) (sent : Option Packet) (q : Option Entry) → sent ≡ None → opening k o sent q ≡ []
 nothing_sent k None sent q none = refl
@@ -160,10 +155,7 @@ module _ {H : Type 0} (answer_of : H → Command → Answer) (after : H → Comm
 
         closed_refuses : (st : State) → is_closed st ≡ true → Rattle.osdp_controller.specs.Machine.refused_unless_closed st ≡ None
         closed_refuses Closed is = refl
-        closed_refuses (Quiet until) is = absurd (let f = is in cc)
-        closed_refuses (Idle due) is = absurd (let f = is in cc)
-        closed_refuses (Waiting until sends o) is = absurd (let f = is in cc)
-        closed_refuses (Pausing until o) is = absurd (let f = is in cc)
+        closed_refuses _ is = absurd (let f = is in cc)
 
         here : site_at k mid1.sites ≡ Some s1
         here =

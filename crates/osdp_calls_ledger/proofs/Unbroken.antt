@@ -321,9 +321,6 @@ module _ {H : Type 0} (answer_of : H → Command → Answer) (after : H → Comm
       calmly broken (panel_steps k (bus.Withdraw i) l.bus g) (change_at i back l.stations)
       (if_calm (i == k) (withdraws (given_back (withdrawal_at i l.bus)) g) (withdraws_calm (given_back (withdrawal_at i l.bus)) g))
       (same_whole k broken i back l.stations (λ t. refl) is)
-  panel_whole (bus.Add address) places l g broken agreed is = is
-  panel_whole (bus.Retarget i address) places l g broken agreed is = is
-  panel_whole bus.NextReport places l g broken agreed is = is
   panel_whole (bus.OnBytes bytes now) places l g broken agreed is =
       let told = told_in (bus.OnBytes bytes now) l.bus in
       calmly broken (reported k told g) (all_hear told l.stations) (are_calm (reported k told g) (reported_done k told g)) (heard_whole k broken told l.stations is)
@@ -346,6 +343,7 @@ module _ {H : Type 0} (answer_of : H → Command → Answer) (after : H → Comm
       (λ d until at quiet.
       let m = quiet_begun tells.station.begun e.0 until e.2 (ap (λ (f : Entry). f.controller.session.state) (some_same e.0 d (sym e.1 ∙ at)) ∙ quiet) in
       (m.0, begun ∙ m.1))))
+  panel_whole _ places l g broken agreed is = is
 
   call_whole : (call : Call H) (places : List ℕ) (l : InUse H) (g : Ledger) (broken : Bool) → IsAgreed k l → AreWhole k broken l.stations
       → AreWhole k (has_restarted broken (steps_of answer_of after k call l g)) (after_call answer_of after call places l).stations
