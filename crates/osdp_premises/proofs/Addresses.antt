@@ -159,13 +159,7 @@ module _ {H : Type 0} where
       if_decides (λ (t : Station H). gives_no_others k (retarget_refusal_at k address l.bus) (Some address) l)
       (λ (t : Station H). retarget_refusal_at k address l.bus ≡ None → IsNoOthers k address l)
       (λ t. goes_decides k (retarget_refusal_at k address l.bus) address l) (site_at k l.stations)
-  panel_decides (bus.Add address) l = always tt
-  panel_decides (bus.Begin entry now) l = always tt
-  panel_decides (bus.Withdraw entry) l = always tt
-  panel_decides (bus.OnBytes bytes now) l = always tt
-  panel_decides (bus.OnSilence now) l = always tt
-  panel_decides (bus.Tick now) l = always tt
-  panel_decides bus.NextReport l = always tt
+  panel_decides _ l = always tt
 
   pub free_decides : (k a : ℕ) (l : InUse H) (t : Station H) → Decides (is_free_for k a l t) (IsFreeFor k a t l)
   free_decides k a l t =

@@ -6,7 +6,7 @@ use Rattle.osdp_msg.specs.declared.command.Command.{Command}
 use Rattle.osdp_device.specs.Telling.{items_of}
 use Rattle.osdp_reader.specs.declared.handler.Answer.{Answer}
 use Rattle.osdp_shared_line.specs.Line.{site_at}
-use Rattle.osdp_calls.specs.Calls.{Call, NewDevice, NewPanel, Next, OfPanel, Pending, SetBusy, SetHandler, Silence, Step, SubmitEvent, Take, TickDevice, WithdrawEvent, after_call, read_by, read_up_to}
+use Rattle.osdp_calls.specs.Calls.{Call, NewDevice, NewPanel, Next, OfPanel, Step, after_call, read_by, read_up_to}
 use Rattle.osdp_calls.specs.Lines.{InUse, Station, is_past_for_device, is_past_for_panel}
 use Rattle.osdp_calls.specs.Premises.{Addresses, InOrder, IsFreeFor, IsOfOthers, NextInOrder, QuietOpening}
 use Rattle.osdp_premises.specs.Deciding.{are_fair, are_in_order, has_addresses, if_there, is_fair, is_free_for, is_in_order, is_of_others, is_quiet, stands_at}
@@ -24,30 +24,12 @@ module _ {H : Type 0} where
   order_decides : (call : Call H) (places : List ℕ) (l : InUse H) → Decides (is_in_order call places l) (InOrder call places l)
   order_decides (OfPanel call) places l = said_decides (is_of_others l) (IsOfOthers l) (others_decides l) l.said (read_by call l.bus) places l.place
   order_decides (Next k) places l = next_decides l places (site_at k l.stations)
-  order_decides (SubmitEvent k event) places l = always tt
-  order_decides (SetBusy k busy) places l = always tt
-  order_decides (SetHandler k handler) places l = always tt
-  order_decides (WithdrawEvent k) places l = always tt
-  order_decides (Take k bytes now) places l = always tt
-  order_decides (TickDevice k now) places l = always tt
-  order_decides (Silence k now) places l = always tt
-  order_decides (Pending k) places l = always tt
-  order_decides (NewDevice k config handler room gap) places l = always tt
-  order_decides (NewPanel config addresses) places l = always tt
+  order_decides _ places l = always tt
 
   quiet_decides : (call : Call H) (places : List ℕ) (l : InUse H) → Decides (is_quiet call places l) (QuietOpening call places l)
   quiet_decides (OfPanel call) places l = past_decides (is_past_for_panel l.openings) l.said places
   quiet_decides (Next k) places l = past_decides (is_past_for_device k l.openings) l.said places
-  quiet_decides (SubmitEvent k event) places l = always tt
-  quiet_decides (SetBusy k busy) places l = always tt
-  quiet_decides (SetHandler k handler) places l = always tt
-  quiet_decides (WithdrawEvent k) places l = always tt
-  quiet_decides (Take k bytes now) places l = always tt
-  quiet_decides (TickDevice k now) places l = always tt
-  quiet_decides (Silence k now) places l = always tt
-  quiet_decides (Pending k) places l = always tt
-  quiet_decides (NewDevice k config handler room gap) places l = always tt
-  quiet_decides (NewPanel config addresses) places l = always tt
+  quiet_decides _ places l = always tt
 
   addresses_decide : (call : Call H) (l : InUse H) → Decides (has_addresses call l) (Addresses call l)
   addresses_decide (OfPanel call) l = panel_decides call l
@@ -59,15 +41,7 @@ module _ {H : Type 0} where
       (free_decides k config.address l t))
       (site_at k l.stations)
   addresses_decide (NewPanel config addresses) l = apart_decides addresses l
-  addresses_decide (SubmitEvent k event) l = always tt
-  addresses_decide (SetBusy k busy) l = always tt
-  addresses_decide (SetHandler k handler) l = always tt
-  addresses_decide (WithdrawEvent k) l = always tt
-  addresses_decide (Take k bytes now) l = always tt
-  addresses_decide (TickDevice k now) l = always tt
-  addresses_decide (Silence k now) l = always tt
-  addresses_decide (Next k) l = always tt
-  addresses_decide (Pending k) l = always tt
+  addresses_decide _ l = always tt
 
   pub exact : PremisesAreExact H
   exact = record {

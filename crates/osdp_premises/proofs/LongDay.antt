@@ -22,7 +22,7 @@ use Rattle.osdp_link_laws.proofs.Stages.{Each}
 use Rattle.osdp_reader.specs.Table.{hears}
 use Rattle.osdp_reader.specs.declared.handler.Answer.{Answer}
 use Rattle.osdp_shared_line.specs.Line.{site_at}
-use Rattle.osdp_calls.specs.Calls.{Call, NewDevice, NewPanel, Next, OfPanel, Pending, SetBusy, SetHandler, Silence, Step, SubmitEvent, Take, TickDevice, WithdrawEvent, after_call, after_calls, read_up_to}
+use Rattle.osdp_calls.specs.Calls.{Call, NewDevice, NewPanel, Next, OfPanel, Step, after_call, after_calls, read_up_to}
 use Rattle.osdp_calls.specs.Ends.{CanStand}
 use Rattle.osdp_calls.specs.Lines.{InUse, Station}
 use Rattle.osdp_calls.specs.Premises.{AllKeep, InRange, IsSetUp, Keeps, NextInRange, PanelInRange}
@@ -141,14 +141,7 @@ module _ {H : Type 0} (answer_of : H → Command → Answer) (after : H → Comm
   RangeOf (Next k) l = NextEach (site_at k l.stations)
   RangeOf (NewDevice k config handler room gap) l = (config.address < 127) × AreRoom room.messages room.bytes
   RangeOf (NewPanel config addresses) l = IsBusConfig config × Each (λ a. a < 127) addresses × (length l.stations ≤ length addresses)
-  RangeOf (SubmitEvent k event) l = Unit {0}
-  RangeOf (SetBusy k busy) l = Unit {0}
-  RangeOf (SetHandler k handler) l = Unit {0}
-  RangeOf (WithdrawEvent k) l = Unit {0}
-  RangeOf (Take k bytes now) l = Unit {0}
-  RangeOf (TickDevice k now) l = Unit {0}
-  RangeOf (Silence k now) l = Unit {0}
-  RangeOf (Pending k) l = Unit {0}
+  RangeOf _ l = Unit {0}
 
   next_range : (o : Option (Station H)) → NextEach o → NextInRange answer_of after o
   next_range None fits = tt
@@ -160,14 +153,7 @@ module _ {H : Type 0} (answer_of : H → Command → Answer) (after : H → Comm
   range_of (Next k) l fits = next_range (site_at k l.stations) fits
   range_of (NewDevice k config handler room gap) l fits = fits
   range_of (NewPanel config addresses) l fits = (fits.0, each_all (λ a. a < 127) addresses fits.1, fits.2)
-  range_of (SubmitEvent k event) l fits = tt
-  range_of (SetBusy k busy) l fits = tt
-  range_of (SetHandler k handler) l fits = tt
-  range_of (WithdrawEvent k) l fits = tt
-  range_of (Take k bytes now) l fits = tt
-  range_of (TickDevice k now) l fits = tt
-  range_of (Silence k now) l fits = tt
-  range_of (Pending k) l fits = tt
+  range_of _ l fits = tt
 
   abbrev pub AllRanges : List (Step H) → InUse H → Type 0
   AllRanges [] l = Unit {0}

@@ -14,7 +14,7 @@ use Rattle.osdp_bus_laws.specs.Calls as bus
 use Rattle.osdp_reader.specs.declared.handler.Answer.{Answer}
 use Rattle.osdp_shared_line.specs.Line.{site_at}
 use Rattle.osdp_shared_line.specs.Programs.{Note}
-use Rattle.osdp_calls.specs.Calls.{NewDevice, NewPanel, Next, OfPanel, Pending, SetBusy, SetHandler, Silence, SubmitEvent, Take, TickDevice, WithdrawEvent, after_call}
+use Rattle.osdp_calls.specs.Calls.{NewDevice, NewPanel, OfPanel, after_call}
 use Rattle.osdp_calls.specs.Lines.{Station}
 use Rattle.osdp_calls.specs.Programs.{IsKnown, PanelKeepsRule, notes_after}
 use Rattle.osdp_premises.specs.Deciding.{address_asked, if_there, is_in_order, is_quiet, is_there_with, stands_at}
@@ -62,13 +62,7 @@ panel_decides (bus.Retarget k address) b notes =
     refused_decides (retarget_refusal_at k address b) (if_there (λ d. is_known address d (notes k)) (device_of k b))
     ((d : Entry) → device_of k b ≡ Some d → IsKnown address d (notes k))
     (if_decides (λ d. is_known address d (notes k)) (λ d. IsKnown address d (notes k)) (λ d. known_decides address d (notes k)) (device_of k b))
-panel_decides (bus.Add address) b notes = always tt
-panel_decides (bus.Begin entry now) b notes = always tt
-panel_decides (bus.Withdraw entry) b notes = always tt
-panel_decides (bus.OnBytes bytes now) b notes = always tt
-panel_decides (bus.OnSilence now) b notes = always tt
-panel_decides (bus.Tick now) b notes = always tt
-panel_decides bus.NextReport b notes = always tt
+panel_decides _ b notes = always tt
 
 module _ {H : Type 0} where
   pub rule_exact : RuleIsExact H
@@ -85,15 +79,7 @@ module _ {H : Type 0} where
       (λ k. if_decides (λ a. if_there (λ d. is_known a d (notes k)) (device_of k l.bus)) (λ a. (d : Entry) → device_of k l.bus ≡ Some d → IsKnown a d (notes k))
       (λ a. if_decides (λ d. is_known a d (notes k)) (λ d. IsKnown a d (notes k)) (λ d. known_decides a d (notes k)) (device_of k l.bus)) (site_at k addresses))
       (length addresses))
-  rule_exact (SubmitEvent k event) l notes = always tt
-  rule_exact (SetBusy k busy) l notes = always tt
-  rule_exact (SetHandler k handler) l notes = always tt
-  rule_exact (WithdrawEvent k) l notes = always tt
-  rule_exact (Take k bytes now) l notes = always tt
-  rule_exact (TickDevice k now) l notes = always tt
-  rule_exact (Silence k now) l notes = always tt
-  rule_exact (Next k) l notes = always tt
-  rule_exact (Pending k) l notes = always tt
+  rule_exact _ l notes = always tt
 
 module _ {H : Type 0} (answer_of : H → Command → Answer) (after : H → Command → H) where
   pub ruled_keep : RuledCallsKeep answer_of after

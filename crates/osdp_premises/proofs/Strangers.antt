@@ -5,7 +5,7 @@ use Rattle.osdp_device.specs.Telling.{items_of}
 use Rattle.osdp_link_laws.proofs.Lines.{each_of}
 use Rattle.osdp_link_laws.proofs.Stages.{Each}
 use Rattle.osdp_shared_line.specs.Line.{site_at}
-use Rattle.osdp_calls.specs.Calls.{Call, NewDevice, NewPanel, Next, OfPanel, Pending, SetBusy, SetHandler, Silence, SubmitEvent, Take, TickDevice, WithdrawEvent, read_by, read_up_to}
+use Rattle.osdp_calls.specs.Calls.{Call, Next, OfPanel, read_by, read_up_to}
 use Rattle.osdp_calls.specs.Lines.{Burst, InUse, Station}
 use Rattle.osdp_calls.specs.Premises.{AreInOrder, InOrder, IsOfOthers, NextInOrder}
 use Rattle.osdp_premises.specs.Strangers.{AllIsSaid, AreSaid, NextIsSaid, SparesOthers, read_in, read_next}
@@ -46,45 +46,18 @@ module _ {H : Type 0} where
   all_said : (call : Call H) (places : List ℕ) (l : InUse H) → AllIsSaid call places l → InOrder call places l
   all_said (OfPanel call) places l all = said_order (IsOfOthers l) l.said (read_by call l.bus) places l.place all
   all_said (Next k) places l all = next_said places l (site_at k l.stations) all
-  all_said (SubmitEvent k event) places l all = tt
-  all_said (SetBusy k busy) places l all = tt
-  all_said (SetHandler k handler) places l all = tt
-  all_said (WithdrawEvent k) places l all = tt
-  all_said (Take k bytes now) places l all = tt
-  all_said (TickDevice k now) places l all = tt
-  all_said (Silence k now) places l all = tt
-  all_said (Pending k) places l all = tt
-  all_said (NewDevice k config handler room gap) places l all = tt
-  all_said (NewPanel config addresses) places l all = tt
+  all_said _ places l all = tt
 
   all_ours : (call : Call H) (places : List ℕ) (l : InUse H) → Each (λ p. IsOfOthers l p → ⊥) (read_in call l) → InOrder call places l
       → AllIsSaid call places l
   all_ours (OfPanel call) places l none order = order_said (IsOfOthers l) l.said (read_by call l.bus) places l.place none order
   all_ours (Next k) places l none order = next_ours places l (site_at k l.stations) none order
-  all_ours (SubmitEvent k event) places l none order = tt
-  all_ours (SetBusy k busy) places l none order = tt
-  all_ours (SetHandler k handler) places l none order = tt
-  all_ours (WithdrawEvent k) places l none order = tt
-  all_ours (Take k bytes now) places l none order = tt
-  all_ours (TickDevice k now) places l none order = tt
-  all_ours (Silence k now) places l none order = tt
-  all_ours (Pending k) places l none order = tt
-  all_ours (NewDevice k config handler room gap) places l none order = tt
-  all_ours (NewPanel config addresses) places l none order = tt
+  all_ours _ places l none order = tt
 
   all_others : (call : Call H) (l : InUse H) → Each (IsOfOthers l) (read_in call l) → InOrder call [] l
   all_others (OfPanel call) l all = others_order (IsOfOthers l) l.said (read_by call l.bus) l.place all
   all_others (Next k) l all = next_others l (site_at k l.stations) all
-  all_others (SubmitEvent k event) l all = tt
-  all_others (SetBusy k busy) l all = tt
-  all_others (SetHandler k handler) l all = tt
-  all_others (WithdrawEvent k) l all = tt
-  all_others (Take k bytes now) l all = tt
-  all_others (TickDevice k now) l all = tt
-  all_others (Silence k now) l all = tt
-  all_others (Pending k) l all = tt
-  all_others (NewDevice k config handler room gap) l all = tt
-  all_others (NewPanel config addresses) l all = tt
+  all_others _ l all = tt
 
   pub spares_others : SparesOthers H
   spares_others = record {
