@@ -36,9 +36,6 @@ module _ (n : Numbers) (are : AreNumbers n) where
   pub apart_so : (i j : ℕ) → j ≢ i → n.ordered j ≢ n.ordered i
   apart_so i j other same = other (sym (are.back j) ∙ ap n.own same ∙ are.back i)
 
-  pub own_apart : (i k : ℕ) → k ≢ n.ordered i → n.own k ≢ i
-  own_apart i k other same = other (sym (are.forth k) ∙ ap n.ordered same)
-
   -- whether it is the entry of this device
   pub number_test : (i k : ℕ) → (n.ordered i == k) ≡ (i == n.own k)
   number_test i k = elim (eqb_tells (n.ordered i) k) [

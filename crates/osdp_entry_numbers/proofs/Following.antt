@@ -61,31 +61,19 @@ pub new_sound : (config : BusConfig) (xs ys : List ℕ) (n : Numbers) → IsNewP
 new_sound config xs ys n new = subst SoundBus (adds_make_the_bus config ys new.none_refused) (always config (map bus.Add ys) new.settings)
 
 pub has_turn : (call : bus.Call) (n : Numbers) (b : BusState) (first : ℕ) → HasTurn n call (turn_of (option_map n.ordered (asked_in call b)) first) b
-has_turn (bus.Add address) n b first = tt
-has_turn (bus.Begin k now) n b first = tt
-has_turn (bus.Submit k command) n b first = tt
-has_turn (bus.Withdraw k) n b first = tt
-has_turn (bus.Retarget k address) n b first = tt
-has_turn (bus.OnBytes bytes now) n b first = tt
-has_turn (bus.OnSilence now) n b first = tt
 has_turn (bus.Tick now) n b first = λ k is. ap (λ o. turn_of (option_map n.ordered o) first) is
-has_turn bus.NextReport n b first = tt
+has_turn _ n b first = tt
 
 -- ---- what it tells, and what goes out
 
 told_same : (call : bus.Call) (n : Numbers) (are : AreNumbers n) (b : BusState) (es : Devices) (first : ℕ) (ms : List Remembered)
     → SoundBus (like b es (turn_of (option_map n.ordered (asked_in call b)) first) ms) → UnderDevices n b.devices es
     → told_in (renumbered n.ordered call) (like b es (turn_of (option_map n.ordered (asked_in call b)) first) ms) ≡ map (renumbers n.ordered) (told_in call b)
-told_same (bus.Add address) n are b es first ms sound u = refl
-told_same (bus.Begin k now) n are b es first ms sound u = refl
-told_same (bus.Submit k command) n are b es first ms sound u = refl
-told_same (bus.Withdraw k) n are b es first ms sound u = refl
-told_same (bus.Retarget k address) n are b es first ms sound u = refl
 told_same (bus.OnBytes bytes now) n are b es first ms sound u = (bytes_same n are ms first bytes now b es sound u).told
 told_same (bus.OnSilence now) n are b es first ms sound u = (end_same n are ms first (seen now b) es (sound_seen now (like b es first ms) sound) u).told
 told_same (bus.Tick now) n are b es first ms sound u =
     (tick_same n are ms (turn_of (option_map n.ordered (asked_at now b)) first) now b es sound u (has_turn (bus.Tick now) n b first)).told
-told_same bus.NextReport n are b es first ms sound u = refl
+told_same _ n are b es first ms sound u = refl
 
 -- a panel that loses power shows the same of an entry and of an idle one in its place
 restarts_same : (o q : Option Entry) (e : Entry) → q ≡ Some e → IsUnder o q → panel_restarts q ≡ own_restarts o
@@ -143,14 +131,7 @@ module _ {H : Type 0} where
   module _ (answer_of : H → Command → Answer) (after : H → Command → H) where
     no_add : (call : bus.Call) (f : ℕ → ℕ) → PanelInRange answer_of after (renumbered f call) → IsNoAdd call
     no_add (bus.Add address) f range = range
-    no_add (bus.Begin k now) f range = tt
-    no_add (bus.Submit k command) f range = tt
-    no_add (bus.Withdraw k) f range = tt
-    no_add (bus.Retarget k address) f range = tt
-    no_add (bus.OnBytes bytes now) f range = tt
-    no_add (bus.OnSilence now) f range = tt
-    no_add (bus.Tick now) f range = tt
-    no_add bus.NextReport f range = tt
+    no_add _ f range = tt
 
     next_bus : (i : ℕ) (ps : List ℕ) (o : Option (Station H)) (l : InUse H) → (after_next answer_of after i ps o l).bus ≡ l.bus
     next_bus i ps None l = refl
@@ -226,15 +207,9 @@ module _ {H : Type 0} where
         under = under_line a f
 
         leaves : (call : bus.Call) → LeavesAlone (OfPanel call) a → Leaves m call (like a.bus es (turn_of (option_map m.ordered (asked_in call a.bus)) a.line.bus.first) a.line.bus.remembered) a.bus
-        leaves (bus.Add address) leave = tt
-        leaves (bus.Begin k now) leave = tt
         leaves (bus.Submit k command) leave = λ accepted. sym (ap (submit_refusal_at (m.ordered k) command) (line_like a f a.line.bus.first)) ∙ leave accepted
-        leaves (bus.Withdraw k) leave = tt
         leaves (bus.Retarget k address) leave = λ accepted. sym (ap (retarget_refusal_at (m.ordered k) address) (line_like a f a.line.bus.first)) ∙ leave accepted
-        leaves (bus.OnBytes bytes now) leave = tt
-        leaves (bus.OnSilence now) leave = tt
-        leaves (bus.Tick now) leave = tt
-        leaves bus.NextReport leave = tt
+        leaves _ leave = tt
 
         as_it_is : has_entry (named call) a.bus ≡ true → IsPresent (named call) a.bus → StillFollows (record { call = OfPanel call; places = ps; ordered = ordered; numbers = n }) a
         as_it_is has there =

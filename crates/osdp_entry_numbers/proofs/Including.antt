@@ -1,6 +1,5 @@
 -- Calls that keep the premises of any calls keep these: the line beside the panel's own bus differs by the turn alone.
-use Rattle.std.proofs.Common.{◌≡◌, ◌≢◌, ◌⊎◌, ℕ, Bool, true, false, cond, is_some, arith, List, [], ◌∷◌, ◌++◌, append-nil, map, option_map, Option, Some, None, refl, sym, subst, ap, ◌∙◌, inl, inr}
-use Rattle.std.specs.Prelude.{All}
+use Rattle.std.proofs.Common.{◌≡◌, ◌≢◌, ◌⊎◌, ℕ, true, false, cond, is_some, List, [], ◌∷◌, ◌++◌, append-nil, map, option_map, Option, Some, None, refl, sym, subst, ap, ◌∙◌, inl, inr}
 use Rattle.std.specs.Option.{option_map_or}
 use Rattle.osdp_frame.specs.Packet.{Packet}
 use Rattle.osdp_msg.specs.declared.command.Command.{Command}
@@ -18,7 +17,7 @@ use Rattle.osdp_shared_line.specs.Line.{changed, site_at}
 use Rattle.osdp_calls.specs.Calls.{Call, NewDevice, NewPanel, Next, OfPanel, Pending, SetBusy, SetHandler, Silence, Step, SubmitEvent, Take, TickDevice, WithdrawEvent, after_call, after_next, after_panel, all_hear, asked_at, begins_with, begun_of, change_at, changes_at, is_to_begin, issues, last_of, noted, panel_says, read_by, said_at, said_for, takes_back, withdrawn}
 use Rattle.osdp_calls.specs.Ends.{CanStand}
 use Rattle.osdp_calls.specs.Lines.{Burst, InUse, Station}
-use Rattle.osdp_calls.specs.Premises.{AllKeep, AreInOrder, IsAsked, IsFreeFor, IsNoOthers, IsOfOthers, IsSaid, IsSetUp, IsThere, Keeps, MayBeAt, PanelIsApart, PanelInRange}
+use Rattle.osdp_calls.specs.Premises.{AllKeep, AreInOrder, IsAsked, IsFreeFor, IsNoOthers, IsOfOthers, IsSaid, IsThere, Keeps, MayBeAt, PanelInRange}
 use Rattle.osdp_calls.proofs.Ends.{said_bus}
 use Rattle.osdp_calls.proofs.Matching.{changed_same}
 use Rattle.osdp_entry_numbers.specs.Including.{AnyCallsKeep, as_they_stand, same_step}
@@ -40,25 +39,14 @@ order_so P Q f said (p ∷ ps) (i ∷ places) before (inr others) = inr (f p oth
 
 same_call : (call : bus.Call) → renumbered as_they_stand.ordered call ≡ call
 same_call (bus.Add address) = refl
-same_call (bus.Begin k now) = refl
-same_call (bus.Submit k command) = refl
-same_call (bus.Withdraw k) = refl
-same_call (bus.Retarget k address) = refl
-same_call (bus.OnBytes bytes now) = refl
-same_call (bus.OnSilence now) = refl
-same_call (bus.Tick now) = refl
-same_call bus.NextReport = refl
+same_call _ = refl
 
 reads_none : (call : bus.Call) (k : ℕ) (b : BusState) → named call ≡ Some k → read_by call b ≡ []
 reads_none (bus.Begin i now) k b is = refl
 reads_none (bus.Submit i command) k b is = refl
 reads_none (bus.Withdraw i) k b is = refl
 reads_none (bus.Retarget i address) k b is = refl
-reads_none (bus.Add address) k b is = absurd (let e = is in cc)
-reads_none (bus.OnBytes bytes now) k b is = absurd (let e = is in cc)
-reads_none (bus.OnSilence now) k b is = absurd (let e = is in cc)
-reads_none (bus.Tick now) k b is = absurd (let e = is in cc)
-reads_none bus.NextReport k b is = absurd (let e = is in cc)
+reads_none _ k b is = absurd (let e = is in cc)
 
 same_panel : (config : BusConfig) (xs : List ℕ) → CanStand {H = ℕ} (NewPanel config xs) → IsNewPanel config xs xs as_they_stand
 same_panel config xs stands = record { settings = stands.0; none_refused = stands.1; numbers = same_numbers; sorted = λ i a at. at }
@@ -96,15 +84,8 @@ module _ {H : Type 0} where
       by_begun (Some moment) = refl
 
   said_first : (call : bus.Call) (first : ℕ) (b : BusState) (m : InUse H) → said_at call b (on_turn first m) ≡ on_turn first (said_at call b m)
-  said_first (bus.Add address) first b m = refl
-  said_first (bus.Begin k now) first b m = refl
-  said_first (bus.Submit k command) first b m = refl
-  said_first (bus.Withdraw k) first b m = refl
-  said_first (bus.Retarget k address) first b m = refl
-  said_first (bus.OnBytes bytes now) first b m = refl
-  said_first (bus.OnSilence now) first b m = refl
   said_first (bus.Tick now) first b m = says_first first (asked_at now b) (Rattle.osdp_bus.specs.Ticking.bus_ticks now b).sent m
-  said_first bus.NextReport first b m = refl
+  said_first _ first b m = refl
 
   next_first : (answer_of : H → Command → Answer) (after : H → Command → H) (i : ℕ) (ps : List ℕ) (o : Option (Station H)) (first : ℕ) (l : InUse H)
       → after_next answer_of after i ps o (on_turn first l) ≡ on_turn first (after_next answer_of after i ps o l)
@@ -125,32 +106,21 @@ module _ {H : Type 0} where
 
     notes_same : (call : bus.Call) → IsNoAdd call → noted call (turned_to (turn_at call) l.bus) l.stations ≡ noted call l.bus l.stations
     notes_same (bus.Add address) added = absurd added
-    notes_same (bus.Begin k moment) added = refl
     notes_same (bus.Submit k command) added =
         ap (λ f. changed_unless f l.stations (change_at k (issues command) l.stations)) (submit_first k command (turn_at (bus.Submit k command)) l.bus)
-    notes_same (bus.Withdraw k) added = refl
-    notes_same (bus.Retarget k address) added = refl
     notes_same (bus.OnBytes bytes moment) added =
         ap (λ told. all_hear told l.stations) (call_to (bus.OnBytes bytes moment) first l.bus (sound first) tt tt).told
-    notes_same (bus.OnSilence moment) added = refl
     notes_same (bus.Tick moment) added =
         ap (λ told. all_hear told l.stations)
         (call_to (bus.Tick moment) (turn_at (bus.Tick moment)) l.bus (sound (turn_at (bus.Tick moment))) tt (has_turn (bus.Tick moment) as_they_stand l.bus first)).told
-    notes_same bus.NextReport added = refl
+    notes_same _ added = refl
 
     says_same : (call : bus.Call) (m : InUse H) → said_at call (turned_to (turn_at call) l.bus) m ≡ said_at call l.bus m
-    says_same (bus.Add address) m = refl
-    says_same (bus.Begin k moment) m = refl
-    says_same (bus.Submit k command) m = refl
-    says_same (bus.Withdraw k) m = refl
-    says_same (bus.Retarget k address) m = refl
-    says_same (bus.OnBytes bytes moment) m = refl
-    says_same (bus.OnSilence moment) m = refl
     says_same (bus.Tick moment) m =
         let turn = has_turn (bus.Tick moment) as_they_stand l.bus first in
         let f = turn_at (bus.Tick moment) in
         (λ i. panel_says (asked_to moment f l.bus (sound f) turn i) (sent_to moment f l.bus (sound f) turn i) m)
-    says_same bus.NextReport m = refl
+    says_same _ m = refl
 
     pub record PanelTo (call : bus.Call) (ps : List ℕ) : Type 0 where
       pub next : ℕ
@@ -213,34 +183,17 @@ module _ {H : Type 0} where
         bus = changed_unless (retarget_refusal_of i address (here j) l.bus) l.bus (after_retarget_at i address l.bus);
         place = last_of ps l.place;
       })
-  absent_same (bus.Add address) k ps l is none = absurd (let e = is in cc)
-  absent_same (bus.OnBytes bytes now) k ps l is none = absurd (let e = is in cc)
-  absent_same (bus.OnSilence now) k ps l is none = absurd (let e = is in cc)
-  absent_same (bus.Tick now) k ps l is none = absurd (let e = is in cc)
-  absent_same bus.NextReport k ps l is none = absurd (let e = is in cc)
+  absent_same _ k ps l is none = absurd (let e = is in cc)
 
   leaves_same : (call : bus.Call) (first : ℕ) (l : InUse H) → LeavesAlone (OfPanel call) (beside first l)
-  leaves_same (bus.Add address) first l = tt
-  leaves_same (bus.Begin k now) first l = tt
   leaves_same (bus.Submit k command) first l = λ accepted. submit_first k command first l.bus ∙ accepted
-  leaves_same (bus.Withdraw k) first l = tt
   leaves_same (bus.Retarget k address) first l = λ accepted. retarget_first k address first l.bus ∙ accepted
-  leaves_same (bus.OnBytes bytes now) first l = tt
-  leaves_same (bus.OnSilence now) first l = tt
-  leaves_same (bus.Tick now) first l = tt
-  leaves_same bus.NextReport first l = tt
+  leaves_same _ first l = tt
 
   module _ (answer_of : H → Command → Answer) (after : H → Command → H) where
     no_add : (call : bus.Call) → PanelInRange answer_of after call → IsNoAdd call
     no_add (bus.Add address) range = range
-    no_add (bus.Begin k now) range = tt
-    no_add (bus.Submit k command) range = tt
-    no_add (bus.Withdraw k) range = tt
-    no_add (bus.Retarget k address) range = tt
-    no_add (bus.OnBytes bytes now) range = tt
-    no_add (bus.OnSilence now) range = tt
-    no_add (bus.Tick now) range = tt
-    no_add bus.NextReport range = tt
+    no_add _ range = tt
 
     -- the premises of a call of the panel, with another turn
     panel_keeps : (call : bus.Call) (ps : List ℕ) (first : ℕ) (l : InUse H) → read_by call (turned_to first l.bus) ≡ read_by call l.bus

@@ -371,8 +371,4 @@ module _ (n : Numbers) (are : AreNumbers n) where
           same = moment_stays ∙ (λ j. like (changed_unless (retarget_refusal_of i address (sym nobody j) b) b (after_retarget_at i address b)) es first ms);
           shown = λ x g. refl;
         }
-    panel_none (bus.Add address) k is none = absurd (let e = is in cc)
-    panel_none (bus.OnBytes bytes now) k is none = absurd (let e = is in cc)
-    panel_none (bus.OnSilence now) k is none = absurd (let e = is in cc)
-    panel_none (bus.Tick now) k is none = absurd (let e = is in cc)
-    panel_none bus.NextReport k is none = absurd (let e = is in cc)
+    panel_none _ k is none = absurd (let e = is in cc)

@@ -88,10 +88,7 @@ panel_none k (bus.Tick now) b g =
     (opening_open NoLapse tt k (asked_at now b) (bus_ticks now b).sent (device_of k (heard (bus.Tick now) now b)))
 panel_none k (bus.OnBytes bytes now) b g = done_none (reported k (told_in (bus.OnBytes bytes now) b) g) (reported_done k (told_in (bus.OnBytes bytes now) b) g)
 panel_none k (bus.OnSilence now) b g = done_none (reported k (told_in (bus.OnSilence now) b) g) (reported_done k (told_in (bus.OnSilence now) b) g)
-panel_none k (bus.Add address) b g = tt
-panel_none k (bus.Begin i now) b g = tt
-panel_none k (bus.Retarget i address) b g = tt
-panel_none k bus.NextReport b g = tt
+panel_none k _ b g = tt
 
 module _ {H : Type 0} (answer_of : H → Command → Answer) (after : H → Command → H) (k : ℕ) where
   -- ---- of a device
