@@ -7,7 +7,7 @@ use Rattle.osdp_msg.specs.declared.command.Command.{Command}
 use Rattle.osdp_bus.specs.declared.config.BusConfig.{BusConfig}
 use Rattle.osdp_reader.specs.declared.handler.Answer.{Answer}
 use Rattle.osdp_shared_line.specs.Line.{site_at}
-use Rattle.osdp_calls.specs.Calls.{Call, NewDevice, NewPanel, Next, OfPanel, Pending, SetBusy, SetHandler, Silence, SubmitEvent, Take, TickDevice, WithdrawEvent, after_call}
+use Rattle.osdp_calls.specs.Calls.{Call, NewPanel, OfPanel, after_call}
 use Rattle.osdp_calls.specs.Lines.{InUse}
 use Rattle.osdp_premises.specs.Deciding.{if_there}
 use Rattle.osdp_premises.proofs.Deciding.{always, each_decides, if_decides, leb_decides}
@@ -37,16 +37,7 @@ module _ {H : Type 0} where
       (λ now. (t.start + now ≡ t.at) × (now + l.bus.config.quiet_wait < 2 ^ 64)) (λ now. moment_decides t l now) (moment_of call))
   clock_decides w (NewPanel config addresses) t c l =
       Decides-and (nat_le t.start t.at) (waits_twice w config) (leb_decides t.start t.at) (twice_decides w config)
-  clock_decides w (SubmitEvent k event) t c l = Decides-eqb t.start c.start
-  clock_decides w (SetBusy k busy) t c l = Decides-eqb t.start c.start
-  clock_decides w (SetHandler k handler) t c l = Decides-eqb t.start c.start
-  clock_decides w (WithdrawEvent k) t c l = Decides-eqb t.start c.start
-  clock_decides w (Take k bytes now) t c l = Decides-eqb t.start c.start
-  clock_decides w (TickDevice k now) t c l = Decides-eqb t.start c.start
-  clock_decides w (Silence k now) t c l = Decides-eqb t.start c.start
-  clock_decides w (Next k) t c l = Decides-eqb t.start c.start
-  clock_decides w (Pending k) t c l = Decides-eqb t.start c.start
-  clock_decides w (NewDevice k config handler room gap) t c l = Decides-eqb t.start c.start
+  clock_decides w _ t c l = Decides-eqb t.start c.start
 
   pub timely_exact : TimelyIsExact H
   timely_exact w t c l =
