@@ -62,16 +62,12 @@ panel_end : (H : Type 0) (call : PanelCall) (m : PanelMachine) → Each (IsOfPan
 panel_end H (c.Begin entry now) m = one_accepted H (accepts now m.clock) (bus_calls (bus.Begin entry now) (panel.panel_of m))
 panel_end H (c.Submit entry code body) m = one_submitted H entry (if_read (command_of code body)) m
 panel_end H (c.SubmitText entry read) m = one_submitted H entry read m
-panel_end H (c.Withdraw entry) m = (tt, tt)
-panel_end H (c.Retarget entry address) m = (tt, tt)
 panel_end H (c.Bytes bytes now) m = one_accepted H (accepts now m.clock) (bus.OnBytes bytes now ∷ [])
 panel_end H (c.PanelSilence now) m = one_accepted H (accepts now m.clock) (bus.OnSilence now ∷ [])
 panel_end H (c.PanelTick now) m = one_accepted H (accepts now m.clock) (bus_calls (bus.Tick now) (panel.panel_of m))
-panel_end H c.NextReport m = (tt, tt)
-panel_end H (c.SetPanelMoment now) m = (tt, tt)
 panel_end H (c.LooksAt entry) m = tt
 panel_end H c.Looks m = tt
-panel_end H (c.PanelAnew between config limit addresses) m = (tt, tt)
+panel_end H _ m = (tt, tt)
 
 -- a call at a moment
 at_moment : (H : Type 0) (ok : Bool) (calls : List bus.Call) (after : BusState) (m : PanelMachine) → after ≡ bus.after_calls calls m.bus
@@ -110,7 +106,6 @@ panel_is H (c.Begin entry now) m =
 panel_is H (c.Submit entry code body) m = reads_so H entry (command_of code body) m
 panel_is H (c.SubmitText entry read) m = submits_so H entry read m
 panel_is H (c.Withdraw entry) m = calls_of_the_bus (panel.panel_of m) (bus.Withdraw entry)
-panel_is H (c.Retarget entry address) m = refl
 panel_is H (c.Bytes bytes now) m =
     moment_bus (accepts now m.clock) now (panel.beside (panel.hears bytes now)) m
     ∙ at_moment H (accepts now m.clock) (bus.OnBytes bytes now ∷ []) (panel.hears bytes now m.bus).machine m refl
@@ -121,11 +116,7 @@ panel_is H (c.PanelTick now) m =
     let x = panel.panel_of m in
     moment_bus (accepts now m.clock) now (panel.ticks now) m
     ∙ at_moment H (accepts now m.clock) (bus_calls (bus.Tick now) x) (panel.ticks now x).machine.bus m (calls_of_the_bus x (bus.Tick now))
-panel_is H c.NextReport m = refl
-panel_is H (c.SetPanelMoment now) m = refl
-panel_is H (c.LooksAt entry) m = refl
-panel_is H c.Looks m = refl
-panel_is H (c.PanelAnew between config limit addresses) m = refl
+panel_is H _ m = refl
 
 pub panels_are : {H : Type 0} → ArePanelCalls (c_panel {H = H})
 panels_are {H} = record {
@@ -283,8 +274,6 @@ seen_so false now call calls m is = refl
 device_is : (k : ℕ) (call : DeviceCall) (m : ReaderMachine)
     → held_in (device_call call m).machine ≡ after_these (device_calls k call m) (held_in m)
 device_is k (c.SetStates which states) m = states_so k which (reader.states_of states) m
-device_is k (c.SetLocal tamper power) m = refl
-device_is k (c.SetBusyTo busy) m = refl
 device_is k (c.Happens read) m = read_so k read m
 device_is k (c.HappensText read) m = text_so k read m
 device_is k (c.TakesBytes bytes now) m =
@@ -296,16 +285,13 @@ device_is k (c.DeviceTick now) m =
 device_is k (c.DeviceSilence now) m =
     seen_so (accepts now m.clock) now (reader.falls_silent now) (Silence k now ∷ settle_calls k m (after_silence now m.device.line)) m
     (settle_so k (record m { clock = sees now m.clock }) (after_silence now m.device.line))
-device_is k (c.SetDeviceMoment now) m = refl
-device_is k c.LooksAhead m = refl
 device_is k c.AnswerDone m = answer_so k (Some answer.Done) m
 device_is k (c.AnswerLocal tamper power) m = answer_so k (Some (answer.Local tamper power)) m
 device_is k (c.AnswerList states) m = answer_so k (reader.list_answer states) m
 device_is k (c.AnswerRefused reason) m =
     answer_so k (Some (answer.Refuse (reason_of reason))) m
 device_is k (c.AnswerMaker vendor bytes) m = answer_so k (reader.maker_answer vendor bytes) m
-device_is k c.LooksIn m = refl
-device_is k (c.DeviceMade room settings caps) m = refl
+device_is k _ m = refl
 
 -- whose calls these are
 one_own : (k : ℕ) (ok : Bool) (call : Call ProgramAnswers) → IsOfDevice k call → Each (IsOfDevice k) (cond ok (call ∷ []) [])
@@ -341,8 +327,6 @@ turn_own k m l = settle_own k m.device.reader.handler.question (pending_of m.dev
 
 device_end : (k : ℕ) (call : DeviceCall) (m : ReaderMachine) → Each (IsOfDevice k) (device_calls k call m)
 device_end k (c.SetStates which states) m = states_own k which (reader.states_of states) m
-device_end k (c.SetLocal tamper power) m = (own_device k, tt)
-device_end k (c.SetBusyTo busy) m = (own_device k, tt)
 device_end k (c.Happens read) m = event_own k (event_read read)
 device_end k (c.HappensText read) m = event_own k read
 device_end k (c.TakesBytes bytes now) m =
@@ -351,8 +335,6 @@ device_end k (c.DeviceTick now) m =
     seen_own k (accepts now m.clock) (TickDevice k now ∷ settle_calls k m (after_tick now m.device.line)) (own_device k, turn_own k m (after_tick now m.device.line))
 device_end k (c.DeviceSilence now) m =
     seen_own k (accepts now m.clock) (Silence k now ∷ settle_calls k m (after_silence now m.device.line)) (own_device k, turn_own k m (after_silence now m.device.line))
-device_end k (c.SetDeviceMoment now) m = (own_device k, tt)
-device_end k c.LooksAhead m = (own_device k, tt)
 device_end k c.AnswerDone m = answer_own k (Some answer.Done) m
 device_end k (c.AnswerLocal tamper power) m = answer_own k (Some (answer.Local tamper power)) m
 device_end k (c.AnswerList states) m = answer_own k (reader.list_answer states) m
@@ -360,7 +342,7 @@ device_end k (c.AnswerRefused reason) m =
     answer_own k (Some (answer.Refuse (reason_of reason))) m
 device_end k (c.AnswerMaker vendor bytes) m = answer_own k (reader.maker_answer vendor bytes) m
 device_end k c.LooksIn m = tt
-device_end k (c.DeviceMade room settings caps) m = (own_device k, tt)
+device_end k _ m = (own_device k, tt)
 
 pub devices_are : AreDeviceCalls program_answer program_after c_device
 devices_are = record {

@@ -413,17 +413,12 @@ call_is k (line.Bytes list) s fits is =
 call_is k line.Silence s fits is = sym (reading_is status_answer status_after k s.reader (after_silence s.now s.line))
 call_is k line.Tick s fits is = sym (reading_is status_answer status_after k s.reader (after_tick s.now s.line))
 call_is k (line.Event event) s fits is = sym (event_is (has_room event s.reader.queue) event (with_line s))
-call_is k (line.Busy busy) s fits is = refl
-call_is k (line.Inputs list) s fits is = refl
-call_is k (line.Outputs list) s fits is = refl
-call_is k (line.Readers list) s fits is = refl
-call_is k (line.Local tamper power) s fits is = refl
+call_is k _ s fits is = refl
 
 abbrev IsSound : device.Session → Type 0
 IsSound s = IsAllRead s.line × IsReceived s.line
 
 call_sound : (call : ReaderCall) (s : device.Session) → CallFits call → IsSound s → IsSound (device.does call s).session
-call_sound (line.At later) s fits is = is
 call_sound (line.Bytes list) s fits is = (
   all_read_after status_answer status_after list.items s.now s.reader s.line is.1 is.0 (λ place. omega (arith, fits.1 place)),
   (hands status_answer status_after (suc (turns_left list.items s.now s.line)) 0 list.items s.now s.reader s.line (omega arith) is.1 is.0
@@ -435,24 +430,14 @@ call_sound line.Silence s fits is =
 call_sound line.Tick s fits is =
     let quiet = received_tick s.now s.line is.1 in
     (all_read status_answer status_after s.reader (after_tick s.now s.line) quiet, received_read status_answer status_after s.reader (after_tick s.now s.line) quiet)
-call_sound (line.Event event) s fits is = is
-call_sound (line.Busy busy) s fits is = is
-call_sound (line.Inputs list) s fits is = is
-call_sound (line.Outputs list) s fits is = is
-call_sound (line.Readers list) s fits is = is
-call_sound (line.Local tamper power) s fits is = is
+call_sound _ s fits is = is
 
 line_own : (k : ℕ) (call : ReaderCall) (s : device.Session) → Each (IsOfDevice k) (calls_of_line k call s)
 line_own k (line.At later) s = leaving_own k (leaving_by (line.At later) s)
 line_own k (line.Bytes list) s = handing_own status_answer status_after (suc (turns_left list.items s.now s.line)) k list.items s.now s.reader s.line
 line_own k line.Silence s = (own_device k, nexts_own DeviceStatus k (length (said_to_all status_answer status_after (items_of (after_silence s.now s.line).held) s.reader)))
 line_own k line.Tick s = (own_device k, nexts_own DeviceStatus k (length (said_to_all status_answer status_after (items_of (after_tick s.now s.line).held) s.reader)))
-line_own k (line.Event event) s = (own_device k, tt)
-line_own k (line.Busy busy) s = (own_device k, tt)
-line_own k (line.Inputs list) s = (own_device k, tt)
-line_own k (line.Outputs list) s = (own_device k, tt)
-line_own k (line.Readers list) s = (own_device k, tt)
-line_own k (line.Local tamper power) s = (own_device k, tt)
+line_own k _ s = (own_device k, tt)
 
 device_own : (k : ℕ) (own : DeviceLine) (s : device.Session) → Each (IsOfDevice k) (device_line_calls k own s)
 device_own k (SaysToDevice None) s = tt

@@ -109,30 +109,12 @@ module _ {H : Type 0} where
   no_device : (k : ℕ) (call : Call H) → IsOfPanel call → is_of_device k call ≡ false
   no_device k (OfPanel call) is = refl
   no_device k (NewPanel config addresses) is = refl
-  no_device k (SubmitEvent i event) is = absurd is
-  no_device k (SetBusy i busy) is = absurd is
-  no_device k (SetHandler i handler) is = absurd is
-  no_device k (WithdrawEvent i) is = absurd is
-  no_device k (Take i bytes now) is = absurd is
-  no_device k (TickDevice i now) is = absurd is
-  no_device k (Silence i now) is = absurd is
-  no_device k (Next i) is = absurd is
-  no_device k (Pending i) is = absurd is
-  no_device k (NewDevice i config handler room gap) is = absurd is
+  no_device k _ is = absurd is
 
   no_panel : (k : ℕ) (call : Call H) (b : BusState) → IsOfDevice k call → bus_after call b ≡ b
   no_panel k (OfPanel call) b is = absurd (let e = is in cc)
   no_panel k (NewPanel config addresses) b is = absurd (let e = is in cc)
-  no_panel k (SubmitEvent i event) b is = refl
-  no_panel k (SetBusy i busy) b is = refl
-  no_panel k (SetHandler i handler) b is = refl
-  no_panel k (WithdrawEvent i) b is = refl
-  no_panel k (Take i bytes now) b is = refl
-  no_panel k (TickDevice i now) b is = refl
-  no_panel k (Silence i now) b is = refl
-  no_panel k (Next i) b is = refl
-  no_panel k (Pending i) b is = refl
-  no_panel k (NewDevice i config handler room gap) b is = refl
+  no_panel k _ b is = refl
 
   no_panels : (k : ℕ) (calls : List (Call H)) (b : BusState) → Each (IsOfDevice k) calls → bus_after_each calls b ≡ b
   no_panels k [] b are = refl

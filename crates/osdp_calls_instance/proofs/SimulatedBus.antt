@@ -7,7 +7,7 @@ use Rattle.osdp_msg.specs.declared.event.Event.{Event}
 use Rattle.osdp_controller.specs.Machine.{refused_unless_closed}
 use Rattle.osdp_controller.specs.States.{is_closed}
 use Rattle.osdp_controller.specs.declared.state.State.{State}
-use Rattle.osdp_controller.specs.declared.state.State.TheVariants.{Closed, Idle, Pausing, Quiet, Waiting}
+use Rattle.osdp_controller.specs.declared.state.State.TheVariants.{Closed}
 use Rattle.osdp_controller.specs.declared.report.Report.{Report}
 use Rattle.osdp_frame.specs.Bytes.{AreBytes}
 use Rattle.osdp_frame.specs.Items.{packets_in, whole_packets}
@@ -252,10 +252,7 @@ module _ {H : Type 0} (answer_of : H → Command → Answer) (after : H → Comm
 
   closed_fine : (state : State) → is_closed state ≡ true → option_map bus_fault (refused_unless_closed state) ≡ None
   closed_fine Closed is = refl
-  closed_fine (Quiet until) is = absurd (let e = is in cc)
-  closed_fine (Idle due) is = absurd (let e = is in cc)
-  closed_fine (Waiting until sends outstanding) is = absurd (let e = is in cc)
-  closed_fine (Pausing until outstanding) is = absurd (let e = is in cc)
+  closed_fine _ is = absurd (let e = is in cc)
 
   begin_fine : (o : Option Entry) → option_map_or (λ (d : Entry). is_closed d.controller.session.state) o false ≡ true → begin_refusal_of o ≡ None
   begin_fine None is = absurd (let e = is in cc)

@@ -164,11 +164,7 @@ module _ {H : Type 0} where
     stations = all_hear_keeps (told_in (bus.OnSilence now) l.bus) l.stations;
   }
   one_heard i bus.NextReport l quiet = record { said = refl; openings = refl; place = inl refl; stations = keep_same l.stations }
-  one_heard i (bus.Add address) l quiet = absurd quiet
-  one_heard i (bus.Begin k now) l quiet = absurd quiet
-  one_heard i (bus.Withdraw k) l quiet = absurd quiet
-  one_heard i (bus.Retarget k address) l quiet = absurd quiet
-  one_heard i (bus.Tick now) l quiet = absurd quiet
+  one_heard i _ l quiet = absurd quiet
 
   source_stays : (packets : List Packet) (i : ℕ) (l next : InUse H) → next.said ≡ l.said → next.openings ≡ l.openings → Source packets i l
       → Source packets i next
@@ -196,11 +192,7 @@ module _ {H : Type 0} where
     bus_after i (bus.OnBytes bytes now) l quiet = refl
     bus_after i (bus.OnSilence now) l quiet = refl
     bus_after i bus.NextReport l quiet = refl
-    bus_after i (bus.Add address) l quiet = absurd quiet
-    bus_after i (bus.Begin k now) l quiet = absurd quiet
-    bus_after i (bus.Withdraw k) l quiet = absurd quiet
-    bus_after i (bus.Retarget k address) l quiet = absurd quiet
-    bus_after i (bus.Tick now) l quiet = absurd quiet
+    bus_after i _ l quiet = absurd quiet
 
     panel_chunk : (packets : List Packet) (i : ℕ) (calls : List bus.Call) (l : InUse H) → Read packets calls l.bus → Source packets i l
         → Since packets l.place i → PanelChunk i calls l

@@ -23,7 +23,7 @@ use Rattle.osdp_sim.specs.declared.step.SimStep.TheVariants.{Busy, Issue, Queue,
 use Rattle.osdp_sim_bus.specs.Runs.{FitAlong, is_well}
 use Rattle.osdp_sim_bus.specs.State.{Given, LineState, ReaderSite, set_up}
 use Rattle.osdp_sim_bus.specs.Steps.{StepFits, after_step, fault_of, is_there}
-use Rattle.osdp_calls.specs.Calls.{Call, NewDevice, NewPanel, Next, OfPanel, Pending, SetBusy, SetHandler, Silence, Step, SubmitEvent, Take, TickDevice, after_call, after_calls, read_up_to, WithdrawEvent}
+use Rattle.osdp_calls.specs.Calls.{Call, NewDevice, NewPanel, Next, OfPanel, Step, after_call, after_calls, read_up_to}
 use Rattle.osdp_calls.specs.Ends.{GoByTheirOwn, Held, device_after, held_by}
 use Rattle.osdp_calls.specs.Lines.{InUse, Station}
 use Rattle.osdp_calls.specs.Premises.{InRange, NextInRange}
@@ -79,17 +79,10 @@ module _ {H : Type 0} (answer_of : H → Command → Answer) (after : H → Comm
   device_range k (OfPanel call) t d l own at is fits = absurd fits
   device_range k (NewDevice i config handler room gap) t d l own at is fits = absurd fits
   device_range k (NewPanel config addresses) t d l own at is fits = absurd fits
-  device_range k (SubmitEvent i event) t d l own at is fits = tt
-  device_range k (SetBusy i busy) t d l own at is fits = tt
-  device_range k (SetHandler i handler) t d l own at is fits = tt
-  device_range k (WithdrawEvent i) t d l own at is fits = tt
-  device_range k (Take i bytes now) t d l own at is fits = tt
-  device_range k (TickDevice i now) t d l own at is fits = tt
-  device_range k (Silence i now) t d l own at is fits = tt
-  device_range k (Pending i) t d l own at is fits = tt
   device_range k (Next i) t d l own at is fits =
       let there : site_at i l.stations ≡ Some t = ap (λ j. site_at j l.stations) (same_number i k own) ∙ at in
       subst (NextInRange answer_of after) (sym there) (next_range t d is fits)
+  device_range k _ t d l own at is fits = tt
 
   module _ (own : (l : InUse H) → GoByTheirOwn answer_of after l) where
     devices_range : (k : ℕ) (calls : List (Call H)) (steps : List (Step H)) (t : Station H) (d : Held H) (l : InUse H)

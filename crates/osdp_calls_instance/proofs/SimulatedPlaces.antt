@@ -14,7 +14,7 @@ use Rattle.osdp_reader.specs.declared.handler.Answer.{Answer}
 use Rattle.osdp_reader.specs.Queue.{lacks_room}
 use Rattle.osdp_shared_line.specs.Line.{site_at}
 use Rattle.osdp_shared_line.proofs.Sites.{at_changed, at_other, some_same}
-use Rattle.osdp_calls.specs.Calls.{Call, NewDevice, NewPanel, Next, OfPanel, Pending, SetBusy, SetHandler, Silence, Step, SubmitEvent, Take, TickDevice, after_call, after_calls, after_next, answers, by_device, changes_at, first_answered, last_of, nexts, on_station, queues, read_by, read_up_to, WithdrawEvent}
+use Rattle.osdp_calls.specs.Calls.{Call, Next, OfPanel, Pending, SetBusy, SetHandler, Silence, Step, SubmitEvent, Take, TickDevice, after_call, after_calls, after_next, answers, by_device, changes_at, first_answered, last_of, nexts, on_station, queues, read_by, read_up_to, WithdrawEvent}
 use Rattle.osdp_calls.specs.Ends.{GoByTheirOwn, Held, device_after, held_by}
 use Rattle.osdp_calls.specs.Lines.{Burst, InUse, Opening, Station, is_before, is_past_for_device, is_past_for_panel}
 use Rattle.osdp_calls.specs.Premises.{AreInOrder, AreNotPast, InOrder, IsOfOthers, NextInOrder, QuietOpening}
@@ -249,9 +249,6 @@ module _ {H : Type 0} where
     one_spoke : (k i : ℕ) (call : Call H) (l : InUse H) (t : Station H) (Good : ReaderState H → Packet → Type 0) → IsOfDevice k call
         → CallGood answer_of after Good call (held_by t) → site_at k l.stations ≡ Some t
         → SpokeBy k i (replies_by answer_of after call (held_by t)) l (after_placed i call l)
-    one_spoke k i (OfPanel call) l t Good own good at = absurd good
-    one_spoke k i (NewDevice j config handler room gap) l t Good own good at = absurd good
-    one_spoke k i (NewPanel config addresses) l t Good own good at = absurd good
     one_spoke k i (SubmitEvent j event) l t Good own good at =
         let full = lacks_room event t.reader.queue in
         subst (λ (m : ℕ). SpokeBy k i [] l (on_station m (λ (x : Station H). queues (lacks_room event x.reader.queue) event x) l)) (sym (same_number j k own))
@@ -273,16 +270,11 @@ module _ {H : Type 0} where
     one_spoke k i (Next j) l t Good own good at =
         subst (λ (m : ℕ). SpokeBy k i (replies_by answer_of after (Next k) (held_by t)) l (after_next answer_of after m (at_place i (next_reads (site_at m l.stations))) (site_at m l.stations) l))
         (sym (same_number j k own)) (next_spoke k i l (site_at k l.stations) t at at)
-
-    none_past : (is_past : ℕ → Burst → Bool) (l : InUse H) → AreNotPast is_past l.said []
-    none_past is_past l = each_all (λ j. (b : Burst) → site_at j l.said ≡ Some b → is_past j b ≡ false) [] tt
+    one_spoke k i _ l t Good own good at = absurd good
 
     one_ordered : (packets : List Packet) (k i : ℕ) (call : Call H) (l : InUse H) (t : Station H) → IsOfDevice k call
         → CallGood answer_of after (λ r q. IsOneOf packets q) call (held_by t) → site_at k l.stations ≡ Some t → Source packets i l
         → Since packets t.place i → IsOrdered (placed i call l) l
-    one_ordered packets k i (OfPanel call) l t own good at source since = absurd good
-    one_ordered packets k i (NewDevice j config handler room gap) l t own good at source since = absurd good
-    one_ordered packets k i (NewPanel config addresses) l t own good at source since = absurd good
     one_ordered packets k i (SubmitEvent j event) l t own good at source since = nothing_read (SubmitEvent j event) l (tt, tt)
     one_ordered packets k i (SetBusy j busy) l t own good at source since = nothing_read (SetBusy j busy) l (tt, tt)
     one_ordered packets k i (WithdrawEvent j) l t own good at source since = nothing_read (WithdrawEvent j) l (tt, tt)
@@ -296,6 +288,7 @@ module _ {H : Type 0} where
         let both = next_ordered packets i j l (site_at j l.stations) t there
         (reads_good answer_of after (λ r q. IsOneOf packets q) (items_of t.line.held) t.reader good) source since in
         record { in_order = both.0; quiet_opening = both.1 }
+    one_ordered packets k i _ l t own good at source since = absurd good
 
     pub source_next : (packets : List Packet) (i : ℕ) (l next : InUse H) (more : List Burst) → next.said ≡ l.said ++ more → next.openings ≡ l.openings
         → Source packets i l → Source packets i next

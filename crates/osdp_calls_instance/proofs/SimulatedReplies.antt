@@ -100,12 +100,7 @@ module _ {H : Type 0} (answer_of : H → Command → Answer) (after : H → Comm
       by_kind : (k : Kind) → parts_replied parts r ≡ reply_to answer_of after (first_answered r (read_up_to r parts)) r ++ left_replied (told_by answer_of after parts r next)
           → Goal k
       by_kind kind.Silent rest = rest
-      by_kind kind.Secured rest = answered (option_to_list (outcome answer_of after kind.Secured r p).reply) (outcome answer_of after kind.Secured r p).reader
-      by_kind kind.Zero rest = answered (option_to_list (outcome answer_of after kind.Zero r p).reply) (outcome answer_of after kind.Zero r p).reader
-      by_kind kind.Repeat rest = answered (option_to_list (outcome answer_of after kind.Repeat r p).reply) (outcome answer_of after kind.Repeat r p).reader
-      by_kind kind.Taken rest = answered (option_to_list (outcome answer_of after kind.Taken r p).reply) (outcome answer_of after kind.Taken r p).reader
-      by_kind kind.Busy rest = answered (option_to_list (outcome answer_of after kind.Busy r p).reply) (outcome answer_of after kind.Busy r p).reader
-      by_kind kind.Wrong rest = answered (option_to_list (outcome answer_of after kind.Wrong r p).reply) (outcome answer_of after kind.Wrong r p).reader
+      by_kind k rest = answered (option_to_list (outcome answer_of after k r p).reply) (outcome answer_of after k r p).reader
 
   says_last : (k : ℕ) (r : ReaderState H) (l : Received) → (next_told answer_of after r l.held).said ≡ None
       → replies_each (nexts k 0) (holding r l) ≡ parts_replied (items_of l.held) r

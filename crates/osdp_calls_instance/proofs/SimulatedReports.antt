@@ -31,13 +31,11 @@ use Rattle.osdp_calls_instance.specs.SimulatedReports.{Told, told_to}
 -- ---- what reports add
 
 abbrev pub with_one : Report → Told → Told
-with_one (report.Opened id) y = y
 with_one (report.Settled command answer) y = record y { settled = y.settled ++ (command, answer) ∷ [] }
 with_one (report.Moved command answered) y = record y { settled = y.settled ++ (command, reply.Com answered) ∷ [] }
 with_one (report.Event event) y = record y { reported = y.reported ++ event ∷ [] }
-with_one (report.PollAnswered answer) y = y
-with_one (report.Unread command code) y = y
 with_one (report.Lost cause command) y = record y { unsettled = y.unsettled ++ option_to_list command }
+with_one _ y = y
 
 -- of these reports those of an entry
 abbrev pub with_those : ℕ → List (ℕ × Report) → Told → Told
@@ -61,17 +59,15 @@ module _ {H : Type 0} where
   -- ---- stations
 
   hears_told : (said : Report) (t : Station H) → told_to (hears_of said t) ≡ with_one said (told_to t)
-  hears_told (report.Opened id) t = refl
   hears_told (report.Settled command answer) t =
       (λ i. record (told_to t) { settled = sym (append_assoc (in_all (λ a. a.settled) t.earlier) t.account.settled ((command, answer) ∷ [])) i })
   hears_told (report.Moved command answered) t =
       (λ i. record (told_to t) { settled = sym (append_assoc (in_all (λ a. a.settled) t.earlier) t.account.settled ((command, reply.Com answered) ∷ [])) i })
   hears_told (report.Event event) t =
       (λ i. record (told_to t) { reported = sym (append_assoc (in_all (λ a. a.reported) t.earlier) t.account.reported (event ∷ [])) i })
-  hears_told (report.PollAnswered answer) t = refl
-  hears_told (report.Unread command code) t = refl
   hears_told (report.Lost cause command) t =
       (λ i. record (told_to t) { unsettled = sym (append_assoc (in_all (λ a. a.unsettled) t.earlier) t.account.unsettled (option_to_list command)) i })
+  hears_told _ t = refl
 
   abbrev pub IsTold : ℕ → Told → List (Station H) → Type 0
   IsTold k y ts = (t : Station H) × (site_at k ts ≡ Some t) × (told_to t ≡ y)
