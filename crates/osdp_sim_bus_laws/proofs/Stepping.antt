@@ -13,7 +13,7 @@ use Rattle.osdp_controller.specs.States.{is_closed}
 use Rattle.osdp_controller_laws.proofs.Closed.{may_begin}
 use Rattle.osdp_controller.specs.declared.fault.ControllerFault.{ControllerFault}
 use Rattle.osdp_controller.specs.declared.state.State.{State}
-use Rattle.osdp_controller.specs.declared.state.State.TheVariants.{Closed, Quiet, Idle, Waiting, Pausing}
+use Rattle.osdp_controller.specs.declared.state.State.TheVariants.{Closed}
 use Rattle.osdp_reader.specs.declared.handler.Answer.{Answer}
 use Rattle.osdp_bus.specs.Machine.{begin_refusal_of, begin_refusal_at, bus_fault}
 use Rattle.osdp_bus.specs.declared.entry.Entry.{Entry}
@@ -74,10 +74,7 @@ ended_closed o d is ended = subst (λ p. has_ended p ≡ true) is ended
 module _ {H : Type 0} (answer_of : H → Command → Answer) (after : H → Command → H) where
   leaves_closed : (state : State) (l : link.Link H) → is_closed state ≡ true → LastsOrLeaves state l → Leaves l.account l.controller.waiting l.reader.queue.events
   leaves_closed Closed l e leaves = leaves
-  leaves_closed (Quiet until) l e lasts = absurd cc
-  leaves_closed (Idle due) l e lasts = absurd cc
-  leaves_closed (Waiting until sends o) l e lasts = absurd cc
-  leaves_closed (Pausing until o) l e lasts = absurd cc
+  leaves_closed _ l e lasts = absurd cc
 
   -- a session of a site begins
   abbrev begins_by : Option ControllerFault → ℕ → line.Site H → line.Site H
