@@ -4,7 +4,7 @@ use Rattle.std.specs.Prelude.{◌≢◌, ◌&&◌, ◌==◌, if◌then◌else◌
 use Rattle.std.proofs.lemmas.Bool.{eq-eqb}
 use Rattle.osdp_frame.specs.Packet.{Packet}
 use Rattle.osdp_msg.specs.declared.command.Command.{Command}
-use Rattle.osdp_msg.specs.declared.command.Command.TheVariants.{Poll, Id, Cap, LocalStatus, InputStatus, OutputStatus, ReaderStatus, Output, Led, Buzzer, Text, Comset, Maker}
+use Rattle.osdp_msg.specs.declared.command.Command.TheVariants.{Poll}
 use Rattle.osdp_msg.specs.declared.event.Event.{Event}
 use Rattle.osdp_msg.specs.declared.event.Event.TheVariants as events
 use Rattle.osdp_msg.specs.declared.reply.Reply.{Reply}
@@ -15,7 +15,7 @@ use Rattle.osdp_controller.specs.declared.meaning.ReplyMeaning.TheVariants.{Plai
 use Rattle.osdp_controller.specs.declared.report.Report.TheVariants as reports
 use Rattle.osdp_controller.specs.declared.session.Session.{Session}
 use Rattle.osdp_controller.specs.declared.state.State.{State}
-use Rattle.osdp_controller.specs.declared.state.State.TheVariants.{Closed, Quiet, Idle, Waiting, Pausing}
+use Rattle.osdp_controller.specs.declared.state.State.TheVariants.{Waiting, Pausing}
 use Rattle.osdp_controller.specs.Answers.{meaning_of}
 use Rattle.osdp_controller.specs.Hearing.{answered as answered_of, hears_in, ignores, is_numbered, pausing_hears, poll_told, waiting_hears}
 use Rattle.osdp_controller.specs.Sessions.{frame_of, seen}
@@ -32,18 +32,7 @@ use Rattle.osdp_card_time_laws.specs.Readers.{AnswersTellTheFront, ReadersTakeAs
 
 no_event : (command : Command) (waiting : List Event) → command ≢ Poll → event_for command waiting ≡ None
 no_event Poll waiting other = absurd (other refl)
-no_event (Id kept) waiting other = refl
-no_event (Cap kept) waiting other = refl
-no_event LocalStatus waiting other = refl
-no_event InputStatus waiting other = refl
-no_event OutputStatus waiting other = refl
-no_event ReaderStatus waiting other = refl
-no_event (Output records) waiting other = refl
-no_event (Led records) waiting other = refl
-no_event (Buzzer b) waiting other = refl
-no_event (Text t) waiting other = refl
-no_event (Comset c) waiting other = refl
-no_event (Maker m) waiting other = refl
+no_event _ waiting other = refl
 
 module _ {H : Type 0} (answer_of : H → Command → Answer) (after : H → Command → H) where
   moved_queue : (o : Option ℕ) (r : ReaderState H) → (moved o r).queue ≡ r.queue
@@ -71,12 +60,7 @@ module _ {H : Type 0} (answer_of : H → Command → Answer) (after : H → Comm
 
 tells : (event : Event) → poll_told (event_reply event) (event_in (event_reply event)) ≡ Some (reports.Event event)
 tells (events.LocalState s) = refl
-tells (events.Inputs states) = refl
-tells (events.Outputs states) = refl
-tells (events.Readers states) = refl
-tells (events.Raw r) = refl
-tells (events.Formatted f) = refl
-tells (events.Keypad k) = refl
+tells _ = refl
 
 module _ (event : Event) (number : ℕ) (s : Session) (same : number ≡ s.number) where
   abbrev said : Reply
@@ -89,13 +73,11 @@ module _ (event : Event) (number : ℕ) (s : Session) (same : number ≡ s.numbe
   answers o polling = let is : o.exchange ≡ Polling = cc in ap (λ x. (answered_of x said s).report) is ∙ tells event
 
   heard : (state : State) → exchange_in state ≡ Some Polling → (hears_in state number (Plain said) s).report ≡ Some (reports.Event event)
-  heard Closed polling = cc
-  heard (Quiet until) polling = cc
-  heard (Idle due) polling = cc
   heard (Waiting until sends o) polling =
       ap (λ t. (if t then waiting_hears (Plain said) sends o s else ignores s).report) numbered ∙ answers o polling
   heard (Pausing until o) polling =
       ap (λ t. (if t then pausing_hears (Plain said) o s else ignores s).report) numbered ∙ answers o polling
+  heard _ polling = cc
 
 pub answers_tell : AnswersTellTheFront
 answers_tell event p now d polling own means =
