@@ -98,14 +98,7 @@ gives_if false c written = tt
 
 gives : (entry : ℕ) (call : Call) (x : PanelState) → OrdersIt call → Gives (accepted_in entry call x)
 gives entry (Submit at c) x written = gives_if (at == entry && is_none (submit_refusal at c x)) c written
-gives entry (Add address) x written = tt
-gives entry (Begin at now) x written = tt
-gives entry (Withdraw at) x written = tt
-gives entry (Retarget at address) x written = tt
-gives entry (OnBytes bytes now) x written = tt
-gives entry (OnSilence now) x written = tt
-gives entry (Tick now) x written = tt
-gives entry NextReport x written = tt
+gives entry _ x written = tt
 
 none_accepted : (entry : ℕ) (call : Call) (x : PanelState) → Nobody entry x → accepted_in entry call x ≡ None
 none_accepted entry (Submit at c) x none = by_same (at == entry) refl

@@ -7,7 +7,7 @@ use Rattle.osdp_frame.specs.Items.{items}
 use Rattle.osdp_frame.specs.Packet.{Packet}
 use Rattle.osdp_controller.specs.declared.report.Report.{Report}
 use Rattle.osdp_controller.specs.declared.state.State.{State}
-use Rattle.osdp_controller.specs.declared.state.State.TheVariants.{Closed, Quiet, Idle, Waiting, Pausing}
+use Rattle.osdp_controller.specs.declared.state.State.TheVariants.{Closed}
 use Rattle.osdp_controller.specs.Machine.{is_outstanding}
 use Rattle.osdp_controller.specs.States.{is_closed}
 use Rattle.osdp_controller_laws.specs.Commands.{tells_end}
@@ -62,10 +62,7 @@ ticked_end now d stands over =
 
 over_holds : (state : State) → is_closed state ≡ true → is_outstanding state ≡ true → ⊥
 over_holds Closed over out = cc
-over_holds (Quiet until) over out = cc
-over_holds (Idle due) over out = cc
-over_holds (Waiting until sends o) over out = cc
-over_holds (Pausing until o) over out = cc
+over_holds _ over out = cc
 
 no_report : (o : Option Report) → is_some o ≡ false → o ≡ None
 no_report None h = refl

@@ -17,7 +17,7 @@ use Rattle.osdp_bus.specs.declared.fault.BusFault.TheVariants.{AddressOutOfRange
 use Rattle.osdp_bus.specs.Buses.{BusState, device_of}
 use Rattle.osdp_bus.specs.Machine.{add_refusal, after_submit_at, begin_refusal_at, bus_fault, changed_unless, is_comset_refused, is_withdrawn_at, leads_nowhere, order_refusal_at, order_refusal_of}
 use Rattle.osdp_bus.specs.Ticking.{bus_ticks}
-use Rattle.osdp_bus_laws.specs.Calls.{Call, Add, Begin, Submit, Withdraw, Retarget, OnBytes, OnSilence, Tick, NextReport}
+use Rattle.osdp_bus_laws.specs.Calls.{Call, Add, Begin, Submit, Withdraw, Tick}
 use Rattle.osdp_orders.specs.declared.queue.Queue.{Queue}
 use Rattle.osdp_orders.specs.Orders.{OrdersState, PanelState, after_add, after_submit_in, after_withdraw_by, begins_in, both, gone_to, is_closed_in, is_empty_in, lets_go_after, lets_go_of, polled_by, queue_of, submit_refusal, submit_refusal_in, waiting_in, with_queue, without_first}
 use Rattle.osdp_orders.specs.Queues.{after_hold, first_held, goes, goes_first, goes_unless, has_place, hold_refusal, kept_as, new_queue}
@@ -204,13 +204,10 @@ fit_call room (Submit entry c) x written all =
     unless_orders room (submit_refusal entry c x) x (after_submit_in entry c (queue_of entry x.orders) x) all
     (λ ok. fit_submits room (queue_of entry x.orders) entry c x refl written all ok)
 fit_call room (Withdraw entry) x written all = fit_withdraws room (is_withdrawn_at entry x.bus) entry x all
-fit_call room (Retarget entry address) x written all = all
-fit_call room (OnBytes bytes now) x written all = all
-fit_call room (OnSilence now) x written all = all
 fit_call room (Tick now) x written all =
     let t = bus_ticks now x.bus in
     fit_let_after room (polled_by t.sent t.bus) (both x.orders t.bus) all
-fit_call room NextReport x written all = all
+fit_call room _ x written all = all
 
 pub fit_along : (room : Room) (calls : List Call) (x : PanelState) → AreWritten calls → AllFit room x.orders → AllFit room (after_calls calls x).orders
 fit_along room [] x written all = all

@@ -13,7 +13,7 @@ use Rattle.osdp_bus.specs.Buses.{BusState, device_of, seen}
 use Rattle.osdp_bus.specs.Machine.{add_refusal, after_begin_at, after_submit_at, after_withdraw_at, begin_refusal_at, changed_unless, entry_begins, entry_submits, entry_withdraws, is_withdrawn_at, new_device, order_refusal_at}
 use Rattle.osdp_bus.specs.Settings.{IsBusConfig}
 use Rattle.osdp_bus.specs.Ticking.{bus_ticks}
-use Rattle.osdp_bus_laws.specs.Calls.{Call, Add, Begin, Submit, Withdraw, Retarget, OnBytes, OnSilence, Tick, NextReport}
+use Rattle.osdp_bus_laws.specs.Calls.{Call, Add, Begin, Submit, Withdraw, Tick}
 use Rattle.osdp_bus_laws.specs.Calls.{after_call as after_bus_call}
 use Rattle.osdp_bus_laws.proofs.Calling.{sound_new}
 use Rattle.osdp_bus_laws.proofs.Sound.{SoundBus}
@@ -118,13 +118,10 @@ same_call (Add address) x other = absurd other
 same_call (Begin entry now) x other = begins_same (begin_refusal_at entry x.bus) entry now x
 same_call (Submit entry c) x other = unless_same (submit_refusal entry c x) x (after_submit_in entry c (queue_of entry x.orders) x) (submits_same (queue_of entry x.orders) entry c x)
 same_call (Withdraw entry) x other = withdraws_same (is_withdrawn_at entry x.bus) entry x
-same_call (Retarget entry address) x other = of_bus x _ (alone (Retarget entry address) x (λ n. tt))
-same_call (OnBytes bytes now) x other = of_bus x _ (alone (OnBytes bytes now) x (λ n. tt))
-same_call (OnSilence now) x other = of_bus x _ (alone (OnSilence now) x (λ n. tt))
 same_call (Tick now) x other =
     let t = bus_ticks now x.bus in
     same_then x (both x.orders t.bus) (after_call (Tick now) x) (of_bus x t.bus (alone (Tick now) x (λ n. tt))) (let_after (polled_by t.sent t.bus) (both x.orders t.bus))
-same_call NextReport x other = of_bus x _ (alone NextReport x (λ n. tt))
+same_call call x other = of_bus x _ (alone call x (λ n. tt))
 
 -- ---- what holds of a panel's orders at all times
 
@@ -239,14 +236,7 @@ after_added None address entry x inv none = by_place (nat_eq entry (length x.bus
 -- where nobody is, nobody comes but by `add`
 pub fresh : (call : Call) (entry : ℕ) (x : PanelState) → Inv x → Nobody entry x → Nobody entry (after_call call x) ⊎ New entry (after_call call x)
 fresh (Add address) entry x inv none = after_added (add_refusal address x.bus) address entry x inv none
-fresh (Begin other now) entry x inv none = inl (still_nobody entry x _ none (same_call (Begin other now) x tt))
-fresh (Submit other c) entry x inv none = inl (still_nobody entry x _ none (same_call (Submit other c) x tt))
-fresh (Withdraw other) entry x inv none = inl (still_nobody entry x _ none (same_call (Withdraw other) x tt))
-fresh (Retarget other address) entry x inv none = inl (still_nobody entry x _ none (same_call (Retarget other address) x tt))
-fresh (OnBytes bytes now) entry x inv none = inl (still_nobody entry x _ none (same_call (OnBytes bytes now) x tt))
-fresh (OnSilence now) entry x inv none = inl (still_nobody entry x _ none (same_call (OnSilence now) x tt))
-fresh (Tick now) entry x inv none = inl (still_nobody entry x _ none (same_call (Tick now) x tt))
-fresh NextReport entry x inv none = inl (still_nobody entry x _ none (same_call NextReport x tt))
+fresh call entry x inv none = inl (still_nobody entry x _ none (same_call call x tt))
 
 one_queue : (o : Option Queue) (q r : Queue) → o ≡ Some q → o ≡ Some r → q ≡ r
 one_queue o q r is are = let both : Some q ≡ Some r = sym is ∙ are in cc
@@ -268,14 +258,7 @@ grows None address x inv = (
 keeps : (call : Call) (x : PanelState) → Inv x
     → ((after_call call x).orders.on ≡ true) × (length (after_call call x).orders.queues ≡ length (after_call call x).bus.devices.entries)
 keeps (Add address) x inv = grows (add_refusal address x.bus) address x inv
-keeps (Begin other now) x inv = moves x _ inv (same_call (Begin other now) x tt)
-keeps (Submit other c) x inv = moves x _ inv (same_call (Submit other c) x tt)
-keeps (Withdraw other) x inv = moves x _ inv (same_call (Withdraw other) x tt)
-keeps (Retarget other address) x inv = moves x _ inv (same_call (Retarget other address) x tt)
-keeps (OnBytes bytes now) x inv = moves x _ inv (same_call (OnBytes bytes now) x tt)
-keeps (OnSilence now) x inv = moves x _ inv (same_call (OnSilence now) x tt)
-keeps (Tick now) x inv = moves x _ inv (same_call (Tick now) x tt)
-keeps NextReport x inv = moves x _ inv (same_call NextReport x tt)
+keeps call x inv = moves x _ inv (same_call call x tt)
 
 pub inv_after : (call : Call) (x : PanelState) → Inv x → Inv (after_call call x)
 inv_after call x inv = record {

@@ -10,7 +10,7 @@ use Rattle.osdp_bus.specs.Ticking.{bus_ticks}
 use Rattle.osdp_bus_laws.proofs.Calling.{sound_calls}
 use Rattle.osdp_bus_laws.proofs.Ordering.{order_made}
 use Rattle.osdp_bus_laws.proofs.Sound.{SoundBus}
-use Rattle.osdp_bus_laws.specs.Calls.{Add, Begin, Call, NextReport, OnBytes, OnSilence, Retarget, Submit, Tick, Withdraw, orders}
+use Rattle.osdp_bus_laws.specs.Calls.{Add, Begin, Call, Submit, Tick, Withdraw, orders}
 use Rattle.osdp_bus_laws.specs.Calls.{after_call as after_bus_call, after_calls as after_bus_calls}
 use Rattle.osdp_orders.specs.declared.queue.Queue.{Queue}
 use Rattle.osdp_orders.specs.Orders.{PanelState, after_add, after_submit_in, after_withdraw_by, begins_in, both, gone_to, is_empty_in, lets_go_after, lets_go_of, polled_by, queue_of, submit_refusal_in, waiting_in}
@@ -86,13 +86,10 @@ calls_of_the_bus x (Add address) = adds_so (add_refusal address x.bus) address x
 calls_of_the_bus x (Begin entry now) = begins_so (begin_refusal_at entry x.bus) entry now x refl
 calls_of_the_bus x (Submit entry command) = submits_so (queue_of entry x.orders) entry command x
 calls_of_the_bus x (Withdraw entry) = withdraws_so (is_withdrawn_at entry x.bus) entry x
-calls_of_the_bus x (Retarget entry address) = refl
-calls_of_the_bus x (OnBytes bytes now) = refl
-calls_of_the_bus x (OnSilence now) = refl
 calls_of_the_bus x (Tick now) =
     let t = bus_ticks now x.bus in
     after_so (polled_by t.sent t.bus) (both x.orders t.bus)
-calls_of_the_bus x NextReport = refl
+calls_of_the_bus x _ = refl
 
 pub sound_after : (call : Call) (x : PanelState) → SoundBus x.bus → SoundBus (after_call call x).bus
 sound_after call x sound = subst SoundBus (sym (calls_of_the_bus x call)) (sound_calls (bus_calls call x) x.bus sound)

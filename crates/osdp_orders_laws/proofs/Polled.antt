@@ -5,7 +5,7 @@ use Rattle.osdp_msg.specs.declared.command.Command.{Command}
 use Rattle.osdp_msg.specs.Kept.{command_kept}
 use Rattle.osdp_controller.specs.declared.exchange.Exchange.{Exchange}
 use Rattle.osdp_controller.specs.declared.state.State.{State}
-use Rattle.osdp_controller.specs.declared.state.State.TheVariants.{Closed, Quiet, Idle, Waiting, Pausing}
+use Rattle.osdp_controller.specs.declared.state.State.TheVariants.{Waiting, Pausing}
 use Rattle.osdp_controller.specs.Hearing.{comset_of}
 use Rattle.osdp_controller_laws.specs.Laws.{exchange_in}
 use Rattle.osdp_time_laws.specs.Orders.{is_under_way}
@@ -15,7 +15,7 @@ use Rattle.osdp_bus.specs.declared.fault.BusFault.{BusFault}
 use Rattle.osdp_bus.specs.Buses.{BusState, device_of}
 use Rattle.osdp_bus.specs.Machine.{after_submit_at, changed_unless, entry_submits, leads_nowhere, submit_refusal_at}
 use Rattle.osdp_bus.specs.Ticking.{bus_ticks}
-use Rattle.osdp_bus_laws.specs.Calls.{Call, Add, Begin, Submit, Withdraw, Retarget, OnBytes, OnSilence, Tick, NextReport}
+use Rattle.osdp_bus_laws.specs.Calls.{Call, Begin, Submit, Tick}
 use Rattle.osdp_bus_laws.specs.Calls.{after_call as after_bus_call, after_calls as after_bus_calls}
 use Rattle.osdp_bus_laws.specs.Fairness.{Begins}
 use Rattle.osdp_bus_laws.specs.Turns.{BeginsExchange, asking}
@@ -59,21 +59,14 @@ pub tick_is : (call : Call) (x : PanelState) (now : ℕ) (tail : List Call) → 
 tick_is (Tick at) x now tail is = cc
 tick_is (Begin entry at) x now tail is = absurd (begins_no_tick _ entry at now x tail is)
 tick_is (Submit entry c) x now tail is = absurd (no_order now tail (subst AreOrders is (submit_shape (queue_of entry x.orders) entry c)))
-tick_is (Add address) x now tail is = absurd cc
-tick_is (Withdraw entry) x now tail is = absurd cc
-tick_is (Retarget entry address) x now tail is = absurd cc
-tick_is (OnBytes bytes at) x now tail is = absurd cc
-tick_is (OnSilence at) x now tail is = absurd cc
-tick_is NextReport x now tail is = absurd cc
+tick_is _ x now tail is = absurd cc
 
 -- ---- the order that is let go
 
 asks_under_way : (state : State) (e : Exchange) → exchange_in state ≡ Some e → is_under_way state ≡ true
-asks_under_way Closed e is = absurd cc
-asks_under_way (Quiet until) e is = absurd cc
-asks_under_way (Idle due) e is = absurd cc
 asks_under_way (Waiting until sends o) e is = refl
 asks_under_way (Pausing until o) e is = refl
+asks_under_way _ e is = absurd cc
 
 some_held : (items : List (List ℕ)) (ahead later : List Command) (c : Command) → map command_kept items ≡ ahead ++ c ∷ later
     → (bytes : List ℕ) × (rest : List (List ℕ)) × (items ≡ bytes ∷ rest)

@@ -60,11 +60,9 @@ begun_in (Waiting until sends o) s w free none = absurd cc
 begun_in (Pausing until o) s w free none = absurd cc
 
 pub none_asked : (state : State) → is_outstanding state ≡ false → asked_in state ≡ None
-none_asked Closed free = refl
-none_asked (Quiet until) free = refl
-none_asked (Idle due) free = refl
 none_asked (Waiting until sends o) free = absurd cc
 none_asked (Pausing until o) free = absurd cc
+none_asked _ free = refl
 
 pub begun : (g : ℕ) (d : Entry) → holds d ≡ false → Begun d (entry_ticks g d)
 begun g d free =
@@ -75,9 +73,6 @@ StillsIn before w t = (t.waiting ≡ w) × ((asked_in t.session.state ≡ before
 
 stills_in : (state : State) (s : Session) (w : List Command) → is_outstanding state ≡ true → asked_in s.state ≡ asked_in state
     → StillsIn (asked_in state) w (ticks_in state s w)
-stills_in Closed s w stands same = absurd cc
-stills_in (Quiet until) s w stands same = absurd cc
-stills_in (Idle due) s w stands same = absurd cc
 stills_in (Waiting until sends o) s w stands same =
     either_way (StillsIn (submitted_command o.exchange) w) (nat_le until s.greatest) (tries_again sends o s w) (stays_in s w)
     (λ b. either_way (StillsIn (submitted_command o.exchange) w) (nat_lt sends s.config.sends) (sends_frame (sends + 1) o s w) (gives_up o s w)
@@ -85,6 +80,7 @@ stills_in (Waiting until sends o) s w stands same =
     (λ b. (refl, inl same))
 stills_in (Pausing until o) s w stands same =
     either_way (StillsIn (submitted_command o.exchange) w) (nat_le until s.greatest) (sends_frame 1 o s w) (stays_in s w) (λ b. (refl, inl refl)) (λ b. (refl, inl same))
+stills_in _ s w stands same = absurd cc
 
 pub holder_ticks : (g : ℕ) (d : Entry) → holds d ≡ true → Stills d (entry_ticks g d)
 holder_ticks g d stands =

@@ -8,7 +8,7 @@ use Rattle.osdp_bus.specs.declared.fault.BusFault.{BusFault}
 use Rattle.osdp_bus.specs.Buses.{device_of}
 use Rattle.osdp_bus.specs.Machine.{begin_refusal_at, leads_nowhere}
 use Rattle.osdp_bus.specs.Ticking.{bus_ticks}
-use Rattle.osdp_bus_laws.specs.Calls.{Call, Add, Begin, Submit, Withdraw, Retarget, OnBytes, OnSilence, Tick, NextReport, orders}
+use Rattle.osdp_bus_laws.specs.Calls.{Call, Begin, Submit, Tick, orders}
 use Rattle.osdp_bus_laws.specs.Calls.{after_calls as after_bus_calls}
 use Rattle.osdp_bus_time_laws.specs.Clock.{KeepsTime}
 use Rattle.osdp_bus_time_laws.specs.Turns.{HasFew, KeepsTurns, TurnsTake}
@@ -69,12 +69,7 @@ shape (Submit entry c) x = inl (submit_shape (queue_of entry x.orders) entry c)
 shape (Tick now) x =
     let t = bus_ticks now x.bus in
     inr (record { first = Tick now; tail = _; is = refl; orders = after_are (polled_by t.sent t.bus) (both x.orders t.bus) })
-shape (Add address) x = alone (Add address)
-shape (Withdraw entry) x = alone (Withdraw entry)
-shape (Retarget entry address) x = alone (Retarget entry address)
-shape (OnBytes bytes now) x = alone (OnBytes bytes now)
-shape (OnSilence now) x = alone (OnSilence now)
-shape NextReport x = alone NextReport
+shape call x = alone call
 
 -- ---- what holds of a panel's orders at all times, and of the calls that come
 

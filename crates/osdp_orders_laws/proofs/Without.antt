@@ -7,7 +7,7 @@ use Rattle.osdp_bus.specs.declared.fault.BusFault.{BusFault}
 use Rattle.osdp_bus.specs.Buses.{device_of, new_bus}
 use Rattle.osdp_bus.specs.Machine.{add_refusal, after_begin_at, begin_refusal_at, changed_unless, withdrawal_at}
 use Rattle.osdp_bus.specs.Ticking.{bus_ticks}
-use Rattle.osdp_bus_laws.specs.Calls.{Call, Add, Begin, Submit, Withdraw, Retarget, OnBytes, OnSilence, Tick, NextReport}
+use Rattle.osdp_bus_laws.specs.Calls.{Call, Add, Begin, Submit, Tick}
 use Rattle.osdp_orders.specs.declared.queue.Queue.{Queue}
 use Rattle.osdp_orders.specs.Orders.{OrdersState, PanelState, after_add, both, held_count, held_of, is_closed_in, new_orders, or_held, polled_by, queue_of, submit_refusal_in, with_held, with_new_queue}
 use Rattle.osdp_orders.specs.Queues.{new_queue}
@@ -35,14 +35,7 @@ off_added None address x off =
 
 off_after : (call : Call) (x : PanelState) → Off x → Off (after_call call x)
 off_after (Add address) x off = off_added (add_refusal address x.bus) address x off
-off_after (Begin entry now) x off = off_same x _ off (same_call (Begin entry now) x tt)
-off_after (Submit entry c) x off = off_same x _ off (same_call (Submit entry c) x tt)
-off_after (Withdraw entry) x off = off_same x _ off (same_call (Withdraw entry) x tt)
-off_after (Retarget entry address) x off = off_same x _ off (same_call (Retarget entry address) x tt)
-off_after (OnBytes bytes now) x off = off_same x _ off (same_call (OnBytes bytes now) x tt)
-off_after (OnSilence now) x off = off_same x _ off (same_call (OnSilence now) x tt)
-off_after (Tick now) x off = off_same x _ off (same_call (Tick now) x tt)
-off_after NextReport x off = off_same x _ off (same_call NextReport x tt)
+off_after call x off = off_same x _ off (same_call call x tt)
 
 off_along : (calls : List Call) (x : PanelState) → Off x → Off (after_calls calls x)
 off_along [] x off = off
@@ -65,17 +58,12 @@ module _ (x : PanelState) (off : Off x) where
   lets_none (Some entry) y same = ap (λ (o : OrdersState). let_go_of entry (queue_of entry o) y) same ∙ ap (λ q. let_go_of entry q y) (no_queue entry)
 
   calls_same : (call : Call) → bus_calls call x ≡ own_calls call
-  calls_same (Add address) = refl
   calls_same (Begin entry now) = begins (begin_refusal_at entry x.bus) entry now
   calls_same (Submit entry c) = ap (λ q. submit_calls q entry c) (no_queue entry)
-  calls_same (Withdraw entry) = refl
-  calls_same (Retarget entry address) = refl
-  calls_same (OnBytes bytes now) = refl
-  calls_same (OnSilence now) = refl
   calls_same (Tick now) =
       let t = bus_ticks now x.bus in
       ap (λ l. Tick now ∷ l) (lets_none (polled_by t.sent t.bus) (both x.orders t.bus) refl)
-  calls_same NextReport = refl
+  calls_same _ = refl
 
   or_none : (r : Result (Option Command) BusFault) → or_held r None ≡ r
   or_none (Err fault) = refl
