@@ -7,7 +7,7 @@ use Rattle.osdp_msg.specs.declared.command.Command.{Command}
 use Rattle.osdp_controller.specs.declared.exchange.Exchange.{Exchange}
 use Rattle.osdp_controller.specs.declared.exchange.Exchange.TheVariants.{Opening, Polling, Asking}
 use Rattle.osdp_controller.specs.declared.state.State.{State}
-use Rattle.osdp_controller.specs.declared.state.State.TheVariants.{Closed, Quiet, Idle, Waiting, Pausing}
+use Rattle.osdp_controller.specs.declared.state.State.TheVariants.{Closed, Quiet}
 use Rattle.osdp_controller.specs.Hearing.{comset_of}
 use Rattle.osdp_controller.specs.States.{is_closed}
 use Rattle.osdp_controller_laws.specs.Commands.{asked_in, command_of}
@@ -98,15 +98,10 @@ submit_orders None k c = one_order (leads_nowhere (comset_of c)) k c
 submit_orders (Some q) k c = if_orders q.may_go (orders k c) (one_order (leads_nowhere (comset_of c)) k c)
 
 calls_other : (call : Call) (x : PanelState) → IsOther call → AreOther (bus_calls call x)
-calls_other (Add address) x other = (tt, tt)
 calls_other (Begin k now) x other = begins_other (begin_refusal_at k x.bus) k now x
 calls_other (Submit k c) x other = orders_are_other (submit_calls (queue_of k x.orders) k c) (submit_orders (queue_of k x.orders) k c)
-calls_other (Withdraw k) x other = (tt, tt)
-calls_other (Retarget k address) x other = (tt, tt)
-calls_other (OnBytes bytes now) x other = (tt, tt)
-calls_other (OnSilence now) x other = (tt, tt)
 calls_other (Tick now) x other = absurd other
-calls_other NextReport x other = (tt, tt)
+calls_other _ x other = (tt, tt)
 
 -- in such calls nothing begins
 pub pass_over : (entry : ℕ) (may : Bool) (calls rest : List Call) (b : BusState) → AreOther calls → PollsBetween may entry rest (after_bus_calls calls b)
@@ -156,9 +151,7 @@ module _ (entry : ℕ) where
   not_closed : (state : State) (over : Bool) → is_closed state ≡ over → (over ≡ true → is_under_way state ≡ false)
   not_closed Closed over is h = refl
   not_closed (Quiet until) over is h = refl
-  not_closed (Idle due) over is h = absurd cc
-  not_closed (Waiting until sends o) over is h = absurd cc
-  not_closed (Pausing until o) over is h = absurd cc
+  not_closed _ over is h = absurd cc
 
   still_none : (a b : Bool) → (b ≡ true → a ≡ true) → a ≡ false → b ≡ false
   still_none a false begins none = refl
@@ -223,10 +216,7 @@ module _ (entry : ℕ) where
 
   asks_stands : (state : State) (c : Command) → asked_in state ≡ Some c → is_closed state ≡ false
   asks_stands Closed c asks = absurd cc
-  asks_stands (Quiet until) c asks = refl
-  asks_stands (Idle due) c asks = refl
-  asks_stands (Waiting until sends o) c asks = refl
-  asks_stands (Pausing until o) c asks = refl
+  asks_stands _ c asks = refl
 
   none_asked : (call : Call) (x : PanelState) → Bars x → Begins call entry x.bus → asked_of (device_of entry (after_bus_call call x.bus)) ≡ asked_at entry (after_call call x)
       → asked_at entry (after_call call x) ≡ None

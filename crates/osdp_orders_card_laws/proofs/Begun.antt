@@ -9,7 +9,7 @@ use Rattle.osdp_controller.specs.declared.exchange.Exchange.TheVariants.{Opening
 use Rattle.osdp_controller.specs.declared.report.Report.{Report}
 use Rattle.osdp_controller.specs.declared.session.Session.{Session}
 use Rattle.osdp_controller.specs.declared.state.State.{State}
-use Rattle.osdp_controller.specs.declared.state.State.TheVariants.{Closed, Quiet, Idle, Waiting, Pausing}
+use Rattle.osdp_controller.specs.declared.state.State.TheVariants.{Closed, Quiet, Waiting, Pausing}
 use Rattle.osdp_controller.specs.Hearing.{hears}
 use Rattle.osdp_controller.specs.Machine.{is_outstanding}
 use Rattle.osdp_controller.specs.Sessions.{seen as seen_by}
@@ -82,11 +82,9 @@ module _ (entry : ℕ) (c : Command) where
   asks_then now b is = asking_keeps AsksOrTold (λ g p i d ds at. packet_asks g p i d ds at) now b is
 
 asks_holds : (state : State) (c : Command) → asked_in state ≡ Some c → is_outstanding state ≡ true
-asks_holds Closed c asks = absurd cc
-asks_holds (Quiet until) c asks = absurd cc
-asks_holds (Idle due) c asks = absurd cc
 asks_holds (Waiting until sends o) c asks = refl
 asks_holds (Pausing until o) c asks = refl
+asks_holds _ c asks = absurd cc
 
 -- none waited for its answer
 pub none_asked_before : (call : Call) (entry : ℕ) (b : BusState) → Begins call entry b → asked_of (device_of entry b) ≡ None
@@ -110,9 +108,7 @@ opens_first : (state : State) (s : Session) (w : List Command) → is_under_way 
 opens_first Closed s w never same = ap asked_in same
 opens_first (Quiet until) s w never same =
     either_way (λ (t : Ticked). asked_in t.session.state ≡ None) (nat_le until s.greatest) (begins Opening 0 s w) (stays s w) (λ h. refl) (λ h. ap asked_in same)
-opens_first (Idle due) s w never same = absurd cc
-opens_first (Waiting until sends o) s w never same = absurd cc
-opens_first (Pausing until o) s w never same = absurd cc
+opens_first _ s w never same = absurd cc
 
 pub opening_begins : (call : Call) (entry : ℕ) (b : BusState) (d : Entry) → Begins call entry b → device_of entry b ≡ Some d → is_under_way (state_of d) ≡ false
     → asked_of (device_of entry (after_call call b)) ≡ None

@@ -8,7 +8,7 @@ use Rattle.osdp_msg.specs.declared.command.Command.{Command}
 use Rattle.osdp_controller.specs.declared.exchange.Exchange.{Exchange}
 use Rattle.osdp_controller.specs.declared.session.Session.{Session}
 use Rattle.osdp_controller.specs.declared.state.State.{State}
-use Rattle.osdp_controller.specs.declared.state.State.TheVariants.{Closed, Quiet, Idle, Waiting, Pausing}
+use Rattle.osdp_controller.specs.declared.state.State.TheVariants.{Closed, Waiting, Pausing}
 use Rattle.osdp_controller.specs.Hearing.{Heard, hears}
 use Rattle.osdp_controller.specs.Machine.{is_outstanding}
 use Rattle.osdp_controller.specs.States.{is_closed}
@@ -53,17 +53,12 @@ leaves_then before between after first next = record { polls = λ h. first.polls
 
 in_session : (state : State) (x : Exchange) → exchange_in state ≡ Some x → is_under_way state ≡ false → ⊥
 in_session Closed x is never = cc
-in_session (Quiet until) x is never = cc
-in_session (Idle due) x is never = cc
-in_session (Waiting until sends o) x is never = cc
-in_session (Pausing until o) x is never = cc
+in_session _ x is never = cc
 
 pub closed_none : (state : State) → is_closed state ≡ true → exchange_in state ≡ None
-closed_none Closed over = refl
-closed_none (Quiet until) over = refl
-closed_none (Idle due) over = refl
 closed_none (Waiting until sends o) over = absurd cc
 closed_none (Pausing until o) over = absurd cc
+closed_none _ over = refl
 
 goes_on : (before after : State) (x : Exchange) → exchange_in before ≡ Some x → exchange_in after ≡ Some x → Leaves before after
 goes_on before after x is still = record { polls = λ h. ap is_polling (is ∙ sym still) ∙ h; unopened = λ never. absurd (in_session before x is never) }
