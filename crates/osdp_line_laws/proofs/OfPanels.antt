@@ -69,14 +69,10 @@ order_text entry command b = by_test (leads_nowhere (comset_of command)) refl
 
 pub made : (call : PanelCall) (s : Session) → Made call s
 made (line.At later) s = record { bus = refl; text = sym (append-nil (next_report_line s.bus)) }
-made (line.Add address) s = record { bus = refl; text = with_report _ _ }
-made (line.Begin entry) s = record { bus = refl; text = with_report _ _ }
 made (line.Submit entry command) s = record { bus = order_done entry command s.bus; text = order_text entry command s.bus }
-made (line.Withdraw entry) s = record { bus = refl; text = with_report _ _ }
-made (line.Retarget entry address) s = record { bus = refl; text = with_report _ _ }
 made (line.Bytes list) s = record { bus = refl; text = sym (append-nil _) }
 made line.Silence s = record { bus = refl; text = sym (append-nil _) }
-made line.Tick s = record { bus = refl; text = with_report _ _ }
+made _ s = record { bus = refl; text = with_report _ _ }
 
 pub of_line : (s : Session) (given text : List ℕ) (next : Session) (c : Called) → IsAnswered given s c → text ≡ c.text → next ≡ c.session
     → ((call : PanelCall) × Says call_words CallFits given call × Calls s ((overhears call s).text ++ kept_back call s.bus) (ordered call s.now ++ NextReport ∷ []) text next) ⊎ (SaysNothing call_words CallFits given × Refused s text next)

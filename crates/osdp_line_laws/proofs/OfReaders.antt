@@ -15,7 +15,7 @@ use Rattle.osdp_line_answers.specs.Answers.{Speaks}
 use Rattle.osdp_line_calls.specs.Calls.{Says, SaysNothing}
 use Rattle.osdp_reader.specs.State.{ReaderState, after_lapse_event, after_withdraw_event}
 use Rattle.osdp_line_calls.specs.declared.reader_call.ReaderCall.{ReaderCall}
-use Rattle.osdp_line_calls.specs.declared.reader_call.ReaderCall.TheVariants.{At, Bytes, Silence, Tick, Event, Busy, Inputs, Outputs, Readers, Local}
+use Rattle.osdp_line_calls.specs.declared.reader_call.ReaderCall.TheVariants.{At, Bytes, Silence, Tick, Event}
 use Rattle.osdp_line_calls.specs.ReaderCalls.{CallFits, call_words}
 use Rattle.osdp_line_calls.specs.ReaderLines.{Answers, IsAnswered}
 use Rattle.osdp_line_calls.specs.ReaderAbsence.{LetGo, goes_first, keeps_all, lets_some_go}
@@ -196,11 +196,7 @@ call_steps Tick s =
     heard_steps Tick s (reads_all status_answer status_after s.reader (after_tick s.now s.line)) (hears_held (after_tick s.now s.line))
     (all_read s.reader (after_tick s.now s.line)) refl refl
 call_steps (Event event) s = record { reader = refl; text = sym (append-nil (submit_text event s.reader)) }
-call_steps (Busy busy) s = record { reader = refl; text = refl }
-call_steps (Inputs list) s = record { reader = refl; text = refl }
-call_steps (Outputs list) s = record { reader = refl; text = refl }
-call_steps (Readers list) s = record { reader = refl; text = refl }
-call_steps (Local tamper power) s = record { reader = refl; text = refl }
+call_steps _ s = record { reader = refl; text = refl }
 
 pub of_line : (s : Session) (given text : List ℕ) (next : Session) (c : Called) → IsAnswered given s c → text ≡ c.text → next ≡ c.session
     → ((call : ReaderCall) × Says call_words CallFits given call × TakesSteps s (ordered call s) text next) ⊎ (SaysNothing call_words CallFits given × Refused s text next)

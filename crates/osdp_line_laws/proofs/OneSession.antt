@@ -117,13 +117,11 @@ pausing_as (Plain reply) o s is = answered_as o.exchange reply s is
 pausing_as (Unreadable code) o s is = unread_as o.exchange code s is
 
 in_as : (state : State) (number : ℕ) (m : ReplyMeaning) (s : Session) → open_in s.state ≡ open_in state → HeardAs (open_in state) (hears_in state number m s)
-in_as Closed number m s is = is
-in_as (Quiet until) number m s is = is
-in_as (Idle due) number m s is = is
 in_as (Waiting until sends o) number m s is =
     either_way (HeardAs (is_asked o.exchange)) (is_numbered number m s) (waiting_hears m sends o s) (ignores s) (λ h. waiting_as m sends o s is) (λ h. is)
 in_as (Pausing until o) number m s is =
     either_way (HeardAs (is_asked o.exchange)) (is_numbered number m s) (pausing_hears m o s) (ignores s) (λ h. pausing_as m o s is) (λ h. is)
+in_as _ number m s is = is
 
 -- a packet opens or shuts it as is told
 pub heard_as : (p : Packet) (now : ℕ) (s : Session) → HeardAs (open_in s.state) (hears p now s)

@@ -1,6 +1,6 @@
 -- Lines to a panel whose orders may wait for POLLs, as calls of its orders and its bus; and without the setting as lines to a panel that holds no order back.
 use Rattle.std.specs.Prelude.{if◌then◌else◌}
-use Rattle.std.proofs.Common.{◌≡◌, ◌∙◌, ◌⊎◌, ap, sym, subst, refl, ℕ, Bool, true, false, List, [], ◌∷◌, ◌++◌, Option, Some, None, inl, inr}
+use Rattle.std.proofs.Common.{◌≡◌, ◌∙◌, ◌⊎◌, ap, sym, subst, refl, ℕ, false, List, [], ◌∷◌, ◌++◌, Option, Some, None, inl, inr}
 use Rattle.osdp_bus.specs.Buses.{BusState}
 use Rattle.osdp_bus.specs.declared.fault.BusFault.{BusFault}
 use Rattle.osdp_bus.specs.Machine.{add_refusal, after_submit_at, begin_refusal_at, changed_unless, order_refusal_at}
@@ -15,12 +15,12 @@ use Rattle.osdp_line_answers.specs.Answers.{Speaks}
 use Rattle.osdp_line_calls.specs.Calls.{Says, SaysNothing}
 use Rattle.osdp_line_calls.specs.declared.panel_call.PanelCall.{PanelCall}
 use Rattle.osdp_line_calls.specs.declared.panel_call.PanelCall.TheVariants as line
-use Rattle.osdp_line_calls.specs.LineAnswers.{AnswersBy, IsAnsweredBy}
+use Rattle.osdp_line_calls.specs.LineAnswers.{IsAnsweredBy}
 use Rattle.osdp_line_calls.specs.OrderedLines.{Answers, Ends, refuses}
 use Rattle.osdp_line_calls.specs.OrderedPanels.{Called, Ordered, after_text, answered, beside_orders, ended, panel_of, plain_of, then_reports, writes}
 use Rattle.osdp_line_calls.specs.PanelCalls.{CallFits, call_words}
 use Rattle.osdp_line_calls.specs.PanelLines as plain_lines
-use Rattle.osdp_line_calls.specs.PanelSessions.{IsDue, Session, overhears}
+use Rattle.osdp_line_calls.specs.PanelSessions.{IsDue, overhears}
 use Rattle.osdp_line_calls.specs.PanelSessions as plain
 use Rattle.osdp_line_calls.specs.PanelTexts.{refusal_line, withdrawal_line}
 use Rattle.osdp_line_laws.proofs.Lines.{of_all}
@@ -34,14 +34,7 @@ after_more (call ∷ first) more x = after_more first more (after_call call x)
 
 pub made : (call : PanelCall) (s : Ordered) → panel_of (answered call s).session ≡ after_calls (called call s.session.now ++ NextReport ∷ []) (panel_of s)
 made (line.At later) s = refl
-made (line.Add address) s = refl
-made (line.Begin entry) s = refl
-made (line.Submit entry command) s = refl
-made (line.Withdraw entry) s = refl
-made (line.Retarget entry address) s = refl
-made (line.Bytes list) s = refl
-made line.Silence s = refl
-made line.Tick s = refl
+made _ s = refl
 
 abbrev Made : Ordered → List ℕ → Ordered → Type 0
 Made s given next =
@@ -100,7 +93,6 @@ submits_plain entry command p its =
 
 -- a call without the setting
 pub call_plain : (call : PanelCall) (s : Ordered) → Plain s.orders → answered call s ≡ beside_orders (plain.answered call s.session) s.orders
-call_plain (line.At later) s is = refl
 call_plain (line.Add address) s is =
     let there = record s { session = record s.session { listening = (overhears (line.Add address) s.session).after } } in
     let f = add_refusal address s.session.bus in
@@ -116,12 +108,10 @@ call_plain (line.Withdraw entry) s is =
     let there = record s { session = record s.session { listening = (overhears (line.Withdraw entry) s.session).after } } in
     let its = its_bus (panel_of s) is.none in
     written (overhears (line.Withdraw entry) s.session).text _ _ _ _ there (ap (withdrawal_line entry) (its.withdrawal entry)) (its.withdraw entry)
-call_plain (line.Retarget entry address) s is = refl
-call_plain (line.Bytes list) s is = refl
-call_plain line.Silence s is = refl
 call_plain line.Tick s is =
     let there = record s { session = record s.session { listening = (overhears line.Tick s.session).after } } in
     written _ _ _ _ _ there refl ((its_bus (panel_of s) is.none).tick s.session.now)
+call_plain _ s is = refl
 
 -- what ends so ends so without orders too
 ends_plain : (due : Option ℕ) (done c : Called) (done_there : plain.Called) (o : OrdersState) → done ≡ beside_orders done_there o → IsDue done.session.session due
