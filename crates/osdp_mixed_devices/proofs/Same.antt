@@ -19,8 +19,8 @@ use Rattle.osdp_reader.specs.Table.{Answered, Outcome, answer_to, answered, begu
 use Rattle.osdp_reader.specs.declared.config.ReaderConfig.{ReaderConfig}
 use Rattle.osdp_reader.specs.declared.handler.Answer.{Answer}
 use Rattle.osdp_reader.specs.declared.kind.Kind.{Kind}
-use Rattle.osdp_reader.specs.declared.kind.Kind.TheVariants.{Busy, Repeat, Secured, Silent, Taken, Wrong, Zero}
-use Rattle.osdp_calls.specs.Calls.{Call, NewDevice, NewPanel, Next, OfPanel, Pending, SetBusy, SetHandler, Silence, SubmitEvent, Take, TickDevice, WithdrawEvent}
+use Rattle.osdp_reader.specs.declared.kind.Kind.TheVariants.{Taken, Zero}
+use Rattle.osdp_calls.specs.Calls.{Call, Next, Pending, SubmitEvent}
 use Rattle.osdp_calls.specs.Ends.{Held, device_after, is_of_device, takes_event}
 use Rattle.osdp_calls_instance.specs.OwnCalls.{device_after_each}
 use Rattle.osdp_mixed_devices.specs.Mixed.{call_as, held_as, reader_as}
@@ -93,13 +93,9 @@ module _ {H K : Type 0} (seen : H → K) where
         (record r { last = Some p.sequence; stored = Some (reply_packet p p.sequence a.reply); queue = offering event queue; handler = a.handler })))
 
     comes_same : (kind : Kind) (r : ReaderState H) (p : Packet) → outcome answer_as after_as kind (reader_as seen r) p ≡ outcome_as (outcome answer_of after kind r p)
-    comes_same Silent r p = refl
-    comes_same Secured r p = refl
     comes_same Zero r p = begins_same (command_in p) r p
-    comes_same Repeat r p = refl
     comes_same Taken r p = takes_same (command_in p) r p
-    comes_same Busy r p = refl
-    comes_same Wrong r p = refl
+    comes_same _ r p = refl
 
     hears_same : (r : ReaderState H) (p : Packet) → hears answer_as after_as (reader_as seen r) p ≡ outcome_as (hears answer_of after r p)
     hears_same r p = comes_same (kind_of r p) r p
@@ -151,19 +147,11 @@ module _ {H K : Type 0} (seen : H → K) where
 
     call_same : (call : Call H) (d : Held H) → device_after answer_as after_as (call_as seen call) (held_as seen d) ≡ held_as seen (device_after answer_of after call d)
     call_same (SubmitEvent i event) d = event_same (lacks_room event d.reader.queue) event d
-    call_same (SetBusy i busy) d = refl
-    call_same (SetHandler i handler) d = refl
-    call_same (WithdrawEvent i) d = refl
-    call_same (Take i bytes now) d = refl
-    call_same (TickDevice i now) d = refl
-    call_same (Silence i now) d = refl
     call_same (Next i) d =
         ap (λ (t : Told K). record { reader = t.reader; line = record d.line { held = t.held } }) (told_same (items_of d.line.held) d.reader d.line.held)
     call_same (Pending i) d =
         ap (λ held. record { reader = reader_as seen d.reader; line = record d.line { held = held } }) (passes_same (items_of d.line.held) d.reader d.line.held)
-    call_same (NewDevice i config handler room gap) d = refl
-    call_same (OfPanel call) d = refl
-    call_same (NewPanel config addresses) d = refl
+    call_same _ d = refl
 
     pub calls_same : (calls : List (Call H)) (d : Held H)
         → device_after_each answer_as after_as (map (call_as seen) calls) (held_as seen d) ≡ held_as seen (device_after_each answer_of after calls d)
@@ -175,14 +163,4 @@ module _ {H K : Type 0} (seen : H → K) where
 
   pub of_same : (k : ℕ) (call : Call H) → is_of_device k (call_as seen call) ≡ is_of_device k call
   of_same k (SubmitEvent i event) = refl
-  of_same k (SetBusy i busy) = refl
-  of_same k (SetHandler i handler) = refl
-  of_same k (WithdrawEvent i) = refl
-  of_same k (Take i bytes now) = refl
-  of_same k (TickDevice i now) = refl
-  of_same k (Silence i now) = refl
-  of_same k (Next i) = refl
-  of_same k (Pending i) = refl
-  of_same k (NewDevice i config handler room gap) = refl
-  of_same k (OfPanel call) = refl
-  of_same k (NewPanel config addresses) = refl
+  of_same k _ = refl
