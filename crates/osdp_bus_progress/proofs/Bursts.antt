@@ -209,12 +209,7 @@ module _ {H : Type 0} (answer_of : H → Command → Answer) (after : H → Comm
         let n = line.run answer_of after (moves_of answer_of after come.done begun) first in
         let heard = by_own n (apart_all answer_of after laws.known (moves_of answer_of after come.done begun) first its.fits (apart_first first up)) in
         handed_over reads move s n well heard (subst (λ (t : LineState H). FollowsSites t n) (sym come.taken.here) its.follows)
-    one_answer steps count rest (step.Issue number command) s come well = tt
-    one_answer steps count rest (step.Queue number event) s come well = tt
-    one_answer steps count rest (step.Busy number busy) s come well = tt
-    one_answer steps count rest (step.Wait wait) s come well = tt
-    one_answer steps count rest (step.ToController move) s come well = tt
-    one_answer steps count rest (step.Reopen number) s come well = tt
+    one_answer steps count rest _ s come well = tt
 
     few_on : (steps : List SimStep) (count : ℕ) (rest : List SimStep) (s : LineState H) → Come steps count rest s → is_well answer_of after rest s ≡ true
         → FitAlong answer_of after rest s → AtMost count s → AtMost (count + length rest) (simulation.run answer_of after rest s)

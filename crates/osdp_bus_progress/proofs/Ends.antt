@@ -28,13 +28,9 @@ none_before [] x none = absurd cc
 none_before (y ∷ xs) x none = absurd cc
 
 no_end_before : (r : Report) (a : Account) → (with_report (Some r) a).ends ≡ [] → a.ends ≡ []
-no_end_before (report.Opened id) a none = none
-no_end_before (report.Settled command answer) a none = none
 no_end_before (report.Moved command answered) a none = none_before a.ends _ none
-no_end_before (report.Event event) a none = none
-no_end_before (report.PollAnswered answer) a none = none
-no_end_before (report.Unread command code) a none = none
 no_end_before (report.Lost cause command) a none = none_before a.ends _ none
+no_end_before _ a none = none
 
 module _ {H : Type 0} where
   -- the account of the reader at this place has no end

@@ -8,7 +8,7 @@ use Rattle.osdp_msg.specs.declared.command.Command.{Command}
 use Rattle.osdp_controller.specs.Machine.{is_due, is_outstanding}
 use Rattle.osdp_controller.specs.Sessions.{later as later_by, seen as seen_at}
 use Rattle.osdp_controller.specs.declared.state.State.{State}
-use Rattle.osdp_controller.specs.declared.state.State.TheVariants.{Closed, Quiet, Idle, Waiting, Pausing}
+use Rattle.osdp_controller.specs.declared.state.State.TheVariants.{Closed, Idle, Waiting, Pausing}
 use Rattle.osdp_controller_laws.specs.Calls.{ComesDue, StaysInRange, longest_wait}
 use Rattle.osdp_reader.specs.declared.handler.Answer.{Answer}
 use Rattle.osdp_bus.specs.Buses.{BusState, holder, seen}
@@ -64,11 +64,9 @@ nobody_holds b free = by_holder (holder b) refl
 
 -- at rest, or closed
 rest_is_free : (state : State) → ((state ≡ Closed → ⊥) → (due : ℕ) × (state ≡ Idle due)) → is_outstanding state ≡ false
-rest_is_free Closed rests = refl
-rest_is_free (Quiet until) rests = refl
-rest_is_free (Idle due) rests = refl
 rest_is_free (Waiting until sends o) rests = absurd (let is = rests (λ e. absurd cc) in let same = is.1 in cc)
 rest_is_free (Pausing until o) rests = absurd (let is = rests (λ e. absurd cc) in let same = is.1 in cc)
+rest_is_free _ rests = refl
 
 -- ---- places
 
