@@ -23,117 +23,89 @@ use Rattle.osdp_ledger.proofs.InTurn.{runs_then}
 use Rattle.osdp_ledger.proofs.Waiting.{Events}
 use Rattle.osdp_link_laws.specs.Headline.{Begins, MovesFit}
 use Rattle.osdp_link_laws.specs.Link as link
-use Rattle.osdp_link_laws.specs.Link.{Account, Delivered, Delivery, Link, Lost, LoseToController, LoseToReader, Move, Queue as QueueEvent, Reopen, Repeated, RestartController, RestartReader, Retarget, SetBusy, SetHandler, Submit, Tick, ToController, ToReader, Withdraw, WithdrawEvent, after_move, front_of, new_account, outstanding_command, run}
+use Rattle.osdp_link_laws.specs.Link.{Account, Delivered, Delivery, Link, Lost, Move, Queue as QueueEvent, Reopen, Repeated, RestartController, RestartReader, Retarget, Submit, Tick, ToController, ToReader, Withdraw, WithdrawEvent, after_move, front_of, outstanding_command, run}
 use Rattle.osdp_link_laws.specs.Peers.{ReadEachOther}
 use Rattle.osdp_link_laws.specs.Refusals.{told_by_front}
-use Rattle.osdp_link_laws.specs.Sessions.{accepted, all_queued, all_submitted, in_all, queued, submitted, unless_full}
+use Rattle.osdp_link_laws.specs.Sessions.{accepted, all_queued, all_submitted, queued, submitted, unless_full}
 use Rattle.osdp_link_laws.proofs.InARow.{Assumed, Stands, assumed, begins, standing}
 use Rattle.osdp_link_ledger.specs.Accounts.{LedgerTellsAccounts}
 use Rattle.osdp_link_ledger.specs.Steps.{acts, after_steps, all_steps, leaves, leaves_and_acts, leaving, opens, queued_before, queues, steps_before, steps_of, submits, submitted_before, ticked, to_reader, told}
 use Rattle.osdp_link_ledger.proofs.Keeping.{keeps_one}
 use Rattle.osdp_link_ledger.proofs.Reading.{IsReadAs, read}
 use Rattle.osdp_link_ledger.proofs.Running.{begins_tied}
-use Rattle.osdp_link_ledger.proofs.Tallies.{Tally, device_tally, ends_at, leaving_tally, opening, panel_tally, taking_tally, tells, withdrawing_event_tally, withdrawing_tally}
+use Rattle.osdp_link_ledger.proofs.Tallies.{Tally, Tells, begins_anew, device_tally, ends_at, leaving_tally, of_accounts, of_history, opening, panel_tally, queues_more, submits_more, taking_tally, tells, withdrawing_event_tally, withdrawing_tally}
 use Rattle.osdp_link_ledger.proofs.Ties.{IsTied, events_keep, placed, runs_after}
-use Rattle.std.proofs.lemmas.List.{map-append}
 
 abbrev TallyOf : {H : Type 0} → List Command → List Event → Link H → History → Type 0
-TallyOf {H} cs es l h = Tally cs es l.earlier l.account h
+TallyOf {H} cs es l h = Tells cs es (l.account ∷ l.earlier) h
 
 -- nothing is submitted or queued
-as_before : (cs : List Command) (es : List Event) (earlier : List Account) (t : Account) (h : History) → Tally cs es earlier t h → Tally (cs ++ []) (es ++ []) earlier t h
-as_before cs es earlier t h i =
-    subst (λ all. Tally all (es ++ []) earlier t h) (sym (append-nil cs)) (subst (λ all. Tally cs all earlier t h) (sym (append-nil es)) i)
+as_before : (cs : List Command) (es : List Event) (ts : List Account) (h : History) → Tells cs es ts h → Tells (cs ++ []) (es ++ []) ts h
+as_before cs es ts h is = is ∙ (λ i. of_accounts (sym (append-nil cs) i) (sym (append-nil es) i) ts)
 
-in_turn_tally : (cs : List Command) (es : List Event) (earlier : List Account) (t : Account) (xs ys : List Step) (h : History) → Tally cs es earlier t (runs ys (runs xs h))
-    → Tally cs es earlier t (runs (xs ++ ys) h)
-in_turn_tally cs es earlier t xs ys h i = subst (Tally cs es earlier t) (sym (runs_then xs ys h)) i
+in_turn_tally : (cs : List Command) (es : List Event) (ts : List Account) (xs ys : List Step) (h : History) → Tells cs es ts (runs ys (runs xs h))
+    → Tells cs es ts (runs (xs ++ ys) h)
+in_turn_tally cs es ts xs ys h is = ap of_history (runs_then xs ys h) ∙ is
 
 submits_tally : {H : Type 0} → (cs : List Command) (es : List Event) (refusal : Option ControllerFault) (c : Command) (l : Link H) (h : History) → TallyOf cs es l h
     → TallyOf (cs ++ accepted refusal c) (es ++ []) (link.submits refusal c l) (runs (submits refusal c h.ledger) h)
-submits_tally {H} cs es (Some fault) c l h i = as_before cs es l.earlier l.account h i
-submits_tally {H} cs es None c l h i = record {
-  orders = map-append (λ (o : Order). o.command) h.accepted (record { place = h.ledger.submitted; command = c } ∷ []) ∙ ap (λ all. all ++ c ∷ []) i.orders;
-  cards = i.cards ∙ sym (append-nil es);
-  acted = i.acted;
-  ends = i.ends;
-  reported = i.reported;
-  withdrawn = i.withdrawn;
-}
+submits_tally {H} cs es (Some fault) c l h is = as_before cs es (l.account ∷ l.earlier) h is
+submits_tally {H} cs es None c l h is =
+    submits_more (record { place = h.ledger.submitted; command = c }) cs es (l.account ∷ l.earlier) h is
+    ∙ (λ i. of_accounts (cs ++ c ∷ []) (sym (append-nil es) i) (l.account ∷ l.earlier))
 
 queues_tally : {H : Type 0} → (cs : List Command) (es : List Event) (full : Bool) (e : Event) (l : Link H) (h : History) → TallyOf cs es l h
     → TallyOf (cs ++ []) (es ++ unless_full full e) (link.queues full e l) (runs (queues full e h.ledger) h)
-queues_tally {H} cs es true e l h i = as_before cs es l.earlier l.account h i
-queues_tally {H} cs es false e l h i = record {
-  orders = i.orders ∙ sym (append-nil cs);
-  cards = map-append (λ (c : Card). c.event) h.queued (record { place = h.ledger.queued; event = e } ∷ []) ∙ ap (λ all. all ++ e ∷ []) i.cards;
-  acted = i.acted;
-  ends = i.ends;
-  reported = i.reported;
-  withdrawn = i.withdrawn;
-}
+queues_tally {H} cs es true e l h is = as_before cs es (l.account ∷ l.earlier) h is
+queues_tally {H} cs es false e l h is =
+    queues_more (record { place = h.ledger.queued; event = e }) cs es (l.account ∷ l.earlier) h is
+    ∙ (λ i. of_accounts (sym (append-nil cs) i) (es ++ e ∷ []) (l.account ∷ l.earlier))
 
 reopens_tally : {H : Type 0} → (cs : List Command) (es : List Event) (refusal : Option ControllerFault) (ps qs : List Packet) (now : ℕ) (l : Link H) (h : History) → TallyOf cs es l h
     → TallyOf cs es (link.reopens refusal ps qs now l) h
-reopens_tally {H} cs es (Some fault) ps qs now l h i = i
-reopens_tally {H} cs es None (p ∷ ps) qs now l h i = i
-reopens_tally {H} cs es None [] (q ∷ qs) now l h i = i
-reopens_tally {H} cs es None [] [] now l h i = record {
-  orders = i.orders;
-  cards = i.cards;
-  acted = i.acted ∙ sym (append-nil (in_all (λ t. t.given) (l.account ∷ l.earlier)));
-  ends = record {
-    of_settled = i.ends.of_settled ∙ sym (append-nil (in_all (λ t. t.settled) (l.account ∷ l.earlier)));
-    of_doubt = i.ends.of_doubt ∙ sym (append-nil (in_all (λ t. t.unsettled) (l.account ∷ l.earlier)));
-    of_cut = i.ends.of_cut ∙ sym (append-nil (in_all (λ t. t.forgotten) (l.account ∷ l.earlier)));
-    of_removal = i.ends.of_removal ∙ sym (append-nil (in_all (λ t. t.removed) (l.account ∷ l.earlier)));
-  };
-  reported = i.reported ∙ sym (append-nil (in_all (λ t. t.reported) (l.account ∷ l.earlier)));
-  withdrawn = i.withdrawn ∙ sym (append-nil (in_all (λ t. t.withdrawn) (l.account ∷ l.earlier)));
-}
+reopens_tally {H} cs es None [] [] now l h is = begins_anew cs es l.earlier l.controller.waiting l.reader.queue.events l.account h is
+reopens_tally {H} cs es None [] (q ∷ qs) now l h is = is
+reopens_tally {H} cs es None (p ∷ ps) qs now l h is = is
+reopens_tally {H} cs es (Some fault) ps qs now l h is = is
 
 retargets_tally : {H : Type 0} → (cs : List Command) (es : List Event) (refusal : Option ControllerFault) (address : ℕ) (l : Link H) (h : History) → TallyOf cs es l h
     → TallyOf cs es (link.retargets refusal address l) h
-retargets_tally {H} cs es (Some fault) address l h i = i
-retargets_tally {H} cs es None address l h i = i
+retargets_tally {H} cs es (Some fault) address l h is = is
+retargets_tally {H} cs es None address l h is = is
 
 to_controller_tally : {H : Type 0} → (cs : List Command) (es : List Event) (how : Delivery) (ps : List Packet) (now : ℕ) (l : Link H) (h : History) → TallyOf cs es l h
     → TallyOf cs es (link.to_controller ps how now l) (runs (told (told_by_front how ps now l.controller.session) h.ledger) h)
-to_controller_tally {H} cs es Delivered [] now l h i = i
-to_controller_tally {H} cs es Lost [] now l h i = i
-to_controller_tally {H} cs es Repeated [] now l h i = i
-to_controller_tally {H} cs es Delivered (p ∷ ps) now l h i = tells cs es l.earlier (controller.hears p now l.controller.session).report l.account h h.ledger i
-to_controller_tally {H} cs es Lost (p ∷ ps) now l h i = i
-to_controller_tally {H} cs es Repeated (p ∷ ps) now l h i = tells cs es l.earlier (controller.hears p now l.controller.session).report l.account h h.ledger i
+to_controller_tally {H} cs es Delivered [] now l h is = is
+to_controller_tally {H} cs es Lost [] now l h is = is
+to_controller_tally {H} cs es Repeated [] now l h is = is
+to_controller_tally {H} cs es Delivered (p ∷ ps) now l h is = tells cs es l.earlier (controller.hears p now l.controller.session).report l.account h h.ledger is
+to_controller_tally {H} cs es Lost (p ∷ ps) now l h is = is
+to_controller_tally {H} cs es Repeated (p ∷ ps) now l h is = tells cs es l.earlier (controller.hears p now l.controller.session).report l.account h h.ledger is
 
 module _ {H : Type 0} (answer_of : H → Command → Answer) (after : H → Command → H) (cs : List Command) (es : List Event) where
   -- a command is taken, or what can't be read is
   by_command : (p : Packet) (l : Link H) (h : History) (read : Result Command MsgFault) → TallyOf cs es l h
       → (let out = taken answer_of after read l.reader p in
-      Tally cs es l.earlier (link.taken kind.Taken out.command out.said (front_of l.reader) l.account) (runs (leaves_and_acts kind.Taken l.reader.queue out.command out.said h.ledger) h))
+      Tells cs es (link.taken kind.Taken out.command out.said (front_of l.reader) l.account ∷ l.earlier) (runs (leaves_and_acts kind.Taken l.reader.queue out.command out.said h.ledger) h))
   by_command p l h (Ok c) i =
       let left = leaves (leaving kind.Taken l.reader.queue) h.ledger in
       let out = taken answer_of after (Ok c) l.reader p in
-      in_turn_tally cs es l.earlier (link.taken kind.Taken out.command out.said (front_of l.reader) l.account) left (acts kind.Taken out.command out.said (after_steps left h.ledger)) h
+      in_turn_tally cs es (link.taken kind.Taken out.command out.said (front_of l.reader) l.account ∷ l.earlier) left (acts kind.Taken out.command out.said (after_steps left h.ledger)) h
       (taking_tally cs es l.earlier c (event_or_answer answer_of after (event_for c (released l.reader.queue).events) l.reader.config l.reader.handler c).reply (front_of l.reader) l.account (runs left h) (after_steps left h.ledger)
       (leaving_tally cs es l.earlier (leaving kind.Taken l.reader.queue) l.account h h.ledger i))
   by_command p l h (Err fault) i =
       let left = leaves (leaving kind.Taken l.reader.queue) h.ledger in
-      in_turn_tally cs es l.earlier l.account left [] h (leaving_tally cs es l.earlier (leaving kind.Taken l.reader.queue) l.account h h.ledger i)
+      in_turn_tally cs es (l.account ∷ l.earlier) left [] h (leaving_tally cs es l.earlier (leaving kind.Taken l.reader.queue) l.account h h.ledger i)
 
   by_kind : (p : Packet) (l : Link H) (h : History) (k : Kind) → kind_of l.reader p ≡ k → IsReadAs p l → TallyOf cs es l h
       → (let out = outcome answer_of after k l.reader p in
-      Tally cs es l.earlier (link.taken k out.command out.said (front_of l.reader) l.account) (runs (leaves_and_acts k l.reader.queue out.command out.said h.ledger) h))
-  by_kind p l h kind.Silent is r i = i
-  by_kind p l h kind.Secured is r i = i
-  by_kind p l h kind.Repeat is r i = i
-  by_kind p l h kind.Busy is r i = i
-  by_kind p l h kind.Wrong is r i = i
+      Tells cs es (link.taken k out.command out.said (front_of l.reader) l.account ∷ l.earlier) (runs (leaves_and_acts k l.reader.queue out.command out.said h.ledger) h))
   by_kind p l h kind.Zero is r i =
       subst (λ read. let out = begun answer_of after read l.reader p in
-      Tally cs es l.earlier (link.taken kind.Zero out.command out.said (front_of l.reader) l.account) (runs (leaves_and_acts kind.Zero l.reader.queue out.command out.said h.ledger) h))
+      Tells cs es (link.taken kind.Zero out.command out.said (front_of l.reader) l.account ∷ l.earlier) (runs (leaves_and_acts kind.Zero l.reader.queue out.command out.said h.ledger) h))
       (sym (r.zero is)) i
   by_kind p l h kind.Taken is r i = by_command p l h (command_in p) i
+  by_kind p l h _ is r i = i
 
   to_reader_tally : (how : Delivery) (ps : List Packet) (l : Link H) (h : History) → ((p : Packet) (rest : List Packet) → ps ≡ p ∷ rest → IsReadAs p l) → TallyOf cs es l h
       → TallyOf cs es (link.to_reader answer_of after ps how l) (runs (to_reader answer_of after ps how l.reader h.ledger) h)
@@ -151,17 +123,16 @@ module _ {H : Type 0} (answer_of : H → Command → Answer) (after : H → Comm
   tallies_one given cs es move l h s tied i = by_move move
     where
       still : (m : Link H) (steps : List Step) → TallyOf cs es m (runs steps h) → TallyOf (cs ++ []) (es ++ []) m (runs steps h)
-      still m steps j = as_before cs es m.earlier m.account (runs steps h) j
+      still m steps j = as_before cs es (m.account ∷ m.earlier) (runs steps h) j
 
       by_move : (move : Move H) → TallyOf (cs ++ submitted move l) (es ++ queued move l) (after_move answer_of after move l) (runs (steps_of answer_of after move l h.ledger) h)
       by_move (Submit c) = submits_tally cs es (controllers.submit_refusal c l.controller) c l h i
       by_move (QueueEvent e) = queues_tally cs es (lacks_room e l.reader.queue) e l h i
-      by_move (SetBusy busy) = still l [] i
       by_move (Tick now) =
           let t = ticks now l.controller.session l.controller.waiting in
           let first = opens l.controller.session.state t.step.frame in
           still (after_move answer_of after (Tick now) l) (ticked l.controller.session.state t h.ledger)
-          (in_turn_tally cs es l.earlier (link.after_report t.step.report l.account) first (told t.step.report h.ledger) h
+          (in_turn_tally cs es (link.after_report t.step.report l.account ∷ l.earlier) first (told t.step.report h.ledger) h
           (tells cs es l.earlier t.step.report l.account (runs first h) h.ledger (opening cs es l.earlier l.controller.session.state t.step.frame l.account h i)))
       by_move (ToReader how) =
           still (link.to_reader answer_of after l.to_reader how l) (to_reader answer_of after l.to_reader how l.reader h.ledger)
@@ -171,7 +142,6 @@ module _ {H : Type 0} (answer_of : H → Command → Answer) (after : H → Comm
           (to_controller_tally cs es how l.to_controller now l h i)
       by_move (Reopen now) =
           still (after_move answer_of after (Reopen now) l) [] (reopens_tally cs es (controllers.begin_refusal l.controller) l.to_reader l.to_controller now l h i)
-      by_move (SetHandler handler) = still l [] i
       by_move Withdraw =
           still (link.withdraws l) (steps_of answer_of after Withdraw l h.ledger)
           (withdrawing_tally cs es l.earlier (controllers.withdrawn_in l.controller.session.state l.controller.waiting) l.account h h.ledger i)
@@ -190,84 +160,53 @@ module _ {H : Type 0} (answer_of : H → Command → Answer) (after : H → Comm
           still (link.restarts_controller config room l) (steps_of answer_of after (RestartController config room) l h.ledger)
           (panel_tally cs es l.earlier (option_to_list (outstanding_command state)) l.controller.waiting (is_some (outstanding_command state)) l.account h
           (ends_at state l.controller.waiting h.ledger (outstanding_command state) refl tied.is_open tied.ahead) i)
-      by_move (LoseToReader place) = still l [] i
-      by_move (LoseToController place) = still l [] i
+      by_move _ = still l [] i
 
   tallies_all : Assumed answer_of after → (moves : List (Move H)) (cs : List Command) (es : List Event) (l : Link H) (h : History) → MovesFit answer_of after moves l
       → Stands answer_of after l → Events h → IsTied l h.ledger → TallyOf cs es l h
       → TallyOf (cs ++ all_submitted answer_of after moves l) (es ++ all_queued answer_of after moves l) (run answer_of after moves l) (runs (all_steps answer_of after moves l h.ledger) h)
-  tallies_all given [] cs es l h fits s i tied tally = as_before cs es l.earlier l.account h tally
+  tallies_all given [] cs es l h fits s i tied tally = as_before cs es (l.account ∷ l.earlier) h tally
   tallies_all given (move ∷ moves) cs es l h fits s i tied tally =
       let one = keeps_one answer_of after given move l h.ledger (placed h i) fits.0 s tied in
       let steps = steps_of answer_of after move l h.ledger in
       let next = after_move answer_of after move l in
       let last = run answer_of after moves next in
       let same = runs_after steps h in
-      let more_commands = all_submitted answer_of after moves next in
-      let more_events = all_queued answer_of after moves next in
       let rest = tallies_all given moves (cs ++ submitted move l) (es ++ queued move l) next (runs steps h) fits.1 (standing answer_of after given move l fits.0 s) (events_keep steps h one.0 i)
       (subst (IsTied next) (sym same) one.1) (tallies_one given cs es move l h s tied tally) in
-      let more = all_steps answer_of after moves next (after_steps steps h.ledger) in
-      let placed_so : TallyOf (cs ++ (submitted move l ++ more_commands)) (es ++ (queued move l ++ more_events)) last (runs more (runs steps h)) =
-      subst (λ g. TallyOf (cs ++ (submitted move l ++ more_commands)) (es ++ (queued move l ++ more_events)) last (runs (all_steps answer_of after moves next g) (runs steps h))) same
-      (subst (λ all. TallyOf all (es ++ (queued move l ++ more_events)) last (runs (all_steps answer_of after moves next (runs steps h).ledger) (runs steps h))) (append_assoc cs (submitted move l) more_commands)
-      (subst (λ all. TallyOf ((cs ++ submitted move l) ++ more_commands) all last (runs (all_steps answer_of after moves next (runs steps h).ledger) (runs steps h))) (append_assoc es (queued move l) more_events) rest)) in
-      in_turn_tally (cs ++ (submitted move l ++ more_commands)) (es ++ (queued move l ++ more_events)) last.earlier last.account steps more h placed_so
+      ap of_history (runs_then steps (all_steps answer_of after moves next (after_steps steps h.ledger)) h)
+      ∙ (λ j. of_history (runs (all_steps answer_of after moves next (sym same j)) (runs steps h)))
+      ∙ rest
+      ∙ (λ j. of_accounts (append_assoc cs (submitted move l) (all_submitted answer_of after moves next) j)
+      (append_assoc es (queued move l) (all_queued answer_of after moves next) j) (last.account ∷ last.earlier))
 
 -- ---- from the beginning
 
-submitted_tally : (place : ℕ) (ws cs : List Command) (es : List Event) (earlier : List Account) (t : Account) (h : History) → Tally cs es earlier t h
-    → Tally (cs ++ ws) es earlier t (runs (submitted_before place ws) h)
-submitted_tally place [] cs es earlier t h i = subst (λ all. Tally all es earlier t h) (sym (append-nil cs)) i
-submitted_tally place (c ∷ ws) cs es earlier t h i =
+submitted_tally : (place : ℕ) (ws cs : List Command) (es : List Event) (ts : List Account) (h : History) → Tells cs es ts h
+    → Tells (cs ++ ws) es ts (runs (submitted_before place ws) h)
+submitted_tally place [] cs es ts h is = is ∙ (λ i. of_accounts (sym (append-nil cs) i) es ts)
+submitted_tally place (c ∷ ws) cs es ts h is =
     let o : Order = record { place = place; command = c } in
-    subst (λ all. Tally all es earlier t (runs (submitted_before (place + 1) ws) (steps_on (ledger.Submit o) h))) (append_assoc cs (c ∷ []) ws)
-    (submitted_tally (place + 1) ws (cs ++ c ∷ []) es earlier t (steps_on (ledger.Submit o) h) (record {
-      orders = map-append (λ (o : Order). o.command) h.accepted (o ∷ []) ∙ ap (λ all. all ++ c ∷ []) i.orders;
-      cards = i.cards;
-      acted = i.acted;
-      ends = i.ends;
-      reported = i.reported;
-      withdrawn = i.withdrawn;
-    }))
+    submitted_tally (place + 1) ws (cs ++ c ∷ []) es ts (steps_on (ledger.Submit o) h) (submits_more o cs es ts h is)
+    ∙ (λ i. of_accounts (append_assoc cs (c ∷ []) ws i) es ts)
 
-queued_tally : (place : ℕ) (ws : List Event) (cs : List Command) (es : List Event) (earlier : List Account) (t : Account) (h : History) → Tally cs es earlier t h
-    → Tally cs (es ++ ws) earlier t (runs (queued_before place ws) h)
-queued_tally place [] cs es earlier t h i = subst (λ all. Tally cs all earlier t h) (sym (append-nil es)) i
-queued_tally place (e ∷ ws) cs es earlier t h i =
+queued_tally : (place : ℕ) (ws : List Event) (cs : List Command) (es : List Event) (ts : List Account) (h : History) → Tells cs es ts h
+    → Tells cs (es ++ ws) ts (runs (queued_before place ws) h)
+queued_tally place [] cs es ts h is = is ∙ (λ i. of_accounts cs (sym (append-nil es) i) ts)
+queued_tally place (e ∷ ws) cs es ts h is =
     let c : Card = record { place = place; event = e } in
-    subst (λ all. Tally cs all earlier t (runs (queued_before (place + 1) ws) (steps_on (ledger.Queue c) h))) (append_assoc es (e ∷ []) ws)
-    (queued_tally (place + 1) ws cs (es ++ e ∷ []) earlier t (steps_on (ledger.Queue c) h) (record {
-      orders = i.orders;
-      cards = map-append (λ (c : Card). c.event) h.queued (c ∷ []) ∙ ap (λ all. all ++ e ∷ []) i.cards;
-      acted = i.acted;
-      ends = i.ends;
-      reported = i.reported;
-      withdrawn = i.withdrawn;
-    }))
-
--- a session that has just begun
-nothing_yet : (waiting : List Command) (queue : List Event) → Tally [] [] [] (new_account waiting queue) new_history
-nothing_yet waiting queue = record {
-  orders = refl;
-  cards = refl;
-  acted = refl;
-  ends = record { of_settled = refl; of_doubt = refl; of_cut = refl; of_removal = refl };
-  reported = refl;
-  withdrawn = refl;
-}
+    queued_tally (place + 1) ws cs (es ++ e ∷ []) ts (steps_on (ledger.Queue c) h) (queues_more c cs es ts h is)
+    ∙ (λ i. of_accounts cs (append_assoc es (e ∷ []) ws i) ts)
 
 module _ {H : Type 0} (answer_of : H → Command → Answer) (after : H → Command → H) where
   begins_tally : (l : Link H) → Begins l → TallyOf l.controller.waiting l.reader.queue.events l (runs (steps_before l) new_history)
   begins_tally l b =
       let first = submitted_before 0 l.controller.waiting in
       let second = queued_before 0 l.reader.queue.events in
-      let new : TallyOf [] [] l new_history =
-      subst (λ earlier. Tally [] [] earlier l.account new_history) (sym b.earlier)
-      (subst (λ t. Tally [] [] [] t new_history) (sym b.account) (nothing_yet l.controller.waiting l.reader.queue.events)) in
-      in_turn_tally l.controller.waiting l.reader.queue.events l.earlier l.account first second new_history
-      (queued_tally 0 l.reader.queue.events l.controller.waiting [] l.earlier l.account (runs first new_history)
-      (submitted_tally 0 l.controller.waiting [] [] l.earlier l.account new_history new))
+      let ts = l.account ∷ l.earlier in
+      let new : Tells [] [] ts new_history = (λ i. of_accounts [] [] (sym b.account i ∷ sym b.earlier i)) in
+      in_turn_tally l.controller.waiting l.reader.queue.events ts first second new_history
+      (queued_tally 0 l.reader.queue.events l.controller.waiting [] ts (runs first new_history) (submitted_tally 0 l.controller.waiting [] [] ts new_history new))
 
   pub tells_accounts : ReadEachOther answer_of after → LedgerTellsAccounts answer_of after
   tells_accounts peers l moves b fits =
@@ -282,16 +221,16 @@ module _ {H : Type 0} (answer_of : H → Command → Answer) (after : H → Comm
       (events_keep before new_history first.0 at_first) (subst (IsTied l) (sym same) first.1) (begins_tally l b) in
       let more = all_steps answer_of after moves l (after_steps before new_ledger) in
       let i : TallyOf cs es last (runs (before ++ more) new_history) =
-      in_turn_tally cs es last.earlier last.account before more new_history
-      (subst (λ g. TallyOf cs es last (runs (all_steps answer_of after moves l g) h)) same rest) in
+      in_turn_tally cs es (last.account ∷ last.earlier) before more new_history
+      ((λ j. of_history (runs (all_steps answer_of after moves l (sym same j)) h)) ∙ rest) in
       record {
-        orders = i.orders;
-        cards = i.cards;
-        acted = i.acted;
-        settled = i.ends.of_settled;
-        in_doubt = i.ends.of_doubt;
-        cut_off = i.ends.of_cut;
-        removed = i.ends.of_removal;
-        reported = i.reported;
-        withdrawn = i.withdrawn;
+        orders = ap (λ (y : Tally). y.orders) i;
+        cards = ap (λ (y : Tally). y.cards) i;
+        acted = ap (λ (y : Tally). y.acted) i;
+        settled = ap (λ (y : Tally). y.settled) i;
+        in_doubt = ap (λ (y : Tally). y.in_doubt) i;
+        cut_off = ap (λ (y : Tally). y.cut_off) i;
+        removed = ap (λ (y : Tally). y.removed) i;
+        reported = ap (λ (y : Tally). y.reported) i;
+        withdrawn = ap (λ (y : Tally). y.withdrawn) i;
       }

@@ -12,7 +12,7 @@ use Rattle.osdp_controller.specs.declared.state.State.{State}
 use Rattle.osdp_controller.specs.declared.state.State.TheVariants.{Closed}
 use Rattle.osdp_reader.specs.Queue.{Queue as EventQueue, event_for, offering, released}
 use Rattle.osdp_ledger.specs.Ledger as ledger
-use Rattle.osdp_ledger.specs.Ledger.{Act, Card, Leave, Ledger, May, MayActOn, MayFollow, NoOffer, Offer, Offers, Order, Reported, Step, Unreported, acted_on, is_in_front}
+use Rattle.osdp_ledger.specs.Ledger.{Act, Card, Leave, Ledger, MayFollow, NoOffer, Offer, Offers, Order, Reported, Unreported, acted_on, is_in_front}
 use Rattle.osdp_ledger.proofs.Waiting.{Beyond, IsUpTo}
 use Rattle.osdp_link_laws.specs.Headline.{asked}
 use Rattle.osdp_link_laws.specs.Link.{Account, Link}

@@ -44,10 +44,7 @@ fewer_session state waiting q ps qs t g cards fewer (inl s) = inl (record {
   way = s.way;
   to_reader = s.to_reader;
   to_controller = s.to_controller;
-  given = s.given;
-  settled = s.settled;
-  offered = s.offered;
-  reported = s.reported;
+  empty = s.empty;
   kept = but_oldest_after q (splits q) [] t.kept s.kept;
   acted = s.acted;
 })

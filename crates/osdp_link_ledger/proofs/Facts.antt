@@ -43,10 +43,8 @@ one_pending Polling = omega arith
 one_pending (Asking c) = omega arith
 
 one_pending_at : (at : Stage) → length (pending_at at) ≤ 1
-one_pending_at Fresh = omega arith
 one_pending_at (Behind past x) = one_pending x
-one_pending_at (Level past x a) = omega arith
-one_pending_at (Rest n x a) = omega arith
+one_pending_at _ = omega arith
 
 one_event : (event : Option Event) → length (option_to_list event) ≤ 1
 one_event None = omega arith
@@ -58,10 +56,8 @@ one_untold Polling a = omega (arith, one_event (event_in a))
 one_untold (Asking c) a = omega arith
 
 one_untold_at : (at : Stage) → length (owed_at at) + length (unreported_at at) ≤ 1
-one_untold_at Fresh = omega arith
-one_untold_at (Behind past x) = omega arith
 one_untold_at (Level past x a) = one_untold x a
-one_untold_at (Rest n x a) = omega arith
+one_untold_at _ = omega arith
 
 submitted_is : (x : Exchange) → option_to_list (submitted_command x) ≡ pending x
 submitted_is Opening = refl
@@ -83,17 +79,13 @@ module _ (fixed : ControllerConfig) where
 
   rests_out : (state : State) (n : ℕ) (s : Session) → Rests fixed state n s → is_under_way state ≡ true → out_of state ≡ []
   rests_out Closed n s rests way = absurd cc
-  rests_out (Quiet until) n s rests way = absurd rests
   rests_out (Idle due) n s rests way = refl
-  rests_out (Waiting until k o) n s rests way = absurd rests
-  rests_out (Pausing until o) n s rests way = absurd rests
+  rests_out _ n s rests way = absurd rests
 
   waits_out : (state : State) (s : Session) → Waits fixed state s → is_under_way state ≡ true → out_of state ≡ []
   waits_out Closed s waits way = refl
   waits_out (Quiet until) s waits way = refl
-  waits_out (Idle due) s waits way = absurd waits
-  waits_out (Waiting until k o) s waits way = absurd waits
-  waits_out (Pausing until o) s waits way = absurd waits
+  waits_out _ s waits way = absurd waits
 
   out_at : (at : Stage) (s : Session) → ControllerAt fixed at s → is_under_way s.state ≡ true → out_of s.state ≡ pending_at at ++ map asked (owed_at at)
   out_at Fresh s is way = waits_out s.state s is way

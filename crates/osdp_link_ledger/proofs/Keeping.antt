@@ -19,15 +19,15 @@ use Rattle.osdp_reader.specs.Replies.{reply_packet}
 use Rattle.osdp_reader.specs.Queue.{Queue as EventQueue, event_for, lacks_room, offering, released, unoffered}
 use Rattle.osdp_reader.specs.State.{ReaderState}
 use Rattle.osdp_reader.specs.Table as reader
-use Rattle.osdp_reader.specs.Table.{begun, command_in, event_or_answer, kind_of, moved, new_address, outcome}
+use Rattle.osdp_reader.specs.Table.{begun, event_or_answer, kind_of, moved, new_address, outcome}
 use Rattle.osdp_reader.specs.declared.handler.Answer.{Answer}
 use Rattle.osdp_reader.specs.declared.kind.Kind.{Kind}
 use Rattle.osdp_reader.specs.declared.kind.Kind.TheVariants as kind
 use Rattle.osdp_ledger.specs.Ledger as ledger
-use Rattle.osdp_ledger.specs.Ledger.{Ledger, NoOffer, Open, Step}
+use Rattle.osdp_ledger.specs.Ledger.{Ledger, Open, Step}
 use Rattle.osdp_link_laws.specs.Headline.{MaySubmit, MoveFits}
 use Rattle.osdp_link_laws.specs.Link as link
-use Rattle.osdp_link_laws.specs.Link.{Account, Delivered, Delivery, Link, Lost, LoseToController, LoseToReader, Move, Queue as QueueEvent, Reopen, Repeated, RestartController, RestartReader, Retarget, SetBusy, SetHandler, Submit, Tick, ToController, ToReader, Withdraw, WithdrawEvent, after_move, after_report, front_of, given_to, lost_at}
+use Rattle.osdp_link_laws.specs.Link.{Account, Delivered, Delivery, Link, Lost, LoseToController, LoseToReader, Move, Queue as QueueEvent, Reopen, Repeated, RestartController, RestartReader, Retarget, SetBusy, SetHandler, Submit, Tick, ToController, ToReader, Withdraw, WithdrawEvent, after_move, after_report, front_of, lost_at}
 use Rattle.osdp_link_laws.specs.Refusals.{told_by_front}
 use Rattle.osdp_link_laws.proofs.Acting.{no_event, taken_is}
 use Rattle.osdp_link_laws.proofs.Deliveries.{IsRead, all_read}
@@ -83,10 +83,7 @@ module _ {H : Type 0} (l : Link H) (g : Ledger) (h : IsTied l g) where
         way = q.way ∙ s.way;
         to_reader = ap (λ f. l.to_reader ++ option_to_list f) (q.silent s.way) ∙ append-nil l.to_reader ∙ s.to_reader;
         to_controller = s.to_controller;
-        given = s.given;
-        settled = s.settled;
-        offered = s.offered;
-        reported = s.reported;
+        empty = s.empty;
         kept = s.kept;
         acted = s.acted;
       })
@@ -117,14 +114,14 @@ module _ {H : Type 0} (l : Link H) (g : Ledger) (h : IsTied l g) where
           front = h.front;
           session = inr (inl (record {
             way = q.way;
-            acted = inl (refl, s.given ∙ sym s.settled);
+            acted = inl (refl, s.empty.given ∙ sym s.empty.settled);
             late = refl;
             offers = record {
-              untold = s.offered ∙ sym s.reported ∙ sym (append-nil l.account.reported);
-              front = λ on. inl s.offered;
+              untold = s.empty.offered ∙ sym s.empty.reported ∙ sym (append-nil l.account.reported);
+              front = λ on. inl s.empty.offered;
               counts =
                   let kept : length l.account.kept ≡ length l.reader.queue.events = ap length s.kept in
-                  let none : length l.account.offered ≡ 0 = ap length s.offered in
+                  let none : length l.account.offered ≡ 0 = ap length s.empty.offered in
                   let all : length g.cards ≡ length l.reader.queue.events = sym (length-map g.cards (λ (c : ledger.Card). c.event)) ∙ ap length h.cards in
                   omega (arith, kept, none, all);
             };
@@ -296,11 +293,6 @@ module _ {H : Type 0} (answer_of : H → Command → Answer) (after : H → Comm
       → (let out = outcome answer_of after k l.reader p in
       Then l (link.taken k out.command out.said (front_of l.reader) l.account)
       → Leads (leaves_and_acts k l.reader.queue out.command out.said g) g (Becomes out.reader.queue (link.taken k out.command out.said (front_of l.reader) l.account)))
-  by_kind kind.Silent is r later = (tt, unmoved l.reader.queue refl refl o)
-  by_kind kind.Secured is r later = (tt, unmoved l.reader.queue refl refl o)
-  by_kind kind.Repeat is r later = (tt, unmoved l.reader.queue refl refl o)
-  by_kind kind.Busy is r later = (tt, unmoved l.reader.queue refl refl o)
-  by_kind kind.Wrong is r later = (tt, unmoved l.reader.queue refl refl o)
   by_kind kind.Zero is r later =
       subst (λ read. let out = begun answer_of after read l.reader p in Leads (leaves_and_acts kind.Zero l.reader.queue out.command out.said g) g (Becomes out.reader.queue l.account))
       (sym (r.zero is))
@@ -308,6 +300,7 @@ module _ {H : Type 0} (answer_of : H → Command → Answer) (after : H → Comm
   by_kind kind.Taken is r later =
       let n = r.taken is in
       subst Takes (sym n.reads) (takes n n.exchange n.asked) later
+  by_kind _ is r later = (tt, unmoved l.reader.queue refl refl o)
 
   pub got : IsReadAs p l → (let out = reader.hears answer_of after l.reader p in
       Then l (link.taken (kind_of l.reader p) out.command out.said (front_of l.reader) l.account)

@@ -12,7 +12,7 @@ use Rattle.osdp_controller.specs.declared.fault.ControllerFault.{ControllerFault
 use Rattle.osdp_controller.specs.declared.report.Report.{Report}
 use Rattle.osdp_controller.specs.declared.report.Report.TheVariants as report
 use Rattle.osdp_controller.specs.declared.state.State.{State}
-use Rattle.osdp_controller.specs.declared.state.State.TheVariants.{Closed, Quiet, Idle, Waiting, Pausing}
+use Rattle.osdp_controller.specs.declared.state.State.TheVariants.{Quiet}
 use Rattle.osdp_reader.specs.Queue.{lacks_room}
 use Rattle.osdp_reader.specs.State.{ReaderState}
 use Rattle.osdp_reader.specs.Table.{hears, kind_of}
@@ -23,7 +23,7 @@ use Rattle.osdp_ledger.specs.Plain.{IsPlain, PlainStepsEndTold}
 use Rattle.osdp_ledger.specs.Ledger as ledger
 use Rattle.osdp_ledger.specs.Ledger.{Act, Close, Doubt, Lapse, Leave, Ledger, Offers, Open, Report as Reports, RestartDevice, RestartPanel, Settle, Step, new_ledger}
 use Rattle.osdp_link_laws.specs.Link as link
-use Rattle.osdp_link_laws.specs.Link.{Delivered, Delivery, Link, Lost, LoseToController, LoseToReader, Move, Reopen, Repeated, RestartController, RestartReader, Retarget, SetBusy, SetHandler, Tick, ToController, ToReader, after_move}
+use Rattle.osdp_link_laws.specs.Link.{Delivered, Delivery, Link, Lost, Move, Repeated, RestartController, RestartReader, Tick, ToController, ToReader, after_move}
 use Rattle.osdp_link_laws.specs.Ordinary.{IsOrdinary}
 use Rattle.osdp_link_laws.specs.Refusals.{told_by_front}
 use Rattle.osdp_link_laws.proofs.Lines.{each_all, each_append, each_map, each_of}
@@ -63,10 +63,7 @@ submits_plain (Some fault) c g = tt
 pub opens_open : (P : Step → Type 0) → P Open → (state : State) (sent : Option Packet) → Each P (opens state sent)
 opens_open P is (Quiet until) (Some frame) = (is, tt)
 opens_open P is (Quiet until) None = tt
-opens_open P is Closed sent = tt
-opens_open P is (Idle due) sent = tt
-opens_open P is (Waiting until sends o) sent = tt
-opens_open P is (Pausing until o) sent = tt
+opens_open P is _ sent = tt
 
 pub told_done : (r : Option Report) (g : Ledger) → Each IsDone (told r g)
 told_done None g = tt
@@ -108,11 +105,7 @@ acts_done kind.Taken None said g = tt
 acts_done kind.Zero (Some c) (Some answer) g = acts_at_zero_done c answer g
 acts_done kind.Zero (Some c) None g = tt
 acts_done kind.Zero None said g = tt
-acts_done kind.Silent c said g = tt
-acts_done kind.Secured c said g = tt
-acts_done kind.Repeat c said g = tt
-acts_done kind.Busy c said g = tt
-acts_done kind.Wrong c said g = tt
+acts_done _ c said g = tt
 
 -- ---- from the beginning
 
@@ -143,22 +136,17 @@ module _ {H : Type 0} (answer_of : H → Command → Answer) (after : H → Comm
   move_plain : (m : Move H) (l : Link H) (g : Ledger) → IsOrdinary m → Each IsPlain (steps_of answer_of after m l g)
   move_plain (link.Submit c) l g ordinary = submits_plain (submit_refusal c l.controller) c g
   move_plain (link.Queue e) l g ordinary = queues_plain (lacks_room e l.reader.queue) e g
-  move_plain (SetBusy busy) l g ordinary = tt
   move_plain (Tick now) l g ordinary =
       let t = ticks now l.controller.session l.controller.waiting in
       each_append IsPlain (opens l.controller.session.state t.step.frame) (told t.step.report g) (opens_open IsPlain tt l.controller.session.state t.step.frame) (are_plain (told t.step.report g) (told_done t.step.report g))
   move_plain (ToReader how) l g ordinary = to_reader_plain l.to_reader how l.reader g
   move_plain (ToController how now) l g ordinary =
       let r = told_by_front how l.to_controller now l.controller.session in are_plain (told r g) (told_done r g)
-  move_plain (Reopen now) l g ordinary = tt
-  move_plain (SetHandler handler) l g ordinary = tt
   move_plain link.Withdraw l g ordinary = absurd ordinary
-  move_plain (Retarget address) l g ordinary = tt
   move_plain link.WithdrawEvent l g ordinary = absurd ordinary
   move_plain (RestartReader config handler room) l g ordinary = absurd ordinary
   move_plain (RestartController config room) l g ordinary = absurd ordinary
-  move_plain (LoseToReader place) l g ordinary = tt
-  move_plain (LoseToController place) l g ordinary = tt
+  move_plain _ l g ordinary = tt
 
   moves_plain : (ms : List (Move H)) (l : Link H) (g : Ledger) → Each IsOrdinary ms → Each IsPlain (all_steps answer_of after ms l g)
   moves_plain [] l g ordinary = tt

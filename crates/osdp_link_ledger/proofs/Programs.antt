@@ -10,13 +10,13 @@ use Rattle.osdp_msg.specs.declared.reply.Reply.{Reply}
 use Rattle.osdp_controller.specs.Machine as controllers
 use Rattle.osdp_controller.specs.declared.fault.ControllerFault.{ControllerFault}
 use Rattle.osdp_controller.specs.declared.state.State.{State}
-use Rattle.osdp_controller.specs.declared.state.State.TheVariants.{Closed, Quiet, Idle, Waiting, Pausing}
+use Rattle.osdp_controller.specs.declared.state.State.TheVariants.{Closed, Waiting, Pausing}
 use Rattle.osdp_controller_laws.proofs.Closed.{was_closed}
 use Rattle.osdp_reader.specs.Queue.{Queue as EventQueue, empty_queue, queued}
 use Rattle.osdp_ledger.specs.Ledger.{Card, Ledger, May, NoOffer, Offer, Order, Reported, RestartDevice, RestartPanel, Unreported, late_after, late_at_restart, panel_restarted}
 use Rattle.osdp_link_laws.specs.Headline.{asked}
 use Rattle.osdp_link_laws.specs.Link as link
-use Rattle.osdp_link_laws.specs.Link.{Account, Link, Removal, ThrownAway, Withdrawn, controller_restarted, event_withdrawn, lost_at, new_account, outstanding_command, reader_restarted, unoffered_in}
+use Rattle.osdp_link_laws.specs.Link.{Account, Link, Removal, ThrownAway, Withdrawn, outstanding_command, reader_restarted}
 use Rattle.osdp_link_laws.specs.Sessions.{removed_command}
 use Rattle.osdp_link_laws.proofs.Removed.{gone}
 use Rattle.osdp_link_ledger.specs.Laws.{is_under_way}
@@ -46,17 +46,7 @@ submitted_session : (state : State) (waiting : List Command) (q : EventQueue) (p
     → SessionIs state waiting q ps qs t g
     → SessionIs state (waiting ++ c ∷ []) q ps qs (with_issued c t)
     (record g { submitted = g.submitted + 1; ahead = g.ahead ++ record { place = g.submitted; command = c } ∷ [] })
-submitted_session state waiting q ps qs t g c (inl s) = inl (record {
-  way = s.way;
-  to_reader = s.to_reader;
-  to_controller = s.to_controller;
-  given = s.given;
-  settled = s.settled;
-  offered = s.offered;
-  reported = s.reported;
-  kept = s.kept;
-  acted = s.acted;
-})
+submitted_session state waiting q ps qs t g c (inl s) = inl s
 submitted_session state waiting q ps qs t g c (inr (inl s)) = inr (inl (record {
   way = s.way;
   acted = acted_longer g.ahead (record { place = g.submitted; command = c }) g.acted t.given t.settled s.acted;
@@ -113,10 +103,7 @@ queued_session state waiting q ps qs t g e placed (inl s) = inl (record {
   way = s.way;
   to_reader = s.to_reader;
   to_controller = s.to_controller;
-  given = s.given;
-  settled = s.settled;
-  offered = s.offered;
-  reported = s.reported;
+  empty = s.empty;
   kept = ap (λ es. es ++ e ∷ []) s.kept;
   acted = s.acted;
 })
@@ -165,17 +152,7 @@ removed_late late taken issued removed_commands waiting removed more all is spli
 removed_session : (state : State) (waiting left : List Command) (more : List Removal) (q : EventQueue) (ps qs : List Packet) (t : Account) (g : Ledger) (ahead : List Order)
     → waiting ≡ map removed_command more ++ left → (is_under_way state ≡ true → ahead ≡ g.ahead)
     → SessionIs state waiting q ps qs t g → SessionIs state left q ps qs (with_removed more t) (record g { ahead = ahead })
-removed_session state waiting left more q ps qs t g ahead split same (inl s) = inl (record {
-  way = s.way;
-  to_reader = s.to_reader;
-  to_controller = s.to_controller;
-  given = s.given;
-  settled = s.settled;
-  offered = s.offered;
-  reported = s.reported;
-  kept = s.kept;
-  acted = s.acted;
-})
+removed_session state waiting left more q ps qs t g ahead split same (inl s) = inl s
 removed_session state waiting left more q ps qs t g ahead split same (inr (inl s)) = inr (inl (record {
   way = s.way;
   acted = subst (λ os. ActedIs os g.acted t.given t.settled) (sym (same s.way)) s.acted;
@@ -214,10 +191,7 @@ withdrawing Closed (w ∷ rest) q ps qs t g h =
         session = removed_session Closed (w ∷ rest) rest (Withdrawn w ∷ []) q ps qs t g (drop 1 g.ahead) refl (λ way. absurd cc) h.session;
       },
     )
-withdrawing (Quiet until) waiting q ps qs t g h = (tt, none_withdrawn (Quiet until) waiting q ps qs t g h)
-withdrawing (Idle due) waiting q ps qs t g h = (tt, none_withdrawn (Idle due) waiting q ps qs t g h)
-withdrawing (Waiting until k o) waiting q ps qs t g h = (tt, none_withdrawn (Waiting until k o) waiting q ps qs t g h)
-withdrawing (Pausing until o) waiting q ps qs t g h = (tt, none_withdrawn (Pausing until o) waiting q ps qs t g h)
+withdrawing state waiting q ps qs t g h = (tt, none_withdrawn state waiting q ps qs t g h)
 
 -- ---- an address is set
 
@@ -233,10 +207,7 @@ losing_session state waiting q ps qs xs ys t g first second (inl s) = inl (recor
   way = s.way;
   to_reader = first s.to_reader;
   to_controller = second s.to_controller;
-  given = s.given;
-  settled = s.settled;
-  offered = s.offered;
-  reported = s.reported;
+  empty = s.empty;
   kept = s.kept;
   acted = s.acted;
 })
@@ -276,10 +247,7 @@ reopening {H} None [] [] now l g may here there h =
         way = refl;
         to_reader = here;
         to_controller = there;
-        given = refl;
-        settled = refl;
-        offered = refl;
-        reported = refl;
+        empty = record { given = refl; settled = refl; offered = refl; reported = refl };
         kept = refl;
         acted = none_acted l.controller.session.state l.controller.waiting l.reader.queue l.to_reader l.to_controller l.account g closed h.session;
       });
@@ -302,11 +270,8 @@ power_session state waiting q ps qs t g room (inl s) = inl (record {
   way = s.way;
   to_reader = s.to_reader;
   to_controller = s.to_controller;
-  given = s.given;
-  settled = s.settled;
-  offered = s.offered;
-  reported = s.reported;
-  kept = s.offered;
+  empty = s.empty;
+  kept = s.empty.offered;
   acted = s.acted;
 })
 power_session state waiting q ps qs t g room (inr (inl s)) =
@@ -401,11 +366,9 @@ abbrev PanelIs : State → List Command → EventQueue → List Packet → List 
 PanelIs state waiting q ps qs t g = Ties Closed [] q ps qs (without_power state waiting t) g
 
 none_outstanding : (state : State) → is_under_way state ≡ false → outstanding_command state ≡ None
-none_outstanding Closed over = refl
-none_outstanding (Quiet until) over = refl
-none_outstanding (Idle due) over = refl
 none_outstanding (Waiting until sends out) over = cc
 none_outstanding (Pausing until out) over = cc
+none_outstanding _ over = refl
 
 idle_panel : (state : State) (waiting : List Command) (q : EventQueue) (ps qs : List Packet) (t : Account) (g : Ledger) → is_under_way state ≡ false → g.is_open ≡ false → g.acted ≡ None
     → Ties state waiting q ps qs t g → SessionIs Closed [] q ps qs (without_power state waiting t) (record g { ahead = [] })
@@ -481,10 +444,7 @@ restarting_panel {H} l g f h = by_session h.session
           way = refl;
           to_reader = s.to_reader;
           to_controller = s.to_controller;
-          given = s.given;
-          settled = s.settled;
-          offered = s.offered;
-          reported = s.reported;
+          empty = s.empty;
           kept = s.kept;
           acted = s.acted;
         }))

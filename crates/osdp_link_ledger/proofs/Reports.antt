@@ -12,7 +12,7 @@ use Rattle.osdp_controller.specs.declared.report.Report.TheVariants as report
 use Rattle.osdp_controller.specs.declared.state.State.{State}
 use Rattle.osdp_controller.specs.declared.state.State.TheVariants.{Closed}
 use Rattle.osdp_ledger.specs.Ledger as ledger
-use Rattle.osdp_ledger.specs.Ledger.{Card, Close, Doubt, Ledger, May, NoOffer, Offer, Order, Reported, Settle, Step, Unreported, late_after}
+use Rattle.osdp_ledger.specs.Ledger.{Close, Doubt, Ledger, NoOffer, Offer, Order, Reported, Settle, Unreported}
 use Rattle.osdp_link_laws.specs.Headline.{asked}
 use Rattle.osdp_link_laws.specs.Link.{Account, Link, after_report}
 use Rattle.osdp_link_laws.proofs.Removed.{gone}

@@ -74,10 +74,12 @@ module _ {H : Type 0} where
       way = ap is_under_way b.quiet.1;
       to_reader = b.to_reader;
       to_controller = b.to_controller;
-      given = ap (λ t. t.given) b.account;
-      settled = ap (λ t. t.settled) b.account;
-      offered = ap (λ t. t.offered) b.account;
-      reported = ap (λ t. t.reported) b.account;
+      empty = record {
+        given = ap (λ t. t.given) b.account;
+        settled = ap (λ t. t.settled) b.account;
+        offered = ap (λ t. t.offered) b.account;
+        reported = ap (λ t. t.reported) b.account;
+      };
       kept = ap (λ t. t.kept) b.account;
       acted = none;
     });

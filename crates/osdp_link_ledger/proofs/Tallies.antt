@@ -1,4 +1,4 @@
--- What each step adds to a history is what its move adds to an account.
+-- What a history says and what accounts say, as plain lists: what each step adds to the ones its move adds to the others.
 use Rattle.std.proofs.Common.{◌≡◌, ℕ, Bool, true, false, List, [], ◌∷◌, ◌++◌, flat_map, is_some, map, Option, Some, None, refl, sym, ap, ◌∙◌, append_assoc}
 use Rattle.std.proofs.lemmas.Grind.{flat_map-append}
 use Rattle.std.proofs.lemmas.List.{append-nil, map-append}
@@ -13,68 +13,125 @@ use Rattle.osdp_msg.specs.declared.reply.Reply.TheVariants as reply
 use Rattle.osdp_controller.specs.declared.report.Report.{Report}
 use Rattle.osdp_controller.specs.declared.report.Report.TheVariants as report
 use Rattle.osdp_controller.specs.declared.state.State.{State}
-use Rattle.osdp_controller.specs.declared.state.State.TheVariants.{Closed, Quiet, Idle, Waiting, Pausing}
-use Rattle.osdp_ledger.specs.History.{AfterReport, CutOff, End, Forgotten, GivenBack, History, InDoubt, Left, Settled, TakenBack, ThrownAway, ends_at_restart, runs, steps_on}
+use Rattle.osdp_controller.specs.declared.state.State.TheVariants.{Closed, Quiet, Idle}
+use Rattle.osdp_ledger.specs.History.{AfterReport, End, Forgotten, GivenBack, History, InDoubt, Left, Settled, TakenBack, ThrownAway, ends_at_restart, runs, steps_on}
 use Rattle.osdp_ledger.specs.Ledger as ledger
-use Rattle.osdp_ledger.specs.Ledger.{Card, Ledger, NoOffer, Offer, Order, Reported, RestartDevice, RestartPanel, Unreported}
+use Rattle.osdp_ledger.specs.Ledger.{Card, Ledger, NoOffer, Offer, Order, RestartDevice, RestartPanel}
 use Rattle.osdp_link_laws.specs.Link as link
 use Rattle.osdp_link_laws.specs.Link.{Account, Removal, after_report, outstanding_command}
 use Rattle.osdp_link_laws.specs.Sessions.{in_all}
 use Rattle.osdp_link_ledger.specs.Accounts.{cut_off_as, doubted_as, removed_as, settled_as, taken_back_as}
 use Rattle.osdp_link_ledger.specs.Laws.{is_under_way}
 use Rattle.osdp_link_ledger.specs.Steps.{acts_on, card_at, leaves, offered_at, offers, opens, order_acted, order_at, told, withdraws, withdraws_event}
-use Rattle.osdp_link_ledger.proofs.Lists.{commands}
+use Rattle.osdp_link_ledger.proofs.Lists.{commands, events}
 
-abbrev pub asked_in : Order × Reply → Command × Reply
-asked_in d = (d.0.command, d.1)
-
-abbrev pub event_of : ℕ × Card → Event
-event_of r = r.1.event
-
-abbrev pub by_settled : Order × End → List (Command × Reply)
+abbrev by_settled : Order × End → List (Command × Reply)
 by_settled e = settled_as e.0 e.1
 
-abbrev pub by_doubt : Order × End → List Command
+abbrev by_doubt : Order × End → List Command
 by_doubt e = doubted_as e.0 e.1
 
-abbrev pub by_cut : Order × End → List Command
+abbrev by_cut : Order × End → List Command
 by_cut e = cut_off_as e.0 e.1
 
-abbrev pub by_removal : Order × End → List Removal
+abbrev by_removal : Order × End → List Removal
 by_removal e = removed_as e.0 e.1
 
-abbrev pub by_exit : Left → List Event
+abbrev by_exit : Left → List Event
 by_exit w = taken_back_as w.card w.why
 
--- how commands have ended
-pub record EndsAre (settled : List (Command × Reply)) (unsettled forgotten : List Command) (removed : List Removal) (ended : List (Order × End)) : Type 0 where
-  pub of_settled : flat_map by_settled ended ≡ settled
-  pub of_doubt : flat_map by_doubt ended ≡ unsettled
-  pub of_cut : flat_map by_cut ended ≡ forgotten
-  pub of_removal : flat_map by_removal ended ≡ removed
+abbrev asked_in : Order × Reply → Command × Reply
+asked_in d = (d.0.command, d.1)
 
-pub record Tally (cs : List Command) (es : List Event) (earlier : List Account) (t : Account) (h : History) : Type 0 where
-  pub orders : commands h.accepted ≡ cs
-  pub cards : map (λ (c : Card). c.event) h.queued ≡ es
-  pub acted : map asked_in h.acted ≡ in_all (λ t. t.given) earlier ++ t.given
-  pub ends : EndsAre (in_all (λ t. t.settled) earlier ++ t.settled) (in_all (λ t. t.unsettled) earlier ++ t.unsettled)
-      (in_all (λ t. t.forgotten) earlier ++ t.forgotten) (in_all (λ t. t.removed) earlier ++ t.removed) h.ended
-  pub reported : map event_of h.reports ≡ in_all (λ t. t.reported) earlier ++ t.reported
-  pub withdrawn : flat_map by_exit h.left ≡ in_all (λ t. t.withdrawn) earlier ++ t.withdrawn
+abbrev event_of : ℕ × Card → Event
+event_of r = r.1.event
 
--- ---- lists
+pub record Tally : Type 0 where
+  pub orders : List Command
+  pub cards : List Event
+  pub acted : List (Command × Reply)
+  pub settled : List (Command × Reply)
+  pub in_doubt : List Command
+  pub cut_off : List Command
+  pub removed : List Removal
+  pub reported : List Event
+  pub withdrawn : List Event
 
-more_flat : {A B : Type 0} (f : A → List B) (xs ys : List A) (before now : List B) → flat_map f xs ≡ before ++ now
-    → flat_map f (xs ++ ys) ≡ before ++ (now ++ flat_map f ys)
-more_flat f xs ys before now is = flat_map-append f xs ys ∙ ap (λ l. l ++ flat_map f ys) is ∙ append_assoc before now (flat_map f ys)
+abbrev pub of_history : History → Tally
+of_history h = record {
+  orders = commands h.accepted;
+  cards = events h.queued;
+  acted = map asked_in h.acted;
+  settled = flat_map by_settled h.ended;
+  in_doubt = flat_map by_doubt h.ended;
+  cut_off = flat_map by_cut h.ended;
+  removed = flat_map by_removal h.ended;
+  reported = map event_of h.reports;
+  withdrawn = flat_map by_exit h.left;
+}
 
-none_flat : {A B : Type 0} (f : A → List B) (xs ys : List A) (all : List B) → flat_map f xs ≡ all → flat_map f ys ≡ [] → flat_map f (xs ++ ys) ≡ all
-none_flat f xs ys all is none = flat_map-append f xs ys ∙ ap (λ l. l ++ flat_map f ys) is ∙ ap (λ l. all ++ l) none ∙ append-nil all
+-- of these commands and events, and these sessions, the last of them first
+abbrev pub of_accounts : List Command → List Event → List Account → Tally
+of_accounts cs es ts = record {
+  orders = cs;
+  cards = es;
+  acted = in_all (λ t. t.given) ts;
+  settled = in_all (λ t. t.settled) ts;
+  in_doubt = in_all (λ t. t.unsettled) ts;
+  cut_off = in_all (λ t. t.forgotten) ts;
+  removed = in_all (λ t. t.removed) ts;
+  reported = in_all (λ t. t.reported) ts;
+  withdrawn = in_all (λ t. t.withdrawn) ts;
+}
 
-more_mapped : {A B : Type 0} (f : A → B) (xs : List A) (x : A) (before now : List B) → map f xs ≡ before ++ now → map f (xs ++ x ∷ []) ≡ before ++ (now ++ f x ∷ [])
-more_mapped f xs x before now is = map-append f xs (x ∷ []) ∙ ap (λ l. l ++ f x ∷ []) is ∙ append_assoc before now (f x ∷ [])
+abbrev pub Tells : List Command → List Event → List Account → History → Type 0
+Tells cs es ts h = of_history h ≡ of_accounts cs es ts
 
-pub command_at : (os : List Order) (c : Command) → (order_at os c).command ≡ c
+-- more commands have ended so
+abbrev with_ends : List (Command × Reply) → List Command → List Command → List Removal → Tally → Tally
+with_ends settled in_doubt cut_off removed y = record y {
+  settled = y.settled ++ settled;
+  in_doubt = y.in_doubt ++ in_doubt;
+  cut_off = y.cut_off ++ cut_off;
+  removed = y.removed ++ removed;
+}
+
+-- ---- what a history gains
+
+ends_more : (more : List (Order × End)) (h : History) → of_history (record h { ended = h.ended ++ more })
+    ≡ with_ends (flat_map by_settled more) (flat_map by_doubt more) (flat_map by_cut more) (flat_map by_removal more) (of_history h)
+ends_more more h =
+    (λ i. record (of_history h) {
+      settled = flat_map-append by_settled h.ended more i;
+      in_doubt = flat_map-append by_doubt h.ended more i;
+      cut_off = flat_map-append by_cut h.ended more i;
+      removed = flat_map-append by_removal h.ended more i;
+    })
+
+exits_more : (more : List Left) (h : History) → of_history (record h { left = h.left ++ more })
+    ≡ record (of_history h) { withdrawn = (of_history h).withdrawn ++ flat_map by_exit more }
+exits_more more h = (λ i. record (of_history h) { withdrawn = flat_map-append by_exit h.left more i })
+
+-- none of these was taken back
+exits_none : (more : List Left) (h : History) → flat_map by_exit more ≡ [] → of_history (record h { left = h.left ++ more }) ≡ of_history h
+exits_none more h none =
+    exits_more more h
+    ∙ (λ i. record (of_history h) { withdrawn = (of_history h).withdrawn ++ none i })
+    ∙ (λ i. record (of_history h) { withdrawn = append-nil (of_history h).withdrawn i })
+
+pub submits_more : (o : Order) (cs : List Command) (es : List Event) (ts : List Account) (h : History) → Tells cs es ts h → Tells (cs ++ o.command ∷ []) es ts (steps_on (ledger.Submit o) h)
+submits_more o cs es ts h is =
+    (λ i. record (of_history h) { orders = map-append (λ (o : Order). o.command) h.accepted (o ∷ []) i })
+    ∙ (λ i. record (is i) { orders = (is i).orders ++ o.command ∷ [] })
+
+pub queues_more : (c : Card) (cs : List Command) (es : List Event) (ts : List Account) (h : History) → Tells cs es ts h → Tells cs (es ++ c.event ∷ []) ts (steps_on (ledger.Queue c) h)
+queues_more c cs es ts h is =
+    (λ i. record (of_history h) { cards = map-append (λ (c : Card). c.event) h.queued (c ∷ []) i })
+    ∙ (λ i. record (is i) { cards = (is i).cards ++ c.event ∷ [] })
+
+-- ---- the places of what is read off
+
+command_at : (os : List Order) (c : Command) → (order_at os c).command ≡ c
 command_at [] c = refl
 command_at (o ∷ os) c = refl
 
@@ -84,97 +141,33 @@ event_at (c ∷ cs) e = refl
 
 offered_event : (offer : Offer) (e : Event) → (offered_at offer e).event ≡ e
 offered_event NoOffer e = refl
-offered_event (Unreported c) e = refl
-offered_event (Reported c) e = refl
+offered_event _ e = refl
 
--- ---- how a command ends
+-- ---- a restart of the panel
 
-abbrev one_end : Order → End → List (Order × End)
-one_end o how = (o, how) ∷ []
-
-ends_settled : (before settled : List (Command × Reply)) (unsettled forgotten : List Command) (removed : List Removal) (ended : List (Order × End)) (o : Order) (c : Command) (a : Reply)
-    → o.command ≡ c → EndsAre (before ++ settled) unsettled forgotten removed ended
-    → EndsAre (before ++ (settled ++ (c, a) ∷ [])) unsettled forgotten removed (ended ++ one_end o (Settled a))
-ends_settled before settled unsettled forgotten removed ended o c a is i = record {
-  of_settled = more_flat by_settled ended (one_end o (Settled a)) before settled i.of_settled ∙ ap (λ x. before ++ (settled ++ (x, a) ∷ [])) is;
-  of_doubt = none_flat by_doubt ended (one_end o (Settled a)) unsettled i.of_doubt refl;
-  of_cut = none_flat by_cut ended (one_end o (Settled a)) forgotten i.of_cut refl;
-  of_removal = none_flat by_removal ended (one_end o (Settled a)) removed i.of_removal refl;
-}
-
-ends_doubted : (settled : List (Command × Reply)) (before unsettled forgotten : List Command) (removed : List Removal) (ended : List (Order × End)) (o : Order) (c : Command)
-    → o.command ≡ c → EndsAre settled (before ++ unsettled) forgotten removed ended
-    → EndsAre settled (before ++ (unsettled ++ c ∷ [])) forgotten removed (ended ++ one_end o InDoubt)
-ends_doubted settled before unsettled forgotten removed ended o c is i = record {
-  of_settled = none_flat by_settled ended (one_end o InDoubt) settled i.of_settled refl;
-  of_doubt = more_flat by_doubt ended (one_end o InDoubt) before unsettled i.of_doubt ∙ ap (λ x. before ++ (unsettled ++ x ∷ [])) is;
-  of_cut = none_flat by_cut ended (one_end o InDoubt) forgotten i.of_cut refl;
-  of_removal = none_flat by_removal ended (one_end o InDoubt) removed i.of_removal refl;
-}
-
-ends_given_back : (settled : List (Command × Reply)) (unsettled forgotten : List Command) (before removed : List Removal) (ended : List (Order × End)) (o : Order) (c : Command)
-    → o.command ≡ c → EndsAre settled unsettled forgotten (before ++ removed) ended
-    → EndsAre settled unsettled forgotten (before ++ (removed ++ link.Withdrawn c ∷ [])) (ended ++ one_end o GivenBack)
-ends_given_back settled unsettled forgotten before removed ended o c is i = record {
-  of_settled = none_flat by_settled ended (one_end o GivenBack) settled i.of_settled refl;
-  of_doubt = none_flat by_doubt ended (one_end o GivenBack) unsettled i.of_doubt refl;
-  of_cut = none_flat by_cut ended (one_end o GivenBack) forgotten i.of_cut refl;
-  of_removal = more_flat by_removal ended (one_end o GivenBack) before removed i.of_removal ∙ ap (λ x. before ++ (removed ++ link.Withdrawn x ∷ [])) is;
-}
-
--- those that wait are forgotten
-abbrev forgets : List Order → List (Order × End)
-forgets = map (λ o. (o, Forgotten))
-
-none_settled : (os : List Order) → flat_map by_settled (forgets os) ≡ []
-none_settled [] = refl
-none_settled (o ∷ os) = none_settled os
-
-none_doubted : (os : List Order) → flat_map by_doubt (forgets os) ≡ []
-none_doubted [] = refl
-none_doubted (o ∷ os) = none_doubted os
-
-none_cut : (os : List Order) → flat_map by_cut (forgets os) ≡ []
-none_cut [] = refl
-none_cut (o ∷ os) = none_cut os
-
-all_thrown : (os : List Order) → flat_map by_removal (forgets os) ≡ map link.ThrownAway (commands os)
-all_thrown [] = refl
-all_thrown (o ∷ os) = ap (λ l. link.ThrownAway o.command ∷ l) (all_thrown os)
-
--- the panel loses power: these ends come to these lists
+-- these ends come to these lists
 pub record EndsAtRestart (out waiting : List Command) (more : List (Order × End)) : Type 0 where
   pub of_settled : flat_map by_settled more ≡ []
   pub of_doubt : flat_map by_doubt more ≡ []
   pub of_cut : flat_map by_cut more ≡ out
   pub of_removal : flat_map by_removal more ≡ map link.ThrownAway waiting
 
-forgets_all : (ahead : List Order) (waiting : List Command) → commands ahead ≡ waiting → EndsAtRestart [] waiting (forgets ahead)
-forgets_all ahead waiting is = record {
-  of_settled = none_settled ahead;
-  of_doubt = none_doubted ahead;
-  of_cut = none_cut ahead;
-  of_removal = all_thrown ahead ∙ ap (map link.ThrownAway) is;
-}
-
-cuts_front : (o : Order) (os : List Order) (c : Command) (waiting : List Command) → commands (o ∷ os) ≡ c ∷ waiting
-    → EndsAtRestart (c ∷ []) waiting ((o, CutOff) ∷ forgets os)
-cuts_front o os c waiting is =
-    let same : o.command ≡ c = cc in
-    let others : commands os ≡ waiting = cc in
+forgets_all : (os : List Order) (waiting : List Command) → commands os ≡ waiting → EndsAtRestart [] waiting (map (λ o. (o, Forgotten)) os)
+forgets_all [] waiting is = record { of_settled = refl; of_doubt = refl; of_cut = refl; of_removal = ap (map link.ThrownAway) is }
+forgets_all (o ∷ os) waiting is =
+    let rest = forgets_all os (commands os) refl in
     record {
-      of_settled = none_settled os;
-      of_doubt = none_doubted os;
-      of_cut = ap (λ l. o.command ∷ l) (none_cut os) ∙ ap (λ x. x ∷ []) same;
-      of_removal = all_thrown os ∙ ap (map link.ThrownAway) others;
+      of_settled = rest.of_settled;
+      of_doubt = rest.of_doubt;
+      of_cut = rest.of_cut;
+      of_removal = ap (λ l. link.ThrownAway o.command ∷ l) rest.of_removal ∙ ap (map link.ThrownAway) is;
     }
 
 idle_out : (state : State) → is_under_way state ≡ false → outstanding_command state ≡ None
 idle_out Closed way = refl
 idle_out (Quiet until) way = refl
 idle_out (Idle due) way = refl
-idle_out (Waiting until k o) way = absurd cc
-idle_out (Pausing until o) way = absurd cc
+idle_out _ way = absurd cc
 
 pub ends_at : (state : State) (waiting : List Command) (g : Ledger) (out : Option Command) → outstanding_command state ≡ out → g.is_open ≡ is_under_way state
     → commands g.ahead ≡ option_to_list out ++ waiting → EndsAtRestart (option_to_list out) waiting (ends_at_restart g.is_open (is_some out) g.ahead)
@@ -186,160 +179,136 @@ ends_at state waiting g out is same ahead = by_state g.is_open refl out is g.ahe
     by_state false shut (Some c) is ahead all =
         absurd (let none : None ≡ Some c = sym (idle_out state (sym same ∙ shut)) ∙ is in cc)
     by_state true going None is ahead all = forgets_all ahead waiting all
-    by_state true going (Some c) is (o ∷ os) all = cuts_front o os c waiting all
+    by_state true going (Some c) is (o ∷ os) all =
+        let same : o.command ≡ c = cc in
+        let rest = forgets_all os waiting cc in
+        record { of_settled = rest.of_settled; of_doubt = rest.of_doubt; of_cut = ap (λ l. o.command ∷ l) rest.of_cut ∙ ap (λ x. x ∷ []) same; of_removal = rest.of_removal }
     by_state true going (Some c) is [] all = absurd cc
 
 module _ (cs : List Command) (es : List Event) (earlier : List Account) where
-  abbrev pub Tallies : Account → History → Type 0
-  Tallies t h = Tally cs es earlier t h
+  -- ---- what the account of the last session gains
 
-  -- the account's other lists may be others
-  pub same_account : (t u : Account) (h : History) → Tallies t h → u.given ≡ t.given → u.settled ≡ t.settled → u.unsettled ≡ t.unsettled → u.forgotten ≡ t.forgotten
-      → u.removed ≡ t.removed → u.reported ≡ t.reported → u.withdrawn ≡ t.withdrawn → Tallies u h
-  same_account t u h i given settled unsettled forgotten removed reported withdrawn = record {
-    orders = i.orders;
-    cards = i.cards;
-    acted = i.acted ∙ ap (λ l. in_all (λ t. t.given) earlier ++ l) (sym given);
-    ends = record {
-      of_settled = i.ends.of_settled ∙ ap (λ l. in_all (λ t. t.settled) earlier ++ l) (sym settled);
-      of_doubt = i.ends.of_doubt ∙ ap (λ l. in_all (λ t. t.unsettled) earlier ++ l) (sym unsettled);
-      of_cut = i.ends.of_cut ∙ ap (λ l. in_all (λ t. t.forgotten) earlier ++ l) (sym forgotten);
-      of_removal = i.ends.of_removal ∙ ap (λ l. in_all (λ t. t.removed) earlier ++ l) (sym removed);
-    };
-    reported = i.reported ∙ ap (λ l. in_all (λ t. t.reported) earlier ++ l) (sym reported);
-    withdrawn = i.withdrawn ∙ ap (λ l. in_all (λ t. t.withdrawn) earlier ++ l) (sym withdrawn);
-  }
+  abbrev pub Now : Account → History → Type 0
+  Now t h = Tells cs es (t ∷ earlier) h
+
+  abbrev said : Account → Tally
+  said t = of_accounts cs es (t ∷ earlier)
+
+  told_settled : (more : List (Command × Reply)) (t : Account) → with_ends more [] [] [] (said t) ≡ said (record t { settled = t.settled ++ more })
+  told_settled more t =
+      (λ i. record (said t) {
+        settled = append_assoc (in_all (λ t. t.settled) earlier) t.settled more i;
+        in_doubt = append-nil (said t).in_doubt i;
+        cut_off = append-nil (said t).cut_off i;
+        removed = append-nil (said t).removed i;
+      })
+
+  told_in_doubt : (more : List Command) (t : Account) → with_ends [] more [] [] (said t) ≡ said (record t { unsettled = t.unsettled ++ more })
+  told_in_doubt more t =
+      (λ i. record (said t) {
+        settled = append-nil (said t).settled i;
+        in_doubt = append_assoc (in_all (λ t. t.unsettled) earlier) t.unsettled more i;
+        cut_off = append-nil (said t).cut_off i;
+        removed = append-nil (said t).removed i;
+      })
+
+  told_removed : (out : List Command) (more : List Removal) (t : Account)
+      → with_ends [] [] out more (said t) ≡ said (record t { forgotten = t.forgotten ++ out; removed = t.removed ++ more })
+  told_removed out more t =
+      (λ i. record (said t) {
+        settled = append-nil (said t).settled i;
+        in_doubt = append-nil (said t).in_doubt i;
+        cut_off = append_assoc (in_all (λ t. t.forgotten) earlier) t.forgotten out i;
+        removed = append_assoc (in_all (λ t. t.removed) earlier) t.removed more i;
+      })
+
+  told_withdrawn : (more : List Event) (t : Account) → record (said t) { withdrawn = (said t).withdrawn ++ more } ≡ said (record t { withdrawn = t.withdrawn ++ more })
+  told_withdrawn more t = (λ i. record (said t) { withdrawn = append_assoc (in_all (λ t. t.withdrawn) earlier) t.withdrawn more i })
 
   -- ---- reports
 
-  settles : (t : Account) (h : History) (g : Ledger) (c : Command) (a : Reply) → Tallies t h
-      → Tallies (record t { settled = t.settled ++ (c, a) ∷ [] }) (steps_on (ledger.Settle (order_at g.ahead c) a) h)
-  settles t h g c a i = record {
-    orders = i.orders;
-    cards = i.cards;
-    acted = i.acted;
-    ends = ends_settled (in_all (λ t. t.settled) earlier) t.settled (in_all (λ t. t.unsettled) earlier ++ t.unsettled) (in_all (λ t. t.forgotten) earlier ++ t.forgotten)
-        (in_all (λ t. t.removed) earlier ++ t.removed) h.ended (order_at g.ahead c) c a (command_at g.ahead c) i.ends;
-    reported = i.reported;
-    withdrawn = i.withdrawn;
-  }
+  settles : (t : Account) (h : History) (g : Ledger) (c : Command) (a : Reply) → Now t h
+      → Now (record t { settled = t.settled ++ (c, a) ∷ [] }) (steps_on (ledger.Settle (order_at g.ahead c) a) h)
+  settles t h g c a is =
+      ends_more ((order_at g.ahead c, Settled a) ∷ []) h
+      ∙ (λ i. with_ends ((command_at g.ahead c i, a) ∷ []) [] [] [] (is i))
+      ∙ told_settled ((c, a) ∷ []) t
 
-  doubts : (t : Account) (h : History) (g : Ledger) (c : Command) → Tallies t h
-      → Tallies (record t { unsettled = t.unsettled ++ c ∷ [] }) (steps_on (ledger.Doubt (order_at g.ahead c)) h)
-  doubts t h g c i = record {
-    orders = i.orders;
-    cards = i.cards;
-    acted = i.acted;
-    ends = ends_doubted (in_all (λ t. t.settled) earlier ++ t.settled) (in_all (λ t. t.unsettled) earlier) t.unsettled (in_all (λ t. t.forgotten) earlier ++ t.forgotten)
-        (in_all (λ t. t.removed) earlier ++ t.removed) h.ended (order_at g.ahead c) c (command_at g.ahead c) i.ends;
-    reported = i.reported;
-    withdrawn = i.withdrawn;
-  }
+  doubts : (t : Account) (h : History) (g : Ledger) (c : Command) → Now t h
+      → Now (record t { unsettled = t.unsettled ++ c ∷ [] }) (steps_on (ledger.Doubt (order_at g.ahead c)) h)
+  doubts t h g c is =
+      ends_more ((order_at g.ahead c, InDoubt) ∷ []) h
+      ∙ (λ i. with_ends [] (command_at g.ahead c i ∷ []) [] [] (is i))
+      ∙ told_in_doubt (c ∷ []) t
 
-  reports_one : (t : Account) (h : History) (g : Ledger) (e : Event) → Tallies t h
-      → Tallies (record t { reported = t.reported ++ e ∷ [] }) (steps_on (ledger.Report (offered_at g.offer e)) h)
-  reports_one t h g e i = record {
-    orders = i.orders;
-    cards = i.cards;
-    acted = i.acted;
-    ends = i.ends;
-    reported = more_mapped event_of h.reports (h.sessions, offered_at g.offer e) (in_all (λ t. t.reported) earlier) t.reported i.reported
-        ∙ ap (λ x. in_all (λ t. t.reported) earlier ++ (t.reported ++ x ∷ [])) (offered_event g.offer e);
-    withdrawn = i.withdrawn;
-  }
+  reports_one : (t : Account) (h : History) (g : Ledger) (e : Event) → Now t h
+      → Now (record t { reported = t.reported ++ e ∷ [] }) (steps_on (ledger.Report (offered_at g.offer e)) h)
+  reports_one t h g e is =
+      (λ i. record (of_history h) { reported = map-append event_of h.reports ((h.sessions, offered_at g.offer e) ∷ []) i })
+      ∙ (λ i. record (is i) { reported = (is i).reported ++ offered_event g.offer e i ∷ [] })
+      ∙ (λ i. record (said t) { reported = append_assoc (in_all (λ t. t.reported) earlier) t.reported (e ∷ []) i })
 
-  closes : (t : Account) (h : History) → Tallies t h → Tallies t (steps_on ledger.Close h)
-  closes t h i = record { orders = i.orders; cards = i.cards; acted = i.acted; ends = i.ends; reported = i.reported; withdrawn = i.withdrawn }
+  pub tells : (r : Option Report) (t : Account) (h : History) (g : Ledger) → Now t h → Now (after_report r t) (runs (told r g) h)
+  tells (Some (report.Settled c a)) t h g is = settles t h g c a is
+  tells (Some (report.Moved c a)) t h g is = settles t h g c (reply.Com a) is
+  tells (Some (report.Event e)) t h g is = reports_one t h g e is
+  tells (Some (report.Lost cause (Some c))) t h g is = doubts t h g c is
+  tells (Some (report.Lost cause None)) t h g is =
+      is ∙ (λ i. record (said t) { in_doubt = ap (λ l. in_all (λ t. t.unsettled) earlier ++ l) (sym (append-nil t.unsettled)) i })
+  tells (Some (report.Opened id)) t h g is = is
+  tells (Some (report.PollAnswered answer)) t h g is = is
+  tells (Some (report.Unread c code)) t h g is = is
+  tells None t h g is = is
 
-  pub tells : (r : Option Report) (t : Account) (h : History) (g : Ledger) → Tallies t h → Tallies (after_report r t) (runs (told r g) h)
-  tells None t h g i = i
-  tells (Some (report.Opened id)) t h g i = i
-  tells (Some (report.PollAnswered answer)) t h g i = i
-  tells (Some (report.Settled c a)) t h g i = settles t h g c a i
-  tells (Some (report.Moved c a)) t h g i =
-      closes (record t { settled = t.settled ++ (c, reply.Com a) ∷ [] }) (steps_on (ledger.Settle (order_at g.ahead c) (reply.Com a)) h) (settles t h g c (reply.Com a) i)
-  tells (Some (report.Event e)) t h g i = reports_one t h g e i
-  tells (Some (report.Unread c code)) t h g i = closes t h i
-  tells (Some (report.Lost cause (Some c))) t h g i = doubts t h g c i
-  tells (Some (report.Lost cause None)) t h g i =
-      same_account t (record t { unsettled = t.unsettled ++ [] }) (steps_on ledger.Close h) (closes t h i) refl refl (append-nil t.unsettled) refl refl refl refl
-
-  pub opening : (state : State) (frame : Option Packet) (t : Account) (h : History) → Tallies t h → Tallies t (runs (opens state frame) h)
-  opening (Quiet until) (Some frame) t h i =
-      record { orders = i.orders; cards = i.cards; acted = i.acted; ends = i.ends; reported = i.reported; withdrawn = i.withdrawn }
-  opening (Quiet until) None t h i = i
-  opening Closed frame t h i = i
-  opening (Idle due) frame t h i = i
-  opening (Waiting until k o) frame t h i = i
-  opening (Pausing until o) frame t h i = i
+  pub opening : (state : State) (frame : Option Packet) (t : Account) (h : History) → Now t h → Now t (runs (opens state frame) h)
+  opening (Quiet until) (Some frame) t h is = is
+  opening (Quiet until) None t h is = is
+  opening Closed frame t h is = is
+  opening _ frame t h is = is
 
   -- ---- the device
 
-  pub leaving_tally : (front : List Event) (t : Account) (h : History) (g : Ledger) → Tallies t h → Tallies t (runs (leaves front g) h)
-  leaving_tally [] t h g i = i
-  leaving_tally (e ∷ rest) t h g i = record {
-    orders = i.orders;
-    cards = i.cards;
-    acted = i.acted;
-    ends = i.ends;
-    reported = i.reported;
-    withdrawn = none_flat by_exit h.left (record { session = h.sessions; card = card_at g.cards e; why = AfterReport } ∷ []) (in_all (λ t. t.withdrawn) earlier ++ t.withdrawn) i.withdrawn refl;
-  }
+  pub leaving_tally : (front : List Event) (t : Account) (h : History) (g : Ledger) → Now t h → Now t (runs (leaves front g) h)
+  leaving_tally [] t h g is = is
+  leaving_tally (e ∷ rest) t h g is = exits_none (record { session = h.sessions; card = card_at g.cards e; why = AfterReport } ∷ []) h refl ∙ is
 
-  offering_tally : (event : Option Event) (t : Account) (h : History) (g : Ledger) → Tallies t h → Tallies t (runs (offers event g) h)
-  offering_tally None t h g i = i
-  offering_tally (Some e) t h g i =
-      record { orders = i.orders; cards = i.cards; acted = i.acted; ends = i.ends; reported = i.reported; withdrawn = i.withdrawn }
+  offering_tally : (event : Option Event) (t : Account) (h : History) (g : Ledger) → Now t h → Now t (runs (offers event g) h)
+  offering_tally None t h g is = is
+  offering_tally (Some e) t h g is = is
 
-  acted_tally : (c : Command) (a : Reply) (t : Account) (h : History) (g : Ledger) → Tallies t h
-      → Tallies (record t { taken = t.taken ++ c ∷ []; given = t.given ++ (c, a) ∷ [] }) (steps_on (ledger.Act (order_acted c g) a) h)
-  acted_tally c a t h g i = record {
-    orders = i.orders;
-    cards = i.cards;
-    acted = more_mapped asked_in h.acted (order_acted c g, a) (in_all (λ t. t.given) earlier) t.given i.acted
-        ∙ ap (λ x. in_all (λ t. t.given) earlier ++ (t.given ++ (x, a) ∷ [])) (command_at (if g.is_open then g.ahead else option_to_list g.late) c);
-    ends = i.ends;
-    reported = i.reported;
-    withdrawn = i.withdrawn;
-  }
+  acted_tally : (c : Command) (a : Reply) (t : Account) (h : History) (g : Ledger) → Now t h
+      → Now (record t { taken = t.taken ++ c ∷ []; given = t.given ++ (c, a) ∷ [] }) (steps_on (ledger.Act (order_acted c g) a) h)
+  acted_tally c a t h g is =
+      (λ i. record (of_history h) { acted = map-append asked_in h.acted ((order_acted c g, a) ∷ []) i })
+      ∙ (λ i. record (is i) { acted = (is i).acted ++ (command_at (if g.is_open then g.ahead else option_to_list g.late) c i, a) ∷ [] })
+      ∙ (λ i. record (said t) { acted = append_assoc (in_all (λ t. t.given) earlier) t.given ((c, a) ∷ []) i })
 
-  pub taking_tally : (c : Command) (a : Reply) (front : List Event) (t : Account) (h : History) (g : Ledger) → Tallies t h
-      → Tallies (link.taken_command c (Some a) front t) (runs (acts_on c a g) h)
-  taking_tally command.Poll a front t h g i =
-      same_account t (record t { offered = t.offered ++ front }) (runs (offers (event_in a) g) h) (offering_tally (event_in a) t h g i) refl refl refl refl refl refl refl
-  taking_tally c a front t h g i = acted_tally c a t h g i
+  pub taking_tally : (c : Command) (a : Reply) (front : List Event) (t : Account) (h : History) (g : Ledger) → Now t h
+      → Now (link.taken_command c (Some a) front t) (runs (acts_on c a g) h)
+  taking_tally command.Poll a front t h g is = offering_tally (event_in a) t h g is
+  taking_tally c a front t h g is = acted_tally c a t h g is
 
   -- ---- programs
 
-  pub withdrawing_tally : (out : Option Command) (t : Account) (h : History) (g : Ledger) → Tallies t h
-      → Tallies (record t { removed = t.removed ++ map link.Withdrawn (option_to_list out) }) (runs (withdraws out g) h)
-  withdrawing_tally None t h g i =
-      same_account t (record t { removed = t.removed ++ [] }) h i refl refl refl refl (append-nil t.removed) refl refl
-  withdrawing_tally (Some c) t h g i = record {
-    orders = i.orders;
-    cards = i.cards;
-    acted = i.acted;
-    ends = ends_given_back (in_all (λ t. t.settled) earlier ++ t.settled) (in_all (λ t. t.unsettled) earlier ++ t.unsettled) (in_all (λ t. t.forgotten) earlier ++ t.forgotten)
-        (in_all (λ t. t.removed) earlier) t.removed h.ended (order_at g.ahead c) c (command_at g.ahead c) i.ends;
-    reported = i.reported;
-    withdrawn = i.withdrawn;
-  }
+  pub withdrawing_tally : (out : Option Command) (t : Account) (h : History) (g : Ledger) → Now t h
+      → Now (record t { removed = t.removed ++ map link.Withdrawn (option_to_list out) }) (runs (withdraws out g) h)
+  withdrawing_tally None t h g is =
+      is ∙ (λ i. record (said t) { removed = ap (λ l. in_all (λ t. t.removed) earlier ++ l) (sym (append-nil t.removed)) i })
+  withdrawing_tally (Some c) t h g is =
+      ends_more ((order_at g.ahead c, GivenBack) ∷ []) h
+      ∙ (λ i. with_ends [] [] [] (link.Withdrawn (command_at g.ahead c i) ∷ []) (is i))
+      ∙ told_removed [] (link.Withdrawn c ∷ []) t
+      ∙ (λ i. record (said (record t { removed = t.removed ++ link.Withdrawn c ∷ [] })) { cut_off = in_all (λ t. t.forgotten) earlier ++ append-nil t.forgotten i })
 
-  pub withdrawing_event_tally : (out : Option Event) (ever : Bool) (stayed kept : List Event) (t : Account) (h : History) (g : Ledger) → Tallies t h
-      → Tallies (record t { withdrawn = t.withdrawn ++ option_to_list out; stayed = stayed; kept = kept }) (runs (withdraws_event out ever g) h)
-  withdrawing_event_tally None ever stayed kept t h g i =
-      same_account t (record t { withdrawn = t.withdrawn ++ []; stayed = stayed; kept = kept }) h i refl refl refl refl refl refl (append-nil t.withdrawn)
-  withdrawing_event_tally (Some e) ever stayed kept t h g i =
-      let card = card_at (if ever then drop 1 g.cards else g.cards) e in
-      record {
-        orders = i.orders;
-        cards = i.cards;
-        acted = i.acted;
-        ends = i.ends;
-        reported = i.reported;
-        withdrawn = more_flat by_exit h.left (record { session = h.sessions; card = card; why = TakenBack } ∷ []) (in_all (λ t. t.withdrawn) earlier) t.withdrawn i.withdrawn
-            ∙ ap (λ x. in_all (λ t. t.withdrawn) earlier ++ (t.withdrawn ++ x ∷ [])) (event_at (if ever then drop 1 g.cards else g.cards) e);
-      }
+  pub withdrawing_event_tally : (out : Option Event) (ever : Bool) (stayed kept : List Event) (t : Account) (h : History) (g : Ledger) → Now t h
+      → Now (record t { withdrawn = t.withdrawn ++ option_to_list out; stayed = stayed; kept = kept }) (runs (withdraws_event out ever g) h)
+  withdrawing_event_tally None ever stayed kept t h g is =
+      is ∙ (λ i. record (said t) { withdrawn = ap (λ l. in_all (λ t. t.withdrawn) earlier ++ l) (sym (append-nil t.withdrawn)) i })
+  withdrawing_event_tally (Some e) ever stayed kept t h g is =
+      let cards = if ever then drop 1 g.cards else g.cards in
+      exits_more (record { session = h.sessions; card = card_at cards e; why = TakenBack } ∷ []) h
+      ∙ (λ i. record (is i) { withdrawn = (is i).withdrawn ++ event_at cards e i ∷ [] })
+      ∙ told_withdrawn (e ∷ []) t
 
   -- ---- power
 
@@ -347,34 +316,27 @@ module _ (cs : List Command) (es : List Event) (earlier : List Account) where
   none_back sessions [] = refl
   none_back sessions (c ∷ cards) = none_back sessions cards
 
-  pub device_tally : (kept thrown : List Event) (count : ℕ) (t : Account) (h : History) → Tallies t h
-      → Tallies (record t { kept = kept; thrown_away = thrown; restarts = count }) (steps_on RestartDevice h)
-  device_tally kept thrown count t h i = record {
-    orders = i.orders;
-    cards = i.cards;
-    acted = i.acted;
-    ends = i.ends;
-    reported = i.reported;
-    withdrawn = none_flat by_exit h.left (map (λ c. record { session = h.sessions; card = c; why = ThrownAway }) h.ledger.cards) (in_all (λ t. t.withdrawn) earlier ++ t.withdrawn)
-        i.withdrawn (none_back h.sessions h.ledger.cards);
-  }
+  pub device_tally : (kept thrown : List Event) (count : ℕ) (t : Account) (h : History) → Now t h
+      → Now (record t { kept = kept; thrown_away = thrown; restarts = count }) (steps_on RestartDevice h)
+  device_tally kept thrown count t h is =
+      exits_none (map (λ c. record { session = h.sessions; card = c; why = ThrownAway }) h.ledger.cards) h (none_back h.sessions h.ledger.cards) ∙ is
 
   pub panel_tally : (out waiting : List Command) (on_wire : Bool) (t : Account) (h : History) → EndsAtRestart out waiting (ends_at_restart h.ledger.is_open on_wire h.ledger.ahead)
-      → Tallies t h → Tallies (record t { forgotten = t.forgotten ++ out; removed = t.removed ++ map link.ThrownAway waiting }) (steps_on (RestartPanel on_wire) h)
-  panel_tally out waiting on_wire t h at i =
-      let more = ends_at_restart h.ledger.is_open on_wire h.ledger.ahead in
-      record {
-        orders = i.orders;
-        cards = i.cards;
-        acted = i.acted;
-        ends = record {
-          of_settled = none_flat by_settled h.ended more (in_all (λ t. t.settled) earlier ++ t.settled) i.ends.of_settled at.of_settled;
-          of_doubt = none_flat by_doubt h.ended more (in_all (λ t. t.unsettled) earlier ++ t.unsettled) i.ends.of_doubt at.of_doubt;
-          of_cut = more_flat by_cut h.ended more (in_all (λ t. t.forgotten) earlier) t.forgotten i.ends.of_cut
-              ∙ ap (λ l. in_all (λ t. t.forgotten) earlier ++ (t.forgotten ++ l)) at.of_cut;
-          of_removal = more_flat by_removal h.ended more (in_all (λ t. t.removed) earlier) t.removed i.ends.of_removal
-              ∙ ap (λ l. in_all (λ t. t.removed) earlier ++ (t.removed ++ l)) at.of_removal;
-        };
-        reported = i.reported;
-        withdrawn = i.withdrawn;
-      }
+      → Now t h → Now (record t { forgotten = t.forgotten ++ out; removed = t.removed ++ map link.ThrownAway waiting }) (steps_on (RestartPanel on_wire) h)
+  panel_tally out waiting on_wire t h at is =
+      ends_more (ends_at_restart h.ledger.is_open on_wire h.ledger.ahead) h
+      ∙ (λ i. with_ends (at.of_settled i) (at.of_doubt i) (at.of_cut i) (at.of_removal i) (is i))
+      ∙ told_removed out (map link.ThrownAway waiting) t
+
+  -- another session begins
+  pub begins_anew : (waiting : List Command) (queue : List Event) (t : Account) (h : History) → Now t h → Tells cs es (link.new_account waiting queue ∷ t ∷ earlier) h
+  begins_anew waiting queue t h is =
+      is ∙ (λ i. record (said t) {
+        acted = sym (append-nil (said t).acted) i;
+        settled = sym (append-nil (said t).settled) i;
+        in_doubt = sym (append-nil (said t).in_doubt) i;
+        cut_off = sym (append-nil (said t).cut_off) i;
+        removed = sym (append-nil (said t).removed) i;
+        reported = sym (append-nil (said t).reported) i;
+        withdrawn = sym (append-nil (said t).withdrawn) i;
+      })

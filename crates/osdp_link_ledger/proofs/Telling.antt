@@ -80,18 +80,14 @@ busy_in (Waiting until k o) number s e =
     (refl, refl) (refl, refl)) (ignored (Waiting until k o) s e)
 busy_in (Pausing until o) number s e =
     both (Told (Pausing until o)) (is_numbered number NotTaken s) (ignores s) (ignores s) (ignored (Pausing until o) s e) (ignored (Pausing until o) s e)
-busy_in Closed number s e = ignored Closed s e
-busy_in (Quiet until) number s e = ignored (Quiet until) s e
-busy_in (Idle due) number s e = ignored (Idle due) s e
+busy_in state number s e = ignored state s e
 
 refused_in : (state : State) (number : ℕ) (s : Session) → s.state ≡ state → Told state (hears_in state number NumberRefused s)
 refused_in (Waiting until k o) number s e =
     both (Told (Waiting until k o)) (is_numbered number NumberRefused s) (loses cause.NumberRefused o s) (ignores s) (refl, refl) (ignored (Waiting until k o) s e)
 refused_in (Pausing until o) number s e =
     both (Told (Pausing until o)) (is_numbered number NumberRefused s) (loses cause.NumberRefused o s) (ignores s) (refl, refl) (ignored (Pausing until o) s e)
-refused_in Closed number s e = ignored Closed s e
-refused_in (Quiet until) number s e = ignored (Quiet until) s e
-refused_in (Idle due) number s e = ignored (Idle due) s e
+refused_in state number s e = ignored state s e
 
 plain_in : (state : State) (number : ℕ) (a : Reply) (s : Session) → s.state ≡ state → Told state (hears_in state number (Plain a) s)
 plain_in (Waiting until k o) number a s e =
@@ -100,9 +96,7 @@ plain_in (Waiting until k o) number a s e =
 plain_in (Pausing until o) number a s e =
     both (Told (Pausing until o)) (is_numbered number (Plain a) s) (pausing_hears (Plain a) o s) (ignores s)
     (answers (Pausing until o) s o.exchange a e (refl, refl)) (ignored (Pausing until o) s e)
-plain_in Closed number a s e = ignored Closed s e
-plain_in (Quiet until) number a s e = ignored (Quiet until) s e
-plain_in (Idle due) number a s e = ignored (Idle due) s e
+plain_in state number a s e = ignored state s e
 
 -- what a packet that can be read tells
 pub heard_tells : (p : Packet) (now : ℕ) (s : Session) → IsRead p → Told s.state (hears p now s)
@@ -151,10 +145,7 @@ TickIs state waiting t = IsQuietTick state waiting t ⊎ (IsOpening state waitin
 
 opens_none : (state : State) → opens state None ≡ []
 opens_none (Quiet until) = refl
-opens_none Closed = refl
-opens_none (Idle due) = refl
-opens_none (Waiting until k o) = refl
-opens_none (Pausing until o) = refl
+opens_none _ = refl
 
 staying : (state : State) (s : Session) (waiting : List Command) → s.state ≡ state → TickIs state waiting (stays s waiting)
 staying state s waiting e = inl (record {

@@ -96,17 +96,21 @@ pub record OffersAre (q : EventQueue) (kept offered reported : List Event) (offe
   pub front : q.offered ≡ true → (offered ≡ []) ⊎ IsOfferedFront offer cards
   pub counts : length kept ≡ length offered + length (not_offered offer cards)
 
+-- nothing has happened in a session
+pub record AreEmpty (answers settles : List (Command × Reply)) (offers reports : List Event) : Type 0 where
+  pub given : answers ≡ []
+  pub settled : settles ≡ []
+  pub offered : offers ≡ []
+  pub reported : reports ≡ []
+
 -- no packet of the session has gone out yet
-pub record IsUnopened (state : State) (q : EventQueue) (ps qs : List Packet) (t : Account) (g : Ledger) : Type 0 where
+pub record IsUnopened (state : State) (ps qs : List Packet) (answers settles : List (Command × Reply)) (offers reports stays events : List Event) (done : Option Reply) : Type 0 where
   pub way : is_under_way state ≡ false
   pub to_reader : ps ≡ []
   pub to_controller : qs ≡ []
-  pub given : t.given ≡ []
-  pub settled : t.settled ≡ []
-  pub offered : t.offered ≡ []
-  pub reported : t.reported ≡ []
-  pub kept : t.kept ≡ q.events
-  pub acted : g.acted ≡ None
+  pub empty : AreEmpty answers settles offers reports
+  pub kept : stays ≡ events
+  pub acted : done ≡ None
 
 pub record IsUnderWay (state : State) (q : EventQueue) (t : Account) (g : Ledger) : Type 0 where
   pub way : is_under_way state ≡ true
@@ -121,7 +125,8 @@ pub record IsOver (state : State) (waiting : List Command) (q : EventQueue) (t :
   pub offers : OffersAre q t.kept t.offered t.reported g.offer g.cards
 
 abbrev pub SessionIs : State → List Command → EventQueue → List Packet → List Packet → Account → Ledger → Type 0
-SessionIs state waiting q ps qs t g = IsUnopened state q ps qs t g ⊎ (IsUnderWay state q t g ⊎ IsOver state waiting q t g)
+SessionIs state waiting q ps qs t g =
+    IsUnopened state ps qs t.given t.settled t.offered t.reported t.kept q.events g.acted ⊎ (IsUnderWay state q t g ⊎ IsOver state waiting q t g)
 
 pub record Ties (state : State) (waiting : List Command) (q : EventQueue) (ps qs : List Packet) (t : Account) (g : Ledger) : Type 0 where
   pub ahead : commands g.ahead ≡ out_of state ++ waiting
