@@ -139,13 +139,9 @@ module _ {H : Type 0} (answer_of : H → Command → Answer) (after : H → Comm
       moved_few (reader.new_address c) r.queue _ (record { events = fewer.0; bytes = fewer.1; capacity = refl; room = refl })
 
   pub outcome_few : (k : Kind) (r : ReaderState H) (p : Packet) → FewEvents r.queue (reader.outcome answer_of after k r p).reader.queue
-  outcome_few kind.Silent r p = record { events = omega arith; bytes = omega arith; capacity = refl; room = refl }
-  outcome_few kind.Secured r p = record { events = omega arith; bytes = omega arith; capacity = refl; room = refl }
   outcome_few kind.Zero r p = begun_few (reader.command_in p) r p
-  outcome_few kind.Repeat r p = record { events = omega arith; bytes = omega arith; capacity = refl; room = refl }
   outcome_few kind.Taken r p = taken_few (reader.command_in p) r p
-  outcome_few kind.Busy r p = record { events = omega arith; bytes = omega arith; capacity = refl; room = refl }
-  outcome_few kind.Wrong r p = record { events = omega arith; bytes = omega arith; capacity = refl; room = refl }
+  outcome_few _ r p = record { events = omega arith; bytes = omega arith; capacity = refl; room = refl }
 
   -- nothing is accepted, and no more wait
   record AcceptsNone (s t : SimState H) : Type 0 where

@@ -33,7 +33,7 @@ use Rattle.osdp_sim.specs.declared.config.SimConfig.{SimConfig}
 use Rattle.osdp_sim.specs.declared.fault.Cause.{Cause}
 use Rattle.osdp_sim.specs.declared.fault.Cause.TheVariants.{HoldsPacket, NoMemory, NotQuiet, OutOfRange}
 use Rattle.osdp_sim.specs.declared.step.SimStep.{SimStep}
-use Rattle.osdp_sim.specs.declared.step.SimStep.TheVariants.{Issue, Queue, Busy, Wait, ToReader, ToController, Reopen}
+use Rattle.osdp_sim.specs.declared.step.SimStep.TheVariants.{Issue, Queue, ToReader, ToController}
 use Rattle.osdp_sim_laws.specs.Accepted.{commands_of, events_of}
 use Rattle.osdp_sim_laws.specs.Accounts.{AreOver, IsInSession, IsOf}
 use Rattle.osdp_sim_laws.specs.Clean.{GoesInTurn, IsInTurn, IsOrder}
@@ -73,11 +73,7 @@ orders_are H (Issue number c ∷ orders) clock are =
 orders_are H (Queue number e ∷ orders) clock are =
     let rest = orders_are H orders clock are.1 in
     (each_append clean.IsOrder _ (moves_of orders clock) (there_order (number == 1) (link.Queue e) tt) rest.0, rest.1)
-orders_are H (Busy number busy ∷ orders) clock are = absurd are.0
-orders_are H (Wait wait ∷ orders) clock are = absurd are.0
-orders_are H (ToReader move ∷ orders) clock are = absurd are.0
-orders_are H (ToController move ∷ orders) clock are = absurd are.0
-orders_are H (Reopen number ∷ orders) clock are = absurd are.0
+orders_are H (_ ∷ orders) clock are = absurd are.0
 
 -- rounds order nothing
 rounds_order : (m wait : ℕ) → (commands_of (rounds m wait) ≡ []) × (events_of (rounds m wait) ≡ [])
@@ -115,11 +111,7 @@ module _ {H : Type 0} (answer_of : H → Command → Answer) (after : H → Comm
   orders_unrefused [] are = tt
   orders_unrefused (Issue number c ∷ orders) are = (λ s. refl, orders_unrefused orders are.1)
   orders_unrefused (Queue number e ∷ orders) are = (λ s. refl, orders_unrefused orders are.1)
-  orders_unrefused (Busy number busy ∷ orders) are = absurd are.0
-  orders_unrefused (Wait wait ∷ orders) are = absurd are.0
-  orders_unrefused (ToReader move ∷ orders) are = absurd are.0
-  orders_unrefused (ToController move ∷ orders) are = absurd are.0
-  orders_unrefused (Reopen number ∷ orders) are = absurd are.0
+  orders_unrefused (_ ∷ orders) are = absurd are.0
 
   rounds_unrefused : (m wait : ℕ) → Each IsUnrefused (rounds m wait)
   rounds_unrefused zero wait = tt
@@ -215,11 +207,7 @@ module _ {H : Type 0} (answer_of : H → Command → Answer) (after : H → Comm
       orders_filled config orders _ are.1
       (there_filled config (number == 1) s (steps.queued full e s) h
       (queued_filled config full e s (place_for_event e s.reader.queue) h))
-  orders_filled config (Busy number busy ∷ orders) s are h = absurd are.0
-  orders_filled config (Wait wait ∷ orders) s are h = absurd are.0
-  orders_filled config (ToReader move ∷ orders) s are h = absurd are.0
-  orders_filled config (ToController move ∷ orders) s are h = absurd are.0
-  orders_filled config (Reopen number ∷ orders) s are h = absurd are.0
+  orders_filled config (_ ∷ orders) s are h = absurd are.0
 
   -- the orders that were accepted are the first, and the rounds after them accept no more
   abbrev AreIssued : SimConfig → List SimStep → Account → Type 0

@@ -92,13 +92,8 @@ module _ {H : Type 0} (answer_of : H → Command → Answer) (after : H → Comm
       (begins_in_time answer_of after clock wait (controllers.begin_refusal l.controller) l.to_reader l.to_controller l is)
 
   clock_fits : (step : SimStep) (clock : ℕ) → clock ≤ last_moment → step_clock step clock ≤ last_moment
-  clock_fits (Issue number command) clock fits = fits
-  clock_fits (Queue number event) clock fits = fits
-  clock_fits (Busy number busy) clock fits = fits
   clock_fits (Wait wait) clock fits = (clock_on wait clock fits).1
-  clock_fits (ToReader move) clock fits = fits
-  clock_fits (ToController move) clock fits = fits
-  clock_fits (Reopen number) clock fits = fits
+  clock_fits _ clock fits = fits
 
   pub steps_in_time : (wait : ℕ) (steps : List SimStep) (clock : ℕ) (l : Link H) → clock ≤ last_moment → LinkInTime clock wait l
       → (clock_after steps clock ≤ last_moment) × LinkInTime (clock_after steps clock) wait (link.run answer_of after (moves_of steps clock) l)

@@ -28,7 +28,7 @@ use Rattle.osdp_sim.specs.declared.fault.Cause.{Cause}
 use Rattle.osdp_sim.specs.declared.fault.Fault.{Fault}
 use Rattle.osdp_sim.specs.declared.config.SimConfig.{SimConfig}
 use Rattle.osdp_sim.specs.declared.step.SimStep.{SimStep}
-use Rattle.osdp_sim.specs.declared.step.SimStep.TheVariants.{Issue, Queue, Busy, Wait, ToReader, ToController, Reopen}
+use Rattle.osdp_sim.specs.declared.step.SimStep.TheVariants.{Issue, Queue, Busy, ToReader, ToController, Reopen}
 use Rattle.osdp_sim_laws.specs.Accounts.{HasSessions, IsInSession, IsNoRefusal, IsOf, IsOnce, IsAnswer, LastsOrHasEnded, RunHasSessions, AnswersHoldOnce, WasSetUp, account_in}
 use Rattle.osdp_sim_laws.specs.OneLink.{OneLink}
 use Rattle.osdp_sim_laws.specs.Progress.{IsRun}
@@ -76,6 +76,8 @@ module _ {H : Type 0} (answer_of : H → Command → Answer) (after : H → Comm
         begins = begins config handler device;
         fit = follows.moves;
         follows = record { state = follows.carried.state; tells = follows.carried.tells };
+        issued = follows.carried.issued;
+        queued = follows.carried.queued;
       }
 
   pub last_one : (closed : Bool) (a : Account) → length a.ends + 1 ≡ length a.sessions + count closed → LastsOrHasEnded a
@@ -143,19 +145,11 @@ module _ {H : Type 0} (answer_of : H → Command → Answer) (after : H → Comm
   move_within : (m : link.Move H) (l : link.Link H) → IsWithin m → (link.after_move answer_of after m l).earlier ≡ l.earlier
   move_within (link.Submit command) l w = submits_within (controllers.submit_refusal command l.controller) command l
   move_within (link.Queue event) l w = queues_within (lacks_room event l.reader.queue) event l
-  move_within (link.SetBusy busy) l w = refl
-  move_within (link.Tick now) l w = refl
   move_within (link.ToReader how) l w = reader_within l.to_reader how l
   move_within (link.ToController how now) l w = controller_within l.to_controller how now l
   move_within (link.Reopen now) l w = absurd w
-  move_within (link.SetHandler handler) l w = refl
-  move_within link.Withdraw l w = refl
-  move_within link.WithdrawEvent l w = refl
   move_within (link.Retarget address) l w = retargets_within (controllers.retarget_refusal address l.controller) address l
-  move_within (link.RestartReader config handler room) l w = refl
-  move_within (link.RestartController config room) l w = refl
-  move_within (link.LoseToReader place) l w = refl
-  move_within (link.LoseToController place) l w = refl
+  move_within _ l w = refl
 
   pub run_within : (ms : List (link.Move H)) (l : link.Link H) → Each IsWithin ms → (link.run answer_of after ms l).earlier ≡ l.earlier
   run_within [] l w = refl
@@ -169,10 +163,8 @@ module _ {H : Type 0} (answer_of : H → Command → Answer) (after : H → Comm
   step_within (Issue number command) clock w = there_within (number == 1) (link.Submit command) tt
   step_within (Queue number event) clock w = there_within (number == 1) (link.Queue event) tt
   step_within (Busy number busy) clock w = there_within (number == 1) (link.SetBusy busy) tt
-  step_within (Wait wait) clock w = (tt, tt)
-  step_within (ToReader move) clock w = (tt, tt)
-  step_within (ToController move) clock w = (tt, tt)
   step_within (Reopen number) clock w = absurd w
+  step_within _ clock w = (tt, tt)
 
   pub steps_within : (steps : List SimStep) (clock : ℕ) → Each IsInSession steps → Each IsWithin (moves_of steps clock)
   steps_within [] clock w = tt

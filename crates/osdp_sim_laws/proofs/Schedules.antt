@@ -6,7 +6,7 @@ use Rattle.osdp_controller.specs.Machine as controllers
 use Rattle.osdp_controller.specs.States.{is_closed}
 use Rattle.osdp_controller.specs.Ticking.{ticks}
 use Rattle.osdp_controller.specs.declared.state.State.{State}
-use Rattle.osdp_controller.specs.declared.state.State.TheVariants.{Closed, Quiet, Idle, Waiting, Pausing}
+use Rattle.osdp_controller.specs.declared.state.State.TheVariants.{Closed}
 use Rattle.osdp_reader.specs.declared.handler.Answer.{Answer}
 use Rattle.osdp_reader.specs.Queue.{lacks_room}
 use Rattle.osdp_link_laws.specs.Headline.{MovesFit}
@@ -87,10 +87,7 @@ module _ {H : Type 0} (answer_of : H → Command → Answer) (after : H → Comm
   has_left : (state : State) (l : Link H) (a : Account) → controllers.refused_unless_closed state ≡ None → LastsOrLeaves state l → AreUndisturbed (l.account ∷ l.earlier)
       → length a.ends + 1 ≡ length a.sessions + count (is_closed state) → HasLeft l a
   has_left Closed l a may leaves so ended = record { leaves = leaves; undisturbed = so.0; ended = omega (arith, ended) }
-  has_left (Quiet until) l a may leaves so ended = absurd cc
-  has_left (Idle due) l a may leaves so ended = absurd cc
-  has_left (Waiting until sends o) l a may leaves so ended = absurd cc
-  has_left (Pausing until o) l a may leaves so ended = absurd cc
+  has_left _ l a may leaves so ended = absurd cc
 
   -- a step with a reader that is there or isn't
   by_number : (there : Bool) (new : SimState H) (m : link.Move H) (l : Link H) (clock : ℕ) (a : Account) → ArePackets l → IsOf a l.account l.earlier

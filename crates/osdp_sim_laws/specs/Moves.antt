@@ -8,6 +8,7 @@ use Rattle.osdp_reader.specs.declared.handler.Answer.{Answer}
 use Rattle.osdp_link_laws.specs.Headline.{Begins, MovesFit}
 use Rattle.osdp_link_laws.specs.Link as link
 use Rattle.osdp_link_laws.specs.Link.{Delivered, Delivery, Link, Lost, Repeated, new_account}
+use Rattle.osdp_link_laws.specs.Sessions.{all_queued, all_submitted}
 use Rattle.osdp_sim.specs.Account.{Account}
 use Rattle.osdp_sim.specs.Runs.{AreSettings, FitAlong, is_well, run}
 use Rattle.osdp_sim.specs.State.{SimState, room_for, set_up}
@@ -87,6 +88,9 @@ module _ {H : Type 0} where
       pub fit : MovesFit answer_of after (moves_of steps 0) (first_link config handler)
       pub follows : FollowsLink (run answer_of after steps (set_up config handler))
           (link.run answer_of after (moves_of steps 0) (first_link config handler)) (clock_after steps 0)
+      -- its account has the commands that these moves submit, and the events that they queue
+      pub issued : (run answer_of after steps (set_up config handler)).account.issued ≡ all_submitted answer_of after (moves_of steps 0) (first_link config handler)
+      pub queued : (run answer_of after steps (set_up config handler)).account.queued ≡ all_queued answer_of after (moves_of steps 0) (first_link config handler)
 
     -- each schedule is so of which no step is refused, where the settings are in their ranges and what goes over the line fits
     abbrev pub ScheduleIsMoves : Type 0

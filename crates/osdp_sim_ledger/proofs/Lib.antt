@@ -1,5 +1,4 @@
 mod Telling
-mod Queued
 mod SeveralQueued
 mod OneReader
 mod SeveralReaders

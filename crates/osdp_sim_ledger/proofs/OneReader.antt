@@ -1,5 +1,5 @@
 -- The run over a line with one reader.
-use Rattle.std.proofs.Common.{◌≡◌, ◌==◌, ℕ, Bool, true, false, if◌then◌else◌, List, [], ◌∷◌, ◌++◌, subst, sym, ◌∙◌}
+use Rattle.std.proofs.Common.{◌≡◌, ◌==◌, ℕ, Bool, true, false, if◌then◌else◌, List, [], ◌∷◌, ◌++◌, subst}
 use Rattle.osdp_msg.specs.declared.command.Command.{Command}
 use Rattle.osdp_reader.specs.declared.handler.Answer.{Answer}
 use Rattle.osdp_ledger.specs.Laws.{TellsInTurn}
@@ -7,7 +7,7 @@ use Rattle.osdp_link_laws.specs.Headline.{HoldsOnce}
 use Rattle.osdp_link_laws.specs.Link as link
 use Rattle.osdp_link_laws.specs.Link.{Move}
 use Rattle.osdp_link_laws.specs.Ordinary.{IsOrdinary, IsSteady}
-use Rattle.osdp_link_laws.specs.Sessions.{CommandsHavePlaces, all_queued, all_submitted}
+use Rattle.osdp_link_laws.specs.Sessions.{all_queued, all_submitted}
 use Rattle.osdp_link_laws.proofs.Lines.{each_all, each_append}
 use Rattle.osdp_link_laws.proofs.OrdinaryRuns.{steady_handler, steady_ordinary}
 use Rattle.osdp_link_laws.proofs.Stages.{Each}
@@ -20,14 +20,13 @@ use Rattle.osdp_sim.specs.State.{set_up}
 use Rattle.osdp_sim.specs.Steps.{StepFits, after_step, fault_of}
 use Rattle.osdp_sim.specs.declared.config.SimConfig.{SimConfig}
 use Rattle.osdp_sim.specs.declared.step.SimStep.{SimStep}
-use Rattle.osdp_sim.specs.declared.step.SimStep.TheVariants.{Busy, Issue, Queue, Reopen, ToController, ToReader, Wait}
+use Rattle.osdp_sim.specs.declared.step.SimStep.TheVariants.{Busy, Issue, Queue, Reopen}
 use Rattle.osdp_sim.proofs.Schedules.{holds_on, well_on}
 use Rattle.osdp_sim_laws.specs.Moves.{ScheduleIsMoves, first_link, move_of, moves_of, step_clock}
 use Rattle.osdp_sim_laws.specs.Progress.{IsRun}
 use Rattle.osdp_sim_laws.proofs.Holding.{answers}
 use Rattle.osdp_sim_ledger.specs.OneReader.{KeepsLedger, RunKeepsLedger, steps_of_run}
 use Rattle.osdp_sim_ledger.specs.Telling.{TellsByLedger}
-use Rattle.osdp_sim_ledger.proofs.Queued.{all_queue}
 use Rattle.osdp_sim_ledger.proofs.Telling.{tells_once}
 
 module _ {H : Type 0} where
@@ -39,10 +38,8 @@ step_steady : (H : Type 0) (x : SimStep) (clock : ℕ) → Each (IsSteady {H = H
 step_steady H (Issue number c) clock = one_steady (number == 1) (link.Submit c) tt
 step_steady H (Queue number e) clock = one_steady (number == 1) (link.Queue e) tt
 step_steady H (Busy number busy) clock = one_steady (number == 1) (link.SetBusy busy) tt
-step_steady H (Wait wait) clock = (tt, tt)
-step_steady H (ToReader move) clock = (tt, tt)
-step_steady H (ToController move) clock = (tt, tt)
 step_steady H (Reopen number) clock = one_steady (number == 1) (link.Reopen clock) tt
+step_steady H _ clock = (tt, tt)
 
 steps_steady : (H : Type 0) (xs : List SimStep) (clock : ℕ) → Each (IsSteady {H = H}) (moves_of {H = H} xs clock)
 steps_steady H [] clock = tt
@@ -62,7 +59,7 @@ module _ {H : Type 0} (answer_of : H → Command → Answer) (after : H → Comm
       }
 
   module _ (moves : ScheduleIsMoves answer_of after) (once : HoldsOnce answer_of after) (acts : ActsHaveAnswersOfOneHandler answer_of after) (told : OrdinaryMovesEndTold answer_of after)
-      (places : CommandsHavePlaces answer_of after) (keeps : LinkKeepsLedger answer_of after) (tells : LedgerTellsAccounts answer_of after)
+      (keeps : LinkKeepsLedger answer_of after) (tells : LedgerTellsAccounts answer_of after)
       (holds : HoldsByLedger answer_of after) (in_turn : TellsInTurn) where
     one_run : (config : SimConfig) (handler : H) (steps : List SimStep) → IsRun answer_of after config handler steps → KeepsLedger answer_of after config handler steps
     one_run config handler steps is =
@@ -83,8 +80,8 @@ module _ {H : Type 0} (answer_of : H → Command → Answer) (after : H → Comm
           once = once l ms m.begins m.fit;
           answers = acts l ms m.begins m.fit (steady_handler answer_of after ms l steady);
           lists = m.follows.tells;
-          issued = m.follows.tells.issued ∙ sym (places l ms m.begins m.fit);
-          queued_so = all_queue answer_of after moves config handler is.settings steps is.well is.fits;
+          issued = m.issued;
+          queued_so = m.queued;
         })
 
     pub run_keeps_ledger : RunKeepsLedger answer_of after

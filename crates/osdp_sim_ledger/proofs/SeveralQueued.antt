@@ -186,11 +186,7 @@ module _ {H : Type 0} where
         → Adds k u (moves_for x s) (after_step answer_of after x s) n
     step_adds k (Issue number c) s n u at sites = issue_adds k number c s n u at
     step_adds k (Queue number e) s n u at sites = event_adds (is_there number s) k (number - 1) e s n u at sites
-    step_adds k (Busy number busy) s n u at sites = idle_adds k (Busy number busy) s n u at tt
-    step_adds k (Wait wait) s n u at sites = idle_adds k (Wait wait) s n u at tt
-    step_adds k (ToReader move) s n u at sites = idle_adds k (ToReader move) s n u at tt
-    step_adds k (ToController move) s n u at sites = idle_adds k (ToController move) s n u at tt
-    step_adds k (Reopen number) s n u at sites = idle_adds k (Reopen number) s n u at tt
+    step_adds k x s n u at sites = idle_adds k x s n u at tt
 
     -- ---- a schedule
 

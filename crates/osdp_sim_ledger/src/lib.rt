@@ -18,7 +18,6 @@ pub fn run_keeps_ledger<H: Handler>()
 {
     osdp_sim_laws::schedule_is_moves::<H>();
     osdp_link_laws::holds_once::<H>();
-    osdp_link_laws::sessions_in_a_row::<H>();
     osdp_link_ledger::link_keeps_ledger::<H>();
     osdp_link_ledger::ledger_tells_accounts::<H>();
     osdp_link_ledger::holds_by_ledger::<H>();
