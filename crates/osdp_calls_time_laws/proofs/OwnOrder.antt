@@ -41,14 +41,7 @@ use Rattle.osdp_calls_time_laws.proofs.Waits.{Runs}
 -- a call by other numbers hands in the same moment
 moment_same : (f : ℕ → ℕ) (call : bus.Call) → moment_of (renumbered f call) ≡ moment_of call
 moment_same f (bus.Add address) = refl
-moment_same f (bus.Begin k now) = refl
-moment_same f (bus.Submit k command) = refl
-moment_same f (bus.Withdraw k) = refl
-moment_same f (bus.Retarget k address) = refl
-moment_same f (bus.OnBytes bytes now) = refl
-moment_same f (bus.OnSilence now) = refl
-moment_same f (bus.Tick now) = refl
-moment_same f bus.NextReport = refl
+moment_same f _ = refl
 
 module _ {H : Type 0} where
   -- whose turn it is is nothing to moments

@@ -16,7 +16,7 @@ use Rattle.osdp_link_laws.specs.Headline.{MovesFit}
 use Rattle.osdp_link_laws.specs.LapsingAsked.{LapsingAskedIsExact}
 use Rattle.osdp_link_laws.specs.LapsingRuns.{AllFit, Doubtful, Lapse, LapsingFits, LapsingMove, LeavesRoom, Moves, after_lapsing, after_reopen, run_lapsing}
 use Rattle.osdp_link_laws.specs.Link as link
-use Rattle.osdp_link_laws.specs.Link.{Link, LoseToController, LoseToReader, Move, Queue, Reopen, RestartController, RestartReader, Retarget, SetBusy, SetHandler, Submit, Tick, ToController, ToReader, Withdraw, WithdrawEvent, after_move, reader_gets}
+use Rattle.osdp_link_laws.specs.Link.{Link, Move, Queue, Reopen, after_move, reader_gets}
 use Rattle.osdp_link_laws.proofs.AskedMoves.{first_same}
 
 abbrev FindsRoomBeside : {H : Type 0} → List Event → Move H → Link H → Type 0
@@ -35,20 +35,7 @@ module _ {H : Type 0} (answer_of : H → Command → Answer) (after : H → Comm
 
   leaves_room : (move : Move H) (lapsed : List Event) (l : Link H) → FindsRoomBeside lapsed move l → LeavesRoom answer_of after lapsed move l
   leaves_room (Queue event) lapsed l finds = λ told last is. finds event told last refl is
-  leaves_room (Submit command) lapsed l finds = tt
-  leaves_room (SetBusy busy) lapsed l finds = tt
-  leaves_room (Tick now) lapsed l finds = tt
-  leaves_room (ToReader how) lapsed l finds = tt
-  leaves_room (ToController how now) lapsed l finds = tt
-  leaves_room (Reopen now) lapsed l finds = tt
-  leaves_room (SetHandler handler) lapsed l finds = tt
-  leaves_room Withdraw lapsed l finds = tt
-  leaves_room (Retarget address) lapsed l finds = tt
-  leaves_room WithdrawEvent lapsed l finds = tt
-  leaves_room (RestartReader config handler room) lapsed l finds = tt
-  leaves_room (RestartController config room) lapsed l finds = tt
-  leaves_room (LoseToReader place) lapsed l finds = tt
-  leaves_room (LoseToController place) lapsed l finds = tt
+  leaves_room _ lapsed l finds = tt
 
   -- ---- of each of a list
 
