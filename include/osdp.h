@@ -149,7 +149,7 @@ typedef enum osdp_status {
     /* B6: a COMSET goes to an address that no device has: 127 and above. */
     OSDP_ADDRESS_OUT_OF_RANGE = 26,
 
-    /* C3: as many commands wait as there is room for. */
+    /* C3: as many commands wait as there is room for, or their bytes and those of the command on its way leave no room for this one's. */
     OSDP_COMMANDS_FULL = 33,
     /* C4: a POLL, which the panel sends by itself. */
     OSDP_POLL_SUBMITTED = 34,
@@ -718,7 +718,8 @@ OSDP_CHECKED osdp_status osdp_panel_new(osdp_panel *panel, const struct osdp_pan
 /*
  * The same with less memory: of the commands that wait for a device, so many bytes may wait together, 1 to 1,467,392. A command has as many as its packet
  * without head and check: a code and the data, as OUT of one output 5. With `osdp_panel_new` each of `capacity` commands has room, however long it is, which
- * are 1,433 bytes. One without room is refused with OSDP_COMMANDS_FULL.
+ * are 1,433 bytes. One without room is refused with OSDP_COMMANDS_FULL. The bytes of the command that is on its way count too, unless there is room for each
+ * of `capacity` however long.
  *
  * Those of `osdp_panel_new`.
  */

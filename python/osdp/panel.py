@@ -51,6 +51,7 @@ class Panel:
     """A panel. Settings are those of `struct osdp_panel_config`, by their names: times in milliseconds from 1 to 3,600,000, and `check` 0 for a sum and 1 for a CRC.
     With `poll_between_orders=1` a device is asked for its events between two of its commands, so that commands which come as fast as they go keep no card waiting.
     Where `room` is given, so many bytes of commands may wait for a device together, 1 to 1,467,392, which takes less memory: an OUT of one output has 5.
+    The bytes of the command that is on its way count too, unless there is room for each command however long.
 
     It is used by one thread at a time. `close` frees it, and so does the end of a `with`; a call after that raises OsdpError, NO_MACHINE."""
 

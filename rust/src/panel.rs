@@ -219,7 +219,8 @@ impl Panel {
     }
 
     /// The same with less memory: of the commands that wait for a device, so many bytes may wait together, 1 to 1,467,392. A command has a code and its data,
-    /// as OUT of one output 5; with `new` there is room for 1,433 of each. One without room is refused with `Full`.
+    /// as OUT of one output 5; with `new` there is room for 1,433 of each. One without room is refused with `Full`. The bytes of the command that is on its
+    /// way count too, unless there is room for each command however long.
     ///
     /// # Errors
     ///

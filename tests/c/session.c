@@ -66,7 +66,7 @@ static void add_device(size_t i)
         before = bytes_given;
         status = osdp_panel_add(&panel, address, &entry);
     }
-    demand(status == OSDP_OK && entry == i && bytes_given - before == counted(1600 + 1456 + 4 * 1435));
+    demand(status == OSDP_OK && entry == i && bytes_given - before == counted(168 + 1456 + 5 * 1435));
     demand(osdp_panel_add(&panel, address, &entry) == OSDP_ADDRESS_TAKEN && entry == i);
 }
 

@@ -124,7 +124,8 @@ impl Bus {
     /// NoEntry (B4); else PollSubmitted (C4) for a POLL; else AddressOutOfRange (B6) for a COMSET to an address that no
     /// device has, 127 and above, where the device would be out of reach; else AddressTaken (B3) for a COMSET to an address
     /// of another device or reserved for one, or where an address is reserved for this device already; else Full (C3) where
-    /// as many commands wait as there is room for, or their bytes leave no room for this one's. Nothing has changed then.
+    /// as many commands wait as there is room for, or their bytes and those of the command that is on its way leave no room for
+    /// this one's. Nothing has changed then.
     pub fn submit(&mut self, entry: EntryNumber, command: &Command<'_>) -> Result<(), BusFault>
         ensures ok { OnOk result (order_refusal_at entry command.now self.old ≡ None) }
         ensures accepted { OnOk result (self.new ≡ after_submit_at entry command.now self.old) }

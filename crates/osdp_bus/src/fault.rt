@@ -23,7 +23,8 @@ pub enum BusFault {
     /// B6: a COMSET goes to an address that no device has: 127 and above.
     #[error("B6: no device's address")]
     AddressOutOfRange,
-    /// C3: as many commands wait as there is room for.
+    /// C3: as many commands wait as there is room for, or their bytes and those of the command that is on its way leave no room
+    /// for this one's.
     #[error("C3: no room for another command")]
     Full,
     /// C4: a POLL, which the controllers send by themselves.

@@ -14,7 +14,7 @@ use Rattle.osdp_controller.specs.declared.state.State.{State}
 use Rattle.osdp_controller.specs.declared.state.State.TheVariants.{Closed, Quiet, Idle, Waiting, Pausing}
 use Rattle.osdp_controller.specs.Comsets.{has_comset}
 use Rattle.osdp_controller.specs.Hearing.{comset_of}
-use Rattle.osdp_controller.specs.Machine.{Machine, bytes_waiting, command_size, has_room, or_no_device, refused_unless_closed, submit_refusal}
+use Rattle.osdp_controller.specs.Machine.{Machine, bytes_kept, command_size, has_room, or_no_device, refused_unless_closed, submit_refusal}
 use Rattle.osdp_controller.specs.States.{is_closed}
 use Rattle.osdp_controller_laws.proofs.Closed.{may_begin}
 use Rattle.osdp_bus.specs.declared.entry.Entry.{Entry}
@@ -236,7 +236,7 @@ room_for true bytes h = (refl, h)
 room_for false bytes h = absurd cc
 
 abbrev LacksRoom : Room → Command → Entry → Type 0
-LacksRoom room command d = (room.messages ≤ length d.controller.waiting) ⊎ (room.bytes - bytes_waiting d.controller.waiting < command_size command)
+LacksRoom room command d = (room.messages ≤ length d.controller.waiting) ⊎ (room.bytes - bytes_kept d.controller < command_size command)
 
 judges_room : (entry : ℕ) (command : Command) (d : Entry) (b : BusState) → HasRooms b → device_of entry b ≡ Some d
     → Judges Full (HasNoRoom entry command b) Accepts (option_map bus_fault (if has_room command d.controller then None else Some FullOf))
@@ -252,20 +252,20 @@ judges_room entry command d b rooms at = by_test (has_room command d.controller)
         → Judges Full (HasNoRoom entry command b) Accepts (option_map bus_fault (if t then None else Some FullOf))
     by_test true h = inr (there_is_room, refl)
       where
-        free : (nat_lt (length d.controller.waiting) d.controller.capacity ≡ true) × (nat_le (command_size command) (d.controller.room - bytes_waiting d.controller.waiting) ≡ true)
-        free = room_for (nat_lt (length d.controller.waiting) d.controller.capacity) (nat_le (command_size command) (d.controller.room - bytes_waiting d.controller.waiting)) h
+        free : (nat_lt (length d.controller.waiting) d.controller.capacity ≡ true) × (nat_le (command_size command) (d.controller.room - bytes_kept d.controller) ≡ true)
+        free = room_for (nat_lt (length d.controller.waiting) d.controller.capacity) (nat_le (command_size command) (d.controller.room - bytes_kept d.controller)) h
 
         by_cause : LacksRoom b.config.room command d → ⊥
         by_cause (inl many) = let below = ltb-true (length d.controller.waiting) d.controller.capacity free.0 in omega (arith, below, many, places)
-        by_cause (inr long) = let within = leb-true (command_size command) (d.controller.room - bytes_waiting d.controller.waiting) free.1 in omega (arith, within, long, bytes)
+        by_cause (inr long) = let within = leb-true (command_size command) (d.controller.room - bytes_kept d.controller) free.1 in omega (arith, within, long, bytes)
 
         there_is_room : HasNoRoom entry command b → ⊥
         there_is_room (e, there, full) = by_cause (subst (LacksRoom b.config.room command) (sym (same_device entry d e b at there)) full)
-    by_test false h = inl ((d, at, by_lack (no_room_for (nat_lt (length d.controller.waiting) d.controller.capacity) (nat_le (command_size command) (d.controller.room - bytes_waiting d.controller.waiting)) h)), refl)
+    by_test false h = inl ((d, at, by_lack (no_room_for (nat_lt (length d.controller.waiting) d.controller.capacity) (nat_le (command_size command) (d.controller.room - bytes_kept d.controller)) h)), refl)
       where
-        by_lack : (nat_lt (length d.controller.waiting) d.controller.capacity ≡ false) ⊎ (nat_le (command_size command) (d.controller.room - bytes_waiting d.controller.waiting) ≡ false) → LacksRoom b.config.room command d
+        by_lack : (nat_lt (length d.controller.waiting) d.controller.capacity ≡ false) ⊎ (nat_le (command_size command) (d.controller.room - bytes_kept d.controller) ≡ false) → LacksRoom b.config.room command d
         by_lack (inl place) = let many = ltb-false (length d.controller.waiting) d.controller.capacity place in inl (omega (arith, many, places))
-        by_lack (inr room) = let long = leb-false (command_size command) (d.controller.room - bytes_waiting d.controller.waiting) room in inr (omega (arith, long, bytes))
+        by_lack (inr room) = let long = leb-false (command_size command) (d.controller.room - bytes_kept d.controller) room in inr (omega (arith, long, bytes))
 
 judges_comset : (entry : ℕ) (command : Command) (d : Entry) (b : BusState) → HasRooms b → device_of entry b ≡ Some d
     → ((m : Machine) → submit_refusal command m ≡ (if has_room command m then None else Some FullOf))

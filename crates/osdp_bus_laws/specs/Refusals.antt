@@ -1,6 +1,6 @@
 -- When a call is refused, and with what.
 use Rattle.std.specs.Prelude.{◌≡◌, ◌≢◌, ◌⊎◌, ℕ, ◌-◌, ◌<◌, ◌≤◌, false, [], length, Option, Some, None, Result, Ok, Err}
-use Rattle.osdp_controller.specs.Machine.{bytes_waiting, command_size}
+use Rattle.osdp_controller.specs.Machine.{bytes_kept, command_size}
 use Rattle.osdp_controller.specs.States.{is_closed}
 use Rattle.osdp_msg.specs.declared.command.Command.{Command}
 use Rattle.osdp_msg.specs.declared.command.Command.TheVariants.{Poll, Comset}
@@ -49,10 +49,11 @@ IsBarredComset entry command b =
 abbrev pub IsNowhere : Command → Type 0
 IsNowhere command = (asked : Communication) × (command ≡ Comset asked) × (127 ≤ asked.address)
 
--- as many commands wait for it as the bus's settings leave room for, or their bytes leave no room for those of this one
+-- as many commands wait for it as the bus's settings leave room for, or the bytes that are kept for it leave no room for those of this one:
+-- those of the commands that wait, and of the one that is on its way, where there is no room for each however long
 abbrev pub HasNoRoom : ℕ → Command → BusState → Type 0
 HasNoRoom entry command b = OfEntry entry (λ d. (b.config.room.messages ≤ length d.controller.waiting)
-    ⊎ (b.config.room.bytes - bytes_waiting d.controller.waiting < command_size command)) b
+    ⊎ (b.config.room.bytes - bytes_kept d.controller < command_size command)) b
 
 -- a COMSET waits for it
 abbrev pub AwaitsMove : ℕ → BusState → Type 0

@@ -1,8 +1,10 @@
 -- The calls of a panel's program that read nothing: sessions, commands and addresses.
-use Rattle.std.proofs.Common.{◌≡◌, ◌||◌, ◌&&◌, ◌-◌, ℕ, zero, suc, ◌+◌, max, Bool, true, false, cond, List, [], ◌∷◌, ◌++◌, length, map, take, drop, Option, Some, None, refl, sym, subst, ap, ◌∙◌, arith, append-nil, inl, inr}
+use Rattle.std.proofs.Common.{◌≡◌, ◌||◌, ◌&&◌, ◌-◌, ◌*◌, ℕ, zero, suc, ◌+◌, max, Bool, true, false, cond, List, [], ◌∷◌, ◌++◌, length, map, take, drop, Option, Some, None, refl, sym, subst, ap, ◌∙◌, arith, append-nil, inl, inr}
+use Rattle.std.specs.Option.{option_map_or}
 use Rattle.std.specs.Prelude.{is_some, nat_le, nat_lt, option_map, option_to_list, slice_get, slice_set}
 use Rattle.osdp_frame.specs.Packet.{Packet}
 use Rattle.osdp_msg.specs.CommandTable.{CommandFits}
+use Rattle.osdp_msg.specs.Limits.{most_data}
 use Rattle.osdp_msg.specs.declared.command.Command.{Command}
 use Rattle.osdp_msg.specs.declared.command.Command.TheVariants.{Poll}
 use Rattle.osdp_msg.specs.declared.command_fields.Communication.{Communication}
@@ -10,6 +12,7 @@ use Rattle.osdp_controller.specs.Comsets.{has_comset}
 use Rattle.osdp_controller.specs.Hearing.{comset_of}
 use Rattle.osdp_controller.specs.Machine as controllers
 use Rattle.osdp_controller.specs.Machine.{Machine, begin_refusal, bytes_waiting, command_size, retarget_refusal, submit_refusal}
+use Rattle.osdp_controller.specs.Held.{on_its_way}
 use Rattle.osdp_controller.specs.declared.fault.ControllerFault.{ControllerFault}
 use Rattle.osdp_controller.specs.declared.fault.ControllerFault.TheVariants.{Full}
 use Rattle.osdp_controller.specs.declared.state.State.TheVariants.{Closed}
@@ -60,11 +63,18 @@ pub asked_same : (o : Option ℕ) (top : ℕ) (m c : Machine) → Controls o top
 asked_same None top m c is = ap (λ (x : Machine). asked_in x.session.state) is.same
 asked_same (Some began) top m c is = ap (λ (x : Machine). asked_in x.session.state) is.same ∙ sym (ap asked_in is.quiet)
 
+-- the same command is on its way
+sent_same : (o : Option ℕ) (top : ℕ) (m c : Machine) → Controls o top m c → on_its_way c.session.state ≡ on_its_way m.session.state
+sent_same None top m c is = ap (λ (x : Machine). on_its_way x.session.state) is.same
+sent_same (Some began) top m c is = ap (λ (x : Machine). on_its_way x.session.state) is.same ∙ sym (ap on_its_way is.quiet)
+
 submit_alike : (command : Command) (m c : Machine) → c.waiting ≡ m.waiting → c.capacity ≡ m.capacity → c.room ≡ m.room
-    → submit_refusal command c ≡ submit_refusal command m
-submit_alike Poll m c waiting places room = refl
-submit_alike command m c waiting places room =
-    (λ i. cond (nat_lt (length (waiting i)) (places i) && nat_le (command_size command) (room i - bytes_waiting (waiting i))) None (Some Full))
+    → on_its_way c.session.state ≡ on_its_way m.session.state → submit_refusal command c ≡ submit_refusal command m
+submit_alike Poll m c waiting places room sent = refl
+submit_alike command m c waiting places room sent =
+    (λ i. cond (nat_lt (length (waiting i)) (places i)
+    && nat_le (command_size command) (room i - (cond (nat_le (places i * (1 + most_data)) (room i)) 0 (option_map_or command_size (sent i) 0) + bytes_waiting (waiting i))))
+    None (Some Full))
 
 module _ {H : Type 0} where
   -- the device of an entry and its station change
@@ -223,9 +233,9 @@ module _ {H : Type 0} where
 
     pub refusal_same : (command : Command) (o : Option ℕ) (top : ℕ) (m c : Machine) → Controls o top m c → submit_refusal command c ≡ submit_refusal command m
     refusal_same command None top m c is =
-        submit_alike command m c (ap (λ (x : Machine). x.waiting) is.same) (ap (λ (x : Machine). x.capacity) is.same) (ap (λ (x : Machine). x.room) is.same)
+        submit_alike command m c (ap (λ (x : Machine). x.waiting) is.same) (ap (λ (x : Machine). x.capacity) is.same) (ap (λ (x : Machine). x.room) is.same) (sent_same None top m c is)
     refusal_same command (Some began) top m c is =
-        submit_alike command m c (ap (λ (x : Machine). x.waiting) is.same) (ap (λ (x : Machine). x.capacity) is.same) (ap (λ (x : Machine). x.room) is.same)
+        submit_alike command m c (ap (λ (x : Machine). x.waiting) is.same) (ap (λ (x : Machine). x.capacity) is.same) (ap (λ (x : Machine). x.room) is.same) (sent_same (Some began) top m c is)
 
     pub submitting : (k : ℕ) (command : Command) (l : InUse H) (n : Net H) → IsNetOf l n → CommandFits command
         → ((t : Station H) → site_at k l.stations ≡ Some t → submit_refusal_at k command l.bus ≡ None → (asked : Communication) → comset_of command ≡ Some asked

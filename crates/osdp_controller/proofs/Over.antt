@@ -25,7 +25,7 @@ over (Idle due) s waiting h = cc
 over (Waiting until sends o) s waiting h = second (nat_le until s.greatest) (nat_lt sends s.config.sends) _ _ _ h
 over (Pausing until o) s waiting h = cc
 
-not_second : {A : Type 0} (P : A → Type 0) (a b : Bool) (x y z : A) → (a && not b) ≡ false → P x → P z → P (if a then (if b then x else y) else z)
+pub not_second : {A : Type 0} (P : A → Type 0) (a b : Bool) (x y z : A) → (a && not b) ≡ false → P x → P z → P (if a then (if b then x else y) else z)
 not_second P true true x y z h p q = p
 not_second P true false x y z h p q = cc
 not_second P false b x y z h p q = q

@@ -1,5 +1,6 @@
 -- What a controller is to its callers.
 use Rattle.std.specs.Prelude.{◌≡◌, ◌≢◌, ℕ, ◌+◌, ◌-◌, ◌*◌, ◌≤◌, Bool, true, false, nat_le, nat_lt, if◌then◌else◌, max, All, List, [], ◌∷◌, ◌++◌, drop, length, slice_get, Option, Some, None, is_some, IfSome, ◌&&◌, ◌||◌, Result, Ok, Err}
+use Rattle.std.specs.Option.{option_map_or}
 use Rattle.osdp_frame.specs.Packet.{Packet}
 use Rattle.osdp_msg.specs.CommandTable.{command_code, command_data}
 use Rattle.osdp_msg.specs.Limits.{most_data, most_waiting}
@@ -14,13 +15,14 @@ use Rattle.osdp_controller.specs.declared.session.Session.{Session}
 use Rattle.osdp_controller.specs.declared.state.State.{State}
 use Rattle.osdp_controller.specs.declared.state.State.TheVariants.{Closed, Quiet, Idle, Waiting, Pausing}
 use Rattle.osdp_controller.specs.Exchanges.{submitted_command}
+use Rattle.osdp_controller.specs.Held.{on_its_way}
 use Rattle.osdp_controller.specs.Settings.{IsConfig}
 use Rattle.osdp_controller.specs.Sessions.{later, new_session, seen}
 use Rattle.osdp_controller.specs.States.{is_closed}
 use Rattle.osdp_controller.specs.Ticking.{Step, ticks}
 use Rattle.osdp_controller.specs.Hearing.{hears}
 
--- the session, the commands that wait in their order, how many there may be, and how many bytes they may have together
+-- the session, the commands that wait in their order, how many there may be, and for how many bytes there is room
 pub record Machine : Type 0 where
   pub session : Session
   pub waiting : List Command
@@ -73,9 +75,17 @@ abbrev pub bytes_waiting : List Command → ℕ
 bytes_waiting [] = 0
 bytes_waiting (command ∷ commands) = command_size command + bytes_waiting commands
 
--- there is a place for one more command, and room for its bytes beside those that wait
+-- those of the command that is on its way, which count too; but where there is room for each message however long, there is room for one more
+abbrev pub bytes_on_its_way : Machine → ℕ
+bytes_on_its_way m =
+    if nat_le (m.capacity * (1 + most_data)) m.room then 0 else option_map_or command_size (on_its_way m.session.state) 0
+
+abbrev pub bytes_kept : Machine → ℕ
+bytes_kept m = bytes_on_its_way m + bytes_waiting m.waiting
+
+-- there is a place for one more command, and room for its bytes beside those that are kept
 abbrev pub has_room : Command → Machine → Bool
-has_room command m = nat_lt (length m.waiting) m.capacity && nat_le (command_size command) (m.room - bytes_waiting m.waiting)
+has_room command m = nat_lt (length m.waiting) m.capacity && nat_le (command_size command) (m.room - bytes_kept m)
 
 -- submitting: a POLL is refused, then a command that has no room
 abbrev pub submit_refusal : Command → Machine → Option ControllerFault

@@ -3,6 +3,7 @@ use Rattle.std.specs.Prelude.{◌≡◌, Bool, true, false, not, ◌&&◌, nat_l
 use Rattle.std.specs.Option.{option_map_or}
 use Rattle.osdp_frame.specs.Packet.{Packet}
 use Rattle.osdp_msg.specs.declared.command.Command.{Command}
+use Rattle.osdp_ring.specs.Ring.{Strings, popped}
 use Rattle.osdp_controller.specs.declared.meaning.ReplyMeaning.{ReplyMeaning}
 use Rattle.osdp_controller.specs.declared.meaning.ReplyMeaning.TheVariants.{Plain, Unreadable}
 use Rattle.osdp_controller.specs.declared.exchange.Exchange.{Exchange}
@@ -31,6 +32,11 @@ is_over _ s = false
 -- what a tick in a state takes from what waits: the command, or its bytes
 abbrev pub next_in : {A : Type 0} → State → List A → Option A
 next_in state waiting = if is_idle state then slice_get waiting 0 else None
+
+-- the first string leaves, where that is asked
+abbrev pub popped_if : Bool → Strings → Strings
+popped_if true q = popped q
+popped_if false q = q
 
 -- an answer is none to the exchange: the opening ID is answered by a PDID alone
 abbrev pub is_no_answer : Exchange → ReplyMeaning → Bool

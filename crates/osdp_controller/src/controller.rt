@@ -1,17 +1,23 @@
 //! The controller: a session and the commands that wait for it.
 
-ghost use Rattle.osdp_controller.specs.Private.{after_act, frame_if, is_over, next_in, submitted_if};
+ghost use Rattle.osdp_controller.specs.Private.{after_act, frame_if, is_over, next_in, popped_if, submitted_if};
+ghost use Rattle.osdp_controller.specs.declared.report.LostCause.TheVariants.{NoReply};
+ghost use Rattle.osdp_controller.specs.Commands.{IsCommand};
+ghost use Rattle.osdp_controller.specs.Held.{outstanding_in};
+ghost use Rattle.osdp_controller.specs.Sessions.{closed, lost};
 ghost use Rattle.osdp_controller.specs.Ticking.{stays, ticks_in};
-ghost use Rattle.std.specs.Prelude.{◌≡◌, ◌*◌, ◌+◌, ◌≤◌, IfErr, None, Some, OnOk, is_some, length, true, false};
+ghost use Rattle.osdp_controller.specs.Waiting.{bytes_for, first_of};
+ghost use Rattle.osdp_msg.specs.Limits.{AreRoom};
+ghost use Rattle.std.specs.Prelude.{◌≡◌, ◌*◌, ◌+◌, ◌≤◌, All, IfErr, None, Some, OnOk, is_some, length, true, false};
 ghost use Rattle.std.specs.Option.{option_copied};
 
 use crate::config::ControllerConfig;
 use crate::fault::ControllerFault;
 use crate::kept::KeptReport;
-use crate::session::Session;
-use crate::state::Held;
+use crate::session::{KeptSession, Session};
+use crate::state::{Held, POLL};
 use osdp_frame::{Address, Burst, FrameView};
-use osdp_msg::{Command, Room, Spelling};
+use osdp_msg::{Command, MAX_MESSAGE, Room, Spelling};
 use osdp_ring::Ring;
 use std::alloc::Global;
 use std::marker::Model;
@@ -22,20 +28,22 @@ use std::marker::Model;
 /// before the greatest seen counts as that one.
 #[derive(Debug, Drop)]
 pub struct Controller {
-    session: Session,
-    /// The code and the data of each command that waits.
-    waiting: Ring,
+    kept: KeptSession,
+    /// The code and the data of the command that is on its way, if one is, and then of each command that waits.
+    queue: Ring,
+    /// How much may wait.
+    room: Room,
 }
 
 impl Model for Controller {
-    ghost use Rattle.osdp_controller.specs.Waiting.{IsController, machine_of};
+    ghost use Rattle.osdp_controller.specs.Waiting.{IsController, first_of, machine_of, session_of};
     ghost use Rattle.osdp_controller.specs.Machine.{Machine};
 
     ghost Value = { Machine };
 
-    ghost view = { λ c. machine_of c.session c.waiting };
+    ghost view = { λ c. machine_of (session_of c.kept (first_of c.queue.items)) c.queue c.room };
 
-    ghost invariant = { λ c. IsController c.session c.waiting };
+    ghost invariant = { λ c. IsController (session_of c.kept (first_of c.queue.items)) c.queue c.room };
 }
 
 impl Controller {
@@ -60,13 +68,21 @@ impl Controller {
         if !config.is_in_range(room) {
             return Err(ControllerFault::OutOfRange);
         }
-        match Ring::new(alloc, room.messages, room.bytes) {
-            Ok(waiting) => Ok(Controller {
-                session: Session::new(config),
-                waiting,
+        match Ring::new(alloc, room.messages + 1, bytes_for(room)) {
+            Ok(queue) => Ok(Controller {
+                kept: KeptSession::new(config),
+                queue,
+                room,
             }),
             Err(_) => Err(ControllerFault::NoMemory),
         }
+    }
+
+    /// The session, with the command that is on its way.
+    fn session(&self) -> Session<'_>
+        ensures { result ≡ self.now.session }
+    {
+        self.kept.with(first_of(&self.queue))
     }
 
     /// The reader's address.
@@ -76,21 +92,21 @@ impl Controller {
         ensures address { result ≡ self.now.session.config.address }
         ensures machine { IsMachine self.now }
     {
-        self.session.config.address
+        self.kept.config.address
     }
 
     /// Whether no session has begun, or the last one has ended.
     pub fn is_closed(&self) -> bool
         ensures { result ≡ is_closed self.now.session.state }
     {
-        self.session.state.is_closed()
+        self.session().state.is_closed()
     }
 
     /// Whether an exchange waits for its answer.
     pub fn outstanding(&self) -> bool
         ensures { result ≡ is_outstanding self.now.session.state }
     {
-        self.session.state.is_outstanding()
+        self.session().state.is_outstanding()
     }
 
     /// How many frames the outstanding exchange has sent; 0 where none is outstanding.
@@ -99,7 +115,7 @@ impl Controller {
         ensures most { result ≤ self.now.session.config.sends * (self.now.session.config.busy_limit + 1) }
     {
         if self.outstanding() {
-            self.session.state.sent
+            self.kept.at.sent
         } else {
             0
         }
@@ -107,8 +123,9 @@ impl Controller {
 
     /// Puts a command after those that wait. It is accepted in every state.
     ///
-    /// PollSubmitted (C4) for a POLL; else Full (C3) where as many wait as there is room for, or their bytes leave no room for
-    /// this one's. Nothing has changed then.
+    /// PollSubmitted (C4) for a POLL; else Full (C3) where as many wait as there is room for, or their bytes and those of the
+    /// command that is on its way leave no room for this one's. Nothing has changed then. With room for each command however
+    /// long, there is room for one more beside those that wait.
     pub fn submit(&mut self, command: &Command<'_>) -> Result<(), ControllerFault>
         ensures ok { OnOk result (submit_refusal command.now self.old ≡ None) }
         ensures accepted { OnOk result (self.new ≡ after_submit command.now self.old) }
@@ -131,33 +148,41 @@ impl Controller {
         ensures room { result ≡ has_room command.now self.old }
         ensures machine { self.new ≡ submitted_if result command.now self.old }
     {
+        if self.waiting() >= self.room.messages {
+            return false;
+        }
         let mut spelling = Spelling::new();
         command.write_into(&mut spelling);
-        self.waiting.push(spelling.as_slice())
+        self.queue.push(spelling.as_slice())
     }
 
     /// How much may wait.
     pub fn room(&self) -> Room
         ensures { result ≡ record { messages = self.now.capacity; bytes = self.now.room } }
     {
-        Room {
-            messages: self.waiting.capacity(),
-            bytes: self.waiting.room(),
-        }
+        self.room
     }
 
     /// How many commands wait. The outstanding one isn't counted.
     pub fn waiting(&self) -> usize
         ensures { result ≡ length self.now.waiting }
     {
-        self.waiting.len()
+        if self.session().state.asks_command() {
+            self.queue.len() - 1
+        } else {
+            self.queue.len()
+        }
     }
 
     /// Whether a COMSET is among the commands that wait.
     pub fn has_waiting_comset(&self) -> bool
         ensures { result ≡ has_comset self.now.waiting }
     {
-        self.waiting.has_first(COMSET)
+        if self.session().state.asks_command() {
+            self.queue.has_first_after_front(COMSET)
+        } else {
+            self.queue.has_first(COMSET)
+        }
     }
 
     /// The command that may be withdrawn: the one that has waited longest. None where none waits, and unless the controller
@@ -165,10 +190,10 @@ impl Controller {
     pub fn withdrawable(&self) -> Option<Command<'_>>
         ensures { result ≡ withdrawn_in self.now.session.state self.now.waiting }
     {
-        if !self.session.state.is_closed() {
+        if !self.is_closed() {
             return None;
         }
-        Some(Command::kept(self.waiting.front()?))
+        Some(Command::kept(self.queue.front()?))
     }
 
     /// Takes back that command: it won't be sent. Whether there was one; else nothing changes.
@@ -176,11 +201,11 @@ impl Controller {
         ensures command { result ≡ is_some (withdrawn_in self.old.session.state self.old.waiting) }
         ensures machine { self.new ≡ after_withdraw self.old }
     {
-        if !self.session.state.is_closed() {
+        if !self.is_closed() {
             return false;
         }
-        let some = 1 <= self.waiting.len();
-        self.waiting.pop();
+        let some = 1 <= self.queue.len();
+        self.queue.pop();
         some
     }
 
@@ -191,12 +216,12 @@ impl Controller {
         ensures result { result ≡ unless_refused (begin_refusal self.old) }
         ensures machine { self.new ≡ changed_unless (begin_refusal self.old) self.old (after_begin now self.old) }
     {
-        if !self.session.state.is_closed() {
+        if !self.is_closed() {
             return Err(ControllerFault::NotClosed);
         }
-        self.session.see(now);
-        let until = self.session.later(self.session.config.quiet_wait);
-        self.session.state.be_quiet(until);
+        let mut session = self.kept.with(first_of(&self.queue));
+        session.begin_session(now);
+        self.kept = session.keep();
         Ok(())
     }
 
@@ -208,13 +233,13 @@ impl Controller {
         ensures result { result ≡ unless_refused (retarget_refusal address self.old) }
         ensures machine { self.new ≡ changed_unless (retarget_refusal address self.old) self.old (after_retarget address self.old) }
     {
-        if !self.session.state.is_closed() {
+        if !self.is_closed() {
             return Err(ControllerFault::NotClosed);
         }
         if !address.is_device() {
             return Err(ControllerFault::OutOfRange);
         }
-        self.session.config.address = address;
+        self.kept.config.address = address;
         Ok(())
     }
 
@@ -229,7 +254,7 @@ impl Controller {
         ensures machine { self.new ≡ after_tick now self.old }
     {
         report.clear();
-        self.session.see(now);
+        self.kept.see(now);
         if self.has_nothing_due() {
             return false;
         }
@@ -247,19 +272,34 @@ impl Controller {
         ensures report { report.new ≡ (ticks_in self.old.session.state self.old.session self.old.waiting).step.report }
         ensures machine { self.new ≡ after_act self.old }
     {
-        if self.session.is_over() {
-            self.session.give_up(report);
+        if self.session().is_over() {
+            self.give_up(report);
             false
         } else {
             self.act(out)
         }
     }
 
+    /// The session ends without an answer to the last of the sends.
+    fn give_up(&mut self, report: &mut KeptReport)
+        requires { is_over self.old.session.state self.old.session ≡ true }
+        ensures report { report.new ≡ Some (lost NoReply (outstanding_in self.old.session.state)) }
+        ensures machine { self.new ≡ record self.old { session = closed self.old.session } }
+    {
+        let mut session = self.kept.with(first_of(&self.queue));
+        let asked = session.state.asks_command();
+        session.give_up(report);
+        let settled = session.has_settled(asked);
+        self.kept = session.keep();
+        pop_if(settled, &mut self.queue);
+    }
+
     /// Whether nothing is due at the greatest moment seen.
     fn has_nothing_due(&self) -> bool
         ensures { result ≡ true → ticks_in self.now.session.state self.now.session self.now.waiting ≡ stays self.now.session self.now.waiting }
     {
-        !self.session.is_reached() && (self.waiting.len() == 0 || !self.session.state.is_idle())
+        let session = self.session();
+        !session.is_reached() && (self.queue.len() == 0 || !session.state.is_idle())
     }
 
     /// Does what is due at the greatest moment seen, where the session goes on, and puts the packet that goes out into `out`. Whether one
@@ -272,7 +312,7 @@ impl Controller {
     {
         let sends = self.begin_or_repeat();
         if sends {
-            self.session.spell(out);
+            self.session().spell(out);
         }
         sends
     }
@@ -284,12 +324,19 @@ impl Controller {
         ensures machine { self.new ≡ after_act self.old }
         ensures held { result ≡ true → is_outstanding self.new.session.state ≡ true }
     {
-        match next_command(&self.session.state, &self.waiting) {
-            Some(command) => self.session.begin_command(command),
-            None => return self.session.tick(),
+        let mut session = self.kept.with(first_of(&self.queue));
+        match next_command(&session.state, &self.queue) {
+            Some(command) => {
+                session.begin_command(command);
+                self.kept = session.keep();
+                true
+            }
+            None => {
+                let sends = session.tick();
+                self.kept = session.keep();
+                sends
+            }
         }
-        self.waiting.pop();
-        true
     }
 
     /// Takes a frame that came from the line. What it says, if that is to be told, or that nothing is, stands in `report` in place of what
@@ -299,7 +346,12 @@ impl Controller {
         ensures machine { self.new ≡ after_frame frame.now now self.old }
     {
         report.clear();
-        self.session.hear(frame, now, report);
+        let mut session = self.kept.with(first_of(&self.queue));
+        let asked = session.state.asks_command();
+        session.hear(frame, now, report);
+        let settled = session.has_settled(asked);
+        self.kept = session.keep();
+        pop_if(settled, &mut self.queue);
     }
 
     /// Whether a tick at this moment would send or report.
@@ -308,7 +360,7 @@ impl Controller {
     {
         match self.next_deadline() {
             None => false,
-            Some(deadline) => deadline <= self.session.greatest.max(now),
+            Some(deadline) => deadline <= self.kept.greatest.max(now),
         }
     }
 
@@ -317,22 +369,57 @@ impl Controller {
     pub fn next_deadline(&self) -> Option<u64>
         ensures { IsDeadline self.now result }
     {
-        if self.session.state.is_idle() && self.waiting.len() != 0 {
-            return Some(self.session.greatest);
+        let session = self.session();
+        if session.state.is_idle() && self.queue.len() != 0 {
+            return Some(session.greatest);
         }
-        let moment = self.session.moment()?;
-        Some(moment.max(self.session.greatest))
+        let moment = session.moment()?;
+        Some(moment.max(session.greatest))
     }
 }
 
-/// The bytes of the front of the waiting commands, where the session is open and nothing is outstanding.
-fn next_command<'a>(state: &Held, waiting: &'a Ring) -> Option<&'a [u8]>
-    ensures { option_copied result ≡ next_in state.now waiting.now.items }
+/// How many bytes the queue has: those of one more message, where there is room for each however long.
+fn bytes_for(room: Room) -> usize
+    requires { AreRoom room.messages room.bytes }
+    ensures { result ≡ bytes_for room }
+{
+    if room.messages * MAX_MESSAGE <= room.bytes {
+        room.bytes + MAX_MESSAGE
+    } else {
+        room.bytes
+    }
+}
+
+/// The bytes that stand first in the queue; a POLL's where none do.
+#[tactic(auto, using(crate::proofs::Waiting::poll_is))]
+fn first_of(queue: &Ring) -> &[u8]
+    requires { All IsCommand queue.now.items }
+    ensures first { result.now ≡ first_of queue.now.items }
+    ensures command { IsCommand result.now }
+{
+    match queue.front() {
+        Some(bytes) => bytes,
+        None => &POLL,
+    }
+}
+
+/// Lets the first string go, if there is one, where that is asked.
+fn pop_if(settled: bool, queue: &mut Ring)
+    ensures { queue.new ≡ popped_if settled queue.old }
+{
+    if settled {
+        queue.pop();
+    }
+}
+
+/// The bytes of the first of the waiting commands, where the session is open and nothing is outstanding.
+fn next_command<'a>(state: &Held<'_>, queue: &'a Ring) -> Option<&'a [u8]>
+    ensures { option_copied result ≡ next_in state.now queue.now.items }
 {
     if !state.is_idle() {
         return None;
     }
-    waiting.front()
+    queue.front()
 }
 
 /// The code of a COMSET.

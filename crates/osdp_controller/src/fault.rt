@@ -11,7 +11,8 @@ pub enum ControllerFault {
     /// C2: the address is above 126, or a parameter is out of its range.
     #[error("C2: out of range")]
     OutOfRange,
-    /// C3: as many commands wait as there is room for, or their bytes leave no room for this one's.
+    /// C3: as many commands wait as there is room for, or their bytes and those of the command that is on its way leave no room
+    /// for this one's.
     #[error("C3: no room for another command")]
     Full,
     /// C4: a POLL, which the controller sends by itself.

@@ -22,7 +22,7 @@ use crate::state::Stage;
 use osdp_frame::{Address, FrameView, Seq};
 use osdp_msg::{Command, Communication, PdId, Reply};
 
-impl Session {
+impl Session<'_> {
     /// Whether a packet is a reply from the own address that can be read.
     fn is_from_reader(&self, frame: &FrameView<'_>) -> bool
         ensures { result ≡ is_from_reader frame.now self.now }
@@ -54,7 +54,7 @@ impl Session {
         ensures report { report.new ≡ (hears_busy (outstanding_in self.old.state) self.old).report }
         ensures session { self.new ≡ (hears_busy (outstanding_in self.old.state) self.old).session }
     {
-        if self.state.busies >= self.config.busy_limit {
+        if self.state.at.busies >= self.config.busy_limit {
             self.lose(LostCause::TooBusy, report);
             return;
         }
@@ -97,7 +97,7 @@ impl Session {
         let Reply::Com(answered) = reply else {
             return None;
         };
-        match Command::kept(self.state.submitted()?.as_slice()) {
+        match Command::kept(self.state.submitted()?) {
             Command::Comset(asked) => moved(asked, *answered),
             _ => None,
         }
@@ -126,7 +126,7 @@ impl Session {
         ensures report { report.new ≡ (answered (outstanding_in self.old.state).exchange reply.now self.old).report }
         ensures session { self.new ≡ (answered (outstanding_in self.old.state).exchange reply.now self.old).session }
     {
-        match self.state.asked {
+        match self.state.at.asked {
             Asked::Opening => self.open(pd_id_of(reply), report),
             Asked::Submitted => self.hear_answer(reply, report),
             Asked::Polling => self.settle_poll(reply, report),
@@ -204,7 +204,7 @@ impl Session {
     fn is_no_answer(&self, answer: &ReplyMeaning<'_>) -> bool
         ensures { result ≡ is_no_answer_in self.now.state answer.now }
     {
-        self.state.is_outstanding() && is_no_answer(self.state.asked, answer)
+        self.state.is_outstanding() && is_no_answer(self.state.at.asked, answer)
     }
 
     /// An answer with the number of the exchange comes, where one is outstanding.
@@ -214,7 +214,7 @@ impl Session {
         ensures report { report.new ≡ (numbered_in self.old.state answer.now self.old).report }
         ensures session { self.new ≡ (numbered_in self.old.state answer.now self.old).session }
     {
-        match self.state.stage {
+        match self.state.at.stage {
             Stage::Closed | Stage::Quiet | Stage::Idle => {}
             Stage::Waiting => self.hear_waiting(answer, report),
             Stage::Pausing => self.hear_pausing(answer, report),

@@ -1,6 +1,6 @@
 //! A report that is kept as bytes, until it is read.
 
-ghost use Rattle.std.specs.Prelude.{◌≡◌, None, Some, is_some};
+ghost use Rattle.std.specs.Prelude.{◌≡◌, ◌≤◌, IfSome, None, Some, is_some, length};
 ghost use Rattle.std.specs.Option.{option_map};
 ghost use Rattle.osdp_msg.specs.Kept.{command_kept};
 ghost use Rattle.osdp_controller.specs.declared.report.Report.TheVariants.{Lost, Moved, Opened, PollAnswered, Settled, Unread};
@@ -8,7 +8,7 @@ ghost use Rattle.osdp_controller.specs.declared.report.Report.TheVariants as rep
 ghost use Rattle.osdp_controller.specs.Kept.{told_as};
 
 use crate::report::{LostCause, Report};
-use osdp_msg::{Command, Communication, Event, PdId, Reply, Spelling};
+use osdp_msg::{Command, Communication, Event, MAX_MESSAGE, PdId, Reply, Spelling};
 use osdp_ring::put;
 use std::marker::Model;
 
@@ -144,19 +144,21 @@ impl KeptReport {
     }
 
     /// The command of these bytes was answered by this reply.
-    pub(crate) fn tell_settled(&mut self, command: &Spelling, reply: &Reply<'_>)
-        ensures { self.new ≡ Some (Settled (command_kept command.now.items) reply.now) }
+    pub(crate) fn tell_settled(&mut self, command: &[u8], reply: &Reply<'_>)
+        requires { length command.now ≤ MAX_MESSAGE }
+        ensures { self.new ≡ Some (Settled (command_kept command.now) reply.now) }
     {
-        put(&mut self.command, command.as_slice());
+        put(&mut self.command, command);
         reply.write_into(&mut self.reply);
         self.telling = Some(Telling::Settled);
     }
 
     /// The COMSET of these bytes was answered by this COM.
-    pub(crate) fn tell_moved(&mut self, command: &Spelling, answered: Communication)
-        ensures { self.new ≡ Some (Moved (command_kept command.now.items) answered) }
+    pub(crate) fn tell_moved(&mut self, command: &[u8], answered: Communication)
+        requires { length command.now ≤ MAX_MESSAGE }
+        ensures { self.new ≡ Some (Moved (command_kept command.now) answered) }
     {
-        put(&mut self.command, command.as_slice());
+        put(&mut self.command, command);
         self.telling = Some(Telling::Moved(answered));
     }
 
@@ -177,12 +179,13 @@ impl KeptReport {
     }
 
     /// The answer to the command of these bytes, or to a POLL, can't be read.
-    pub(crate) fn tell_unread(&mut self, command: Option<&Spelling>, code: u8)
-        ensures { self.new ≡ Some (Unread (option_map (λ bytes. command_kept bytes.now.items) command.entry) code) }
+    pub(crate) fn tell_unread(&mut self, command: Option<&[u8]>, code: u8)
+        requires { IfSome command (λ bytes. length bytes.now ≤ MAX_MESSAGE) }
+        ensures { self.new ≡ Some (Unread (option_map (λ bytes. command_kept bytes.now) command.entry) code) }
     {
         match command {
             Some(command) => {
-                put(&mut self.command, command.as_slice());
+                put(&mut self.command, command);
                 self.telling = Some(Telling::CommandUnread(code));
             }
             None => self.telling = Some(Telling::PollUnread(code)),
@@ -190,12 +193,13 @@ impl KeptReport {
     }
 
     /// The session has ended, with the command of these bytes outstanding, or with none.
-    pub(crate) fn tell_lost(&mut self, cause: LostCause, command: Option<&Spelling>)
-        ensures { self.new ≡ Some (Lost cause (option_map (λ bytes. command_kept bytes.now.items) command.entry)) }
+    pub(crate) fn tell_lost(&mut self, cause: LostCause, command: Option<&[u8]>)
+        requires { IfSome command (λ bytes. length bytes.now ≤ MAX_MESSAGE) }
+        ensures { self.new ≡ Some (Lost cause (option_map (λ bytes. command_kept bytes.now) command.entry)) }
     {
         match command {
             Some(command) => {
-                put(&mut self.command, command.as_slice());
+                put(&mut self.command, command);
                 self.telling = Some(Telling::CommandLost(cause));
             }
             None => self.telling = Some(Telling::Lost(cause)),

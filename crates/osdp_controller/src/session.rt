@@ -1,43 +1,104 @@
 //! What is kept of a session, and the small steps of its tables.
 
-ghost use Rattle.std.specs.Prelude.{◌≡◌, ◌+◌, ◌<◌, ◌≤◌, ◌^◌, length, false, true};
+ghost use Rattle.std.specs.Prelude.{◌≡◌, ◌+◌, ◌<◌, ◌≤◌, ◌^◌, ◌&&◌, ℕ, IfSome, List, is_some, length, not, false, true};
 ghost use Rattle.osdp_frame.specs.Packed.{packed};
 ghost use Rattle.osdp_frame.specs.Spelling.{Spells};
-ghost use Rattle.osdp_controller.specs.Held.{outstanding_in};
-ghost use Rattle.osdp_controller.specs.Machine.{is_outstanding};
+ghost use Rattle.osdp_msg.specs.Kept.{command_kept};
+ghost use Rattle.osdp_controller.specs.Commands.{IsCommand};
+ghost use Rattle.osdp_controller.specs.Held.{on_its_way, outstanding_in};
+ghost use Rattle.osdp_controller.specs.Machine.{begun, is_outstanding};
 ghost use Rattle.osdp_controller.specs.Private.{frame_in};
 ghost use Rattle.osdp_controller.specs.Sessions.{after_send, at_rest, later, new_session, seen};
+ghost use Rattle.osdp_controller.specs.Waiting.{session_of};
 
 use crate::config::ControllerConfig;
-use crate::state::Held;
+use crate::state::{Held, Progress};
 use crate::ticking::first_number;
 use osdp_frame::{Burst, FrameView, Header, Seq};
 use osdp_msg::MAX_MESSAGE;
 
-/// A session with one reader.
+/// A session with one reader, with the command that is on its way.
 #[derive(Debug, Drop)]
-pub struct Session {
+pub struct Session<'a> {
     /// The settings; the address changes by Moved and between sessions.
     pub config: ControllerConfig,
     /// Where the session stands, with its deadline.
-    pub state: Held,
+    pub state: Held<'a>,
     /// The sequence number of the latest exchange.
     pub number: Seq,
     /// The greatest moment seen, in milliseconds.
     pub greatest: u64,
 }
 
-impl Session {
+/// A session as it is kept. The command that is on its way stands in the queue of commands, as the first one.
+#[derive(Debug, Drop)]
+pub struct KeptSession {
+    /// The settings.
+    pub config: ControllerConfig,
+    /// Where the session stands.
+    pub at: Progress,
+    /// The sequence number of the latest exchange.
+    pub number: Seq,
+    /// The greatest moment seen, in milliseconds.
+    pub greatest: u64,
+}
+
+impl KeptSession {
     /// No session yet.
-    pub(crate) fn new(config: ControllerConfig) -> Session
-        ensures { result ≡ new_session config }
+    pub(crate) fn new(config: ControllerConfig) -> KeptSession
+        ensures { (bytes : List ℕ) → session_of result bytes ≡ new_session config }
     {
-        Session {
+        KeptSession {
             config,
-            state: Held::new(),
+            at: Progress::closed(),
             number: first_number(),
             greatest: 0,
         }
+    }
+
+    /// Takes a moment; one that lies before the greatest seen counts as that one.
+    pub(crate) fn see(&mut self, now: u64)
+        ensures { (bytes : List ℕ) → session_of self.new bytes ≡ seen now (session_of self.old bytes) }
+    {
+        self.greatest = self.greatest.max(now);
+    }
+
+    /// The session with the command of these bytes, which is asked where one is.
+    pub(crate) fn with<'a>(&self, command: &'a [u8]) -> Session<'a>
+        requires { IsCommand command.now }
+        ensures { result ≡ session_of self.now command.now }
+    {
+        Session {
+            config: self.config,
+            state: Held {
+                at: self.at,
+                command,
+            },
+            number: self.number,
+            greatest: self.greatest,
+        }
+    }
+}
+
+impl<'a> Session<'a> {
+    /// The session without its command. With the bytes of the command that is on its way, if one is, it is the same.
+    #[tactic(auto, using(crate::proofs::OnItsWay::same_state))]
+    pub(crate) fn keep(self) -> KeptSession
+        ensures { (bytes : List ℕ) → IfSome (on_its_way self.entry.state) (λ command. command ≡ command_kept bytes) → session_of result bytes ≡ self.entry }
+    {
+        KeptSession {
+            config: self.config,
+            at: self.state.at,
+            number: self.number,
+            greatest: self.greatest,
+        }
+    }
+
+    /// Whether a command was on its way, as is told here, and none is any more.
+    pub(crate) fn has_settled(&self, asked: bool) -> bool
+        ensures { result ≡ (asked && not (is_some (on_its_way self.now.state))) }
+    {
+        asked && !self.state.asks_command()
     }
 
     /// Takes a moment; one that lies before the greatest seen counts as that one.
@@ -55,7 +116,7 @@ impl Session {
     }
 
     /// The frame with this code and data.
-    fn frame_of<'a>(&self, body: &'a [u8]) -> FrameView<'a>
+    fn frame_of<'b>(&self, body: &'b [u8]) -> FrameView<'b>
         requires some { 1 ≤ length body.now }
         requires room { length body.now ≤ MAX_MESSAGE }
         ensures { result ≡ packed false self.now.config.address self.now.number self.now.config.check false 0 body.now }
@@ -73,6 +134,15 @@ impl Session {
         ensures { Spells (frame_in self.now) out.new.items }
     {
         self.frame_of(self.state.body()).encode_to(out);
+    }
+
+    /// A session begins at this moment: the line is left quiet.
+    pub(crate) fn begin_session(&mut self, now: u64)
+        ensures { self.new ≡ begun (seen now self.old) }
+    {
+        self.see(now);
+        let until = self.later(self.config.quiet_wait);
+        self.state.be_quiet(until);
     }
 
     /// The outstanding exchange is asked once more, as this send.

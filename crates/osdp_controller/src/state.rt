@@ -1,6 +1,6 @@
 //! Where a session stands.
 
-ghost use Rattle.std.specs.Prelude.{◌≡◌, ◌≢◌, ◌+◌, ◌<◌, ◌≤◌, ◌^◌, length, true};
+ghost use Rattle.std.specs.Prelude.{◌≡◌, ◌≢◌, ◌+◌, ◌<◌, ◌≤◌, ◌^◌, ℕ, IfSome, List, is_some, length, true};
 ghost use Rattle.osdp_controller.specs.declared.exchange.Asked.TheVariants.{Submitted};
 ghost use Rattle.osdp_controller.specs.declared.exchange.Exchange.TheVariants.{Asking};
 ghost use Rattle.osdp_controller.specs.declared.state.Stage.TheVariants as stages;
@@ -10,13 +10,12 @@ ghost use Rattle.osdp_controller.specs.Commands.{IsCommand};
 ghost use Rattle.osdp_msg.specs.Kept.{command_kept};
 ghost use Rattle.osdp_msg.specs.declared.command.Command.TheVariants.{Poll};
 ghost use Rattle.std.specs.Option.{option_map};
-ghost use Rattle.osdp_controller.specs.Held.{exchange_of, outstanding_in, sends_in, stage_of};
+ghost use Rattle.osdp_controller.specs.Held.{exchange_of, on_its_way, outstanding_in, sends_in, stage_of, state_in};
 ghost use Rattle.osdp_controller.specs.Machine.{is_outstanding};
 ghost use Rattle.osdp_controller.specs.States.{is_closed, is_idle, moment_of};
 
 use crate::exchange::{Asked, Outstanding};
-use osdp_msg::{Command, MAX_MESSAGE, Spelling};
-use osdp_ring::put;
+use osdp_msg::MAX_MESSAGE;
 use std::marker::Model;
 
 /// Where a session stands, as the tables say it. Moments are in milliseconds.
@@ -61,10 +60,9 @@ pub enum Stage {
     Pausing,
 }
 
-/// A state in its parts. A submitted command stays in its place until its exchange ends, so that no step moves it; what a stage has no
-/// use for is left as it was.
-#[derive(Debug, Drop)]
-pub struct Held {
+/// Where a session stands, without the command that is on its way.
+#[derive(Clone, Copy, Debug, PartialEq, Eq)]
+pub struct Progress {
     /// The row of the tables.
     pub stage: Stage,
     /// The moment that it waits for.
@@ -77,75 +75,74 @@ pub struct Held {
     pub busies: u8,
     /// How many frames went out.
     pub sent: u32,
-    /// The code and the data of the command that was asked last; a POLL's where none was.
-    pub command: Spelling,
 }
 
-impl Model for Held {
-    ghost use Rattle.osdp_controller.specs.declared.state.State.{State};
-    ghost use Rattle.osdp_controller.specs.Held.{exchange_of, state_of};
-    ghost use Rattle.osdp_controller.specs.Commands.{IsCommand};
-    ghost use Rattle.osdp_msg.specs.Kept.{command_kept};
-
-    ghost Value = { State };
-
-    ghost view = { λ h. state_of h.stage h.moment h.sends (record {
-      exchange = exchange_of h.asked (command_kept h.command.items);
-      busies = h.busies;
-      sent = h.sent;
-    }) };
-
-    ghost invariant = { λ h. IsCommand h.command.items };
-}
-
-impl Held {
+impl Progress {
     /// There is no session.
-    // It stands by itself: inlined, it leaves one more place for a command on the stack of all that make a controller.
-    #[inline(never)]
-    pub(crate) fn new() -> Held
-        ensures { result ≡ Closed }
+    pub(crate) fn closed() -> Progress
+        ensures { (bytes : List ℕ) → state_in result bytes ≡ Closed }
     {
-        let mut command = Spelling::new();
-        Command::Poll.write_into(&mut command);
-        Held {
+        Progress {
             stage: Stage::Closed,
             moment: 0,
             sends: 0,
             asked: Asked::Polling,
             busies: 0,
             sent: 0,
-            command,
         }
     }
+}
 
+/// A state in its parts. What a stage has no use for is left as it was.
+#[derive(Debug, Drop)]
+pub struct Held<'a> {
+    /// All but the command.
+    pub at: Progress,
+    /// The code and the data of the command that is asked; of some command where none is.
+    pub command: &'a [u8],
+}
+
+impl<'a> Model for Held<'a> {
+    ghost use Rattle.osdp_controller.specs.declared.state.State.{State};
+    ghost use Rattle.osdp_controller.specs.Held.{state_in};
+    ghost use Rattle.osdp_controller.specs.Commands.{IsCommand};
+
+    ghost Value = { State };
+
+    ghost view = { λ h. state_in h.at h.command.now };
+
+    ghost invariant = { λ h. IsCommand h.command.now };
+}
+
+impl<'a> Held<'a> {
     /// Whether there is no session.
     pub(crate) fn is_closed(&self) -> bool
         ensures { result ≡ is_closed self.now }
     {
-        matches!(self.stage, Stage::Closed)
+        matches!(self.at.stage, Stage::Closed)
     }
 
     /// Whether the session is open and no exchange is outstanding.
     pub(crate) fn is_idle(&self) -> bool
         ensures { result ≡ is_idle self.now }
     {
-        matches!(self.stage, Stage::Idle)
+        matches!(self.at.stage, Stage::Idle)
     }
 
     /// Whether an exchange is outstanding, in a pause too.
     pub(crate) fn is_outstanding(&self) -> bool
         ensures { result ≡ is_outstanding self.now }
     {
-        matches!(self.stage, Stage::Waiting | Stage::Pausing)
+        matches!(self.at.stage, Stage::Waiting | Stage::Pausing)
     }
 
     /// The moment that it waits for.
     pub(crate) fn moment(&self) -> Option<u64>
         ensures { result ≡ moment_of self.now }
     {
-        match self.stage {
+        match self.at.stage {
             Stage::Closed => None,
-            Stage::Quiet | Stage::Idle | Stage::Waiting | Stage::Pausing => Some(self.moment),
+            Stage::Quiet | Stage::Idle | Stage::Waiting | Stage::Pausing => Some(self.at.moment),
         }
     }
 
@@ -153,23 +150,23 @@ impl Held {
     pub(crate) fn close(&mut self)
         ensures { self.new ≡ Closed }
     {
-        self.stage = Stage::Closed;
+        self.at.stage = Stage::Closed;
     }
 
     /// The line is left quiet until this moment.
     pub(crate) fn be_quiet(&mut self, until: u64)
         ensures { self.new ≡ Quiet until }
     {
-        self.stage = Stage::Quiet;
-        self.moment = until;
+        self.at.stage = Stage::Quiet;
+        self.at.moment = until;
     }
 
     /// Nothing is outstanding; a POLL is due at this moment.
     pub(crate) fn rest(&mut self, due: u64)
         ensures { self.new ≡ Idle due }
     {
-        self.stage = Stage::Idle;
-        self.moment = due;
+        self.at.stage = Stage::Idle;
+        self.at.moment = due;
     }
 
     /// The opening ID or a POLL is asked for the first time.
@@ -177,26 +174,26 @@ impl Held {
         requires { asked ≢ Submitted }
         ensures { self.new ≡ Waiting until 1 (record { exchange = exchange_of asked Poll; busies = 0; sent = 1 }) }
     {
-        self.stage = Stage::Waiting;
-        self.moment = until;
-        self.sends = 1;
-        self.busies = 0;
-        self.sent = 1;
-        self.asked = asked;
+        self.at.stage = Stage::Waiting;
+        self.at.moment = until;
+        self.at.sends = 1;
+        self.at.busies = 0;
+        self.at.sent = 1;
+        self.at.asked = asked;
     }
 
     /// The command of these bytes is asked for the first time.
-    pub(crate) fn begin_command(&mut self, command: &[u8], until: u64)
+    pub(crate) fn begin_command(&mut self, command: &'a [u8], until: u64)
         requires { IsCommand command.now }
         ensures { self.new ≡ Waiting until 1 (record { exchange = Asking (command_kept command.now); busies = 0; sent = 1 }) }
     {
-        self.stage = Stage::Waiting;
-        self.moment = until;
-        self.sends = 1;
-        self.asked = Asked::Submitted;
-        self.busies = 0;
-        self.sent = 1;
-        put(&mut self.command, command);
+        self.at.stage = Stage::Waiting;
+        self.at.moment = until;
+        self.at.sends = 1;
+        self.at.asked = Asked::Submitted;
+        self.at.busies = 0;
+        self.at.sent = 1;
+        self.command = command;
     }
 
     /// The exchange is asked once more, as this send.
@@ -205,10 +202,10 @@ impl Held {
         requires few { (outstanding_in self.old).sent + 1 < 2 ^ 32 }
         ensures { self.new ≡ Waiting until sends (record (outstanding_in self.old) { sent = (outstanding_in self.old).sent + 1 }) }
     {
-        self.stage = Stage::Waiting;
-        self.moment = until;
-        self.sends = sends;
-        self.sent += 1;
+        self.at.stage = Stage::Waiting;
+        self.at.moment = until;
+        self.at.sends = sends;
+        self.at.sent += 1;
     }
 
     /// The wait for the answer is over at this moment.
@@ -216,7 +213,7 @@ impl Held {
         requires { stage_of self.old ≡ stages.Waiting }
         ensures { self.new ≡ Waiting until (sends_in self.old) (outstanding_in self.old) }
     {
-        self.moment = until;
+        self.at.moment = until;
     }
 
     /// One more BUSY: the exchange is asked again at this moment.
@@ -225,19 +222,28 @@ impl Held {
         requires few { (outstanding_in self.old).busies < 255 }
         ensures { self.new ≡ Pausing until (record (outstanding_in self.old) { busies = (outstanding_in self.old).busies + 1 }) }
     {
-        self.stage = Stage::Pausing;
-        self.moment = until;
-        self.busies += 1;
+        self.at.stage = Stage::Pausing;
+        self.at.moment = until;
+        self.at.busies += 1;
+    }
+
+    /// Whether a command is on its way: it was sent, and waits for its answer.
+    pub(crate) fn asks_command(&self) -> bool
+        ensures { result ≡ is_some (on_its_way self.now) }
+    {
+        matches!(self.at.stage, Stage::Waiting | Stage::Pausing)
+            && matches!(self.at.asked, Asked::Submitted)
     }
 
     /// The code and the data of the command that was submitted for the outstanding exchange, if one was.
-    pub(crate) fn submitted(&self) -> Option<&Spelling>
+    pub(crate) fn submitted(&self) -> Option<&'a [u8]>
         requires held { is_outstanding self.now ≡ true }
-        ensures { option_map (λ bytes. command_kept bytes.now.items) result ≡ submitted_command (outstanding_in self.now).exchange }
+        ensures command { option_map (λ bytes. command_kept bytes.now) result ≡ submitted_command (outstanding_in self.now).exchange }
+        ensures room { IfSome result (λ bytes. length bytes.now ≤ MAX_MESSAGE) }
     {
-        match self.asked {
+        match self.at.asked {
             Asked::Opening | Asked::Polling => None,
-            Asked::Submitted => Some(&self.command),
+            Asked::Submitted => Some(self.command),
         }
     }
 
@@ -248,10 +254,10 @@ impl Held {
         ensures room { length result.now ≤ MAX_MESSAGE }
         ensures body { result.now ≡ exchange_body (outstanding_in self.now).exchange }
     {
-        match self.asked {
+        match self.at.asked {
             Asked::Opening => &OPENING,
             Asked::Polling => &POLL,
-            Asked::Submitted => self.command.as_slice(),
+            Asked::Submitted => self.command,
         }
     }
 }
@@ -260,4 +266,4 @@ impl Held {
 const OPENING: [u8; 2] = [0x61, 0];
 
 /// The code of a POLL.
-const POLL: [u8; 1] = [0x60];
+pub(crate) const POLL: [u8; 1] = [0x60];

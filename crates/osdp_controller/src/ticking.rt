@@ -24,7 +24,7 @@ use crate::session::Session;
 use crate::state::Stage;
 use osdp_frame::Seq;
 
-impl Session {
+impl<'a> Session<'a> {
     /// The opening ID or a POLL begins a new exchange.
     fn begin(&mut self, asked: Asked, number: Seq)
         requires { asked ≢ Submitted }
@@ -43,7 +43,7 @@ impl Session {
     }
 
     /// The command of these bytes begins a new exchange with the next number.
-    pub(crate) fn begin_command(&mut self, command: &[u8])
+    pub(crate) fn begin_command(&mut self, command: &'a [u8])
         requires config { IsConfig self.old.config }
         requires bytes { IsCommand command.now }
         requires command { IsSubmitted (command_kept command.now) }
@@ -62,17 +62,17 @@ impl Session {
         requires left { nat_lt (sends_in self.old.state) self.old.config.sends ≡ true }
         ensures { self.new ≡ after_send (sends_in self.old.state + 1) (outstanding_in self.old.state) self.old }
     {
-        self.send(self.state.sends + 1);
+        self.send(self.state.at.sends + 1);
     }
 
     /// Whether no answer came in time to the last of the sends.
     pub(crate) fn is_over(&self) -> bool
         ensures { result ≡ is_over self.now.state self.now }
     {
-        match self.state.stage {
+        match self.state.at.stage {
             Stage::Closed | Stage::Quiet | Stage::Idle | Stage::Pausing => false,
-            Stage::Waiting => self.state.moment <= self.greatest
-                && !(self.state.sends < self.config.sends),
+            Stage::Waiting => self.state.at.moment <= self.greatest
+                && !(self.state.at.sends < self.config.sends),
         }
     }
 
@@ -115,7 +115,7 @@ impl Session {
         if !self.is_reached() {
             return false;
         }
-        match self.state.stage {
+        match self.state.at.stage {
             Stage::Closed => return false,
             Stage::Quiet => self.begin(Asked::Opening, first_number()),
             Stage::Idle => self.begin(Asked::Polling, self.next_number()),

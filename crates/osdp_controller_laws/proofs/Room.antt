@@ -1,7 +1,8 @@
 -- What each call leaves of the commands that wait, and of the room for them.
-use Rattle.std.proofs.Common.{◌≡◌, ◌∙◌, ap, ◌≤◌, ◌+◌, ◌-◌, ◌*◌, ◌&&◌, ltb, leb, ℕ, Bool, true, false, List, [], ◌∷◌, ◌++◌, length, Option, Some, None, refl, arith}
-use Rattle.std.specs.Prelude.{if◌then◌else◌, All, drop, nat_le, nat_lt}
-use Rattle.std.proofs.lemmas.Bool.{le-leb, leb-true, ltb-true}
+use Rattle.std.proofs.Common.{◌≡◌, ◌∙◌, ap, sym, subst, ◌≤◌, ◌<◌, ◌+◌, ◌-◌, ◌*◌, ◌&&◌, ltb, leb, ℕ, Bool, true, false, List, [], ◌∷◌, ◌++◌, length, Option, Some, None, refl, arith}
+use Rattle.std.specs.Prelude.{IfSome, if◌then◌else◌, All, drop, nat_le, nat_lt}
+use Rattle.std.specs.Option.{option_map_or}
+use Rattle.std.proofs.lemmas.Bool.{le-leb, leb-false, leb-true, lt-leb, ltb-true}
 use Rattle.std.proofs.lemmas.List.Elements.{All-head, All-nil, All-push, All-tail}
 use Rattle.osdp_frame.specs.Packet.{next_sequence}
 use Rattle.osdp_msg.specs.CommandTable.{CommandFits, command_code, command_data}
@@ -9,16 +10,22 @@ use Rattle.osdp_msg.specs.Limits.{most_data}
 use Rattle.osdp_msg.specs.declared.command.Command.{Command}
 use Rattle.osdp_msg.specs.declared.command.Command.TheVariants.{Poll}
 use Rattle.osdp_msg_laws.proofs.CommandLaws.{command_laws}
+use Rattle.osdp_controller.specs.declared.config.ControllerConfig.{ControllerConfig}
 use Rattle.osdp_controller.specs.declared.exchange.Exchange.TheVariants.{Opening, Polling}
 use Rattle.osdp_controller.specs.declared.fault.ControllerFault.{ControllerFault}
 use Rattle.osdp_controller.specs.declared.session.Session.{Session}
 use Rattle.osdp_controller.specs.declared.state.State.{State}
 use Rattle.osdp_controller.specs.declared.state.State.TheVariants.{Closed, Quiet, Idle, Waiting, Pausing}
-use Rattle.osdp_controller.specs.Machine.{Machine, after_begin, after_retarget, after_submit, begin_refusal, bytes_waiting, changed_unless, command_size, has_room, new_machine, retarget_refusal, submit_refusal}
+use Rattle.osdp_controller.specs.Machine.{Machine, after_begin, after_retarget, after_submit, begin_refusal, bytes_kept, bytes_on_its_way, bytes_waiting, changed_unless, command_size, has_room, new_machine, refused_unless_closed, retarget_refusal, submit_refusal}
+use Rattle.osdp_controller.specs.Exchanges.{submitted_command}
+use Rattle.osdp_controller.specs.Hearing.{hears}
+use Rattle.osdp_controller.specs.Held.{on_its_way}
 use Rattle.osdp_controller.specs.Sessions.{seen}
 use Rattle.osdp_controller.specs.States.{is_closed}
 use Rattle.osdp_controller.specs.Ticking.{Ticked, begins, gives_up, sends_frame, stays, ticks_in, tries_again}
 use Rattle.osdp_controller.proofs.Choices.{either_way}
+use Rattle.osdp_controller.proofs.OnItsWay.{hears_follows}
+use Rattle.osdp_controller_laws.specs.Commands.{asked_in}
 use Rattle.osdp_controller_laws.specs.Room.{HasRoom, RefusesForItsPlace, StaysInRoom, SubmitsFitting}
 use Rattle.osdp_controller_laws.specs.Runs.{Call, Submit, Begin, Retarget, Withdraw, Tick, Hear, after_call, after_calls}
 
@@ -94,32 +101,135 @@ second_true : (a b : Bool) → (a && b) ≡ true → b ≡ true
 second_true true b e = e
 second_true false b e = cc
 
-room_kept : IsKeptByQueue (λ w capacity room. bytes_waiting w ≤ room) (λ command. Unit {0})
-room_kept = record {
-  joins = λ command m fits free is.
-      let bytes = leb-true (command_size command) (m.room - bytes_waiting m.waiting)
-      (second_true (nat_lt (length m.waiting) m.capacity) (nat_le (command_size command) (m.room - bytes_waiting m.waiting)) free) in
-      let sum = bytes_append m.waiting (command ∷ []) in
-      omega (arith, bytes, sum, is);
-  leaves = λ command w capacity room is. omega (arith, is);
+-- the bytes of the command on its way, where they count
+abbrev counted : Bool → Option Command → ℕ
+counted ample o = if ample then 0 else option_map_or command_size o 0
+
+abbrev Within : Bool → Option Command → List Command → ℕ → Type 0
+Within ample o w room = counted ample o + bytes_waiting w ≤ room
+
+none_counts : (ample : Bool) (o : Option Command) → counted ample None ≤ counted ample o
+none_counts true o = omega arith
+none_counts false o = omega arith
+
+settles : (ample : Bool) (o : Option Command) (w : List Command) (room : ℕ) → Within ample o w room → Within ample None w room
+settles ample o w room is = let less = none_counts ample o in omega (arith, less, is)
+
+begins_first : (ample : Bool) (c : Command) (w : List Command) (room : ℕ) → Within ample None (c ∷ w) room → Within ample (Some c) w room
+begins_first true c w room is = omega (arith, is)
+begins_first false c w room is = omega (arith, is)
+
+leaves_first : (ample shut : Bool) (o : Option Command) (w : List Command) (room : ℕ) → Within ample o w room → Within ample o (if shut then drop 1 w else w) room
+leaves_first ample true o [] room is = is
+leaves_first ample true o (c ∷ w) room is = omega (arith, is)
+leaves_first ample false o w room is = is
+
+follows_within : (ample : Bool) (o p : Option Command) (w : List Command) (room : ℕ) → IfSome o (λ c. p ≡ Some c) → Within ample p w room → Within ample o w room
+follows_within ample None p w room follows is = settles ample p w room is
+follows_within ample (Some c) p w room follows is = subst (λ (x : Option Command). Within ample x w room) follows is
+
+abbrev TickedWithin : Bool → ℕ → Ticked → Type 0
+TickedWithin ample room t = Within ample (on_its_way t.session.state) t.waiting room
+
+tick_within : (ample : Bool) (state : State) (s : Session) (w : List Command) (room : ℕ) → on_its_way s.state ≡ on_its_way state → Within ample (on_its_way state) w room
+    → TickedWithin ample room (ticks_in state s w)
+tick_within ample Closed s w room same is = subst (λ (o : Option Command). Within ample o w room) (sym same) is
+tick_within ample (Quiet until) s w room same is =
+    either_way (TickedWithin ample room) (nat_le until s.greatest) (begins Opening 0 s w) (stays s w) (λ b. is)
+    (λ b. subst (λ (o : Option Command). Within ample o w room) (sym same) is)
+tick_within ample (Idle due) s (c ∷ w) room same is = begins_first ample c w room is
+tick_within ample (Idle due) s [] room same is =
+    either_way (TickedWithin ample room) (nat_le due s.greatest) (begins Polling (next_sequence s.number) s []) (stays s []) (λ b. is)
+    (λ b. subst (λ (o : Option Command). Within ample o [] room) (sym same) is)
+tick_within ample (Waiting until sends o) s w room same is =
+    either_way (TickedWithin ample room) (nat_le until s.greatest) (tries_again sends o s w) (stays s w)
+    (λ b. either_way (TickedWithin ample room) (nat_lt sends s.config.sends) (sends_frame (sends + 1) o s w) (gives_up o s w)
+    (λ c. is) (λ c. settles ample (submitted_command o.exchange) w room is))
+    (λ b. subst (λ (x : Option Command). Within ample x w room) (sym same) is)
+tick_within ample (Pausing until o) s w room same is =
+    either_way (TickedWithin ample room) (nat_le until s.greatest) (sends_frame 1 o s w) (stays s w) (λ b. is)
+    (λ b. subst (λ (x : Option Command). Within ample x w room) (sym same) is)
+
+abbrev Keeps : Machine → Type 0
+Keeps m = bytes_kept m ≤ m.room
+
+either_keeps : (f : Option ControllerFault) (m n : Machine) → Keeps m → (f ≡ None → Keeps n) → Keeps (changed_unless f m n)
+either_keeps None m n is changed = changed refl
+either_keeps (Some fault) m n is changed = is
+
+begin_keeps : (now : ℕ) (state : State) (m : Machine) → m.session.state ≡ state → Keeps m → Keeps (changed_unless (refused_unless_closed state) m (after_begin now m))
+begin_keeps now Closed m same is =
+    subst (λ (x : State). counted (nat_le (m.capacity * (1 + most_data)) m.room) (on_its_way x) + bytes_waiting m.waiting ≤ m.room) same is
+begin_keeps now (Quiet until) m same is = is
+begin_keeps now (Idle due) m same is = is
+begin_keeps now (Waiting until sends o) m same is = is
+begin_keeps now (Pausing until o) m same is = is
+
+call_keeps : (call : Call) (m : Machine) → Keeps m → Keeps (after_call call m)
+call_keeps (Submit command) m is =
+    either_keeps (submit_refusal command m) m (after_submit command m) is
+    (λ free.
+    let fits = second_true (nat_lt (length m.waiting) m.capacity) (nat_le (command_size command) (m.room - bytes_kept m)) (finds_room command m free) in
+    let bytes = leb-true (command_size command) (m.room - bytes_kept m) fits in
+    let sum = bytes_append m.waiting (command ∷ []) in
+    omega (arith, bytes, sum, is))
+call_keeps (Begin now) m is = begin_keeps now m.session.state m refl is
+call_keeps (Retarget address) m is = either_keeps (retarget_refusal address m) m (after_retarget address m) is (λ free. is)
+call_keeps Withdraw m is =
+    leaves_first (nat_le (m.capacity * (1 + most_data)) m.room) (is_closed m.session.state) (on_its_way m.session.state) m.waiting m.room is
+call_keeps (Tick now) m is =
+    tick_within (nat_le (m.capacity * (1 + most_data)) m.room) m.session.state (seen now m.session) m.waiting m.room refl is
+call_keeps (Hear p now) m is =
+    follows_within (nat_le (m.capacity * (1 + most_data)) m.room) (on_its_way (hears p now m.session).session.state) (on_its_way m.session.state) m.waiting m.room
+    (hears_follows p now m.session) is
+
+calls_keep : (calls : List Call) (m : Machine) → Keeps m → Keeps (after_calls calls m)
+calls_keep [] m is = is
+calls_keep (call ∷ calls) m is = calls_keep calls (after_call call m) (call_keeps call m is)
+
+new_keeps : (config : ControllerConfig) (capacity room : ℕ) → Keeps (new_machine config capacity room)
+new_keeps config capacity room = by_test (nat_le (capacity * (1 + most_data)) room)
+  where
+    by_test : (ample : Bool) → Within ample None [] room
+    by_test true = omega arith
+    by_test false = omega arith
+
+asked_same : (state : State) → on_its_way state ≡ asked_in state
+asked_same Closed = refl
+asked_same (Quiet until) = refl
+asked_same (Idle due) = refl
+asked_same (Waiting until sends o) = refl
+asked_same (Pausing until o) = refl
+
+kept_of_room : (m : Machine) → HasRoom m → Keeps m
+kept_of_room m is = by_test (nat_le (m.capacity * (1 + most_data)) m.room) refl
+  where
+    by_test : (t : Bool) → nat_le (m.capacity * (1 + most_data)) m.room ≡ t → Keeps m
+    by_test true ample =
+        let counts = ap (λ (t : Bool). counted t (on_its_way m.session.state)) ample in
+        let waiting = is.waiting in
+        omega (arith, counts, waiting)
+    by_test false few =
+        let counts = ap (λ (t : Bool). counted t (on_its_way m.session.state)) few in
+        let asked = ap (λ (o : Option Command). option_map_or command_size o 0) (asked_same m.session.state) in
+        let together = is.together (leb-false (m.capacity * (1 + most_data)) m.room few) in
+        omega (arith, counts, asked, together)
+
+room_of_kept : (m : Machine) → Keeps m → HasRoom m
+room_of_kept m is = record {
+  waiting = omega (arith, is);
+  together = λ less.
+      let few = lt-leb (m.capacity * (1 + most_data)) m.room less in
+      let counts = ap (λ (t : Bool). counted t (on_its_way m.session.state)) few in
+      let asked = ap (λ (o : Option Command). option_map_or command_size o 0) (asked_same m.session.state) in
+      omega (arith, is, counts, asked);
 }
 
-any_call : (call : Call) → SubmitsFor (λ w capacity room. bytes_waiting w ≤ room) (λ command. Unit {0}) call
-any_call (Submit command) = tt
-any_call (Begin now) = tt
-any_call (Retarget address) = tt
-any_call Withdraw = tt
-any_call (Tick now) = tt
-any_call (Hear p now) = tt
-
-room_stays : (m : Machine) (calls : List Call) → HasRoom m → HasRoom (after_calls calls m)
-room_stays m [] is = is
-room_stays m (call ∷ calls) is =
-    room_stays (after_call call m) calls
-    (call_holds (λ w capacity room. bytes_waiting w ≤ room) (λ command. Unit {0}) call m room_kept (any_call call) is)
-
 pub stays_in_room : StaysInRoom
-stays_in_room = record { new = λ config capacity room. omega arith; later = room_stays }
+stays_in_room = record {
+  new = λ config capacity room. room_of_kept (new_machine config capacity room) (new_keeps config capacity room);
+  later = λ m calls is. room_of_kept (after_calls calls m) (calls_keep calls m (kept_of_room m is));
+}
 
 -- ---- a place alone
 
@@ -142,6 +252,11 @@ place_alone n size places room more held ample short = by_test (ltb n places) re
     by_test : (b : Bool) → ltb n places ≡ b → (b && leb more (room - size)) ≡ b
     by_test true is = let place = ltb-true n places is in le-leb more (room - size) (omega (arith, place, held, ample, short))
     by_test false is = refl
+
+-- the command that is on its way has room beside them
+not_counted : (m : Machine) → m.capacity * (1 + most_data) ≤ m.room → bytes_on_its_way m ≡ 0
+not_counted m ample =
+    ap (λ (t : Bool). if t then 0 else option_map_or command_size (on_its_way m.session.state) 0) (le-leb (m.capacity * (1 + most_data)) m.room ample)
 
 -- the commands that wait have their fields in their ranges, and as many may wait, with as many bytes, as a controller was made for
 abbrev AreAmple : ℕ → ℕ → List Command → ℕ → ℕ → Type 0
@@ -174,6 +289,8 @@ pub refuses_for_its_place : RefusesForItsPlace
 refuses_for_its_place config capacity room calls command ample fit fits =
     let m = after_calls calls (new_machine config capacity room) in
     let is = ample_stays capacity room (new_machine config capacity room) calls fit (All-nil CommandFits, refl, refl) in
-    place_alone (length m.waiting) (bytes_waiting m.waiting) m.capacity m.room (command_size command) (commands_are_short m.waiting is.0)
-    (omega (arith, ample, is.1, is.2)) (command_is_short command fits)
+    let short = commands_are_short m.waiting is.0 in
+    let all : m.capacity * (1 + most_data) ≤ m.room = omega (arith, ample, is.1, is.2) in
+    ap (λ (n : ℕ). nat_lt (length m.waiting) m.capacity && nat_le (command_size command) (m.room - (n + bytes_waiting m.waiting))) (not_counted m all)
+    ∙ place_alone (length m.waiting) (0 + bytes_waiting m.waiting) m.capacity m.room (command_size command) (omega (arith, short)) all (command_is_short command fits)
     ∙ ap (λ (places : ℕ). nat_lt (length m.waiting) places) is.1

@@ -14,7 +14,7 @@ use Rattle.osdp_controller.specs.declared.fault.ControllerFault.{ControllerFault
 use Rattle.osdp_controller.specs.declared.session.Session.{Session}
 use Rattle.osdp_controller.specs.declared.state.State.{State}
 use Rattle.osdp_controller.specs.declared.state.State.TheVariants.{Closed, Quiet, Idle, Waiting, Pausing}
-use Rattle.osdp_controller.specs.Machine.{IsMachine, IsOutstanding, IsState, IsSubmitted, Machine, after_begin, after_retarget, after_submit, after_withdraw, bytes_waiting, changed_unless, command_size, or_no_device, refused_unless_closed, retarget_refusal, submit_refusal}
+use Rattle.osdp_controller.specs.Machine.{IsMachine, IsOutstanding, IsState, IsSubmitted, Machine, after_begin, after_retarget, after_submit, after_withdraw, bytes_kept, changed_unless, command_size, or_no_device, refused_unless_closed, retarget_refusal, submit_refusal}
 use Rattle.osdp_controller_laws.specs.Runs.{Call, Submit, Begin, Retarget, Withdraw, Tick, Hear, StaysWell, after_call, after_calls}
 use Rattle.osdp_controller.specs.Sessions.{seen}
 use Rattle.osdp_controller.specs.Settings.{IsConfig}
@@ -34,7 +34,7 @@ finds_room : (command : Command) (m : Machine) → submit_refusal command m ≡ 
 finds_room Poll m h = cc
 finds_room command m h =
     let place = nat_lt (length m.waiting) m.capacity in
-    let bytes = nat_le (command_size command) (m.room - bytes_waiting m.waiting) in
+    let bytes = nat_le (command_size command) (m.room - bytes_kept m) in
     ((λ e. cc), ltb-true (length m.waiting) m.capacity (first_true place bytes (accepted _ (place && bytes) h)))
 
 keeps_submit : (f : Option ControllerFault) (command : Command) (m : Machine) → (f ≡ None → (command ≢ Poll) × (length m.waiting < m.capacity))

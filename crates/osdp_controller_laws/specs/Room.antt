@@ -1,15 +1,24 @@
--- The commands that wait stay within the room for their bytes; and with room for each however long, one is refused for its place alone.
-use Rattle.std.specs.Prelude.{◌≡◌, ◌≤◌, ◌+◌, ◌*◌, ℕ, nat_lt, List, [], ◌∷◌, length}
+-- The bytes of commands stay within the room for them; and with room for each however long, one is refused for its place alone.
+use Rattle.std.specs.Option.{option_map_or}
+use Rattle.std.specs.Prelude.{◌≡◌, ◌<◌, ◌≤◌, ◌+◌, ◌*◌, ℕ, nat_lt, List, [], ◌∷◌, length}
 use Rattle.osdp_msg.specs.declared.command.Command.{Command}
 use Rattle.osdp_msg.specs.CommandTable.{CommandFits}
 use Rattle.osdp_msg.specs.Limits.{most_data}
 use Rattle.osdp_controller.specs.declared.config.ControllerConfig.{ControllerConfig}
-use Rattle.osdp_controller.specs.Machine.{Machine, bytes_waiting, has_room, new_machine}
+use Rattle.osdp_controller.specs.Machine.{Machine, bytes_waiting, command_size, has_room, new_machine}
+use Rattle.osdp_controller.specs.declared.state.State.{State}
+use Rattle.osdp_controller_laws.specs.Commands.{asked_in}
 use Rattle.osdp_controller_laws.specs.Runs.{Call, Submit, after_calls}
 
--- no more bytes wait than there is room for
-abbrev pub HasRoom : Machine → Type 0
-HasRoom m = bytes_waiting m.waiting ≤ m.room
+-- the bytes of the command that waits for its answer; none where no command does
+abbrev pub bytes_asked : State → ℕ
+bytes_asked state = option_map_or command_size (asked_in state) 0
+
+-- no more bytes wait than there is room for; and where there is less room than for each command however long, those of the command that waits for its
+-- answer have room beside them
+pub record HasRoom (m : Machine) : Type 0 where
+  pub waiting : bytes_waiting m.waiting ≤ m.room
+  pub together : m.room < m.capacity * (1 + most_data) → bytes_asked m.session.state + bytes_waiting m.waiting ≤ m.room
 
 -- that holds of a new controller, and after whatever is called
 pub record StaysInRoom : Type 0 where

@@ -148,7 +148,8 @@ pub fn sends_packets()
     ensures { SendsPackets }
 {}
 
-/// Whatever is called, no more bytes of commands wait than there is room for.
+/// Whatever is called, no more bytes of commands wait than there is room for. Where there is less room than for each command however long, the bytes of
+/// the command that waits for its answer have room beside them.
 pub fn bytes_stay_in_their_room()
     ensures { StaysInRoom }
 {}

@@ -1,15 +1,18 @@
 -- What is held back has room in its controller, once none waits there.
-use Rattle.std.proofs.Common.{◌≡◌, ◌∙◌, ap, sym, subst, refl, ℕ, zero, suc, ◌+◌, ◌-◌, ◌≤◌, ◌&&◌, Bool, true, false, List, [], ◌∷◌, ◌++◌, length, Option, Some, None, Result, Ok, Err, arith}
+use Rattle.std.proofs.Common.{◌≡◌, ◌∙◌, ap, sym, subst, refl, ℕ, zero, suc, ◌+◌, ◌-◌, ◌*◌, ◌≤◌, ◌&&◌, Bool, true, false, List, [], ◌∷◌, ◌++◌, length, Option, Some, None, Result, Ok, Err, arith}
 use Rattle.std.specs.Prelude.{◌≢◌, drop, if◌then◌else◌, nat_eq, nat_le, nat_lt, option_map, slice_get, slice_set}
+use Rattle.std.specs.Option.{option_map_or}
 use Rattle.std.proofs.lemmas.Bool.{eqb-true, eqb-false, leb-true, le-leb, lt-ltb}
 use Rattle.osdp_msg.specs.declared.command.Command.{Command}
 use Rattle.osdp_msg.specs.declared.command.Command.TheVariants.{Poll, Comset}
 use Rattle.osdp_msg.specs.declared.command_fields.Communication.{Communication}
 use Rattle.osdp_msg.specs.declared.limits.Room.{Room}
 use Rattle.osdp_msg.specs.Kept.{command_kept}
+use Rattle.osdp_msg.specs.Limits.{most_data}
 use Rattle.osdp_controller.specs.declared.fault.ControllerFault.TheVariants as controllers
 use Rattle.osdp_controller.specs.Hearing.{comset_of}
-use Rattle.osdp_controller.specs.Machine.{Machine, bytes_waiting, command_size, has_room, submit_refusal as refusal_of_controller}
+use Rattle.osdp_controller.specs.Held.{on_its_way}
+use Rattle.osdp_controller.specs.Machine.{Machine, bytes_on_its_way, bytes_waiting, command_size, has_room, submit_refusal as refusal_of_controller}
 use Rattle.osdp_ring.specs.Ring.{fits_in, popped, total}
 use Rattle.osdp_bus.specs.declared.entry.Entry.{Entry}
 use Rattle.osdp_bus.specs.declared.fault.BusFault.{BusFault}
@@ -219,15 +222,26 @@ plain : (c : Command) (m : Machine) → c ≢ Poll → refusal_of_controller c m
 plain Poll m other = absurd (other refl)
 plain c m other = refl
 
-has_its_room : (c : Command) (m : Machine) → m.waiting ≡ [] → 1 ≤ m.capacity → command_size c ≤ m.room → has_room c m ≡ true
-has_its_room c m none some small =
-    ap (λ (w : List Command). nat_lt (length w) m.capacity && nat_le (command_size c) (m.room - bytes_waiting w)) none
+nothing_sent : (m : Machine) → on_its_way m.session.state ≡ None → bytes_on_its_way m ≡ 0
+nothing_sent m sent =
+    let ample = nat_le (m.capacity * (1 + most_data)) m.room in
+    ap (λ (o : Option Command). if ample then 0 else option_map_or command_size o 0) sent ∙ alike ample
+  where
+    alike : (t : Bool) → ◌≡◌ {A = ℕ} (if t then 0 else 0) 0
+    alike true = refl
+    alike false = refl
+
+has_its_room : (c : Command) (m : Machine) → on_its_way m.session.state ≡ None → m.waiting ≡ [] → 1 ≤ m.capacity → command_size c ≤ m.room → has_room c m ≡ true
+has_its_room c m sent none some small =
+    ap (λ (n : ℕ). nat_lt (length m.waiting) m.capacity && nat_le (command_size c) (m.room - (n + bytes_waiting m.waiting))) (nothing_sent m sent)
+    ∙ ap (λ (w : List Command). nat_lt (length w) m.capacity && nat_le (command_size c) (m.room - (0 + bytes_waiting w))) none
     ∙ ap (λ t. t && nat_le (command_size c) (m.room - 0)) (lt-ltb 0 m.capacity (omega (arith, some)))
     ∙ le-leb (command_size c) (m.room - 0) (omega (arith, small))
 
-pub not_refused : (entry : ℕ) (c : Command) (d : Entry) (b : BusState) → device_of entry b ≡ Some d → d.controller.waiting ≡ [] → 1 ≤ d.controller.capacity
+pub not_refused : (entry : ℕ) (c : Command) (d : Entry) (b : BusState) → device_of entry b ≡ Some d → on_its_way d.controller.session.state ≡ None → d.controller.waiting ≡ []
+    → 1 ≤ d.controller.capacity
     → c ≢ Poll → comset_of c ≡ None → command_size c ≤ d.controller.room → order_refusal_at entry c b ≡ None
-not_refused entry c d b at none some no_poll no_comset small =
+not_refused entry c d b at sent none some no_poll no_comset small =
     ap (λ o. order_refusal_of entry c o b) at
     ∙ ap (λ (o : Option Communication). if leads_nowhere o then Some AddressOutOfRange else (if is_comset_refused o entry d b then Some AddressTaken else option_map bus_fault (refusal_of_controller c d.controller))) no_comset
-    ∙ ap (λ f. option_map bus_fault f) (plain c d.controller no_poll ∙ ap (λ t. if t then None else Some controllers.Full) (has_its_room c d.controller none some small))
+    ∙ ap (λ f. option_map bus_fault f) (plain c d.controller no_poll ∙ ap (λ t. if t then None else Some controllers.Full) (has_its_room c d.controller sent none some small))

@@ -9,6 +9,10 @@ use Rattle.osdp_msg.specs.declared.limits.Room.{Room}
 use Rattle.osdp_msg.specs.Kept.{command_kept}
 use Rattle.osdp_controller.specs.declared.exchange.Exchange.{Exchange}
 use Rattle.osdp_controller.specs.declared.exchange.Exchange.TheVariants.{Opening, Polling, Asking}
+use Rattle.osdp_controller.specs.declared.state.State.{State}
+use Rattle.osdp_controller.specs.declared.state.State.TheVariants.{Closed, Quiet, Idle, Waiting, Pausing}
+use Rattle.osdp_controller.specs.Exchanges.{submitted_command}
+use Rattle.osdp_controller.specs.Held.{on_its_way}
 use Rattle.osdp_controller.specs.Sessions.{frame_of}
 use Rattle.osdp_controller_laws.specs.Laws.{exchange_in}
 use Rattle.osdp_bus.specs.declared.config.BusConfig.{BusConfig}
@@ -94,7 +98,7 @@ none_waits entry d q x at empty none =
     ∙ ap (λ w. w ++ map command_kept q.held.items) empty ∙ ap (λ (items : List (List ℕ)). map command_kept items) none)
 
 module _ (config : BusConfig) (entry : ℕ) (d : Entry) (q : Queue) (x : PanelState) (at : At entry d q x) (sound : SoundBus x.bus) (reached : Reached config x.bus)
-    (fits : Fits config.room q) where
+    (fits : Fits config.room q) (sent : on_its_way d.controller.session.state ≡ None) where
   abbrev NextAfter : Gone → Type 0
   NextAfter g = IsNext entry (gone_to entry x.orders g)
 
@@ -109,7 +113,7 @@ module _ (config : BusConfig) (entry : ℕ) (d : Entry) (q : Queue) (x : PanelSt
       let capacity = (sound.devices.devices entry d at.device).machine.capacity in
       let room : d.controller.room ≡ config.room.bytes = room_at config entry d x.bus reached at.device in
       let size = good.size in
-      not_refused entry (command_kept bytes) d x.bus at.device empty capacity.0 good.no_poll good.no_comset (omega (arith, size, room))
+      not_refused entry (command_kept bytes) d x.bus at.device sent empty capacity.0 good.no_poll good.no_comset (omega (arith, size, room))
 
   by_items : (items : List (List ℕ)) → waits d ≡ [] → q.held.items ≡ items → NextAfter (goes_from entry q x.bus)
   by_items [] empty none =
@@ -166,6 +170,16 @@ asked_entry entry d p b sound at own polling =
     ∙ first_at (is_at (address_of d)) b.devices.entries entry d at here
     (λ j f there same. sound.apart (address_of d) j entry f d there at (inl (eqb-true (address_of f) (address_of d) same)) (inl refl))
 
+-- a POLL that waits for its answer is no command on its way
+pub polls_alone : (state : State) → is_polling (exchange_in state) ≡ true → on_its_way state ≡ None
+polls_alone Closed polling = absurd cc
+polls_alone (Quiet until) polling = absurd cc
+polls_alone (Idle due) polling = absurd cc
+polls_alone (Waiting until sends o) polling =
+    let same : o.exchange ≡ Polling = (let e = polling_is (Some o.exchange) polling in cc) in ap submitted_command same
+polls_alone (Pausing until o) polling =
+    let same : o.exchange ≡ Polling = (let e = polling_is (Some o.exchange) polling in cc) in ap submitted_command same
+
 -- ---- the law
 
 module _ (config : BusConfig) (x : PanelState) (inv : Inv x) (reached : Reached config x.bus) (fit : AllFit config.room x.orders) (entry : ℕ) where
@@ -183,7 +197,8 @@ module _ (config : BusConfig) (x : PanelState) (inv : Inv x) (reached : Reached 
       let q = queue_for a.device t.bus a.there (counts (length x.bus.devices.entries) (Tick a.now) x.bus tt refl) in
       subst (λ c. IsNext entry (after_call c x)) (sym a.tick)
       (subst (λ o. IsNext entry (lets_go_after o y)) (sym asked)
-      (next_is config entry a.device q.0 y (record { device = a.there; queue = q.1 }) sound (reached_after config (Tick a.now) x.bus reached) (fit.1 entry q.0 q.1)))
+      (next_is config entry a.device q.0 y (record { device = a.there; queue = q.1 }) sound (reached_after config (Tick a.now) x.bus reached) (fit.1 entry q.0 q.1)
+      (polls_alone a.device.controller.session.state a.polls)))
 
   begun_goes : (call : Call) → Begins entry call x → IsNext entry (after_call call x)
   begun_goes call a =
@@ -201,7 +216,7 @@ module _ (config : BusConfig) (x : PanelState) (inv : Inv x) (reached : Reached 
           next_is config entry (entry_begins (max x.bus.greatest a.now) d) q.0 (both x.orders b)
           (record { device = changed_here entry (entry_begins (max x.bus.greatest a.now)) d (seen a.now x.bus) at; queue = there.queue })
           (subst SoundBus is (sound_call (Begin entry a.now) x.bus inv.sound)) (subst (Reached config) is (reached_after config (Begin entry a.now) x.bus reached))
-          (fit.1 entry q.0 there.queue)
+          (fit.1 entry q.0 there.queue) refl
 
 pub go_as_soon_as_they_may : GoAsSoonAsTheyMay
 go_as_soon_as_they_may config calls is written entry call freed = by_cause freed

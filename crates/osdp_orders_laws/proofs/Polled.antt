@@ -39,7 +39,7 @@ use Rattle.osdp_orders_laws.specs.Places.{waiting_orders}
 use Rattle.osdp_orders_laws.proofs.Along.{waiting_is}
 use Rattle.osdp_orders_laws.proofs.Shapes.{Holds, submit_shape}
 use Rattle.osdp_orders_laws.proofs.Fitting.{AreGood}
-use Rattle.osdp_orders_laws.proofs.Freeing.{asked_entry, good_goes, reached_after}
+use Rattle.osdp_orders_laws.proofs.Freeing.{asked_entry, good_goes, polls_alone, reached_after}
 use Rattle.osdp_orders_laws.proofs.Going.{changed_here}
 use Rattle.osdp_orders_laws.proofs.Keeping.{has_queue}
 use Rattle.osdp_orders_laws.proofs.OfBus.{calls_of_the_bus}
@@ -123,7 +123,7 @@ module _ (config : BusConfig) (entry now : ℕ) (x : PanelState) (holds : Holds 
       let c = command_kept held.0 in
       let elsewhere : leads_nowhere (comset_of c) ≡ false = ap leads_nowhere good.no_comset in
       let refused = good_goes config entry e.0 q.0 z (record { device = e.1; queue = at.queue }) (sound_call (Tick now) x.bus holds.well.sound)
-      (reached_after config (Tick now) x.bus holds.reached) fits held.0 held.1 e.4 held.2 in
+      (reached_after config (Tick now) x.bus holds.reached) fits (polls_alone e.0.controller.session.state e.2) held.0 held.1 e.4 held.2 in
       record {
         order = c;
         calls = ap (λ l. Tick now ∷ l)

@@ -48,6 +48,15 @@ pub first_within : (sizes row : List ℕ) (n : ℕ) → slice_get sizes 0 ≡ So
 first_within [] row n e whole = cc
 first_within (m ∷ sizes) row n e whole = let same : m ≡ n = cc in omega (arith, same, whole)
 
+-- the strings after the first
+pub none_after : (sizes row : List ℕ) → slice_get sizes 0 ≡ None → drop 1 (cut sizes row) ≡ []
+none_after [] row e = refl
+none_after (n ∷ sizes) row e = cc
+
+pub rest_cut : (sizes row : List ℕ) (n : ℕ) → slice_get sizes 0 ≡ Some n → drop 1 (cut sizes row) ≡ cut (drop 1 sizes) (drop n row)
+rest_cut [] row n e = cc
+rest_cut (m ∷ sizes) row n e = let same : m ≡ n = cc in ap (λ (k : ℕ). cut sizes (drop k row)) same
+
 -- what fits, by the sizes and the row
 pub room_of : (sizes row : List ℕ) (gone : ℕ) → gone ≤ length row → sum_of sizes ≡ length row - gone → total (cut sizes (drop gone row)) ≡ length row - gone
 room_of sizes row gone within whole =

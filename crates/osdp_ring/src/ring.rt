@@ -98,7 +98,18 @@ impl Ring {
         ensures { result ≡ has_first byte self.now.items }
     {
         let row = self.row.as_slice().split_at(self.gone).1;
-        has_first_in(&self.sizes, row, byte)
+        has_first_in(&self.sizes, 0, row, byte)
+    }
+
+    /// Whether one of the strings after the first one begins with this byte.
+    pub fn has_first_after_front(&self, byte: u8) -> bool
+        ensures { result ≡ has_first byte (drop 1 self.now.items) }
+    {
+        let Some(size) = self.sizes.front() else {
+            return false;
+        };
+        let row = self.row.as_slice().split_at(self.gone).1;
+        has_first_in(&self.sizes, 1, row.split_at(usize::from(*size)).1, byte)
     }
 
     /// Puts a string after the others, where it fits. Whether it does; else nothing changes.
@@ -167,13 +178,13 @@ impl Ring {
     }
 }
 
-/// Whether one of the strings that a row is cut into begins with this byte.
-fn has_first_in(sizes: &HeapCircularBuffer<u16>, row: &[u8], byte: u8) -> bool
-    requires { sum_of sizes.now.items ≡ length row.now }
-    ensures { result ≡ has_first byte (cut sizes.now.items row.now) }
+/// Whether one of the strings that a row is cut into by the sizes from one on begins with this byte.
+fn has_first_in(sizes: &HeapCircularBuffer<u16>, from: usize, row: &[u8], byte: u8) -> bool
+    requires { sum_of (drop from sizes.now.items) ≡ length row.now }
+    ensures { result ≡ has_first byte (cut (drop from sizes.now.items) row.now) }
 {
     let mut left = row;
-    for i in 0..sizes.len() {
+    for i in from..sizes.len() {
         let Some(size) = sizes.get(i) else {
             return false;
         };

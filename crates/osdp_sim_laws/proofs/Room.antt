@@ -1,6 +1,7 @@
 -- Room for what waits, however long each message is.
 use Rattle.std.proofs.Common.{◌≡◌, ◌<◌, ◌≤◌, ◌+◌, ◌-◌, ◌*◌, ◌&&◌, ℕ, arith, Bool, true, false, ltb, leb, if◌then◌else◌, List, [], ◌∷◌, ◌++◌, length, drop, inl, inr, refl, sym, ap, ◌∙◌}
-use Rattle.std.proofs.lemmas.Bool.{lt-ltb, ltb-true}
+use Rattle.std.specs.Option.{option_map_or}
+use Rattle.std.proofs.lemmas.Bool.{le-leb, lt-ltb, ltb-true}
 use Rattle.std.proofs.lemmas.Bool.Decides.{leb_tells}
 use Rattle.std.proofs.lemmas.List.{length-append}
 use Rattle.std.specs.Prelude.{not}
@@ -15,6 +16,7 @@ use Rattle.osdp_msg.specs.declared.reply.Reply.{Reply}
 use Rattle.osdp_msg.proofs.Commands.{commands}
 use Rattle.osdp_msg.proofs.Replies.{replies}
 use Rattle.osdp_msg.proofs.Table.{bounded}
+use Rattle.osdp_controller.specs.Held.{on_its_way}
 use Rattle.osdp_controller.specs.Machine as controllers
 use Rattle.osdp_controller.specs.Machine.{Machine}
 use Rattle.osdp_controller.specs.Ticking.{Ticked, begins, gives_up, sends_frame, stays, ticks_in, tries_again}
@@ -89,9 +91,16 @@ no_room k n size places room more is fits refused = elim (leb_tells places n) [
   ]
 ]
 
+-- the command that is on its way has room beside them
+not_counted : (m : Machine) → m.room ≡ m.capacity * (1 + most_data) → controllers.bytes_on_its_way m ≡ 0
+not_counted m ample =
+    ap (λ (t : Bool). if t then 0 else option_map_or controllers.command_size (on_its_way m.session.state) 0) (le-leb (m.capacity * (1 + most_data)) m.room (omega (arith, ample)))
+
 pub no_room_for_command : (k : ℕ) (c : Command) (m : Machine) → ShortCommands k m → CommandFits c → controllers.has_room c m ≡ false → m.capacity ≤ k
 no_room_for_command k c m is fits refused =
-    no_room k (length m.waiting) (controllers.bytes_waiting m.waiting) m.capacity m.room (controllers.command_size c) is (command_is_short c fits) refused
+    no_room k (length m.waiting) (0 + controllers.bytes_waiting m.waiting) m.capacity m.room (controllers.command_size c)
+    (record { few = is.few; bytes = omega (arith, is.bytes); ample = is.ample }) (command_is_short c fits)
+    (sym (ap (λ (n : ℕ). ltb (length m.waiting) m.capacity && leb (controllers.command_size c) (m.room - (n + controllers.bytes_waiting m.waiting))) (not_counted m is.ample)) ∙ refused)
 
 pub no_room_for_event : (k : ℕ) (e : Event) (q : EventQueue) → ShortEvents k q → EventFits e → reader.lacks_room e q ≡ true → q.capacity ≤ k
 no_room_for_event k e q is fits refused =
@@ -110,7 +119,7 @@ left_true false b e = absurd cc
 pub place_for_command : (c : Command) (m : Machine) → controllers.has_room c m ≡ true → length m.waiting < m.capacity
 place_for_command c m is =
     ltb-true (length m.waiting) m.capacity
-    (left_true (ltb (length m.waiting) m.capacity) (leb (controllers.command_size c) (m.room - controllers.bytes_waiting m.waiting)) is)
+    (left_true (ltb (length m.waiting) m.capacity) (leb (controllers.command_size c) (m.room - controllers.bytes_kept m)) is)
 
 pub place_for_event : (e : Event) (q : EventQueue) → reader.lacks_room e q ≡ false → length q.events < q.capacity
 place_for_event e q is =

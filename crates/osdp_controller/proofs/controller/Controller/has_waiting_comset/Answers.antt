@@ -1,6 +1,22 @@
-use Rattle.std.proofs.Common.{◌∙◌}
-use Rattle.osdp_controller.proofs.Waiting.{comset_is}
+use Rattle.std.proofs.Common.{◌≡◌, ◌∙◌, true, false, sym}
+use Rattle.std.specs.Prelude.{is_some}
+use Rattle.osdp_controller.specs.Held.{on_its_way, state_in}
+use Rattle.osdp_controller.specs.Waiting.{first_of}
+use Rattle.osdp_controller.proofs.Waiting.{comsets_after, comsets_of_all}
 use Rattle.osdp_controller.proofs.controller.Controller.has_waiting_comset.Goals as goal
 
-pub returns : goal.returns
-returns c = rw (← c.self.view_is) (c.has_first.ensures ∙ comset_is c.self.inside.waiting.items c.self.invariant.commands)
+pub returns-then-asks_command : goal.returns-then-asks_command
+returns-then-asks_command c =
+    let r = c.self.inside in
+    let state = state_in r.kept.at (first_of r.queue.items) in
+    let asked = rw (c.session.ensures, ← c.self.view_is) at c.asks_command.ensures in
+    let asks : is_some (on_its_way state) ≡ true = sym asked ∙ c.if-asks_command.true in
+    rw (← c.self.view_is) (c.has_first_after_front.ensures ∙ comsets_after state r.queue.items asks c.self.invariant.commands)
+
+pub returns-else-asks_command : goal.returns-else-asks_command
+returns-else-asks_command c =
+    let r = c.self.inside in
+    let state = state_in r.kept.at (first_of r.queue.items) in
+    let asked = rw (c.session.ensures, ← c.self.view_is) at c.asks_command.ensures in
+    let asks : is_some (on_its_way state) ≡ false = sym asked ∙ c.if-asks_command.false in
+    rw (← c.self.view_is) (c.has_first.ensures ∙ comsets_of_all state r.queue.items asks c.self.invariant.commands)

@@ -1,5 +1,14 @@
-use Rattle.osdp_controller.proofs.Waiting.{keeps_popped}
+use Rattle.std.proofs.Common.{◌≡◌, ◌∙◌, true, sym, rules}
+use Rattle.osdp_controller.specs.Held.{state_in}
+use Rattle.osdp_controller.specs.States.{is_closed}
+use Rattle.osdp_controller.specs.Waiting.{first_of}
+use Rattle.osdp_controller.proofs.Waiting.{keeps_withdrawn}
 use Rattle.osdp_controller.proofs.controller.Controller.withdraw.Goals as goal
 
 pub invariant_of-self : goal.invariant_of-self
-invariant_of-self c = rw c.pop.ensures (keeps_popped c.self.inside.session c.self.inside.session c.self.inside.waiting c.self.invariant.machine.session c.self.invariant)
+invariant_of-self c =
+    let r = c.self.inside in
+    let told = rw (← c.self.view_is) at c.is_closed.ensures in
+    let is : c.is_closed.result ≡ true = search rules in
+    let shut : is_closed (state_in r.kept.at (first_of r.queue.items)) ≡ true = sym told ∙ is in
+    rw c.pop.ensures (keeps_withdrawn r.kept r.queue r.room shut c.self.invariant)
