@@ -86,12 +86,12 @@ build session_checked "${session[@]}" c/heap_malloc.c "${counted[@]}" "$archive"
 # the session needs no more than 64 KiB of stack for the whole program
 (ulimit -s 64 && passes "$work/session_malloc") || fail "the session needs more stack"
 
-# what the calls take of the stack, by the sum of their deepest chain of functions (`bench/stack.py`): they keep to 4,096 bytes, but `osdp_panel_add` to 4,800, and those that make a
+# what the calls take of the stack, by the sum of their deepest chain of functions (`bench/stack.py`): they keep to 4,096 bytes, but those that make a
 # monitor and a device to 5,500 and 9,500 (docs/SIZES.md)
 passes python3 bench/stack.py &&
   { awk '
       BEGIN {
-        most["osdp_panel_add"] = 4800; most["osdp_monitor_new"] = 5500; most["osdp_device_new"] = 9500; most["osdp_device_new_with_room"] = 9500
+        most["osdp_monitor_new"] = 5500; most["osdp_device_new"] = 9500; most["osdp_device_new_with_room"] = 9500
       }
       { calls += 1 }
       $2 > ($1 in most ? most[$1] : 4096) { print; more = 1 }
