@@ -54,7 +54,7 @@ ASKED = {
     ),
     "osdp_programs_ledger": (
         ("osdp_programs_ledger", "osdp_program_days"),
-        (("osdp_program_days::a_day_in_c_keeps_the_premises", "osdp_program_days::a_day_by_lines_keeps_the_premises"),
+        (("osdp_program_days::a_day_in_c_keeps_the_premises", "osdp_program_days::a_day_by_lines_keeps_the_premises", "osdp_program_days::a_day_in_c_has_entries_in_any_order"),
          ("osdp_programs_ledger::c_programs_hold_once", "osdp_programs_ledger::line_programs_hold_once", "osdp_programs_ledger::runs_hold_once",
           "osdp_programs_ledger::c_programs_hold_once_in_any_order", "osdp_programs_ledger::line_programs_hold_once_in_any_order")),
         {"Programs": ("AreTheirCalls",), "OwnOrder": ("AreOwnCalls",)},

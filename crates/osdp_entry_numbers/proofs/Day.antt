@@ -72,10 +72,10 @@ without_sorted (suc (suc (suc i))) a at = absurd (let e = at in cc)
 at_first : IsNewPanel twice (3 ∷ 20 ∷ 4 ∷ []) (3 ∷ 4 ∷ 20 ∷ []) between
 at_first = record { settings = twice_fits; none_refused = (refl, (refl, (refl, tt))); numbers = between_are; sorted = λ i a at. between_sorted i ∙ at }
 
-at_noon : IsNewPanel twice (20 ∷ 3 ∷ []) (3 ∷ 4 ∷ 20 ∷ []) without
+pub at_noon : IsNewPanel twice (20 ∷ 3 ∷ []) (3 ∷ 4 ∷ 20 ∷ []) without
 at_noon = record { settings = twice_fits; none_refused = (refl, (refl, (refl, tt))); numbers = without_are; sorted = without_sorted }
 
-at_four : IsNewPanel twice (4 ∷ 20 ∷ 3 ∷ []) (3 ∷ 4 ∷ 20 ∷ []) around
+pub at_four : IsNewPanel twice (4 ∷ 20 ∷ 3 ∷ []) (3 ∷ 4 ∷ 20 ∷ []) around
 at_four = record { settings = twice_fits; none_refused = (refl, (refl, (refl, tt))); numbers = around_are; sorted = λ i a at. around_sorted i ∙ at }
 
 abbrev address_at : ℕ → List Entry → ℕ
@@ -85,18 +85,18 @@ address_at (suc k) (d ∷ ds) = address_at k ds
 
 module _ {H : Type 0} (answer_of : H → Command → Answer) (after : H → Command → H) where
   -- each call is fair
-  abbrev all_fair : List (OwnStep H) → OwnLine H → Bool
+  abbrev pub all_fair : List (OwnStep H) → OwnLine H → Bool
   all_fair [] a = true
   all_fair (step ∷ steps) a = is_fair (ordered_step step a) (turned step.call a) && all_fair steps (after_own answer_of after step a)
 
   -- values are in their ranges, and a panel that is made anew fits
-  abbrev AllFit : List (OwnStep H) → OwnLine H → Type 0
+  abbrev pub AllFit : List (OwnStep H) → OwnLine H → Type 0
   AllFit [] a = Unit {0}
   AllFit (step ∷ steps) a =
       (RangeOf answer_of after (ordered_step step a).call (turned step.call a) × Fits step.call step.ordered step.numbers × LeavesAlone step.call a)
       × AllFit steps (after_own answer_of after step a)
 
-  keep_all : (steps : List (OwnStep H)) (a : OwnLine H) → all_fair steps a ≡ true → AllFit steps a → AllOwnKeep answer_of after steps a
+  pub keep_all : (steps : List (OwnStep H)) (a : OwnLine H) → all_fair steps a ≡ true → AllFit steps a → AllOwnKeep answer_of after steps a
   keep_all [] a fair fits = tt
   keep_all (step ∷ steps) a fair fits =
       let next = after_own answer_of after step a in

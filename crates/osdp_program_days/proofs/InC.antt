@@ -27,16 +27,16 @@ device_fits : (own : c_device.Own) (d : Option ReaderMachine) → FitsAt c_panel
 device_fits own None = tt
 device_fits own (Some d) = tt
 
-all_fit : (own : List (OwnCall c_panel c_device)) (w : Programs c_panel c_device) → AllFit c_panel c_device own w
+pub all_fit : (own : List (OwnCall c_panel c_device)) (w : Programs c_panel c_device) → AllFit c_panel c_device own w
 all_fit [] w = tt
 all_fit (AtPanel own ∷ more) w = (tt, all_fit more (after_own c_panel c_device (AtPanel own) w))
 all_fit (AtDevice k own ∷ more) w = (device_fits own (site_at k w.devices), all_fit more (after_own c_panel c_device (AtDevice k own) w))
 
 -- the device of an entry, at first
-abbrev IsAt : ℕ → ReaderMachine → Type 0
+abbrev pub IsAt : ℕ → ReaderMachine → Type 0
 IsAt k d = c_device.Sound d × (t : Station ProgramAnswers) × (site_at k (first_line new_program).stations ≡ Some t) × (held_by t ≡ c_device.held d)
 
-there : (k : ℕ) (d : ReaderMachine) → site_at k programs.devices ≡ Some d → IsAt k d
+pub there : (k : ℕ) (d : ReaderMachine) → site_at k programs.devices ≡ Some d → IsAt k d
 there zero d is = subst (IsAt zero) (some_same (device_at 3) d is) (tt, station_at 3 new_program, refl, refl)
 there (suc zero) d is = subst (IsAt (suc zero)) (some_same (device_at 4) d is) (tt, station_at 4 new_program, refl, refl)
 there (suc (suc k)) d is = absurd (let e = is in cc)

@@ -2,3 +2,4 @@ mod Days
 mod Fitting
 mod InC
 mod ByLines
+mod InAnyOrder

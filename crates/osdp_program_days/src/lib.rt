@@ -3,6 +3,7 @@
 #![tactic(auto)]
 
 ghost use Rattle.osdp_program_days.specs.ByLines.{DayByLinesKeeps};
+ghost use Rattle.osdp_program_days.specs.InAnyOrder.{DayInAnyOrderKeeps};
 ghost use Rattle.osdp_program_days.specs.InC.{DayInCKeeps};
 
 /// One day's calls for C keep all premises, with losses, damage, a busy device, a COMSET and losses of power at both ends among them. So what is promised of
@@ -15,4 +16,10 @@ pub fn a_day_in_c_keeps_the_premises()
 /// The lines of that day to `osdp panel` and `osdp reader` keep all premises too, and come to the same.
 pub fn a_day_by_lines_keeps_the_premises()
     ensures { DayByLinesKeeps }
+{}
+
+/// Another day's calls for C keep what is asked where entries stand in any order. The entry of a device of another make stands between two of ours. The panel is made anew
+/// in another order, without the entry of a device whose order is on the wire, and then with all entries in a third order.
+pub fn a_day_in_c_has_entries_in_any_order()
+    ensures { DayInAnyOrderKeeps }
 {}
