@@ -1,5 +1,6 @@
 pub mod Asking
 pub mod Choices
+pub mod Fitting
 pub mod Keeping
 pub mod OnItsWay
 pub mod Over

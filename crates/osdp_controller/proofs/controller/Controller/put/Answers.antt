@@ -4,7 +4,8 @@ use Rattle.osdp_controller.specs.Held.{state_in}
 use Rattle.osdp_controller.specs.Machine.{IsSubmitted}
 use Rattle.osdp_controller.specs.Waiting.{first_of, session_of, waiting_in}
 use Rattle.osdp_controller.proofs.OnItsWay.{own_bytes}
-use Rattle.osdp_controller.proofs.Waiting.{is_command, keeps_put, room_is}
+use Rattle.osdp_controller.proofs.Fitting.{room_is}
+use Rattle.osdp_controller.proofs.Waiting.{is_command, keeps_put}
 use Rattle.osdp_controller.proofs.controller.Controller.put.Goals as goal
 
 pub invariant_of-self : goal.invariant_of-self
