@@ -94,6 +94,10 @@ listened | refuse_each 'monitor, with packets' 5 monitor --packets --hex
 timed() { listened | awk '/^#/ { next } { printf "# %d.%03d %s\n%s\n", NR / 10, NR % 10 * 100, NR % 2 ? "out" : "in", $0 }'; }
 timed | refuse_each 'monitor, with moments' 10 monitor --times
 { timed; echo 5; } | refuse_each 'monitor, with moments, a bad line' 10 monitor --times
+# A POLL that comes back, and its answer.
+echoed() { printf '# 1.000 out\n53050700006041\n# 1.001 in\n53050700006041\n# 1.020 in\n538507000040E1\n'; }
+echoed | refuse_each 'monitor, with an echo' 10 monitor --times
+{ timed; echoed; } | refuse_each 'monitor, as JSON with an echo' 15 monitor --times --json
 objects | refuse_each 'monitor, objects with moments' 10 monitor --osdpcap --times
 listened | refuse_each 'monitor, as JSON' 10 monitor --json --hex
 timed | refuse_each 'monitor, as JSON with moments' 15 monitor --times --json
@@ -148,6 +152,31 @@ hold_few 'issue 1 ID 0'
 hold_few 'issue 1 TEXT 0 1 0 1 1 48454C4C4F'
 hold_few 'queue 1 KEYPAD 0 31'
 hold_few 'to-reader damage 0001020304050607'
+
+# $1: how many POLLs, each of which comes back and is answered, and each tenth late. With moments the program holds the text, which grows by doubling, and what it
+# prints twice: a line of it for each late answer, and the stamp and the times in it. Nothing else grows: no list has an entry for each line.
+hold_text() {
+  local size most held
+  awk -v polls="$1" 'BEGIN {
+    for (n = 0; n < polls; n++) {
+      at = 1000 + 100 * n
+      printf "# %d.%03d out\n53050700016040\n# %d.%03d in\n53050700016040\n", at / 1000, at % 1000, (at + 1) / 1000, (at + 1) % 1000
+      printf "# %d.%03d in\n538507000140E0\n", (at + 20) / 1000, (at + 20) % 1000
+    }
+  }' >"$work/in"
+  size=$(stat -c %s "$work/in")
+  rm -f "$work/held"
+  LD_PRELOAD="$work/held.so" HELD_MARK="$work/held" "$program" monitor --times <"$work/in" >"$work/out" || fault "monitor, with moments: $1 POLLs fail"
+  held=$(cat "$work/held")
+  most=$((2 * size + 200000))
+  if [ "$held" -gt "$most" ]; then
+    fault "monitor, with moments: $size bytes take $held, and at most $most are wanted"
+  fi
+  echo "monitor, with moments: $size bytes of a capture take $held"
+}
+
+hold_text 2000
+hold_text 20000
 
 # $1: what becomes of packets. Tells how many bytes the program holds at most where an OUT, and a round, come 5,000 times.
 held_by_account() {

@@ -68,3 +68,16 @@ no_more text at lines cut none =
     nothing : (l : List ℕ) → length l ≡ 0 → l ≡ []
     nothing [] e = refl
     nothing (b ∷ l) e = absurd (omega arith)
+
+-- ---- the next line
+
+pub next_line : (rest : List ℕ) (count : ℕ) → HasLine rest count → lines_of rest ≡ take count rest ∷ lines_of (drop (count + 1) rest)
+next_line rest count has = ap lines_of (line_cut rest count has) ∙ lines_of-feed (take count rest) (drop (count + 1) rest) has.line
+
+pub no_line : (rest : List ℕ) → length rest ≡ 0 → lines_of rest ≡ []
+no_line [] none = lines_of-line [] tt
+no_line (b ∷ rest) none = absurd (omega arith)
+
+pub last_next : (rest : List ℕ) → IsLine rest → (length rest ≡ 0 → ⊥) → lines_of rest ≡ rest ∷ lines_of []
+last_next [] is some = absurd (some refl)
+last_next (b ∷ rest) is some = lines_of-line (b ∷ rest) is ∙ ap (λ l. (b ∷ rest) ∷ l) (sym (lines_of-line [] tt))

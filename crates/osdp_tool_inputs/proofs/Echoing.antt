@@ -1,11 +1,16 @@
 -- Lines that are left, and echoes that are not.
-use Rattle.std.proofs.Common.{◌≡◌, ℕ, ◌&&◌, Bool, true, false, cond, List, [], ◌∷◌, ◌++◌, ◌≤◌, Bor, length, codes, drop, refl, sym, ap, ◌∙◌, append_assoc, append-nil}
-use Rattle.std.proofs.lemmas.List.{drop_all, map-append}
+use Rattle.std.proofs.Common.{◌≡◌, ℕ, ◌+◌, ◌==◌, ◌&&◌, inl, inr, Bool, true, false, cond, List, [], ◌∷◌, ◌++◌, ◌≤◌, length, codes, drop, flat_map, refl, sym, ap, ◌∙◌, arith, append-nil}
+use Rattle.std.specs.List.{AllByRecursion}
+use Rattle.std.proofs.lemmas.Bool.{cases_Bool, cond-false, cond-true, eqb-true}
 use Rattle.std.specs.Str.{bytes_eq}
 use Rattle.std.proofs.lemmas.List.Elements.{All-head, All-tail}
 use Rattle.std.proofs.lemmas.Slice.Eq.{bytes_eq-Decides}
-use Rattle.osdp_tool_inputs.specs.Echoes.{KeepsOthers, LeavesAllElse, LeavesEchoOut, echoes_below, is_echo, left_below, next_stamp, next_went, only, unless}
-use Rattle.osdp_tool_inputs.specs.Times.{ends_so, has_digits, is_stamp, no_stamp, parts}
+use Rattle.osdp_tool_streams.specs.Cut.{IsLine, ended_lines, last_line, lines_of, unended_line}
+use Rattle.osdp_tool_streams.proofs.Bytes.{is_cut}
+use Rattle.osdp_tool_streams.proofs.CutLemmas.{ended_lines-cut}
+use Rattle.osdp_tool_inputs.specs.Echoes.{AreSorted, Goes, KeepsOthers, LeavesAllElse, LeavesEchoOut, NoLines, SortsAll, Stays, all_echoes, echoes_below, echoes_in, ended, heard_part, is_echo, left_below, left_in, left_of, next_stamp, next_went, only, unless}
+use Rattle.osdp_tool_inputs.specs.declared.echoes.Rest.{Rest}
+use Rattle.osdp_tool_inputs.specs.Times.{ends_so, has_digits, is_stamp, no_stamp}
 
 pub one_line : (stamp went line : List ℕ) (lines : List (List ℕ))
     → left_below stamp went (line ∷ lines) ≡ unless (is_echo stamp went line) line ∷ left_below (next_stamp stamp line) (next_went stamp went line) lines
@@ -17,51 +22,108 @@ pub one_echo : (stamp went line : List ℕ) (lines : List (List ℕ))
 unfolding echoes_below
 one_echo stamp went line lines = refl
 
--- a line is added to those before it
-pub kept_one : (old new : List (List ℕ)) (stamp went line : List ℕ) (lines : List (List ℕ)) → new ≡ old ++ unless (is_echo stamp went line) line ∷ []
-    → new ++ left_below (next_stamp stamp line) (next_went stamp went line) lines ≡ old ++ left_below stamp went (line ∷ lines)
-kept_one old new stamp went line lines e =
-    ap (λ l. l ++ left_below (next_stamp stamp line) (next_went stamp went line) lines) e
-    ∙ (append_assoc old (unless (is_echo stamp went line) line ∷ []) (left_below (next_stamp stamp line) (next_went stamp went line) lines)
-    ∙ ap (λ l. old ++ l) (sym (one_line stamp went line lines)))
+-- ---- the next line
 
-pub found_one : (old new : List (List ℕ)) (stamp went line : List ℕ) (lines : List (List ℕ)) → new ≡ old ++ only (is_echo stamp went line) line
-    → new ++ echoes_below (next_stamp stamp line) (next_went stamp went line) lines ≡ old ++ echoes_below stamp went (line ∷ lines)
-found_one old new stamp went line lines e =
-    ap (λ l. l ++ echoes_below (next_stamp stamp line) (next_went stamp went line) lines) e
-    ∙ (append_assoc old (only (is_echo stamp went line) line) (echoes_below (next_stamp stamp line) (next_went stamp went line) lines)
-    ∙ ap (λ l. old ++ l) (sym (one_echo stamp went line lines)))
+module _ (stamp went line s w : List ℕ) (all lines : List (List ℕ)) (split : all ≡ line ∷ lines) (s_is : s ≡ next_stamp stamp line) (w_is : w ≡ next_went stamp went line) where
+  left_next : (echo : Bool) → is_echo stamp went line ≡ echo → left_below stamp went all ≡ unless echo line ∷ left_below s w lines
+  left_next echo is =
+      ap (left_below stamp went) split ∙ one_line stamp went line lines ∙ ap (λ x. unless x line ∷ left_below (next_stamp stamp line) (next_went stamp went line) lines) is
+      ∙ ap (λ x. unless echo line ∷ left_below x (next_went stamp went line) lines) (sym s_is) ∙ ap (λ x. unless echo line ∷ left_below s x lines) (sym w_is)
 
--- the same as code does it
-pub kept_by : (old new : List (Bor (List ℕ))) (one : Bor (List ℕ)) (echo : Bool) (stamp went line s w : List ℕ) (lines : List (List ℕ)) → new ≡ old ++ one ∷ []
-    → one.now ≡ unless echo line → echo ≡ is_echo stamp went line → s ≡ next_stamp stamp line → w ≡ next_went stamp went line
-    → parts new ++ left_below s w lines ≡ parts old ++ left_below stamp went (line ∷ lines)
-kept_by old new one echo stamp went line s w lines n o e p q =
-    ap (λ x. parts new ++ left_below x w lines) p
-    ∙ (ap (λ x. parts new ++ left_below (next_stamp stamp line) x lines) q
-    ∙ kept_one (parts old) (parts new) stamp went line lines
-    (ap parts n ∙ (map-append (λ (part : Bor (List ℕ)). part.now) old (one ∷ []) ∙ ap (λ x. parts old ++ x ∷ []) (o ∙ ap (λ x. unless x line) e))))
+  echoes_next : (echo : Bool) → is_echo stamp went line ≡ echo → echoes_below stamp went all ≡ only echo line ++ echoes_below s w lines
+  echoes_next echo is =
+      ap (echoes_below stamp went) split ∙ one_echo stamp went line lines ∙ ap (λ x. only x line ++ echoes_below (next_stamp stamp line) (next_went stamp went line) lines) is
+      ∙ ap (λ x. only echo line ++ echoes_below x (next_went stamp went line) lines) (sym s_is) ∙ ap (λ x. only echo line ++ echoes_below s x lines) (sym w_is)
 
-pub found_by : (old new : List (List ℕ)) (echo : Bool) (stamp went line s w : List ℕ) (lines : List (List ℕ)) → new ≡ old ++ only echo line
-    → echo ≡ is_echo stamp went line → s ≡ next_stamp stamp line → w ≡ next_went stamp went line
-    → new ++ echoes_below s w lines ≡ old ++ echoes_below stamp went (line ∷ lines)
-found_by old new echo stamp went line s w lines n e p q =
-    ap (λ x. new ++ echoes_below x w lines) p
-    ∙ (ap (λ x. new ++ echoes_below (next_stamp stamp line) x lines) q
-    ∙ found_one old new stamp went line lines (n ∙ ap (λ x. old ++ only x line) e))
+  pub echo_next : is_echo stamp went line ≡ true → left_below stamp went all ≡ [] ∷ left_below s w lines
+  echo_next is = left_next true is
 
--- at the end nothing is to come
-pub past_left : (found : List (List ℕ)) (stamp went : List ℕ) (lines : List (Bor (List ℕ))) (at : ℕ) (all : List (List ℕ))
-    → found ++ left_below stamp went (parts (drop at lines)) ≡ all → length lines ≤ at → found ≡ all
+  pub other_next : is_echo stamp went line ≡ false → left_below stamp went all ≡ line ∷ left_below s w lines
+  other_next is = left_next false is
+
+  pub echo_counts : is_echo stamp went line ≡ true → length (echoes_below stamp went all) ≡ length (echoes_below s w lines) + 1
+  echo_counts is =
+      let more : length (echoes_below stamp went all) ≡ length (line ∷ echoes_below s w lines) = ap length (echoes_next true is) in
+      omega (arith, more)
+
+  pub other_counts : is_echo stamp went line ≡ false → length (echoes_below stamp went all) ≡ length (echoes_below s w lines)
+  other_counts is = ap length (echoes_next false is)
+
+pub none_next : (stamp went : List ℕ) (lines : List (List ℕ)) → lines ≡ [] → left_below stamp went lines ≡ []
 unfolding left_below
-past_left found stamp went lines at all e h =
-    sym (append-nil found) ∙ (ap (λ l. found ++ left_below stamp went (parts l)) (sym (drop_all at lines h)) ∙ e)
+none_next stamp went lines is = ap (left_below stamp went) is
 
-pub past_echoes : (found : List (List ℕ)) (stamp went : List ℕ) (lines : List (Bor (List ℕ))) (at : ℕ) (all : List (List ℕ))
-    → found ++ echoes_below stamp went (parts (drop at lines)) ≡ all → length lines ≤ at → found ≡ all
-unfolding echoes_below
-past_echoes found stamp went lines at all e h =
-    sym (append-nil found) ∙ (ap (λ l. found ++ echoes_below stamp went (parts l)) (sym (drop_all at lines h)) ∙ e)
+-- none is to come where no line is
+pub no_echoes : (stamp went : List ℕ) (lines : List (List ℕ)) → left_below stamp went lines ≡ [] → echoes_below stamp went lines ≡ []
+unfolding left_below echoes_below
+no_echoes stamp went [] is = refl
+no_echoes stamp went (line ∷ lines) is = absurd cc
+
+-- ---- all lines are there
+
+sorted_one : (echo : Bool) (line : List ℕ) (lines left echoes : List (List ℕ)) → (echo ≡ true → has_digits line ≡ true) → AreSorted lines left echoes
+    → AreSorted (line ∷ lines) (unless echo line ∷ left) (only echo line ++ echoes)
+sorted_one true line lines left echoes digits sorted = Goes line lines left echoes (digits refl) sorted
+sorted_one false line lines left echoes digits sorted = Stays line lines left echoes sorted
+
+echo_digits : (stamp went line : List ℕ) → is_echo stamp went line ≡ true → has_digits line ≡ true
+echo_digits stamp went line e = first (has_digits line) (ends_so stamp (codes " in") && bytes_eq went line) e
+  where
+    first : (a b : Bool) → (a && b) ≡ true → a ≡ true
+    first true b e = refl
+    first false b e = absurd cc
+
+pub sorts_all : SortsAll
+unfolding left_below echoes_below
+sorts_all stamp went [] = NoLines
+sorts_all stamp went (line ∷ lines) =
+    sorted_one (is_echo stamp went line) line lines (left_below (next_stamp stamp line) (next_went stamp went line) lines)
+    (echoes_below (next_stamp stamp line) (next_went stamp went line) lines) (echo_digits stamp went line) (sorts_all (next_stamp stamp line) (next_went stamp went line) lines)
+
+-- there are as many, and no more echoes
+pub sorted_size : (lines left echoes : List (List ℕ)) → AreSorted lines left echoes → (length left ≡ length lines) × (length echoes ≤ length lines)
+sorted_size _ _ _ NoLines = (refl, omega arith)
+sorted_size _ _ _ (Stays line lines left echoes sorted) = let rest = sorted_size lines left echoes sorted in (omega (arith, rest.0), omega (arith, rest.1))
+sorted_size _ _ _ (Goes line lines left echoes digits sorted) = let rest = sorted_size lines left echoes sorted in (omega (arith, rest.0), omega (arith, rest.1))
+
+-- without an echo all stay
+sorted_none : (lines left echoes : List (List ℕ)) → AreSorted lines left echoes → length echoes ≡ 0 → left ≡ lines
+sorted_none _ _ _ NoLines none = refl
+sorted_none _ _ _ (Stays line lines left echoes sorted) none = ap (λ l. line ∷ l) (sorted_none lines left echoes sorted none)
+sorted_none _ _ _ (Goes line lines left echoes digits sorted) none = absurd (omega (arith, none))
+
+-- lines stay lines
+sorted_lines : (lines left echoes : List (List ℕ)) → AreSorted lines left echoes → AllByRecursion IsLine lines → AllByRecursion IsLine left
+sorted_lines _ _ _ NoLines each = tt
+sorted_lines _ _ _ (Stays line lines left echoes sorted) each = (each.0, sorted_lines lines left echoes sorted each.1)
+sorted_lines _ _ _ (Goes line lines left echoes digits sorted) each = (tt, sorted_lines lines left echoes sorted each.1)
+
+each_line : (xs ys : List (List ℕ)) → AllByRecursion IsLine xs → AllByRecursion IsLine ys → AllByRecursion IsLine (xs ++ ys)
+each_line [] ys a b = b
+each_line (x ∷ xs) ys a b = (a.0, each_line xs ys a.1 b)
+
+last_each : (line : List ℕ) → IsLine line → AllByRecursion IsLine (last_line line)
+last_each [] is = tt
+last_each (b ∷ line) is = (is, tt)
+
+left_lines : (text : List ℕ) → AllByRecursion IsLine (left_of text)
+left_lines text =
+    let cut = is_cut text in
+    sorted_lines (lines_of text) (left_of text) (echoes_below no_stamp [] (lines_of text)) (sorts_all no_stamp [] (lines_of text))
+    (each_line (ended_lines text) (last_line (unended_line text)) cut.each (last_each (unended_line text) cut.last))
+
+lines_again : (lines : List (List ℕ)) → AllByRecursion IsLine lines → lines_of (flat_map ended lines) ≡ lines
+lines_again lines each =
+    let cut = ended_lines-cut (flat_map ended lines) lines [] each tt (sym (append-nil (flat_map ended lines))) in
+    ap (λ l. l ++ last_line (unended_line (flat_map ended lines))) cut.0 ∙ ap (λ u. lines ++ last_line u) cut.1 ∙ append-nil lines
+
+-- what is listened to has the lines that are left
+pub heard_lines : (text : List ℕ) → lines_of (heard_part text) ≡ left_of text
+heard_lines text = elim (cases_Bool (echoes_in text == 0)) [
+  | inl none ↦ ap lines_of (cond-true (echoes_in text == 0) text (flat_map ended (left_of text)) none)
+      ∙ sym (sorted_none (lines_of text) (left_of text) (echoes_below no_stamp [] (lines_of text)) (sorts_all no_stamp [] (lines_of text)) (eqb-true (echoes_in text) 0 none))
+  | inr some ↦ ap lines_of (cond-false (echoes_in text == 0) text (flat_map ended (left_of text)) some) ∙ lines_again (left_of text) (left_lines text)
+]
 
 -- ---- one line, by what is known of it
 
@@ -136,3 +198,6 @@ leaves_all_else [] all = refl
 leaves_all_else (line ∷ lines) all =
     one_plain line lines (has_digits line) (All-head (λ l. is_stamp l ≡ false) line lines all) refl
     ∙ ap (λ l. line ∷ l) (leaves_all_else lines (All-tail (λ l. is_stamp l ≡ false) line lines all))
+
+pub no_more_echoes : (r : Rest) → left_in r ≡ [] → r.echoes ≡ all_echoes r
+no_more_echoes r is = let none = ap length (no_echoes r.stamp.now r.went.now r.lines is) in omega (arith, none)

@@ -2,7 +2,8 @@ pub mod Cutting
 pub mod Stamps
 pub mod Held
 pub mod Fronts
-pub mod Hearing
+pub mod Following
+pub mod RunPlaces
 pub mod Timed
 pub mod Retelling
 pub mod Telling

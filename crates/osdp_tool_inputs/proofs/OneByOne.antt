@@ -1,7 +1,7 @@
 -- Lines of a capture in memory, one after the other, each a run.
-use Rattle.std.proofs.Common.{◌≡◌, ℕ, ◌+◌, ◌<◌, ◌≤◌, ◌==◌, Bool, true, false, cond, inl, inr, is_some, List, [], ◌∷◌, ◌++◌, Bor, length, map, take, get_or, Option, Some, None, Result, Ok, Err, IfOk, OnOk, refl, sym, subst, ap, ◌∙◌, arith, append-nil}
+use Rattle.std.proofs.Common.{◌≡◌, ℕ, ◌+◌, ◌<◌, ◌≤◌, ◌==◌, Bool, true, false, cond, inl, inr, is_some, List, [], ◌∷◌, ◌++◌, ◌^◌, length, map, Option, Some, None, Result, Ok, Err, IfOk, OnOk, refl, sym, subst, ap, ◌∙◌, arith, append_assoc, append-nil}
 use Rattle.std.proofs.lemmas.Bool.{cases_Bool, cond-false, cond-true, eqb-true}
-use Rattle.std.proofs.lemmas.List.{length-map, length-take, map-append, take_all, take_more}
+use Rattle.std.proofs.lemmas.List.{length-append, map-append}
 use Rattle.osdp_frame.specs.Items.{items}
 use Rattle.osdp_tool_show.specs.Tally.{after_run}
 use Rattle.osdp_tool_show.specs.declared.detail.Detail.{Detail}
@@ -16,8 +16,14 @@ use Rattle.osdp_tool_monitor.specs.Listening.{heard_items, listening_of, table}
 use Rattle.osdp_tool_monitor.specs.declared.mode.MonitorMode.{MonitorMode}
 use Rattle.osdp_tool_monitor.specs.declared.open_line.OpenLine.{OpenLine}
 use Rattle.osdp_tool_monitor.proofs.OpenRuns.{after_events-append, events_report-append}
-use Rattle.osdp_tool_inputs.specs.Ears.{HeardLines}
-use Rattle.osdp_tool_inputs.specs.Times.{parts}
+use Rattle.osdp_tool_times.specs.Captures.{nothing_heard}
+use Rattle.osdp_tool_inputs.specs.Ears.{HasHeard, HeardLines}
+use Rattle.osdp_tool_inputs.specs.Echoes.{all_echoes, echoes_in, left_in, left_of}
+use Rattle.osdp_tool_inputs.specs.Places.{HasFollowed}
+use Rattle.osdp_tool_inputs.specs.Times.{no_stamp}
+use Rattle.osdp_tool_inputs.specs.declared.ears.Ears.{Ears}
+use Rattle.osdp_tool_inputs.specs.declared.echoes.Rest.{Rest}
+use Rattle.osdp_tool_inputs.proofs.RunPlaces.{as_many, echoes_size, left_size, stamps_short}
 
 -- ---- runs that have ended
 
@@ -156,23 +162,63 @@ pub none_of : (bad : Option ℕ) → is_some bad ≡ false → bad ≡ None
 none_of None is = refl
 none_of (Some number) is = absurd cc
 
--- lines one after the other
-pub lines_more : (lines : List (Bor (List ℕ))) (k : ℕ) (line : Bor (List ℕ)) → k < length lines
-    → parts (take k lines) ++ (get_or lines k line).now ∷ [] ≡ parts (take (k + 1) lines)
-lines_more lines k line below =
-    sym (ap parts (take_more lines k line below) ∙ map-append (λ (part : Bor (List ℕ)). part.now) (take k lines) (get_or lines k line ∷ []))
-
-pub lines_all : (lines : List (Bor (List ℕ))) (k : ℕ) → length lines ≤ k → parts (take k lines) ≡ parts lines
-lines_all lines k past = ap parts (take_all k lines past)
-
-pub lines_count : (lines : List (Bor (List ℕ))) (k : ℕ) → k ≤ length lines → length (parts (take k lines)) ≡ k
-lines_count lines k within = omega (arith, length-map (take k lines) (λ (part : Bor (List ℕ)). part.now), length-take k lines)
-
 -- before any line
 pub heard_none : (mode : MonitorMode) (l : OpenLine) (text : List ℕ) → line_detail l ≡ mode.detail → hearing_of l ≡ nothing_yet mode.standard → IsOpen l → text ≡ []
     → HeardLines mode [] l text None
 unfolding good_front bad_line after_all report_of_all
 heard_none mode l text prints heard is_open none = record { prints = prints; heard = heard; told = none; is_open = is_open; bad_is = refl }
+
+-- ---- a text, line by line
+
+-- these lines were heard, and the rest is to come
+pub record IsHearing (mode : MonitorMode) (text : List ℕ) (number : ℕ) (e : Ears) (rest : Rest) : Type 0 where
+  pub front : List (List ℕ)
+  pub whole : front ++ left_in rest ≡ left_of text
+  pub heard : HasHeard mode front e
+  pub followed : HasFollowed front e.capture
+  pub number_is : number ≡ length front + 1
+  pub echoes : all_echoes rest ≡ echoes_in text
+
+module _ (mode : MonitorMode) (text : List ℕ) (number : ℕ) (old : Ears) (was : Rest) (hearing : IsHearing mode text number old was) where
+  -- there is room for their numbers, and for those of runs
+  pub hearing_room : (line : List ℕ) (rest : List (List ℕ)) → left_in was ≡ line ∷ rest → (number ≤ length text) × (old.capture.runs < length text)
+  hearing_room line rest is =
+      let size = length-append hearing.front (left_in was) in
+      let some : length (left_in was) ≡ length (line ∷ rest) = ap length is in
+      let all = ap length hearing.whole in
+      let short = left_size text in
+      let runs = as_many nothing_heard no_stamp hearing.front in
+      let few = stamps_short no_stamp hearing.front in
+      (omega (arith, size, some, all, short, hearing.number_is), omega (arith, size, some, all, short, hearing.followed.runs, runs, few))
+
+  pub hearing_echoes : length text < 2 ^ 64 → all_echoes was < 2 ^ 64
+  hearing_echoes short = omega (arith, hearing.echoes, echoes_size text, short)
+
+  pub hearing_more : (new : Ears) (now : Rest) (line : List ℕ) → left_in was ≡ line ∷ left_in now → all_echoes now ≡ all_echoes was
+      → (HasHeard mode hearing.front old → number ≡ length hearing.front + 1 → HasHeard mode (hearing.front ++ line ∷ []) new)
+      → (HasFollowed hearing.front old.capture → HasFollowed (hearing.front ++ line ∷ []) new.capture) → IsHearing mode text (number + 1) new now
+  hearing_more new now line taken echoes heard followed = record {
+    front = hearing.front ++ line ∷ [];
+    whole = append_assoc hearing.front (line ∷ []) (left_in now) ∙ ap (λ l. hearing.front ++ l) (sym taken) ∙ hearing.whole;
+    heard = heard hearing.heard hearing.number_is;
+    followed = followed hearing.followed;
+    number_is = let size = length-append hearing.front (line ∷ []) in omega (arith, size, hearing.number_is);
+    echoes = echoes ∙ hearing.echoes;
+  }
+
+  all_heard : left_in was ≡ [] → hearing.front ≡ left_of text
+  all_heard none = sym (append-nil hearing.front) ∙ ap (λ l. hearing.front ++ l) (sym none) ∙ hearing.whole
+
+  pub hearing_end : left_in was ≡ [] → HasHeard mode (left_of text) old
+  hearing_end none = subst (λ l. HasHeard mode l old) (all_heard none) hearing.heard
+
+  pub followed_end : left_in was ≡ [] → HasFollowed (left_of text) old.capture
+  followed_end none = subst (λ l. HasFollowed l old.capture) (all_heard none) hearing.followed
+
+pub hearing_first : (mode : MonitorMode) (text : List ℕ) (e : Ears) (rest : Rest) → left_in rest ≡ left_of text → all_echoes rest ≡ echoes_in text → HasHeard mode [] e
+    → HasFollowed [] e.capture → IsHearing mode text 1 e rest
+hearing_first mode text e rest left echoes heard followed =
+    record { front = []; whole = left; heard = heard; followed = followed; number_is = refl; echoes = echoes }
 
 -- the table
 pub table_text : (l : OpenLine) (before after : List ℕ) → Hears (TableDue ∷ []) l l before after → after ≡ before ++ table (listening_of l.listener)

@@ -19,16 +19,14 @@ use Rattle.osdp_tool_monitor.proofs.OpenRuns.{after_events-append, events_report
 use Rattle.osdp_tool_monitor.proofs.Sessions.{kept_again}
 use Rattle.osdp_tool_inputs.specs.Done.{EndsHeard, InMemory, Retells}
 use Rattle.osdp_tool_inputs.specs.Ears.{HasEnded, HeardLines, answer_by, ears_answer}
-use Rattle.osdp_tool_inputs.specs.Echoes.{echoes_told, printed_by}
-use Rattle.osdp_tool_inputs.specs.Heard.{printed_of, printed_with, tells_below, tells_of}
+use Rattle.osdp_tool_inputs.specs.Echoes.{echoes_in, heard_part, left_of, printed_by}
 use Rattle.osdp_tool_inputs.specs.declared.ears.Ears.{Ears}
 use Rattle.osdp_tool_inputs.proofs.Retelling.{retells_all, retells_part}
 use Rattle.osdp_tool_monitor.specs.Reading.{Wrote}
-use Rattle.osdp_tool_times.specs.Captures.{Heard, after_lines, heard_of, nothing_heard}
-use Rattle.osdp_tool_times.specs.declared.waits.Told.{Told}
 use Rattle.osdp_tool_streams.specs.declared.fault.ToolFault.{ToolFault}
 use Rattle.osdp_tool_inputs.specs.Moments.{Tells}
 use Rattle.osdp_tool_inputs.specs.declared.clock.Clock.{Clock}
+use Rattle.osdp_tool_inputs.proofs.Echoing.{heard_lines}
 use Rattle.osdp_tool_inputs.proofs.OneByOne.{heard_empty, heard_nothing, runs_more}
 
 -- the last line is one of its own, also where nothing stands in it
@@ -233,37 +231,23 @@ never_memory : (bad : Option ℕ) (wrong : Bool) → answer_by bad wrong ≡ Err
 never_memory None wrong e = absurd cc
 never_memory (Some number) wrong e = absurd cc
 
--- what is printed of lines that were heard is what is printed of the text
-pub printed_is : (json day : Bool) (text shown : List ℕ) (heard_lines lines : List (List ℕ)) (tells : List Told) (heard : Heard) → heard_lines ≡ lines_of text → lines ≡ lines_of text
-    → tells ≡ tells_below nothing_heard heard_lines → heard ≡ after_lines nothing_heard heard_lines → printed_with json day lines tells heard shown ≡ printed_of json day text shown
-printed_is json day text shown heard_lines all_lines tells heard a b told is =
-    ap (λ l. printed_with json day l tells heard shown) b
-    ∙ ap (λ t. printed_with json day (lines_of text) t heard shown) (told ∙ ap (tells_below nothing_heard) a)
-    ∙ ap (λ k. printed_with json day (lines_of text) (tells_of text) k shown) (is ∙ ap (after_lines nothing_heard) a)
-
-module _ (mode : MonitorMode) (echoes : ℕ) (text : List ℕ) (hex : mode.hex ≡ true) (e : Ears) (heard_lines lines : List (List ℕ)) (a : heard_lines ≡ lines_of text) (b : lines ≡ lines_of text)
-    (heard : HasEnded mode heard_lines e) (tells : e.capture.tells.items ≡ tells_below nothing_heard heard_lines)
-    (times : heard_of e.capture.timed ≡ after_lines nothing_heard heard_lines) (clock : Clock) (begins : clock.last ≡ 0) (shown printed : List ℕ) (shown_is : shown ≡ string_bytes e.shown)
-    (is : printed ≡ printed_with mode.json mode.clock lines e.capture.tells.items (heard_of e.capture.timed) shown ++ echoes_told mode.json echoes) (output : Stream) where
-  in_memory : InMemory (EndsHeard mode) text shown (ears_answer e)
+-- what was heard of a text without its echoes is what the monitor prints of that part
+module _ (mode : MonitorMode) (text : List ℕ) (hex : mode.hex ≡ true) (e : Ears) (heard : HasEnded mode (left_of text) e) (clock : Clock) (begins : clock.last ≡ 0)
+    (shown printed : List ℕ) (shown_is : shown ≡ string_bytes e.shown) (is : printed ≡ printed_by mode.json mode.clock (echoes_in text) (heard_part text) shown) (output : Stream) where
+  in_memory : InMemory (EndsHeard mode) (heard_part text) shown (ears_answer e)
   in_memory =
-      whole_heard mode text hex e.line heard.0 shown e.bad clock begins (subst (λ l. HeardLines mode l e.line heard.0 e.bad) a heard.1) (shown_is ∙ heard.2)
+      whole_heard mode (heard_part text) hex e.line heard.0 shown e.bad clock begins
+      (subst (λ l. HeardLines mode l e.line heard.0 e.bad) (sym (heard_lines text)) heard.1) (shown_is ∙ heard.2)
 
-  same_printed : printed ≡ printed_by mode.json mode.clock echoes text shown
-  unfolding printed_by
-  same_printed =
-      is
-      ∙ ap (λ p. p ++ echoes_told mode.json echoes)
-      (printed_is mode.json mode.clock text shown heard_lines lines e.capture.tells.items (heard_of e.capture.timed) a b tells times)
-
-  pub retells_lines : Wrote printed output.before output.after output.failed (Ok tt) → Retells (EndsHeard mode) (printed_by mode.json mode.clock echoes text) text output (ears_answer e)
+  pub retells_lines : Wrote printed output.before output.after output.failed (Ok tt)
+      → Retells (EndsHeard mode) (printed_by mode.json mode.clock (echoes_in text) (heard_part text)) (heard_part text) output (ears_answer e)
   retells_lines wrote =
-      retells_all (EndsHeard mode) (printed_by mode.json mode.clock echoes text) text output shown (ears_answer e) in_memory
-      (subst (λ p. Wrote p output.before output.after output.failed (Ok tt)) same_printed wrote)
+      retells_all (EndsHeard mode) (printed_by mode.json mode.clock (echoes_in text) (heard_part text)) (heard_part text) output shown (ears_answer e) in_memory
+      (subst (λ p. Wrote p output.before output.after output.failed (Ok tt)) is wrote)
       (never_write e.bad (is_wrong (listening_of e.line.listener))) (never_memory e.bad (is_wrong (listening_of e.line.listener)))
 
   pub retells_some : (fault : ToolFault) → Wrote printed output.before output.after output.failed (Err fault)
-      → Retells (EndsHeard mode) (printed_by mode.json mode.clock echoes text) text output (Err fault)
+      → Retells (EndsHeard mode) (printed_by mode.json mode.clock (echoes_in text) (heard_part text)) (heard_part text) output (Err fault)
   retells_some fault wrote =
-      retells_part (EndsHeard mode) (printed_by mode.json mode.clock echoes text) text output shown (ears_answer e) fault in_memory
-      (subst (λ p. Wrote p output.before output.after output.failed (Err fault)) same_printed wrote)
+      retells_part (EndsHeard mode) (printed_by mode.json mode.clock (echoes_in text) (heard_part text)) (heard_part text) output shown (ears_answer e) fault in_memory
+      (subst (λ p. Wrote p output.before output.after output.failed (Err fault)) is wrote)

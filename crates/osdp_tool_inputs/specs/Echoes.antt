@@ -1,9 +1,10 @@
 -- Echoes of an adapter: runs that came in and are the ones that went out just before.
-use Rattle.std.specs.Prelude.{◌≡◌, ℕ, ◌==◌, ◌&&◌, Bool, true, false, if◌then◌else◌, All, List, [], ◌∷◌, ◌++◌, codes, drop, flat_map, length}
+use Rattle.std.specs.Prelude.{◌≡◌, ℕ, ◌+◌, ◌==◌, ◌&&◌, Bool, true, false, if◌then◌else◌, All, List, [], ◌∷◌, ◌++◌, codes, drop, flat_map, length}
 use Rattle.std.specs.Fmt.{decimal}
 use Rattle.std.specs.Str.{bytes_eq}
 use Rattle.osdp_tool_objects.specs.Objects.{object_of}
 use Rattle.osdp_tool_streams.specs.Cut.{line_feed, lines_of}
+use Rattle.osdp_tool_inputs.specs.declared.echoes.Rest.{Rest}
 use Rattle.osdp_tool_inputs.specs.Heard.{printed_of}
 use Rattle.osdp_tool_inputs.specs.Times.{ends_so, has_digits, is_stamp, no_stamp}
 
@@ -51,13 +52,19 @@ echoes_in text = length (echoes_below no_stamp [] (lines_of text))
 abbrev pub ended : List ℕ → List ℕ
 ended line = line ++ line_feed ∷ []
 
--- what is left of a text that has some
-abbrev pub rest_of : List ℕ → List ℕ
-rest_of text = if echoes_in text == 0 then [] else flat_map ended (left_of text)
-
 -- what is listened to: the text as it is, where it has none
 abbrev pub heard_part : List ℕ → List ℕ
-heard_part text = if echoes_in text == 0 then text else rest_of text
+heard_part text = if echoes_in text == 0 then text else flat_map ended (left_of text)
+
+-- ---- of lines that come one after the other
+
+-- those to come without the echoes
+abbrev pub left_in : Rest → List (List ℕ)
+left_in r = left_below r.stamp.now r.went.now r.lines
+
+-- how many echoes there are, with those that have come
+abbrev pub all_echoes : Rest → ℕ
+all_echoes r = r.echoes + length (echoes_below r.stamp.now r.went.now r.lines)
 
 -- what is told of them
 abbrev pub echo_line : ℕ → List ℕ
@@ -75,6 +82,16 @@ unfoldable pub printed_by : Bool → Bool → ℕ → List ℕ → List ℕ → 
 printed_by json clock echoes text shown = printed_of json clock text shown ++ echoes_told json echoes
 
 -- ---- in the words of a reader
+
+-- These are all lines, each once and in their order: it stays in its place, or it is one of the echoes, and nothing stands there.
+pub data AreSorted : List (List ℕ) → List (List ℕ) → List (List ℕ) → Type 0 where
+  NoLines : AreSorted [] [] []
+  Stays : (line : List ℕ) (lines left echoes : List (List ℕ)) → AreSorted lines left echoes → AreSorted (line ∷ lines) (line ∷ left) echoes
+  Goes : (line : List ℕ) (lines left echoes : List (List ℕ)) → has_digits line ≡ true → AreSorted lines left echoes → AreSorted (line ∷ lines) ([] ∷ left) (line ∷ echoes)
+
+-- What is left of a capture and its echoes are together all its lines, each once and in their order.
+abbrev pub SortsAll : Type 0
+SortsAll = (stamp went : List ℕ) (lines : List (List ℕ)) → AreSorted lines (left_below stamp went lines) (echoes_below stamp went lines)
 
 -- A run that came in and is the one that went out just before is left out, and a second one of these is not.
 abbrev pub LeavesEchoOut : Type 0

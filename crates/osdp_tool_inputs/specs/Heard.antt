@@ -5,7 +5,7 @@ use Rattle.memchr.specs.Find.{is_byte, places, first_of}
 use Rattle.osdp_tool_captures.specs.Lines.{is_decimal}
 use Rattle.osdp_tool_streams.specs.Cut.{line_feed, lines_of}
 use Rattle.osdp_tool_objects.specs.Objects.{object_with}
-use Rattle.osdp_tool_inputs.specs.Times.{ends_so, has_digits, no_stamp, run_of, stamp_at, stamps_below, stamps_of}
+use Rattle.osdp_tool_inputs.specs.Times.{ends_so, has_digits, run_of, stamp_at, stamps_of}
 use Rattle.osdp_tool_times.specs.Captures.{Heard, after_line, after_lines, line_told, nothing_heard}
 use Rattle.osdp_tool_times.specs.DayTime.{clock_stamp}
 use Rattle.osdp_tool_times.specs.declared.waits.Told.{Told}
@@ -43,17 +43,25 @@ times_after line Nothing = []
 times_after line (InTime time) = []
 times_after line (Late took waited) = if ends_so line late_notice then took_text took waited else []
 
--- a line about a run, and the times of a late answer
-abbrev pub whole_line : List Told → List ℕ → List ℕ
-whole_line tells line = line ++ times_after line (tells_at (run_of line) tells)
+-- a stamp, with the day's time where that is asked for
+abbrev pub shown_by : Bool → List ℕ → List ℕ
+shown_by clock stamp = if clock then clock_stamp stamp else stamp
 
--- the stamp of the run of a line, with the day's time where that is asked for
+-- a line about a run, and the times of a late answer
+abbrev pub whole_line : Told → List ℕ → List ℕ
+whole_line told line = line ++ times_after line told
+
+-- after the stamp of the run
+abbrev pub marked_line : Bool → List ℕ → Told → List ℕ → List ℕ
+marked_line clock stamp told line = shown_by clock stamp ++ (codes " " ++ (whole_line told line ++ line_feed ∷ []))
+
+-- the stamp of the run of a line
 abbrev pub shown_stamp : Bool → List (List ℕ) → List ℕ → List ℕ
-shown_stamp clock stamps line = if clock then clock_stamp (stamp_at (run_of line) stamps) else stamp_at (run_of line) stamps
+shown_stamp clock stamps line = shown_by clock (stamp_at (run_of line) stamps)
 
 abbrev pub told_line : Bool → List (List ℕ) → List Told → List ℕ → List ℕ
 told_line clock stamps tells line =
-    if names_run line then shown_stamp clock stamps line ++ (codes " " ++ (whole_line tells line ++ line_feed ∷ [])) else line ++ line_feed ∷ []
+    if names_run line then marked_line clock (stamp_at (run_of line) stamps) (tells_at (run_of line) tells) line else line ++ line_feed ∷ []
 
 -- what the monitor prints of the digits in a text, with the stamps of the text
 abbrev pub told_text : Bool → List ℕ → List ℕ → List ℕ
@@ -79,9 +87,11 @@ members_after line (InTime time) = []
 members_after line (Late took waited) = if ends_so line late_notice then took_members took waited else []
 
 -- a line about a run has the stamp of that in it, and a late answer has its times after its text
+abbrev pub marked_object : Bool → List ℕ → Told → List ℕ → List ℕ
+marked_object clock stamp told line = object_with (shown_by clock stamp) (members_after line told) (whole_line told line)
+
 abbrev pub stamped_object : Bool → List (List ℕ) → List Told → List ℕ → List ℕ
-stamped_object clock stamps tells line =
-    object_with (shown_stamp clock stamps line) (members_after line (tells_at (run_of line) tells)) (whole_line tells line)
+stamped_object clock stamps tells line = marked_object clock (stamp_at (run_of line) stamps) (tells_at (run_of line) tells) line
 
 abbrev pub told_objects : Bool → List ℕ → List ℕ → List ℕ
 told_objects clock text shown = flat_map (stamped_object clock (stamps_of text) (tells_of text)) (lines_of shown)
@@ -95,14 +105,3 @@ heard_objects clock text shown = told_objects clock text shown ++ answer_objects
 -- by whether objects are wanted, and by whether the day's time is
 abbrev pub printed_of : Bool → Bool → List ℕ → List ℕ → List ℕ
 printed_of json clock text shown = if json then heard_objects clock text shown else heard_text clock text shown
-
--- ---- the same of a capture that was heard: by its lines, by what each line of digits tells, and by what was counted
-
-abbrev pub text_with : Bool → List (List ℕ) → List Told → Heard → List ℕ → List ℕ
-text_with clock lines tells heard shown = flat_map (told_line clock (stamps_below no_stamp lines) tells) (lines_of shown) ++ times_text heard.times
-
-abbrev pub objects_with : Bool → List (List ℕ) → List Told → Heard → List ℕ → List ℕ
-objects_with clock lines tells heard shown = flat_map (stamped_object clock (stamps_below no_stamp lines) tells) (lines_of shown) ++ times_objects heard.times
-
-abbrev pub printed_with : Bool → Bool → List (List ℕ) → List Told → Heard → List ℕ → List ℕ
-printed_with json clock lines tells heard shown = if json then objects_with clock lines tells heard shown else text_with clock lines tells heard shown

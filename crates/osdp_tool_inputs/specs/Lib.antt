@@ -2,6 +2,7 @@ pub mod Times
 pub mod Heard
 pub mod Moments
 pub mod Echoes
+pub mod Places
 pub mod Ears
 pub mod Asked
 pub mod Done

@@ -1,16 +1,16 @@
-//! A capture in memory that is listened to line by line, and by its moments: each line is read once.
+//! A text that is listened to line by line, without its echoes, and by its moments: it is cut and read once.
 
-ghost use Rattle.std.specs.Prelude.{◌≡◌, ◌++◌, ◌∷◌, ◌+◌, ℕ, [], List, IfOk, IfSome, OnOk, length, string_bytes};
-ghost use Rattle.osdp_tool_inputs.specs.Heard.{tells_below};
-ghost use Rattle.osdp_tool_inputs.specs.Times.{parts};
+ghost use Rattle.std.specs.Prelude.{◌≡◌, ◌++◌, ◌∷◌, ◌+◌, ◌<◌, ◌^◌, ℕ, [], List, IfOk, IfSome, OnOk, length, string_bytes};
+ghost use Rattle.osdp_tool_inputs.specs.Echoes.{echoes_in, left_of};
+ghost use Rattle.osdp_tool_inputs.specs.Places.{HasFollowed};
 ghost use Rattle.osdp_tool_monitor.specs.Listening.{listening_of, table};
-ghost use Rattle.osdp_tool_times.specs.Captures.{after_line, after_lines, heard_of, last_said, nothing_heard};
+ghost use Rattle.osdp_tool_times.specs.Captures.{last_said};
 ghost use Rattle.osdp_tool_streams.specs.Line.{line_bytes};
 
-use crate::heard::{Capture, find_told};
+use crate::capture::Capture;
+use crate::echoes::Rest;
 use osdp_tool_monitor::{MonitorMode, OpenLine};
 use osdp_tool_streams::ToolFault;
-use osdp_tool_times::Timed;
 use std::alloc::Global;
 
 /// What was heard of a capture.
@@ -22,6 +22,8 @@ pub(crate) struct Ears {
     pub shown: String,
     /// The moments of its packets, and what they tell.
     pub capture: Capture,
+    /// How many echoes were left out.
+    pub echoes: usize,
     /// The number of the first bad line, from 1: after that the monitor hears nothing.
     pub bad: Option<u64>,
 }
@@ -33,19 +35,16 @@ impl Ears {
     /// Nothing was heard.
     fn new(alloc: Global, mode: MonitorMode) -> Result<Ears, ToolFault>
         ensures heard { IfOk result (λ e. HasHeard mode [] e) }
-        ensures times { IfOk result (λ e. heard_of e.capture.timed ≡ nothing_heard) }
-        ensures tells { IfOk result (λ e. e.capture.tells.items ≡ []) }
+        ensures followed { IfOk result (λ e. HasFollowed [] e.capture) }
     {
-        let Ok(timed) = Timed::new(alloc) else {
+        let Ok(capture) = Capture::new(alloc) else {
             return Err(ToolFault::NoMemory);
         };
         Ok(Ears {
             line: OpenLine::new(alloc, mode.detail, mode.standard)?,
             shown: String::new(alloc),
-            capture: Capture {
-                timed,
-                tells: Vec::new(alloc),
-            },
+            capture,
+            echoes: 0,
             bad: None,
         })
     }
@@ -75,32 +74,32 @@ impl Ears {
     fn hear_line(&mut self, line: &[u8], number: u64) -> Result<(), ToolFault>
         requires is_open { IsOpen self.old.line }
         requires none { HoldsNone self.old.line }
+        requires room { self.old.capture.runs + 1 < 2 ^ 64 }
         ensures heard { OnOk result ((mode : MonitorMode) (lines : List (List ℕ)) → HasHeard mode lines self.old → number ≡ length lines + 1
             → HasHeard mode (lines ++ line.now ∷ []) self.new) }
-        ensures times { OnOk result (heard_of self.new.capture.timed ≡ after_line (heard_of self.old.capture.timed) line.now) }
-        ensures tells { OnOk result ((lines : List (List ℕ)) → self.new.capture.tells.items ++ tells_below (heard_of self.new.capture.timed) lines
-            ≡ self.old.capture.tells.items ++ tells_below (heard_of self.old.capture.timed) (line.now ∷ lines)) }
+        ensures followed { OnOk result ((lines : List (List ℕ)) → HasFollowed lines self.old.capture → HasFollowed (lines ++ line.now ∷ []) self.new.capture) }
     {
-        let capture = &mut self.capture;
-        match find_told(&mut capture.timed, &mut capture.tells, line) {
+        match self.capture.hear_line(line) {
             Ok(()) => self.hear_said(number),
             Err(_) => Err(ToolFault::NoMemory),
         }
     }
 
-    /// Lines come, the first of the capture.
-    fn hear_lines(&mut self, mode: MonitorMode, lines: &[&[u8]]) -> Result<(), ToolFault>
-        requires { HasHeard mode [] self.old }
-        ensures heard { OnOk result (HasHeard mode (parts lines.now) self.new) }
-        ensures times { OnOk result (heard_of self.new.capture.timed ≡ after_lines (heard_of self.old.capture.timed) (parts lines.now)) }
-        ensures tells { OnOk result (self.new.capture.tells.items ≡ self.old.capture.tells.items ++ tells_below (heard_of self.old.capture.timed) (parts lines.now)) }
+    /// The lines of a text come, the first of the capture, without its echoes. How many echoes there are.
+    fn hear_text(&mut self, mode: MonitorMode, text: &[u8]) -> Result<usize, ToolFault>
+        requires heard { HasHeard mode [] self.old }
+        requires followed { HasFollowed [] self.old.capture }
+        ensures heard { OnOk result (HasHeard mode (left_of text.now) self.new) }
+        ensures followed { OnOk result (HasFollowed (left_of text.now) self.new.capture) }
+        ensures echoes { IfOk result (λ echoes. echoes ≡ echoes_in text.now) }
     {
+        let mut rest = Rest::of(text);
         let mut number = 1;
-        for line in lines {
+        'lines: while let Some(line) = rest.next() {
             self.hear_line(line, number)?;
             number += 1;
         }
-        Ok(())
+        Ok(rest.echoes())
     }
 
     /// The capture has ended: the table is printed.
@@ -109,19 +108,20 @@ impl Ears {
         ensures shown { OnOk result (string_bytes self.new.shown ≡ string_bytes self.old.shown ++ table (listening_of self.old.line.listener)) }
         ensures line { OnOk result (self.new.line ≡ self.old.line) }
         ensures capture { OnOk result (self.new.capture ≡ self.old.capture) }
+        ensures echoes { OnOk result (self.new.echoes ≡ self.old.echoes) }
         ensures bad { OnOk result (self.new.bad ≡ self.old.bad) }
     {
         self.line.push_table(&mut self.shown)
     }
 
-    /// What was heard of a capture of these lines, to its end. None without memory: no text is long enough for more than can be counted.
-    pub fn of_capture(alloc: Global, mode: MonitorMode, lines: &[&[u8]]) -> Option<Ears>
-        ensures heard { IfSome result (λ e. HasEnded mode (parts lines.now) e) }
-        ensures times { IfSome result (λ e. heard_of e.capture.timed ≡ after_lines nothing_heard (parts lines.now)) }
-        ensures tells { IfSome result (λ e. e.capture.tells.items ≡ tells_below nothing_heard (parts lines.now)) }
+    /// What was heard of a text without its echoes, to its end. None without memory: no text is long enough for more than can be counted.
+    pub fn of_text(alloc: Global, mode: MonitorMode, text: &[u8]) -> Option<Ears>
+        ensures heard { IfSome result (λ e. HasEnded mode (left_of text.now) e) }
+        ensures followed { IfSome result (λ e. HasFollowed (left_of text.now) e.capture) }
+        ensures echoes { IfSome result (λ e. e.echoes ≡ echoes_in text.now) }
     {
         let mut ears = Ears::new(alloc, mode).ok()?;
-        ears.hear_lines(mode, lines).ok()?;
+        ears.echoes = ears.hear_text(mode, text).ok()?;
         ears.end().ok()?;
         Some(ears)
     }

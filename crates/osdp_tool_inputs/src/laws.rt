@@ -1,6 +1,6 @@
 //! What the crate's definitions say, in the subject's words. A law has no code: it holds for all values, and its proof is the law's.
 
-ghost use Rattle.osdp_tool_inputs.specs.Echoes.{KeepsOthers, LeavesAllElse, LeavesEchoOut};
+ghost use Rattle.osdp_tool_inputs.specs.Echoes.{KeepsOthers, LeavesAllElse, LeavesEchoOut, SortsAll};
 ghost use Rattle.osdp_tool_inputs.specs.Laws.{MomentsLeaveLines, StampsOneRun, TellsInOrder, TimesByRuns};
 
 /// The moments that the runtime's clock tells are in order.
@@ -37,4 +37,9 @@ pub fn keeps_others()
 /// Of a capture without ways nothing is left out.
 pub fn leaves_all_else()
     ensures { LeavesAllElse }
+{}
+
+/// What is left of a capture and its echoes are together all its lines, each once and in their order.
+pub fn sorts_all()
+    ensures { SortsAll }
 {}

@@ -2,6 +2,7 @@
 #![tactic(auto)]
 
 mod asked;
+mod capture;
 mod clock;
 mod ears;
 mod echoes;
@@ -10,6 +11,7 @@ mod hinted;
 mod inputs;
 pub mod laws;
 mod lines;
+mod places;
 mod tasks;
 mod times;
 mod told;

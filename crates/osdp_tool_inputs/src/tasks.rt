@@ -12,8 +12,8 @@ ghost use Rattle.osdp_tool_streams.specs.Watched.{has_failed, inner_of};
 use crate::asked::{Asked, Task, form_of, has_lines};
 use crate::clock::Clock;
 use crate::ears::Ears;
-use crate::echoes::{heard_part, lines_with_echoes, text_with_echoes, without_echoes};
-use crate::lines::cut_lines;
+use crate::echoes::heard_part;
+use crate::heard::printed;
 use crate::times::timed;
 use osdp_tool_monitor::{MonitorMode, monitor};
 use osdp_tool_show::{Detail, command};
@@ -64,35 +64,24 @@ fn print_text<W: Write>(text: &[u8], output: &mut Watched<W>) -> Result<(), Tool
     flush_out(output)
 }
 
-/// Listens to the digits in a text line by line, each of which is read once, and tells what it finds with the moments in the text, and how many echoes were left out of it.
+/// Listens to the digits in a text line by line, without its echoes: each line is read once. Tells what it finds with the moments in the text.
 /// True where an end was accused.
 #[inline(never)]
 fn listen_lines<W: Write>(
     rt: &HostRuntime,
     mode: MonitorMode,
-    echoes: usize,
     text: &[u8],
     output: &mut Watched<W>,
 ) -> Result<bool, ToolFault>
     requires output { has_failed output.old ≡ false }
     requires hex { mode.hex ≡ true }
-    ensures { Retells (EndsHeard mode) (printed_by mode.json mode.clock echoes text.now) text.now (watched W.contents output.old output.new) result }
+    ensures { Retells (EndsHeard mode) (printed_by mode.json mode.clock (echoes_in text.now) (heard_part text.now)) (heard_part text.now) (watched W.contents output.old output.new) result }
 {
-    let Ok(lines) = cut_lines(rt.alloc(), text) else {
+    let Some(ears) = Ears::of_text(rt.alloc(), mode, text) else {
         return Err(ToolFault::NoMemory);
     };
-    let Some(ears) = Ears::of_capture(rt.alloc(), mode, lines.as_slice()) else {
-        return Err(ToolFault::NoMemory);
-    };
-    let Ok(told) = lines_with_echoes(
-        rt.alloc(),
-        mode.json,
-        mode.clock,
-        echoes,
-        lines.as_slice(),
-        &ears.capture,
-        ears.shown.as_bytes(),
-    ) else {
+    let shown = ears.shown.as_bytes();
+    let Ok(told) = printed(rt.alloc(), mode.json, mode.clock, text, &ears, shown) else {
         return Err(ToolFault::NoMemory);
     };
     match print_text(told.as_slice(), output) {
@@ -101,41 +90,9 @@ fn listen_lines<W: Write>(
     }
 }
 
-/// Listens to the digits in a text, and tells what it finds with the moments in the text, and how many echoes were left out of it. True where an end was accused.
+/// Listens to the digits in a text without its echoes, and tells what it finds with the moments in the text. True where an end was accused.
 #[inline(never)]
 fn listen_timed<W: Write>(
-    rt: &HostRuntime,
-    mode: MonitorMode,
-    echoes: usize,
-    text: &[u8],
-    output: &mut Watched<W>,
-) -> Result<bool, ToolFault>
-    requires { has_failed output.old ≡ false }
-    ensures { Retells (EndsHeard mode) (printed_by mode.json mode.clock echoes text.now) text.now (watched W.contents output.old output.new) result }
-{
-    if mode.hex {
-        return listen_lines(rt, mode, echoes, text, output);
-    }
-    let mut memory = Watched::new(Vec::new(rt.alloc()));
-    let mut input = Watched::new(text);
-    let answer = listen(rt, mode, &mut input, &mut memory);
-    // what was heard before memory ran out is no beginning of the whole: the times would stand before the table
-    if answer == Err(ToolFault::WriteFailed) || answer == Err(ToolFault::NoMemory) {
-        return Err(ToolFault::NoMemory);
-    }
-    let shown = memory.get_ref().as_slice();
-    let Ok(lines) = text_with_echoes(rt.alloc(), mode.json, mode.clock, echoes, text, shown) else {
-        return Err(ToolFault::NoMemory);
-    };
-    match print_text(lines.as_slice(), output) {
-        Ok(()) => answer,
-        Err(fault) => Err(fault),
-    }
-}
-
-/// Leaves the echoes of an adapter out of a text, and listens to the digits in the rest. True where an end was accused.
-#[inline(never)]
-fn listen_without_echoes<W: Write>(
     rt: &HostRuntime,
     mode: MonitorMode,
     text: &[u8],
@@ -144,10 +101,29 @@ fn listen_without_echoes<W: Write>(
     requires { has_failed output.old ≡ false }
     ensures { Retells (EndsHeard mode) (printed_by mode.json mode.clock (echoes_in text.now) (heard_part text.now)) (heard_part text.now) (watched W.contents output.old output.new) result }
 {
-    let Ok(left) = without_echoes(rt.alloc(), text) else {
+    if mode.hex {
+        return listen_lines(rt, mode, text, output);
+    }
+    let Some(ears) = Ears::of_text(rt.alloc(), mode, text) else {
         return Err(ToolFault::NoMemory);
     };
-    listen_timed(rt, mode, left.echoes, heard_part(text, &left), output)
+    let Ok(part) = heard_part(rt.alloc(), text) else {
+        return Err(ToolFault::NoMemory);
+    };
+    let mut memory = Watched::new(Vec::new(rt.alloc()));
+    let answer = listen(rt, mode, &mut Watched::new(part.as_slice()), &mut memory);
+    // what was heard before memory ran out is no beginning of the whole: the times would stand before the table
+    if answer == Err(ToolFault::WriteFailed) || answer == Err(ToolFault::NoMemory) {
+        return Err(ToolFault::NoMemory);
+    }
+    let shown = memory.get_ref().as_slice();
+    let Ok(told) = printed(rt.alloc(), mode.json, mode.clock, text, &ears, shown) else {
+        return Err(ToolFault::NoMemory);
+    };
+    match print_text(told.as_slice(), output) {
+        Ok(()) => answer,
+        Err(fault) => Err(fault),
+    }
 }
 
 /// Prints the items of a text, each line after the moment and the way of its run, which stand in the text. True where a refusal was met.
@@ -208,7 +184,7 @@ pub fn do_task<R: Read, W: Write>(
         }
         Task::Listen(mode) => {
             if mode.times && has_lines(asked.format) {
-                return listen_without_echoes(rt, mode, text, output);
+                return listen_timed(rt, mode, text, output);
             }
             listen(rt, mode, input, output)
         }

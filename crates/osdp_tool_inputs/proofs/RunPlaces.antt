@@ -1,0 +1,339 @@
+-- Places in a capture, one run after the other.
+use Rattle.std.proofs.Common.{◌≡◌, ℕ, ◌+◌, ◌-◌, ◌≤◌, ◌<◌, ◌^◌, ◌==◌, ◌&&◌, Bool, true, false, cond, inl, inr, List, [], ◌∷◌, ◌++◌, codes, flat_map, get_or, length, drop, nat_lt, refl, sym, ap, ◌∙◌, arith, length-drop}
+use Rattle.std.proofs.lemmas.Bool.{cases_Bool, eqb-true, ltb-false, ltb-true, ne_eqb}
+use Rattle.std.proofs.Math.Seq.{drop-drop}
+use Rattle.std.proofs.lemmas.List.{drop_all, drop_more, get_or_past, length-append}
+use Rattle.std.specs.List.{starts_with}
+use Rattle.osdp_tool_streams.specs.Cut.{ended_after, last_line, line_feed, lines_of, unended_after}
+use Rattle.osdp_tool_inputs.specs.Echoes.{all_echoes, echoes_below, echoes_in, heard_part, left_in, left_of}
+use Rattle.osdp_tool_inputs.specs.Heard.{heard_objects, heard_text, marked_line, marked_object, stamped_object, tells_at, tells_below, told_line}
+use Rattle.osdp_tool_inputs.specs.Places.{FindsLate, HasFollowed, IsAt, IsHeard, first_told, late_from, late_in, late_only, stamps_left, tells_left}
+use Rattle.osdp_tool_inputs.specs.Times.{has_digits, is_stamp, no_stamp, stamp_at, stamps_below}
+use Rattle.osdp_tool_inputs.specs.declared.capture.Capture.{Capture}
+use Rattle.osdp_tool_inputs.specs.declared.capture.LateAnswer.{LateAnswer}
+use Rattle.osdp_tool_inputs.specs.declared.places.Found.{Found}
+use Rattle.osdp_tool_inputs.specs.declared.places.Place.{Place}
+use Rattle.osdp_tool_inputs.specs.declared.places.Source.{Source}
+use Rattle.osdp_tool_inputs.proofs.Echoing.{heard_lines, sorted_size, sorts_all}
+use Rattle.osdp_tool_inputs.proofs.Stamps.{a_run, a_stamp, at_run, beyond, no_digits}
+use Rattle.osdp_tool_times.specs.Captures.{Heard, after_line, after_lines, heard_of, line_told, nothing_heard}
+use Rattle.osdp_tool_times.specs.Text.{times_objects, times_text}
+use Rattle.osdp_tool_times.specs.declared.waits.Told.{Told}
+use Rattle.osdp_tool_times.specs.declared.waits.Told.TheVariants.{InTime, Late, Nothing}
+
+-- ---- how many there are
+
+-- a line that has not ended is one where bytes stand in it
+abbrev one_if : List ℕ → ℕ
+one_if [] = 0
+one_if (b ∷ line) = 1
+
+last_size : (line : List ℕ) → length (last_line line) ≡ one_if line
+last_size [] = refl
+last_size (b ∷ line) = refl
+
+more_size : (line : List ℕ) (b : ℕ) → one_if (line ++ b ∷ []) ≡ 1
+more_size [] b = refl
+more_size (a ∷ line) b = refl
+
+one_at_most : (line : List ℕ) → one_if line ≤ 1
+one_at_most [] = omega arith
+one_at_most (b ∷ line) = omega arith
+
+lines_short : (line bytes : List ℕ) → length (ended_after line bytes) + one_if (unended_after line bytes) ≤ length bytes + one_if line
+unfolding ended_after unended_after
+lines_short line [] = omega arith
+lines_short line (b ∷ bytes) =
+    let ended : length (ended_after [] bytes) + one_if (unended_after [] bytes) ≤ length bytes + 0 = lines_short [] bytes in
+    let going = lines_short (line ++ b ∷ []) bytes in
+    let more = more_size line b in
+    elim (b == line_feed) as
+    (λ t. length (cond t (line ∷ ended_after [] bytes) (ended_after (line ++ b ∷ []) bytes)) + one_if (cond t (unended_after [] bytes) (unended_after (line ++ b ∷ []) bytes))
+    ≤ length (b ∷ bytes) + one_if line)
+    [ true ↦ omega (arith, ended) | false ↦ omega (arith, going, more) ]
+
+pub text_lines : (text : List ℕ) → length (lines_of text) ≤ length text
+text_lines text =
+    let size = length-append (ended_after [] text) (last_line (unended_after [] text)) in
+    let short : length (ended_after [] text) + one_if (unended_after [] text) ≤ length text + 0 = lines_short [] text in
+    omega (arith, size, last_size (unended_after [] text), short)
+
+pub left_size : (text : List ℕ) → length (left_of text) ≤ length text
+left_size text =
+    let sorted = sorted_size (lines_of text) (left_of text) (echoes_below no_stamp [] (lines_of text)) (sorts_all no_stamp [] (lines_of text)) in
+    omega (arith, sorted.0, text_lines text)
+
+pub echoes_size : (text : List ℕ) → echoes_in text ≤ length text
+echoes_size text =
+    let sorted = sorted_size (lines_of text) (left_of text) (echoes_below no_stamp [] (lines_of text)) (sorts_all no_stamp [] (lines_of text)) in
+    omega (arith, sorted.1, text_lines text)
+
+-- a stamp is no line of digits
+both_first : (a b : Bool) → (a && b) ≡ true → a ≡ true
+both_first true b e = refl
+both_first false b e = absurd cc
+
+begins_with : (a : ℕ) (line : List ℕ) → starts_with (λ x y. x == y) (a ∷ line) (codes "# ") ≡ true → a ≡ 35
+begins_with a line e = sym (eqb-true 35 a (both_first (35 == a) _ e))
+
+pub stamp_only : (line : List ℕ) → is_stamp line ≡ true → has_digits line ≡ false
+stamp_only [] e = absurd cc
+stamp_only (a ∷ line) e = ap (λ x. has_digits (x ∷ line)) (begins_with a line (both_first (starts_with (λ x y. x == y) (a ∷ line) (codes "# ")) _ e))
+
+-- each run has a stamp, and tells something
+tells_some : (h : Heard) (line : List ℕ) (lines : List (List ℕ)) → has_digits line ≡ true
+    → tells_below h (line ∷ lines) ≡ line_told h line ∷ tells_below (after_line h line) lines
+unfolding tells_below
+tells_some h line lines some = ap (λ t. cond t (line_told h line ∷ tells_below (after_line h line) lines) (tells_below (after_line h line) lines)) some
+
+tells_none : (h : Heard) (line : List ℕ) (lines : List (List ℕ)) → has_digits line ≡ false → tells_below h (line ∷ lines) ≡ tells_below (after_line h line) lines
+unfolding tells_below
+tells_none h line lines none = ap (λ t. cond t (line_told h line ∷ tells_below (after_line h line) lines) (tells_below (after_line h line) lines)) none
+
+one_longer : {X Y : Type 0} (x : X) (y : Y) (xs : List X) (ys : List Y) → length xs ≡ length ys → length (x ∷ xs) ≡ length (y ∷ ys)
+one_longer x y xs ys e = omega (arith, e)
+
+pub as_many : (h : Heard) (stamp : List ℕ) (lines : List (List ℕ)) → length (tells_below h lines) ≡ length (stamps_below stamp lines)
+unfolding tells_below stamps_below
+as_many h stamp [] = refl
+as_many h stamp (line ∷ lines) =
+    let next = after_line h line in
+    elim (cases_Bool (is_stamp line)) [
+      | inl stamped ↦ ap length (tells_none h line lines (stamp_only line stamped)) ∙ as_many next (drop 2 line) lines ∙ sym (ap length (a_stamp stamp line lines stamped))
+      | inr other ↦ elim (cases_Bool (has_digits line)) [
+        | inl some ↦ ap length (tells_some h line lines some) ∙ one_longer (line_told h line) stamp (tells_below next lines) (stamps_below no_stamp lines) (as_many next no_stamp lines) ∙ sym (ap length (a_run stamp line lines other some))
+        | inr none ↦ ap length (tells_none h line lines none) ∙ as_many next stamp lines ∙ sym (ap length (no_digits stamp line lines other none))
+      ]
+    ]
+
+pub stamps_short : (stamp : List ℕ) (lines : List (List ℕ)) → length (stamps_below stamp lines) ≤ length lines
+unfolding stamps_below
+stamps_short stamp [] = omega arith
+stamps_short stamp (line ∷ lines) =
+    let stamped = stamps_short (drop 2 line) lines in
+    let digits = stamps_short no_stamp lines in
+    let other = stamps_short stamp lines in
+    elim (is_stamp line) as
+    (λ s. length (cond s (stamps_below (drop 2 line) lines) (cond (has_digits line) (stamp ∷ stamps_below no_stamp lines) (stamps_below stamp lines))) ≤ length (line ∷ lines)) [
+      | true ↦ omega (arith, stamped)
+      | false ↦ elim (has_digits line) as
+          (λ d. length (cond d (stamp ∷ stamps_below no_stamp lines) (stamps_below stamp lines)) ≤ length (line ∷ lines))
+          [ true ↦ omega (arith, digits) | false ↦ omega (arith, other) ]
+    ]
+
+-- ---- late answers
+
+late_cons : (run : ℕ) (told : Told) (tells : List Told) → late_from run (told ∷ tells) ≡ late_in run told ++ late_from (run + 1) tells
+unfolding late_from
+late_cons run told tells = refl
+
+-- those to come have greater numbers
+late_greater : (run : ℕ) (tells : List Told) (answer : LateAnswer) (rest : List LateAnswer) → answer ∷ rest ≡ late_from run tells → run ≤ answer.run
+unfolding late_from
+late_greater run [] answer rest e = absurd cc
+late_greater run (Nothing ∷ tells) answer rest e = let more = late_greater (run + 1) tells answer rest e in omega arith
+late_greater run (InTime time ∷ tells) answer rest e = let more = late_greater (run + 1) tells answer rest e in omega arith
+late_greater run (Late took waited ∷ tells) answer rest e =
+    let is : answer.run ≡ run = ap (λ (l : List LateAnswer). (get_or l 0 (record { run = run; took = took; waited = waited })).run) e in
+    omega (arith, is)
+
+abbrev Follows : List LateAnswer → List LateAnswer → ℕ → Told → List Told → Type 0
+Follows late rest run told tells = (told ≡ late_only (first_told tells)) × (rest ≡ late_from (run + 1) (drop 1 tells))
+
+-- none is to come, or one of a later run
+find_none : (late : List LateAnswer) (run : ℕ) (tells : List Told) → ((answer : LateAnswer) (rest : List LateAnswer) → late ≡ answer ∷ rest → answer.run ≡ run → ⊥)
+    → late ≡ late_from run tells → Follows late late run Nothing tells
+unfolding late_from
+find_none late run [] other e = (refl, e)
+find_none late run (Nothing ∷ tells) other e = (refl, e)
+find_none late run (InTime time ∷ tells) other e = (refl, e)
+find_none late run (Late took waited ∷ tells) other e = absurd (other (record { run = run; took = took; waited = waited }) (late_from (run + 1) tells) e refl)
+
+find_one : (answer : LateAnswer) (rest : List LateAnswer) (run : ℕ) (tells : List Told) → answer.run ≡ run → answer ∷ rest ≡ late_from run tells
+    → Follows (answer ∷ rest) rest run (Late answer.took answer.waited) tells
+unfolding late_from
+find_one answer rest run [] is e = absurd cc
+find_one answer rest run (Nothing ∷ tells) is e = let more = late_greater (run + 1) tells answer rest e in absurd (omega (arith, is))
+find_one answer rest run (InTime time ∷ tells) is e = let more = late_greater (run + 1) tells answer rest e in absurd (omega (arith, is))
+find_one answer rest run (Late took waited ∷ tells) is e =
+    let same = ap (λ (l : List LateAnswer). get_or l 0 answer) e in
+    (ap (λ (a : LateAnswer). Late a.took a.waited) same, ap (drop 1) e)
+
+module _ (late : List LateAnswer) (at run : ℕ) where
+  pub finds_past : (found : Found) → length late ≤ at → found.told ≡ Nothing → found.at ≡ at → FindsLate late at run found
+  finds_past found past told place = λ tells e.
+      let none = drop_all at late past in
+      let follows = find_none (drop at late) run tells (λ answer rest is same. absurd (no_cons answer rest (sym none ∙ is))) e in
+      (told ∙ follows.0, ap (λ n. drop n late) place ∙ follows.1)
+    where
+      no_cons : (answer : LateAnswer) (rest : List LateAnswer) → [] ≡ answer ∷ rest → ⊥
+      no_cons answer rest e = absurd cc
+
+  module _ (answer : LateAnswer) (below : at < length late) (is : answer ≡ get_or late at answer) where
+    stands : drop at late ≡ answer ∷ drop (at + 1) late
+    stands = drop_more late at answer below ∙ ap (λ a. a ∷ drop (at + 1) late) (sym is)
+
+    pub finds_other : (found : Found) → (answer.run ≡ run → ⊥) → found.told ≡ Nothing → found.at ≡ at → FindsLate late at run found
+    finds_other found other told place = λ tells e.
+        let follows = find_none (drop at late) run tells (λ next rest at_next same. other (ap (λ (a : LateAnswer). a.run) (head answer next (drop (at + 1) late) rest (sym stands ∙ at_next)) ∙ same)) e in
+        (told ∙ follows.0, ap (λ n. drop n late) place ∙ follows.1)
+      where
+        head : (a b : LateAnswer) (xs ys : List LateAnswer) → a ∷ xs ≡ b ∷ ys → a ≡ b
+        head a b xs ys e = ap (λ l. get_or l 0 a) e
+
+    pub finds_it : (found : Found) → answer.run ≡ run → found.told ≡ Late answer.took answer.waited → found.at ≡ at + 1 → FindsLate late at run found
+    finds_it found same told place = λ tells e.
+        let follows = find_one answer (drop (at + 1) late) run tells same (sym stands ∙ e) in
+        (told ∙ follows.0, ap (λ n. drop n late) place ∙ follows.1)
+
+-- ---- a place
+
+-- what stands first below a place, and the rest
+first_below : {X : Type 0} (x d : X) (xs ys : List X) (n : ℕ) → x ∷ xs ≡ drop n ys → (n < length ys) × (get_or ys n d ≡ x) × (xs ≡ drop (n + 1) ys)
+first_below x d xs ys n e =
+    let size = length-drop n ys in
+    let same : length (x ∷ xs) ≡ length (drop n ys) = ap length e in
+    let below : n < length ys = omega (arith, size, same) in
+    let split = drop_more ys n d below in
+    (below, sym (ap (λ l. get_or l 0 d) (e ∙ split)), ap (drop 1) (e ∙ split))
+
+first_of_rest : (n : ℕ) (tells : List Told) → first_told (drop n tells) ≡ get_or tells n Nothing
+first_of_rest n tells = elim (cases_Bool (nat_lt n (length tells))) [
+  | inl below ↦ ap first_told (drop_more tells n Nothing (ltb-true n (length tells) below))
+  | inr past ↦ let past_all : length tells ≤ n = ltb-false n (length tells) past in
+      ap first_told (drop_all n tells past_all) ∙ sym (get_or_past tells n Nothing past_all)
+]
+
+pub tells_run : (run : ℕ) (tells : List Told) → tells_at (run + 1) tells ≡ get_or tells run Nothing
+tells_run run tells =
+    let some : (run + 1 == 0) ≡ false = ne_eqb (run + 1) 0 (λ e. omega arith) in
+    let place : run + 1 - 1 ≡ run = omega arith in
+    ap (λ t. cond t Nothing (get_or tells (run + 1 - 1) Nothing)) some ∙ ap (λ n. get_or tells n Nothing) place
+
+pub tells_beyond : (run : ℕ) (tells : List Told) → length tells < run → tells_at run tells ≡ Nothing
+tells_beyond run tells h =
+    elim (run == 0) as (λ t. cond t Nothing (get_or tells (run - 1) Nothing) ≡ Nothing)
+    [ true ↦ refl | false ↦ get_or_past tells (run - 1) Nothing (omega arith) ]
+
+pub none_past : (text : List ℕ) (run : ℕ) → length (stamps_left text) < run → (stamp_at run (stamps_left text) ≡ no_stamp) × (tells_at run (tells_left text) ≡ Nothing)
+none_past text run past =
+    let same = as_many nothing_heard no_stamp (left_of text) in
+    (beyond run (stamps_left text) past, tells_beyond run (tells_left text) (omega (arith, same, past)))
+
+pub runs_short : (text : List ℕ) → length (stamps_left text) ≤ length text
+runs_short text = omega (arith, stamps_short no_stamp (left_of text), left_size text)
+
+pub at_first : (s : Source) (p : Place) → IsHeard s → p.run ≡ 0 → p.held.now ≡ no_stamp → left_in p.rest ≡ left_of s.text.now → all_echoes p.rest ≡ echoes_in s.text.now
+    → p.mark.stamp.now ≡ no_stamp → p.mark.told ≡ Nothing → p.at ≡ 0 → length s.text.now < 2 ^ 64 → IsAt s.text.now s.late.now p
+at_first s p heard run held left echoes stamp told place short = record {
+  within = omega (arith, run);
+  stamps = ap (λ h. stamps_below h (left_in p.rest)) held ∙ ap (stamps_below no_stamp) left ∙ sym (ap (λ n. drop n (stamps_left s.text.now)) run);
+  late_answers = ap (λ n. drop n s.late.now) place ∙ heard.late ∙ sym (ap (λ n. late_from (n + 1) (drop n (tells_left s.text.now))) run);
+  stamp = stamp ∙ sym (ap (λ n. stamp_at n (stamps_left s.text.now)) run);
+  told = told ∙ sym (ap (λ n. late_only (tells_at n (tells_left s.text.now))) run);
+  room = omega (arith, echoes, echoes_size s.text.now, short);
+}
+
+module _ (text : List ℕ) (late : List LateAnswer) (line : List ℕ) (old new : Place) (was : IsAt text late old)
+    (taken : left_in old.rest ≡ line ∷ left_in new.rest) (echoes : all_echoes new.rest ≡ all_echoes old.rest) where
+  -- nothing of it but the stamp to come is another
+  passed : new.run ≡ old.run → new.at ≡ old.at → new.mark.stamp.now ≡ old.mark.stamp.now → new.mark.told ≡ old.mark.told
+      → stamps_below new.held.now (left_in new.rest) ≡ stamps_below old.held.now (left_in old.rest) → IsAt text late new
+  passed run place stamp told stamps = record {
+    within = omega (arith, run, was.within);
+    stamps = stamps ∙ was.stamps ∙ sym (ap (λ n. drop n (stamps_left text)) run);
+    late_answers = ap (λ n. drop n late) place ∙ was.late_answers ∙ sym (ap (λ n. late_from (n + 1) (drop n (tells_left text))) run);
+    stamp = stamp ∙ was.stamp ∙ sym (ap (λ n. stamp_at n (stamps_left text)) run);
+    told = told ∙ was.told ∙ sym (ap (λ n. late_only (tells_at n (tells_left text))) run);
+    room = omega (arith, echoes, was.room);
+  }
+
+  pub past_stamp : is_stamp line ≡ true → new.held.now ≡ drop 2 line → new.run ≡ old.run → new.at ≡ old.at → new.mark.stamp.now ≡ old.mark.stamp.now
+      → new.mark.told ≡ old.mark.told → IsAt text late new
+  past_stamp is held run place stamp told =
+      passed run place stamp told
+      (ap (λ h. stamps_below h (left_in new.rest)) held ∙ sym (ap (stamps_below old.held.now) taken ∙ a_stamp old.held.now line (left_in new.rest) is))
+
+  pub past_other : is_stamp line ≡ false → has_digits line ≡ false → new.held.now ≡ old.held.now → new.run ≡ old.run → new.at ≡ old.at
+      → new.mark.stamp.now ≡ old.mark.stamp.now → new.mark.told ≡ old.mark.told → IsAt text late new
+  past_other other none held run place stamp told =
+      passed run place stamp told
+      (ap (λ h. stamps_below h (left_in new.rest)) held ∙ sym (ap (stamps_below old.held.now) taken ∙ no_digits old.held.now line (left_in new.rest) other none))
+
+  below_run : is_stamp line ≡ false → has_digits line ≡ true → old.held.now ∷ stamps_below no_stamp (left_in new.rest) ≡ drop old.run (stamps_left text)
+  below_run other some = sym (ap (stamps_below old.held.now) taken ∙ a_run old.held.now line (left_in new.rest) other some) ∙ was.stamps
+
+  pub run_fits : is_stamp line ≡ false → has_digits line ≡ true → old.run < length (stamps_left text)
+  run_fits other some = (first_below old.held.now no_stamp (stamps_below no_stamp (left_in new.rest)) (stamps_left text) old.run (below_run other some)).0
+
+  pub at_run_next : is_stamp line ≡ false → has_digits line ≡ true → (found : Found) → FindsLate late old.at (old.run + 1) found → new.run ≡ old.run + 1 → new.at ≡ found.at
+      → new.held.now ≡ no_stamp → new.mark.stamp.now ≡ old.held.now → new.mark.told ≡ found.told → IsAt text late new
+  at_run_next other some found finds run place held stamp told =
+      let below = first_below old.held.now no_stamp (stamps_below no_stamp (left_in new.rest)) (stamps_left text) old.run (below_run other some) in
+      let tells = tells_left text in
+      let found_is = finds (drop old.run tells) was.late_answers in
+      record {
+        within = omega (arith, run, below.0);
+        stamps = ap (λ h. stamps_below h (left_in new.rest)) held ∙ below.2 ∙ sym (ap (λ n. drop n (stamps_left text)) run);
+        late_answers = ap (λ n. drop n late) place ∙ found_is.1 ∙ ap (late_from (old.run + 1 + 1)) (drop-drop 1 old.run tells)
+            ∙ sym (ap (λ n. late_from (n + 1) (drop n tells)) run);
+        stamp = stamp ∙ sym below.1 ∙ sym (at_run old.run (stamps_left text)) ∙ sym (ap (λ n. stamp_at n (stamps_left text)) run);
+        told = told ∙ found_is.0 ∙ ap late_only (first_of_rest old.run tells ∙ sym (tells_run old.run tells)) ∙ sym (ap (λ n. late_only (tells_at n tells)) run);
+        room = omega (arith, echoes, was.room);
+      }
+
+-- no line is left
+pub past_last : (text : List ℕ) (late : List LateAnswer) (p : Place) → IsAt text late p → left_in p.rest ≡ [] → length (stamps_left text) ≤ p.run
+unfolding stamps_below
+past_last text late p was none =
+    let stamps : [] ≡ drop p.run (stamps_left text) = sym (ap (stamps_below p.held.now) none) ∙ was.stamps in
+    let size = length-drop p.run (stamps_left text) in
+    let nothing : 0 ≡ length (drop p.run (stamps_left text)) = ap length stamps in
+    omega (arith, size, nothing)
+
+pub at_end : (text : List ℕ) (late : List LateAnswer) (old new : Place) → IsAt text late old → left_in old.rest ≡ [] → left_in new.rest ≡ [] → all_echoes new.rest ≡ all_echoes old.rest
+    → new.run ≡ old.run → new.at ≡ old.at → new.held.now ≡ old.held.now → new.mark.stamp.now ≡ old.mark.stamp.now → new.mark.told ≡ old.mark.told → IsAt text late new
+at_end text late old new was none none_new echoes run place held stamp told = record {
+  within = omega (arith, run, was.within);
+  stamps = ap (λ h. stamps_below h (left_in new.rest)) held ∙ ap (stamps_below old.held.now) (none_new ∙ sym none) ∙ was.stamps
+      ∙ sym (ap (λ n. drop n (stamps_left text)) run);
+  late_answers = ap (λ n. drop n late) place ∙ was.late_answers ∙ sym (ap (λ n. late_from (n + 1) (drop n (tells_left text))) run);
+  stamp = stamp ∙ was.stamp ∙ sym (ap (λ n. stamp_at n (stamps_left text)) run);
+  told = told ∙ was.told ∙ sym (ap (λ n. late_only (tells_at n (tells_left text))) run);
+  room = omega (arith, echoes, was.room);
+}
+
+-- ---- what is printed
+
+pub line_is : (clock : Bool) (s stamp : List ℕ) (t told : Told) (line : List ℕ) → s ≡ stamp → t ≡ late_only told → marked_line clock s t line ≡ marked_line clock stamp told line
+line_is clock s stamp t told line a b = ap (λ x. marked_line clock x t line) a ∙ ap (λ x. marked_line clock stamp x line) b ∙ same told
+  where
+    same : (t : Told) → marked_line clock stamp (late_only t) line ≡ marked_line clock stamp t line
+    same Nothing = refl
+    same (InTime time) = refl
+    same (Late took waited) = refl
+
+pub object_is : (clock : Bool) (s stamp : List ℕ) (t told : Told) (line : List ℕ) → s ≡ stamp → t ≡ late_only told → marked_object clock s t line ≡ marked_object clock stamp told line
+object_is clock s stamp t told line a b = ap (λ x. marked_object clock x t line) a ∙ ap (λ x. marked_object clock stamp x line) b ∙ same told
+  where
+    same : (t : Told) → marked_object clock stamp (late_only t) line ≡ marked_object clock stamp t line
+    same Nothing = refl
+    same (InTime time) = refl
+    same (Late took waited) = refl
+
+module _ (clock : Bool) (text shown told times : List ℕ) (c : Capture) (followed : HasFollowed (left_of text) c) where
+  pub text_is : told ≡ flat_map (told_line clock (stamps_left text) (tells_left text)) (lines_of shown) → times ≡ times_text (heard_of c.timed).times
+      → told ++ times ≡ heard_text clock (heard_part text) shown
+  text_is told_is times_is =
+      ap (λ t. t ++ times) told_is
+      ∙ ap (λ t. flat_map (told_line clock (stamps_left text) (tells_left text)) (lines_of shown) ++ t) (times_is ∙ ap (λ (h : Heard). times_text h.times) followed.heard)
+      ∙ ap (λ l. flat_map (told_line clock (stamps_below no_stamp l) (tells_below nothing_heard l)) (lines_of shown) ++ times_text (after_lines nothing_heard l).times)
+      (sym (heard_lines text))
+
+  pub objects_are : told ≡ flat_map (stamped_object clock (stamps_left text) (tells_left text)) (lines_of shown) → times ≡ times_objects (heard_of c.timed).times
+      → told ++ times ≡ heard_objects clock (heard_part text) shown
+  objects_are told_is times_is =
+      ap (λ t. t ++ times) told_is
+      ∙ ap (λ t. flat_map (stamped_object clock (stamps_left text) (tells_left text)) (lines_of shown) ++ t) (times_is ∙ ap (λ (h : Heard). times_objects h.times) followed.heard)
+      ∙ ap (λ l. flat_map (stamped_object clock (stamps_below no_stamp l) (tells_below nothing_heard l)) (lines_of shown) ++ times_objects (after_lines nothing_heard l).times)
+      (sym (heard_lines text))
