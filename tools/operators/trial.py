@@ -100,6 +100,9 @@ class Trial:
         return why
 
     def try_all(self, edits):
+        if self.log_of:
+            self.try_at_once(edits)
+            return
         code = [it for it in edits if not it.is_definition()]
         # what is one run anyway isn't read by itself before
         if self.at_once > 1 and len(code) > self.at_once:
@@ -111,7 +114,54 @@ class Trial:
         for it in far:
             if self.budget.left() > 0:
                 self.by_itself(it)
+
+    def try_at_once(self, edits):
+        """Tries edits of a crate that wasn't proved here in as few runs as may be: those of functions in a few variants, and each other in one."""
+        code = [it for it in edits if not it.is_definition() and it.unit.kind == "fn"]
+        for it in [one for one in code if not self.symbols(one)]:
+            self.say(it, NOT_TRIED, "the log has no function of this name")
+        code = [it for it in code if it not in self.results]
+        others = [it for it in edits if it.is_definition() or it.unit.kind != "fn"]
+        asks = {it: list(dict.fromkeys([*self.likely(it), *self.likely(it, 1)[:3]])) for it in others}
+        loads = [*self.spread(code, len(code))[0], *([it] for it in others if asks[it])]
+        unsure = []
+        for at in range(0, len(loads), self.at_once):
+            found = self.round_of(loads[at:at + self.at_once], asks)
+            if found is None:
+                return
+            unsure += found
+        # of what was tried with others and isn't settled its own function is asked once more
+        alone = [it for it in unsure if it in code]
+        for at in range(0, len(alone), self.at_once):
+            batch = alone[at:at + self.at_once]
+            for it in self.asked(batch, [self.symbols(it) for it in batch]) or []:
+                self.say(it, SURVIVED)
+        rest = [it for it in others if it in unsure or not asks[it]]
+        for at in range(0, len(rest), self.at_once):
+            self.let_through(rest[at:at + self.at_once])
         self.ask_above()
+
+    def round_of(self, loads, asks):
+        """Tries loads in one run, and returns the edits of which it shows nothing, or None at the end of the budget."""
+        while loads:
+            checked = self.variants.check(loads, [[name for it in load for name in asks.get(it) or self.symbols(it)] for load in loads])
+            if checked is None:
+                return None
+            saids, places = checked
+            left = self.without_unread(loads, saids, places)
+            if left == loads:
+                break
+            loads = left
+        if not loads:
+            return []
+        if not variants.is_reached(saids[0]) and len(loads) > 1:
+            half = len(loads) // 2
+            parts = [self.round_of(it, asks) for it in (loads[:half], loads[half:])]
+            return None if None in parts else parts[0] + parts[1]
+        found = []
+        for load, said in zip(loads, saids):
+            found += [it for it in load if not (self.is_judged(it, said, not variants.is_proved(said)) if it in asks else self.is_settled(it, said, places[it]))]
+        return found
 
     def is_within(self, edit):
         """Whether the edit changes files of the crate alone."""
@@ -189,10 +239,6 @@ class Trial:
     def try_functions(self, waiting):
         """Tries edits of functions, and returns those of which a run with others shows nothing."""
         alone, stood = [], Counter()
-        if self.log_of:
-            for it in [one for one in waiting if not self.symbols(one)]:
-                self.say(it, NOT_TRIED, "the log has no function of this name")
-                waiting = [one for one in waiting if one is not it]
         while waiting and self.budget.left() > 0:
             loads, rest = self.spread(waiting, self.at_once)
             left = self.round(loads)
@@ -297,8 +343,6 @@ class Trial:
                 waiting[step + 1] += [it for it, asks in zip(batch, only) if not asks]
                 sure = [(it, asks) for it, asks in zip(batch, only) if asks]
                 left = self.asked([it for it, _ in sure], [asks for _, asks in sure]) if sure else []
-            elif self.log_of:
-                left = self.let_through(batch)
             else:
                 left = self.asked(batch, None)
             if left is None:
@@ -310,10 +354,7 @@ class Trial:
         """Asks the functions whose contracts reach each edit, where the crate wasn't proved here, so that a check of all of it would take long: so many of them at most."""
         only = [self.reaching(it) for it in batch]
         left = self.asked([it for it, asks in zip(batch, only) if asks], [it for it in only if it]) if any(only) else []
-        if left is None:
-            return None
-        self.through += [(it, len(only[batch.index(it)])) for it in [*left, *(it for it, asks in zip(batch, only) if not asks)]]
-        return []
+        self.through += [(it, len(only[batch.index(it)])) for it in [*(left or []), *(it for it, asks in zip(batch, only) if not asks)]]
 
     def ask_above(self):
         """Asks what the functions of its own crate let through of functions of crates above, in two of these at most that are near."""
@@ -327,10 +368,13 @@ class Trial:
                     groups.setdefault(over.pop(0), []).append(edit)
             for over, edits in groups.items():
                 for at in range(0, len(edits), 4):
-                    for edit, count, why in self.asked_above(over, edits[at:at + 4]):
+                    for edit, count, why, is_nothing in self.asked_above(over, edits[at:at + 4]):
                         asked[edit] += f", {count} of {over}"
-                        if why:
+                        if is_nothing:
+                            self.say(edit, NOT_TRIED, why)
+                        elif why:
                             self.refused(edit, f"{over}: {why}")
+                        if why:
                             del waiting[edit]
         for edit in waiting:
             self.say(edit, SURVIVED, f"asked: {asked[edit]}; what else would reach it: {', '.join(waiting[edit]) or 'nothing'}")
@@ -366,7 +410,7 @@ class Trial:
         return words | {name for path in generated.paths_of(self.crate, "src") for name, held in traits.findall(generated.read(path)) if words & {*re.findall(r"[^\W\d][\w'-]*", held)}}
 
     def asked_above(self, over, edits):
-        """Asks functions of a crate above of each edit, in copies of the crates up to there. Yields each edit with how many were asked, and what refused it."""
+        """Asks functions of a crate above of each edit, in copies of the crates up to there. Yields each edit with how many were asked, what refused it, and whether that shows nothing."""
         laws = {edit: self.above_in(over, edit) for edit in edits}
         copy = self.tools.Copy({over, *self.tools.below(over)})
         try:
@@ -375,11 +419,15 @@ class Trial:
         finally:
             copy.remove()
         for edit, said in zip(edits, saids or [""] * len(edits)):
-            refused = [it for it in laws[edit] if re.search(rf"^fn {over}::{re.escape(it)}: (not proved|no proof)", said, re.M)]
+            told = [it for it in laws[edit] if re.search(rf"^fn {over}::{re.escape(it)}: ", said, re.M)]
+            if not variants.is_reached(said) or not told:
+                yield edit, 0, "", False
+                continue
+            refused = [it for it in told if not re.search(rf"^fn {over}::{re.escape(it)}: proved", said, re.M)]
             try:
-                yield edit, len(laws[edit]), refused and self.tools.refusal(said, [edit.path.split("/", 2)[2]])
-            except self.tools.Bad:
-                yield edit, len(laws[edit]), ""
+                yield edit, len(told), self.tools.refusal(said, [edit.path.split("/", 2)[2]]) if refused else "", False
+            except self.tools.Bad as it:
+                yield edit, len(told), str(it), True
 
     def reaching(self, edit):
         """Returns the functions whose contracts reach what an edit changes, the shortest proofs first."""
@@ -414,6 +462,8 @@ class Trial:
             if is_whole:
                 self.above(edit)
             return is_whole
+        # where the crate wasn't proved here, no more is asked of what something refuses
+        is_whole = is_whole or bool(self.log_of)
         open_now = re.findall(rf"^fn {self.crate}::(\S+): (?:not proved|no proof)", said, re.M)
         try:
             why = self.tools.refusal(said, [edit.path.split("/", 2)[2]])

@@ -1,6 +1,7 @@
 """Tries generated edits against the proofs of their crate: each must be refused by a goal. Which are tried, and what is told of them."""
 import collections
 import functools
+import itertools
 import os
 import random
 import re
@@ -38,11 +39,13 @@ def chosen(crate, tools, most, seed, is_wide=True, is_left=False):
     edits = generated.all_of(crate, tuple(tools.below(crate)), is_wide)
     meanings = generated.Meanings()
     equal, _ = known_equal(crate)
-    if most is None or is_left:
-        edits = [it for it in edits if meanings.is_new(it) and not (is_left and whole.is_decided(it))]
-        if most is not None:
-            random.Random(f"{seed} {crate}").shuffle(edits)
-            edits = edits[:most]
+    if is_left:
+        edits = [it for it in edits if not whole.is_decided(it)]
+    if most is None:
+        edits = [it for it in edits if meanings.is_new(it)]
+    elif is_left:
+        random.Random(f"{seed} {crate}").shuffle(edits)
+        edits = list(itertools.islice((it for it in edits if meanings.is_new(it)), most))
     else:
         order = random.Random(f"{seed} {crate}")
         kinds = {}
