@@ -10,6 +10,8 @@ ghost use Rattle.osdp_words.specs.Word.{texts, words_in};
 ghost use Rattle.osdp_example_lines.specs.Due.{IsFirstOf};
 ghost use Rattle.osdp_example_lines.specs.Lines.{IsCard, IsTold, IsTurn, card_words, turn_words};
 
+pub mod laws;
+
 use arrayvec::ArrayVec;
 use osdp_words::{ByteList, all_words_in, byte_list, number_u64};
 use std::alloc::{AllocError, Global};
