@@ -5,7 +5,7 @@ import sys
 TOP = os.path.dirname(os.path.dirname(os.path.realpath(__file__)))
 sys.dont_write_bytecode = True
 sys.path.insert(0, f"{TOP}/tools")
-from operators import code_operators, code_special, contracts, definition_operators, definitions, donors, generated, items, pairs, pinned, premises, shadows, short, spelling, whole  # noqa: E402
+from operators import code_operators, code_special, contracts, definition_operators, definitions, donors, generated, items, lawless, pairs, pinned, premises, shadows, short, spelling, whole  # noqa: E402
 from operators.facts import Facts  # noqa: E402
 
 CODE = """/// Whether a < b.
@@ -176,6 +176,10 @@ def main():
         text = head + "\n{\n    g()\n}\n"
         found = whole.kind(pinned.functions(text)["f"], items.File(text).units[0], head, {"Pair": {"left": "u8", "right": "u8"}})
         assert found == kind, f"what a contract gives is told as {found}: {head}"
+
+    cites = {"IsLeast": {"IsLess", "n"}, "IsLess": {"m"}, "IsOther": {"IsLess"}}
+    assert lawless.reached({"IsLeast", "of"}, cites) == {"IsLeast", "IsLess"}, "what a law reaches is told wrongly"
+    assert "IsFirstOf" not in lawless.lawless().get("osdp_example_lines", ()), "a statement with a law is told as one without"
 
     file = items.File(CHANGING)
     made = lines_of(CHANGING, [*code_special.Special(file, file.units[1], Facts([file], [])).make()])
