@@ -25,18 +25,19 @@ ASKED = {
     ),
     "osdp_shared_line": (
         ("osdp_shared_line", "osdp_line_ledger", "osdp_calls", "osdp_calls_ledger"),
-        (("osdp_shared_line::leaving::leaving_is_exact", "osdp_shared_line::first_rounds::rounds_happen", "osdp_shared_line::programs::rule_suffices", "osdp_calls::calls_keep_apart"),
-         ("osdp_calls::calls_rule_suffices", "osdp_shared_line::nobody_else_hears", "osdp_shared_line::each_is_a_link", "osdp_calls_ledger::one_device_holds_once", "osdp_calls_ledger::ordinary_is_undisturbed")),
+        (("osdp_shared_line::leaving::leaving_is_exact", "osdp_shared_line::first_rounds::rounds_happen", "osdp_shared_line::nobody_else_hears", "osdp_shared_line::programs::rule_suffices",
+          "osdp_shared_line::each_is_a_link"),
+         ("osdp_calls::calls_keep_apart", "osdp_calls::calls_rule_suffices"), ("osdp_calls_ledger::one_device_holds_once", "osdp_calls_ledger::ordinary_is_undisturbed")),
         {"Addresses": ("Somewhere", "Sets", "SetsReader", "IsInOrder", "IsNameOf", "AreApart", "IsHeardByNobodyElse", "HasNoOther", "IsFreeFor", "IsSetUp", "NetMoveFits", "NetMovesFit"),
          "Programs": ("IsKnown", "KeepsRule", "KeepRule", "RestFits"), "Views": ("OpensQuietly",),
          "Restarts": ("KeepsDeviceOf", "KeepsReaderOf", "IsOrdinaryOf"), "Progress": ("IsReady", "IsEmpty", "AreRounds")},
     ),
     "osdp_link_laws": (
         ("osdp_link_laws", "osdp_link_ledger", "osdp_shared_line", "osdp_line_ledger"),
-        (("osdp_link_laws::asked::leaving_is_exact", "osdp_link_laws::asked::each_is_asked", "osdp_link_laws::asked::lapsing_asked_is_exact", "osdp_link_laws::asked::readers_hear_on",
-          "osdp_shared_line::each_is_a_link", "osdp_line_ledger::each_acts_by_one_handler", "osdp_line_ledger::each_ordinary_ends_told"),
-         ("osdp_shared_line::progress::each_comes_through", "osdp_shared_line::promises::each_refuses_no_number", "osdp_link_laws::refuses_no_number", "osdp_link_laws::comes_through",
-          "osdp_link_laws::lapses::holds_once_with_lapses", "osdp_shared_line::first_rounds::rounds_happen")),
+        (("osdp_link_laws::asked::leaving_is_exact", "osdp_link_laws::asked::each_is_asked", "osdp_link_laws::asked::lapsing_asked_is_exact", "osdp_link_laws::asked::readers_hear_on"),
+         ("osdp_shared_line::first_rounds::rounds_happen", "osdp_shared_line::promises::each_refuses_no_number", "osdp_shared_line::each_is_a_link", "osdp_link_laws::refuses_no_number"),
+         ("osdp_line_ledger::each_acts_by_one_handler", "osdp_line_ledger::each_ordinary_ends_told", "osdp_shared_line::progress::each_comes_through", "osdp_link_laws::comes_through",
+          "osdp_link_laws::lapses::holds_once_with_lapses")),
         {"Headline": ("MaySubmit", "SaysWhatFits", "SaysWhatFitsIf", "MoveFits", "MovesFit", "Begins"), "Addresses": ("SetsNoOther",), "OneHandler": ("KeepsHandler", "KeepsDevice", "KeepHandler"),
          "Ordinary": ("IsOrdinary", "IsSteady"), "Refusals": ("KeepsReader", "IsNoRefusal"), "Lapses": ("KeepsSession", "KeepSession"), "LapsingRuns": ("LeavesRoom", "LapsingFits", "AllFit"),
          "Progress": ("IsClear", "AreClear", "SetsNoAddress", "NoComset", "HearsOn", "AreDue", "AreLate")},
@@ -283,17 +284,24 @@ class Asking:
         self.results = {}
 
     def run(self, edits):
-        last = self.crates[-1]
-        copy = self.tools.Copy({last, *self.tools.below(last)})
+        waiting = list(edits)
+        for i, laws in enumerate(self.stages):
+            if waiting and self.budget.left() > 0:
+                waiting = self.with_crates(waiting, laws, i == len(self.stages) - 1)
+
+    def with_crates(self, waiting, laws, is_last):
+        """Asks these laws, in copies of no more crates than they stand on."""
+        asked = {it.partition("::")[0] for it in laws}
+        reached = {*asked, *(it for one in asked for it in self.tools.below(one))}
+        crates = [it for it in self.crates if it in reached]
+        copy = self.tools.Copy(reached)
         try:
-            self.chain = Chain(copy, self.crates, self.budget)
+            self.chain = Chain(copy, crates, self.budget)
             # what is asked must be proved without any edit
-            said = self.chain.ask([None], [it for stage in self.stages for it in stage])
+            said = self.chain.ask([None], laws)
             if said is None or not variants.is_proved(said[0]):
                 self.tools.stop(f"{self.crate}: not proved without any edit, so no edit shows anything:\n{(said or [''])[0][-2000:]}")
-            waiting = list(edits)
-            for i, laws in enumerate(self.stages):
-                waiting = self.stage(waiting, laws, i == len(self.stages) - 1)
+            return self.stage(waiting, laws, is_last)
         finally:
             copy.remove()
 
