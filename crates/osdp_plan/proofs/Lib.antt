@@ -1,1 +1,2 @@
+mod Judgement
 mod Turns

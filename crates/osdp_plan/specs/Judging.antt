@@ -4,6 +4,7 @@ use Rattle.osdp_plan.specs.declared.judging.TooShort.{TooShort}
 use Rattle.osdp_plan.specs.declared.judging.TooShort.TheVariants.{PacketPasses, AnswerComes, LineIsQuiet}
 use Rattle.osdp_plan.specs.declared.plan.Plan.{Plan}
 use Rattle.osdp_plan.specs.Figures.{answered_time, wire_time}
+use Rattle.osdp_plan.specs.Plans.{IsPlan}
 
 -- an answer is waited for longer than it takes, and a session opens only after what the line held back of a packet and of its answer has come
 pub record IsLongEnough (p : Plan) : Type 0 where
@@ -18,3 +19,7 @@ Judges p (Some (PacketPasses time)) = (p.reply_wait < wire_time p.rate p.longest
 Judges p (Some (AnswerComes time)) =
     (wire_time p.rate p.longest ≤ p.reply_wait) × (p.reply_wait ≤ answered_time p) × (time ≡ answered_time p)
 Judges p (Some (LineIsQuiet time)) = (answered_time p < p.reply_wait) × (p.quiet_wait ≤ p.hold * 2) × (time ≡ p.hold * 2)
+
+-- a plan is judged in one way
+abbrev pub HasOneJudgement : Type 0
+HasOneJudgement = (p : Plan) (one other : Option TooShort) → IsPlan p → Judges p one → Judges p other → one ≡ other

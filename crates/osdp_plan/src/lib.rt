@@ -5,6 +5,7 @@
 
 mod bounds;
 mod judging;
+pub mod laws;
 mod plan;
 
 pub use bounds::Others;
