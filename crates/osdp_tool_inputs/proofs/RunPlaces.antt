@@ -4,11 +4,12 @@ use Rattle.std.proofs.lemmas.Bool.{cases_Bool, eqb-true, ltb-false, ltb-true, ne
 use Rattle.std.proofs.Math.Seq.{drop-drop}
 use Rattle.std.proofs.lemmas.List.{drop_all, drop_more, get_or_past, length-append}
 use Rattle.std.specs.List.{starts_with}
+use Rattle.std.specs.Str.{bytes_eq}
 use Rattle.osdp_tool_streams.specs.Cut.{ended_after, last_line, line_feed, lines_of, unended_after}
-use Rattle.osdp_tool_inputs.specs.Echoes.{all_echoes, echoes_below, echoes_in, heard_part, left_in, left_of}
+use Rattle.osdp_tool_inputs.specs.Echoes.{all_echoes, echoes_below, echoes_in, heard_part, is_echo, left_in, left_of, next_stamp, next_went, went_after, went_by}
 use Rattle.osdp_tool_inputs.specs.Heard.{heard_objects, heard_text, marked_line, marked_object, stamped_object, tells_at, tells_below, told_line}
 use Rattle.osdp_tool_inputs.specs.Places.{FindsLate, HasFollowed, IsAt, IsHeard, first_told, late_from, late_in, late_only, stamps_left, tells_left}
-use Rattle.osdp_tool_inputs.specs.Times.{has_digits, is_stamp, no_stamp, stamp_at, stamps_below}
+use Rattle.osdp_tool_inputs.specs.Times.{ends_so, has_digits, is_stamp, no_stamp, stamp_at, stamps_below}
 use Rattle.osdp_tool_inputs.specs.declared.capture.Capture.{Capture}
 use Rattle.osdp_tool_inputs.specs.declared.capture.LateAnswer.{LateAnswer}
 use Rattle.osdp_tool_inputs.specs.declared.places.Found.{Found}
@@ -79,6 +80,25 @@ begins_with a line e = sym (eqb-true 35 a (both_first (35 == a) _ e))
 pub stamp_only : (line : List ℕ) → is_stamp line ≡ true → has_digits line ≡ false
 stamp_only [] e = absurd cc
 stamp_only (a ∷ line) e = ap (λ x. has_digits (x ∷ line)) (begins_with a line (both_first (starts_with (λ x y. x == y) (a ∷ line) (codes "# ")) _ e))
+
+-- what stands before the next line, by whether this is one of digits
+pub after_digits : (stamp line : List ℕ) → has_digits line ≡ true → no_stamp ≡ next_stamp stamp line
+after_digits stamp line some = elim (cases_Bool (is_stamp line)) [
+  | inl is ↦ absurd (both_ways (has_digits line) some (stamp_only line is))
+  | inr other ↦ sym (ap (λ t. cond t (drop 2 line) (cond (has_digits line) no_stamp stamp)) other ∙ ap (λ t. cond t no_stamp stamp) some)
+]
+  where
+    both_ways : (b : Bool) → b ≡ true → b ≡ false → ⊥
+    both_ways b is other = absurd cc
+
+pub went_digits : (stamp went line : List ℕ) (echo : Bool) → has_digits line ≡ true → echo ≡ is_echo stamp went line → went_after echo stamp line ≡ next_went stamp went line
+went_digits stamp went line echo some is = ap (λ e. went_after e stamp line) is ∙ sym (ap (λ t. cond t (went_by stamp went line) went) some)
+
+pub went_other : (stamp went line : List ℕ) → has_digits line ≡ false → went ≡ next_went stamp went line
+went_other stamp went line none = sym (ap (λ t. cond t (went_by stamp went line) went) none)
+
+pub no_echo_other : (stamp went line : List ℕ) → has_digits line ≡ false → is_echo stamp went line ≡ false
+no_echo_other stamp went line none = ap (λ t. t && (ends_so stamp (codes " in") && bytes_eq went line)) none
 
 -- each run has a stamp, and tells something
 tells_some : (h : Heard) (line : List ℕ) (lines : List (List ℕ)) → has_digits line ≡ true

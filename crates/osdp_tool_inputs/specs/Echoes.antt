@@ -17,8 +17,11 @@ abbrev pub next_stamp : List ℕ → List ℕ → List ℕ
 next_stamp stamp line = if is_stamp line then drop 2 line else (if has_digits line then no_stamp else stamp)
 
 -- the line that went out just before, after one of digits: it has one echo at most
+abbrev pub went_after : Bool → List ℕ → List ℕ → List ℕ
+went_after echo stamp line = if echo then [] else (if ends_so stamp (codes " out") then line else [])
+
 abbrev pub went_by : List ℕ → List ℕ → List ℕ → List ℕ
-went_by stamp went line = if is_echo stamp went line then [] else (if ends_so stamp (codes " out") then line else [])
+went_by stamp went line = went_after (is_echo stamp went line) stamp line
 
 abbrev pub next_went : List ℕ → List ℕ → List ℕ → List ℕ
 next_went stamp went line = if has_digits line then went_by stamp went line else went

@@ -1,7 +1,8 @@
 //! Echoes of an adapter: runs that came in and are the ones that went out just before.
 
-ghost use Rattle.std.specs.Prelude.{◌≡◌, ◌++◌, ◌∷◌, ◌<◌, ◌^◌, [], IfOk, MatchOption, OnOk, string_bytes};
-ghost use Rattle.osdp_tool_inputs.specs.Echoes.{all_echoes, echo_line, echo_told, echoes_in, echoes_told, heard_part, is_echo, left_in, left_of, next_stamp, next_went};
+ghost use Rattle.std.specs.Prelude.{◌≡◌, ◌++◌, ◌∷◌, ◌<◌, ◌^◌, [], false, IfOk, MatchOption, OnOk, string_bytes};
+ghost use Rattle.osdp_tool_inputs.specs.Echoes.{all_echoes, echo_line, echo_told, echoes_in, echoes_told, heard_part, is_echo, left_in, left_of, next_stamp, went_after};
+ghost use Rattle.osdp_tool_inputs.specs.Times.{has_digits};
 
 use crate::heard::push_plain;
 use crate::lines::Lines;
@@ -16,27 +17,19 @@ fn is_echo(stamp: &[u8], went: &[u8], line: &[u8]) -> bool
     has_digits(line) && (stamp.ends_with(b" in") && went == line)
 }
 
-/// The stamp of the next line of digits, as far as is known after a line.
+/// The stamp of the next line of digits, as far as is known after a line that is none.
 fn next_stamp<'a>(stamp: &'a [u8], line: &'a [u8]) -> &'a [u8]
+    requires { has_digits line.now ≡ false }
     ensures { result.now ≡ next_stamp stamp.now line.now }
 {
-    if is_stamp(line) {
-        &line[2..]
-    } else if has_digits(line) {
-        NO_STAMP
-    } else {
-        stamp
-    }
+    if is_stamp(line) { &line[2..] } else { stamp }
 }
 
-/// The line that went out just before, after a line that is an echo or isn't.
-fn next_went<'a>(echo: bool, stamp: &[u8], went: &'a [u8], line: &'a [u8]) -> &'a [u8]
-    requires { echo ≡ is_echo stamp.now went.now line.now }
-    ensures { result.now ≡ next_went stamp.now went.now line.now }
+/// The line that went out just before, after one of digits that is an echo or isn't.
+fn went_after<'a>(echo: bool, stamp: &[u8], line: &'a [u8]) -> &'a [u8]
+    ensures { result.now ≡ went_after echo stamp.now line.now }
 {
-    if !has_digits(line) {
-        went
-    } else if !echo && stamp.ends_with(b" out") {
+    if !echo && stamp.ends_with(b" out") {
         line
     } else {
         &[]
@@ -78,9 +71,13 @@ impl<'a> Rest<'a> {
         let Some(line) = self.lines.next() else {
             return None;
         };
+        if !has_digits(line) {
+            self.stamp = next_stamp(self.stamp, line);
+            return Some(line);
+        }
         let echo = is_echo(self.stamp, self.went, line);
-        self.went = next_went(echo, self.stamp, self.went, line);
-        self.stamp = next_stamp(self.stamp, line);
+        self.went = went_after(echo, self.stamp, line);
+        self.stamp = NO_STAMP;
         if echo {
             self.echoes += 1;
             return Some(&[]);
