@@ -117,7 +117,7 @@ module _ {H : Type 0} (answer_of : H → Command → Answer) (after : H → Comm
   module _ (Asked : Move H → Link H → Type 0) (AllAsked : List (Move H) → Link H → Type 0)
       (first : (move : Move H) (moves : List (Move H)) (l : Link H) → AllAsked (move ∷ moves) l → Asked move l × AllAsked moves (after_move answer_of after move l))
     where
-      each_asked : (moves : List (Move H)) (l : Link H) → AllAsked moves l → AtEach answer_of after Asked moves l
+      pub each_asked : (moves : List (Move H)) (l : Link H) → AllAsked moves l → AtEach answer_of after Asked moves l
       each_asked [] l all [] move rest is = absurd cc
       each_asked [] l all (x ∷ front) move rest is = absurd cc
       each_asked (m ∷ moves) l all [] move rest is =
@@ -128,7 +128,7 @@ module _ {H : Type 0} (answer_of : H → Command → Answer) (after : H → Comm
           (each_asked moves (after_move answer_of after m l) (first m moves l all).1 front move rest same.1)
 
   -- .. and where it is said of each, it is of the first, and of the rest after it
-  each_then : (Asked : Move H → Link H → Type 0) (m : Move H) (moves : List (Move H)) (l : Link H) → AtEach answer_of after Asked (m ∷ moves) l
+  pub each_then : (Asked : Move H → Link H → Type 0) (m : Move H) (moves : List (Move H)) (l : Link H) → AtEach answer_of after Asked (m ∷ moves) l
       → Asked m l × AtEach answer_of after Asked moves (after_move answer_of after m l)
   each_then Asked m moves l each = (each [] m moves refl, λ front move rest is. each (m ∷ front) move rest (ap (λ ms. m ∷ ms) is))
 

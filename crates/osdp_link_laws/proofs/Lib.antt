@@ -47,6 +47,7 @@ pub mod ToldMoved
 pub mod Clean
 pub mod Addresses
 mod AskedMoves
+mod MovesFitting
 pub mod Doing
 pub mod Counting
 mod PastOpening

@@ -8,6 +8,7 @@ pub mod HearingOn
 pub mod Refusals
 pub mod Addresses
 pub mod Asked
+pub mod Fitting
 pub mod Names
 pub mod Ends
 pub mod Ordinary

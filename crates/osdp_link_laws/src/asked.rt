@@ -1,10 +1,17 @@
 //! What laws ask of moves, said by the moves that break it. The functions do nothing: their contracts are laws.
 
 ghost use Rattle.osdp_link_laws.specs.Asked.{EachIsAsked, LeavingIsExact};
+ghost use Rattle.osdp_link_laws.specs.Fitting.{FittingIsExact};
 ghost use Rattle.osdp_link_laws.specs.HearingOn.{HearsOnUntilRestart};
 ghost use Rattle.osdp_link_laws.specs.LapsingAsked.{LapsingAskedIsExact};
 
 use osdp_reader::Handler;
+
+/// A move fits exactly where what it submits, what it makes anew and what the reader says to the packet that it reads are in their ranges; a list fits exactly
+/// where each of its moves does, on the link as it is then. Nothing is asked of any other move.
+pub fn fitting_is_exact<H: Handler>()
+    ensures { FittingIsExact H.answer_of H.after }
+{}
 
 /// A move leaves a reader as it is exactly where it doesn't restart it, and a device where it doesn't set its handler either. It leaves the device its
 /// handler where it sets no other, and where a device that restarts has the same one and is the same model.
