@@ -30,9 +30,10 @@ use Rattle.osdp_link_laws.specs.Sessions.{accepted, all_queued, all_submitted, q
 use Rattle.osdp_link_laws.proofs.InARow.{Assumed, Stands, assumed, begins, standing}
 use Rattle.osdp_link_ledger.specs.Accounts.{LedgerTellsAccounts}
 use Rattle.osdp_link_ledger.specs.Steps.{acts, after_steps, all_steps, leaves, leaves_and_acts, leaving, opens, queued_before, queues, steps_before, steps_of, submits, submitted_before, ticked, to_reader, told}
-use Rattle.osdp_link_ledger.proofs.Keeping.{keeps_one}
+use Rattle.osdp_link_ledger.proofs.Facts.{Due}
+use Rattle.osdp_link_ledger.proofs.Keeping.{due_of, keeps_one}
 use Rattle.osdp_link_ledger.proofs.Reading.{IsReadAs, read}
-use Rattle.osdp_link_ledger.proofs.Running.{begins_tied}
+use Rattle.osdp_link_ledger.proofs.Running.{begins_tied, tied_at_first}
 use Rattle.osdp_link_ledger.proofs.Tallies.{Tally, Tells, begins_anew, device_tally, ends_at, leaving_tally, of_accounts, of_history, opening, panel_tally, queues_more, submits_more, taking_tally, tells, withdrawing_event_tally, withdrawing_tally}
 use Rattle.osdp_link_ledger.proofs.Ties.{IsTied, events_keep, placed, runs_after}
 
@@ -97,28 +98,28 @@ module _ {H : Type 0} (answer_of : H → Command → Answer) (after : H → Comm
       let left = leaves (leaving kind.Taken l.reader.queue) h.ledger in
       in_turn_tally cs es (l.account ∷ l.earlier) left [] h (leaving_tally cs es l.earlier (leaving kind.Taken l.reader.queue) l.account h h.ledger i)
 
-  by_kind : (p : Packet) (l : Link H) (h : History) (k : Kind) → kind_of l.reader p ≡ k → IsReadAs p l → TallyOf cs es l h
+  by_kind : (p : Packet) (l : Link H) (d : Due) (h : History) (k : Kind) → kind_of l.reader p ≡ k → IsReadAs p l d → TallyOf cs es l h
       → (let out = outcome answer_of after k l.reader p in
       Tells cs es (link.taken k out.command out.said (front_of l.reader) l.account ∷ l.earlier) (runs (leaves_and_acts k l.reader.queue out.command out.said h.ledger) h))
-  by_kind p l h kind.Zero is r i =
+  by_kind p l d h kind.Zero is r i =
       subst (λ read. let out = begun answer_of after read l.reader p in
       Tells cs es (link.taken kind.Zero out.command out.said (front_of l.reader) l.account ∷ l.earlier) (runs (leaves_and_acts kind.Zero l.reader.queue out.command out.said h.ledger) h))
       (sym (r.zero is)) i
-  by_kind p l h kind.Taken is r i = by_command p l h (command_in p) i
-  by_kind p l h _ is r i = i
+  by_kind p l d h kind.Taken is r i = by_command p l h (command_in p) i
+  by_kind p l d h _ is r i = i
 
-  to_reader_tally : (how : Delivery) (ps : List Packet) (l : Link H) (h : History) → ((p : Packet) (rest : List Packet) → ps ≡ p ∷ rest → IsReadAs p l) → TallyOf cs es l h
+  to_reader_tally : (how : Delivery) (ps : List Packet) (l : Link H) (d : Due) (h : History) → ((p : Packet) (rest : List Packet) → ps ≡ p ∷ rest → IsReadAs p l d) → TallyOf cs es l h
       → TallyOf cs es (link.to_reader answer_of after ps how l) (runs (to_reader answer_of after ps how l.reader h.ledger) h)
-  to_reader_tally Delivered [] l h reads i = i
-  to_reader_tally Lost [] l h reads i = i
-  to_reader_tally Repeated [] l h reads i = i
-  to_reader_tally Delivered (p ∷ ps) l h reads i = by_kind p l h (kind_of l.reader p) refl (reads p ps refl) i
-  to_reader_tally Lost (p ∷ ps) l h reads i = i
-  to_reader_tally Repeated (p ∷ ps) l h reads i = by_kind p l h (kind_of l.reader p) refl (reads p ps refl) i
+  to_reader_tally Delivered [] l d h reads i = i
+  to_reader_tally Lost [] l d h reads i = i
+  to_reader_tally Repeated [] l d h reads i = i
+  to_reader_tally Delivered (p ∷ ps) l d h reads i = by_kind p l d h (kind_of l.reader p) refl (reads p ps refl) i
+  to_reader_tally Lost (p ∷ ps) l d h reads i = i
+  to_reader_tally Repeated (p ∷ ps) l d h reads i = by_kind p l d h (kind_of l.reader p) refl (reads p ps refl) i
 
 module _ {H : Type 0} (answer_of : H → Command → Answer) (after : H → Command → H) where
-  tallies_one : Assumed answer_of after → (cs : List Command) (es : List Event) (move : Move H) (l : Link H) (h : History) → Stands answer_of after l
-      → IsTied l h.ledger → TallyOf cs es l h
+  tallies_one : Assumed answer_of after → (cs : List Command) (es : List Event) (move : Move H) (l : Link H) (h : History) → (s : Stands answer_of after l)
+      → IsTied l (due_of answer_of after l s) h.ledger → TallyOf cs es l h
       → TallyOf (cs ++ submitted move l) (es ++ queued move l) (after_move answer_of after move l) (runs (steps_of answer_of after move l h.ledger) h)
   tallies_one given cs es move l h s tied i = by_move move
     where
@@ -136,7 +137,7 @@ module _ {H : Type 0} (answer_of : H → Command → Answer) (after : H → Comm
           (tells cs es l.earlier t.step.report l.account (runs first h) h.ledger (opening cs es l.earlier l.controller.session.state t.step.frame l.account h i)))
       by_move (ToReader how) =
           still (link.to_reader answer_of after l.to_reader how l) (to_reader answer_of after l.to_reader how l.reader h.ledger)
-          (to_reader_tally answer_of after cs es how l.to_reader l h (λ p rest is. read s.fixed answer_of after (given s.fixed s.device) p rest l is s.goes) i)
+          (to_reader_tally answer_of after cs es how l.to_reader l (due_of answer_of after l s) h (λ p rest is. read s.fixed answer_of after (given s.fixed s.device) p rest l is s.goes) i)
       by_move (ToController how now) =
           still (link.to_controller l.to_controller how now l) (told (told_by_front how l.to_controller now l.controller.session) h.ledger)
           (to_controller_tally cs es how l.to_controller now l h i)
@@ -163,7 +164,7 @@ module _ {H : Type 0} (answer_of : H → Command → Answer) (after : H → Comm
       by_move _ = still l [] i
 
   tallies_all : Assumed answer_of after → (moves : List (Move H)) (cs : List Command) (es : List Event) (l : Link H) (h : History) → MovesFit answer_of after moves l
-      → Stands answer_of after l → Events h → IsTied l h.ledger → TallyOf cs es l h
+      → (s : Stands answer_of after l) → Events h → IsTied l (due_of answer_of after l s) h.ledger → TallyOf cs es l h
       → TallyOf (cs ++ all_submitted answer_of after moves l) (es ++ all_queued answer_of after moves l) (run answer_of after moves l) (runs (all_steps answer_of after moves l h.ledger) h)
   tallies_all given [] cs es l h fits s i tied tally = as_before cs es (l.account ∷ l.earlier) h tally
   tallies_all given (move ∷ moves) cs es l h fits s i tied tally =
@@ -172,8 +173,9 @@ module _ {H : Type 0} (answer_of : H → Command → Answer) (after : H → Comm
       let next = after_move answer_of after move l in
       let last = run answer_of after moves next in
       let same = runs_after steps h in
-      let rest = tallies_all given moves (cs ++ submitted move l) (es ++ queued move l) next (runs steps h) fits.1 (standing answer_of after given move l fits.0 s) (events_keep steps h one.0 i)
-      (subst (IsTied next) (sym same) one.1) (tallies_one given cs es move l h s tied tally) in
+      let n = standing answer_of after given move l fits.0 s in
+      let rest = tallies_all given moves (cs ++ submitted move l) (es ++ queued move l) next (runs steps h) fits.1 n (events_keep steps h one.0 i)
+      (subst (IsTied next (due_of answer_of after next n)) (sym same) one.1) (tallies_one given cs es move l h s tied tally) in
       ap of_history (runs_then steps (all_steps answer_of after moves next (after_steps steps h.ledger)) h)
       ∙ (λ j. of_history (runs (all_steps answer_of after moves next (sym same j)) (runs steps h)))
       ∙ rest
@@ -217,8 +219,10 @@ module _ {H : Type 0} (answer_of : H → Command → Answer) (after : H → Comm
       let last = run answer_of after moves l in
       let cs = l.controller.waiting ++ all_submitted answer_of after moves l in
       let es = l.reader.queue.events ++ all_queued answer_of after moves l in
-      let rest = tallies_all answer_of after (assumed answer_of after peers) moves l.controller.waiting l.reader.queue.events l h fits (begins answer_of after l b)
-      (events_keep before new_history first.0 at_first) (subst (IsTied l) (sym same) first.1) (begins_tally l b) in
+      let s = begins answer_of after l b in
+      let rest = tallies_all answer_of after (assumed answer_of after peers) moves l.controller.waiting l.reader.queue.events l h fits s
+      (events_keep before new_history first.0 at_first)
+      (subst (IsTied l (due_of answer_of after l s)) (sym same) (tied_at_first answer_of after l s (after_steps before new_ledger) b first.1)) (begins_tally l b) in
       let more = all_steps answer_of after moves l (after_steps before new_ledger) in
       let i : TallyOf cs es last (runs (before ++ more) new_history) =
       in_turn_tally cs es (last.account ∷ last.earlier) before more new_history

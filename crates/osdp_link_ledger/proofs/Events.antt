@@ -1,6 +1,5 @@
 -- An event is withdrawn: the ledger stays tied.
-use Rattle.std.proofs.Common.{◌≡◌, ◌≤◌, ◌+◌, ◌⊎◌, ◌==◌, ℕ, suc, Bool, true, false, not, cond, List, [], ◌∷◌, ◌++◌, length, drop, filter, Contains, refl, sym, subst, ap, ◌∙◌, inl, inr, arith}
-use Rattle.std.proofs.lemmas.List.{append-nil, length-append}
+use Rattle.std.proofs.Common.{◌≡◌, ◌≤◌, ◌+◌, ◌⊎◌, ◌==◌, ℕ, suc, Bool, true, false, not, cond, List, [], ◌∷◌, length, drop, filter, Contains, refl, sym, subst, ap, ◌∙◌, inl, inr, arith}
 use Rattle.std.proofs.lemmas.List.Elements.{All-head}
 use Rattle.osdp_frame.specs.Packet.{Packet}
 use Rattle.osdp_msg.specs.declared.command.Command.{Command}
@@ -9,9 +8,8 @@ use Rattle.osdp_controller.specs.declared.state.State.{State}
 use Rattle.osdp_reader.specs.Queue.{Queue as EventQueue, never_offered, withdrawn}
 use Rattle.osdp_ledger.specs.Ledger.{Card, Ledger, NoOffer, Offer, Reported, Unreported}
 use Rattle.osdp_ledger.proofs.Waiting.{Beyond, Rising}
-use Rattle.osdp_link_laws.specs.Link.{Account, event_withdrawn, but_oldest, unoffered_in}
-use Rattle.osdp_link_laws.proofs.Withdrawing.{but_oldest_after, but_oldest_is, splits}
 use Rattle.osdp_link_ledger.specs.Steps.{card_at, withdraws_event}
+use Rattle.osdp_link_ledger.proofs.Facts.{Due}
 use Rattle.osdp_link_ledger.proofs.Lists.{FrontUnshown, IsOfferedFront, StandsAt, after_card, all_unoffered, events, filter_front, filter_second, front_card, not_offered}
 use Rattle.osdp_link_ledger.proofs.Ties.{Leads, OffersAre, Placed, SessionIs, Ties}
 
@@ -20,80 +18,50 @@ beyond_front shown c [] beyond = tt
 beyond_front shown c (d ∷ ds) beyond = All-head (λ (x : Card). shown ≤ x.place) d ds beyond
 
 -- fewer cards, or the same
-record Fewer (q : EventQueue) (kept offered : List Event) (g : Ledger) (cards : List Card) : Type 0 where
+record Fewer (q : EventQueue) (stands : ℕ) (g : Ledger) (cards : List Card) : Type 0 where
   names : events cards ≡ (withdrawn q).events
   front : q.ever_offered ≡ false → FrontUnshown g.shown cards
   offer : q.offered ≡ true → IsOfferedFront g.offer g.cards → IsOfferedFront g.offer cards
-  counts : length kept ≡ length offered + length (not_offered g.offer g.cards) → length (but_oldest q kept) ≡ length offered + length (not_offered g.offer cards)
+  counts : length q.events ≡ stands + length (not_offered g.offer g.cards) → length (withdrawn q).events ≡ stands + length (not_offered g.offer cards)
 
-fewer_offers : (q : EventQueue) (kept offered reported : List Event) (g : Ledger) (cards : List Card) → Fewer q kept offered g cards
-    → OffersAre q kept offered reported g.offer g.cards → OffersAre (withdrawn q) (but_oldest q kept) offered reported g.offer cards
-fewer_offers q kept offered reported g cards fewer o = record {
-  untold = o.untold;
-  front = λ on. by_front on (o.front on);
-  counts = fewer.counts o.counts;
-}
+fewer_offers : (q : EventQueue) (waits : List Event) (stands : ℕ) (g : Ledger) (cards : List Card) → Fewer q stands g cards → OffersAre q waits stands g.offer g.cards
+    → OffersAre (withdrawn q) waits stands g.offer cards
+fewer_offers q waits stands g cards fewer o = record { untold = o.untold; front = λ on. by_front on (o.front on); counts = fewer.counts o.counts }
   where
-    by_front : q.offered ≡ true → (offered ≡ []) ⊎ IsOfferedFront g.offer g.cards → (offered ≡ []) ⊎ IsOfferedFront g.offer cards
+    by_front : q.offered ≡ true → (g.offer ≡ NoOffer) ⊎ IsOfferedFront g.offer g.cards → (g.offer ≡ NoOffer) ⊎ IsOfferedFront g.offer cards
     by_front on (inl none) = inl none
     by_front on (inr front) = inr (fewer.offer on front)
 
-fewer_session : (state : State) (waiting : List Command) (q : EventQueue) (ps qs : List Packet) (t : Account) (g : Ledger) (cards : List Card) → Fewer q t.kept t.offered g cards
-    → SessionIs state waiting q ps qs t g → SessionIs state waiting (withdrawn q) ps qs (event_withdrawn q t) (record g { cards = cards })
-fewer_session state waiting q ps qs t g cards fewer (inl s) = inl (record {
-  way = s.way;
-  to_reader = s.to_reader;
-  to_controller = s.to_controller;
-  empty = s.empty;
-  kept = but_oldest_after q (splits q) [] t.kept s.kept;
-  acted = s.acted;
-})
-fewer_session state waiting q ps qs t g cards fewer (inr (inl s)) = inr (inl (record {
-  way = s.way;
-  acted = s.acted;
-  late = s.late;
-  offers = fewer_offers q t.kept t.offered t.reported g cards fewer s.offers;
-}))
-fewer_session state waiting q ps qs t g cards fewer (inr (inr s)) = inr (inr (record {
-  closed = s.closed;
-  acted = s.acted;
-  late = s.late;
-  offers = fewer_offers q t.kept t.offered t.reported g cards fewer s.offers;
-}))
+fewer_session : (state : State) (q : EventQueue) (ps qs : List Packet) (d : Due) (g : Ledger) (cards : List Card) → Fewer q d.stands g cards
+    → SessionIs state q ps qs d g → SessionIs state (withdrawn q) ps qs d (record g { cards = cards })
+fewer_session state q ps qs d g cards fewer (inl s) = inl s
+fewer_session state q ps qs d g cards fewer (inr (inl s)) =
+    inr (inl (record { way = s.way; acted = s.acted; late = s.late; offers = fewer_offers q d.untold d.stands g cards fewer s.offers }))
+fewer_session state q ps qs d g cards fewer (inr (inr s)) =
+    inr (inr (record { closed = s.closed; acted = s.acted; late = s.late; offers = fewer_offers q d.untold d.stands g cards fewer s.offers }))
 
-with_fewer : (state : State) (waiting : List Command) (q : EventQueue) (ps qs : List Packet) (t : Account) (g : Ledger) (cards : List Card) → Fewer q t.kept t.offered g cards
-    → Ties state waiting q ps qs t g → Ties state waiting (withdrawn q) ps qs (event_withdrawn q t) (record g { cards = cards })
-with_fewer state waiting q ps qs t g cards fewer h = record {
+with_fewer : (state : State) (waiting : List Command) (q : EventQueue) (ps qs : List Packet) (d : Due) (g : Ledger) (cards : List Card) → Fewer q d.stands g cards
+    → Ties state waiting q ps qs d g → Ties state waiting (withdrawn q) ps qs d (record g { cards = cards })
+with_fewer state waiting q ps qs d g cards fewer h = record {
   ahead = h.ahead;
   is_open = h.is_open;
   cards = fewer.names;
   front = fewer.front;
-  session = fewer_session state waiting q ps qs t g cards fewer h.session;
+  session = fewer_session state q ps qs d g cards fewer h.session;
 }
 
 abbrev parts : List Event → ℕ → ℕ → Bool → Bool → EventQueue
 parts all capacity room offered ever = record { events = all; capacity = capacity; room = room; offered = offered; ever_offered = ever }
 
 -- nothing is withdrawn
-none_fewer : (q : EventQueue) (kept offered before : List Event) (g : Ledger) → (withdrawn q).events ≡ q.events → unoffered_in q ≡ []
-    → events g.cards ≡ q.events → (q.ever_offered ≡ false → FrontUnshown g.shown g.cards) → kept ≡ before ++ unoffered_in q → Fewer q kept offered g g.cards
-none_fewer q kept offered before g same none names front is =
-    let one : (splits q).one ++ (splits q).rest ≡ [] = sym (splits q).old_tail ∙ none in
-    let all : but_oldest q kept ≡ kept =
-    but_oldest_is q (splits q) kept kept (sym (append-nil kept) ∙ ap (λ es. kept ++ es) (sym one)) ∙ ap (λ es. kept ++ es) (rest one) ∙ append-nil kept in
-    record {
-      names = names ∙ sym same;
-      front = front;
-      offer = λ on is. is;
-      counts = λ counts. ap length all ∙ counts;
-    }
-  where
-    rest : (splits q).one ++ (splits q).rest ≡ [] → (splits q).rest ≡ []
-    rest e = ends (splits q).one (splits q).rest e
-      where
-        ends : (xs ys : List Event) → xs ++ ys ≡ [] → ys ≡ []
-        ends [] ys e = e
-        ends (x ∷ xs) ys e = absurd cc
+none_fewer : (q : EventQueue) (stands : ℕ) (g : Ledger) → (withdrawn q).events ≡ q.events → events g.cards ≡ q.events
+    → (q.ever_offered ≡ false → FrontUnshown g.shown g.cards) → Fewer q stands g g.cards
+none_fewer q stands g same names front = record {
+  names = names ∙ sym same;
+  front = front;
+  offer = λ on is. is;
+  counts = λ counts. ap length same ∙ counts;
+}
 
 no_front : (shown : ℕ) (offer : Offer) (c : Card) (cs more : List Card) → StandsAt shown offer → shown ≤ c.place → IsOfferedFront offer (c ∷ cs) → ⊥
 no_front shown NoOffer c cs more stands above front = front
@@ -101,28 +69,22 @@ no_front shown (Unreported b) c cs more stands above (rest, is) = let same : c �
 no_front shown (Reported b) c cs more stands above (rest, is) = let same : c ≡ b = cc in omega (arith, ap (λ x. x.place) same, stands, above)
 
 -- the front, which was never offered
-front_fewer : (capacity room : ℕ) (offered_now : Bool) (e : Event) (rest kept offered before : List Event) (g : Ledger) (c : Card) (cs : List Card) → Placed g
-    → g.cards ≡ c ∷ cs → events cs ≡ rest → g.shown ≤ c.place → kept ≡ before ++ e ∷ rest
-    → Fewer (parts (e ∷ rest) capacity room offered_now false) kept offered g cs
-front_fewer capacity room offered_now e rest kept offered before g c cs placed is names above split =
-    let q = parts (e ∷ rest) capacity room offered_now false in
+front_fewer : (capacity room : ℕ) (offered_now : Bool) (e : Event) (rest : List Event) (stands : ℕ) (g : Ledger) (c : Card) (cs : List Card) → Placed g
+    → g.cards ≡ c ∷ cs → events cs ≡ rest → g.shown ≤ c.place → Fewer (parts (e ∷ rest) capacity room offered_now false) stands g cs
+front_fewer capacity room offered_now e rest stands g c cs placed is names above =
     let beyond : Beyond g.shown (c ∷ cs) = subst (Beyond g.shown) is placed.beyond in
     let old : not_offered g.offer g.cards ≡ c ∷ cs =
     ap (not_offered g.offer) is ∙ all_unoffered g.shown g.offer (c ∷ cs) placed.stands above in
     let new : not_offered g.offer cs ≡ cs = all_unoffered g.shown g.offer cs placed.stands (beyond_front g.shown c cs beyond) in
-    let s = splits q in
-    let less : but_oldest q kept ≡ before ++ rest =
-    but_oldest_is q s before kept (split ∙ ap (λ es. before ++ es) s.old_tail) ∙ ap (λ es. before ++ es) (sym s.new_tail) in
     record {
       names = names;
       front = λ never. beyond_front g.shown c cs beyond;
       offer = λ on front. absurd (no_front g.shown g.offer c cs [] placed.stands above (subst (IsOfferedFront g.offer) is front));
       counts = λ counts.
-          let many : length kept ≡ length (before ++ e ∷ rest) = ap length split in
-          let fewer : length (but_oldest q kept) ≡ length (before ++ rest) = ap length less in
+          let many : suc (length rest) ≡ stands + length (not_offered g.offer g.cards) = counts in
           let were : length (not_offered g.offer g.cards) ≡ suc (length cs) = ap length old in
           let are : length (not_offered g.offer cs) ≡ length cs = ap length new in
-          omega (arith, counts, many, fewer, were, are, length-append before (e ∷ rest), length-append before rest);
+          omega (arith, many, were, are);
     }
 
 -- the one after a front that was
@@ -143,39 +105,30 @@ kept_front NoOffer f c cs front = front
 kept_front (Unreported b) f c cs (rest, is) = let same : f ≡ b = cc in (cs, ap (λ x. x ∷ cs) same)
 kept_front (Reported b) f c cs (rest, is) = let same : f ≡ b = cc in (cs, ap (λ x. x ∷ cs) same)
 
-second_fewer : (capacity room : ℕ) (offered_now : Bool) (a e : Event) (rest kept offered before : List Event) (g : Ledger) (f c : Card) (cs : List Card) → Placed g
-    → g.cards ≡ f ∷ c ∷ cs → events (f ∷ cs) ≡ a ∷ rest → kept ≡ before ++ e ∷ rest
-    → Fewer (parts (a ∷ e ∷ rest) capacity room offered_now true) kept offered g (f ∷ cs)
-second_fewer capacity room offered_now a e rest kept offered before g f c cs placed is names split =
-    let q = parts (a ∷ e ∷ rest) capacity room offered_now true in
-    let s = splits q in
-    let less : but_oldest q kept ≡ before ++ rest =
-    but_oldest_is q s before kept (split ∙ ap (λ es. before ++ es) s.old_tail) ∙ ap (λ es. before ++ es) (sym s.new_tail) in
-    record {
-      names = names;
-      front = λ never. absurd cc;
-      offer = λ on front. kept_front g.offer f c cs (subst (IsOfferedFront g.offer) is front);
-      counts = λ counts.
-          let many : length kept ≡ length (before ++ e ∷ rest) = ap length split in
-          let fewer : length (but_oldest q kept) ≡ length (before ++ rest) = ap length less in
-          let were : length (not_offered g.offer g.cards) ≡ length (not_offered g.offer (f ∷ c ∷ cs)) = ap (λ ds. length (not_offered g.offer ds)) is in
-          omega (arith, counts, many, fewer, were, one_left g.offer f c cs, length-append before (e ∷ rest), length-append before rest);
-    }
+second_fewer : (capacity room : ℕ) (offered_now : Bool) (a e : Event) (rest : List Event) (stands : ℕ) (g : Ledger) (f c : Card) (cs : List Card)
+    → g.cards ≡ f ∷ c ∷ cs → events (f ∷ cs) ≡ a ∷ rest → Fewer (parts (a ∷ e ∷ rest) capacity room offered_now true) stands g (f ∷ cs)
+second_fewer capacity room offered_now a e rest stands g f c cs is names = record {
+  names = names;
+  front = λ never. absurd cc;
+  offer = λ on front. kept_front g.offer f c cs (subst (IsOfferedFront g.offer) is front);
+  counts = λ counts.
+      let many : suc (suc (length rest)) ≡ stands + length (not_offered g.offer g.cards) = counts in
+      let were : length (not_offered g.offer g.cards) ≡ length (not_offered g.offer (f ∷ c ∷ cs)) = ap (λ ds. length (not_offered g.offer ds)) is in
+      omega (arith, many, were, one_left g.offer f c cs);
+}
 
-abbrev Withdraws : EventQueue → State → List Command → List Packet → List Packet → Account → Ledger → Type 0
-Withdraws q state waiting ps qs t g =
-    Leads (withdraws_event (never_offered q) q.ever_offered g) g (Ties state waiting (withdrawn q) ps qs (event_withdrawn q t))
+abbrev Withdraws : EventQueue → State → List Command → List Packet → List Packet → Due → Ledger → Type 0
+Withdraws q state waiting ps qs d g = Leads (withdraws_event (never_offered q) q.ever_offered g) g (Ties state waiting (withdrawn q) ps qs d)
 
-by_parts : (all : List Event) (capacity room : ℕ) (offered ever : Bool) (state : State) (waiting : List Command) (ps qs : List Packet) (t : Account) (g : Ledger) (before : List Event)
-    → Placed g → t.kept ≡ before ++ unoffered_in (parts all capacity room offered ever) → Ties state waiting (parts all capacity room offered ever) ps qs t g
-    → Withdraws (parts all capacity room offered ever) state waiting ps qs t g
-by_parts [] capacity room offered false state waiting ps qs t g before placed is h =
-    (tt, with_fewer state waiting (parts [] capacity room offered false) ps qs t g g.cards (none_fewer (parts [] capacity room offered false) t.kept t.offered before g refl refl h.cards h.front is) h)
-by_parts [] capacity room offered true state waiting ps qs t g before placed is h =
-    (tt, with_fewer state waiting (parts [] capacity room offered true) ps qs t g g.cards (none_fewer (parts [] capacity room offered true) t.kept t.offered before g refl refl h.cards h.front is) h)
-by_parts (a ∷ []) capacity room offered true state waiting ps qs t g before placed is h =
-    (tt, with_fewer state waiting (parts (a ∷ []) capacity room offered true) ps qs t g g.cards (none_fewer (parts (a ∷ []) capacity room offered true) t.kept t.offered before g refl refl h.cards h.front is) h)
-by_parts (e ∷ rest) capacity room offered false state waiting ps qs t g before placed is h =
+by_parts : (all : List Event) (capacity room : ℕ) (offered ever : Bool) (state : State) (waiting : List Command) (ps qs : List Packet) (d : Due) (g : Ledger)
+    → Placed g → Ties state waiting (parts all capacity room offered ever) ps qs d g → Withdraws (parts all capacity room offered ever) state waiting ps qs d g
+by_parts [] capacity room offered false state waiting ps qs d g placed h =
+    (tt, with_fewer state waiting (parts [] capacity room offered false) ps qs d g g.cards (none_fewer (parts [] capacity room offered false) d.stands g refl h.cards h.front) h)
+by_parts [] capacity room offered true state waiting ps qs d g placed h =
+    (tt, with_fewer state waiting (parts [] capacity room offered true) ps qs d g g.cards (none_fewer (parts [] capacity room offered true) d.stands g refl h.cards h.front) h)
+by_parts (a ∷ []) capacity room offered true state waiting ps qs d g placed h =
+    (tt, with_fewer state waiting (parts (a ∷ []) capacity room offered true) ps qs d g g.cards (none_fewer (parts (a ∷ []) capacity room offered true) d.stands g refl h.cards h.front) h)
+by_parts (e ∷ rest) capacity room offered false state waiting ps qs d g placed h =
     let q = parts (e ∷ rest) capacity room offered false in
     let front = front_card g.cards e rest h.cards in
     let c = card_at g.cards e in
@@ -183,11 +136,10 @@ by_parts (e ∷ rest) capacity room offered false state waiting ps qs t g before
     let gone : filter (λ d. not (d.place == c.place)) g.cards ≡ drop 1 g.cards =
     ap (filter (λ d. not (d.place == c.place))) front.0 ∙ filter_front c (drop 1 g.cards) 0 (subst (Rising 0) front.0 placed.rising) in (
       ((subst (λ cards. Contains cards c) (sym front.0) (0, omega arith, refl), above), tt),
-      subst (λ cards. Ties state waiting (withdrawn q) ps qs (event_withdrawn q t) (record g { cards = cards })) (sym gone)
-          (with_fewer state waiting q ps qs t g (drop 1 g.cards)
-          (front_fewer capacity room offered e rest t.kept t.offered before g c (drop 1 g.cards) placed front.0 front.1 above is) h),
+      subst (λ cards. Ties state waiting (withdrawn q) ps qs d (record g { cards = cards })) (sym gone)
+          (with_fewer state waiting q ps qs d g (drop 1 g.cards) (front_fewer capacity room offered e rest d.stands g c (drop 1 g.cards) placed front.0 front.1 above) h),
     )
-by_parts (a ∷ e ∷ rest) capacity room offered true state waiting ps qs t g before placed is h =
+by_parts (a ∷ e ∷ rest) capacity room offered true state waiting ps qs d g placed h =
     let q = parts (a ∷ e ∷ rest) capacity room offered true in
     let front = front_card g.cards a (e ∷ rest) h.cards in
     let second = front_card (drop 1 g.cards) e rest front.1 in
@@ -200,16 +152,14 @@ by_parts (a ∷ e ∷ rest) capacity room offered true state waiting ps qs t g b
     ap (filter (λ d. not (d.place == c.place))) all ∙ filter_second f c cs 0 (subst (Rising 0) all placed.rising) in
     let names : events (f ∷ cs) ≡ a ∷ rest = ap (λ es. f.event ∷ es) second.1 ∙ ap (λ x. x ∷ rest) (event g.cards) in (
       ((subst (λ cards. Contains cards c) (sym all) (1, omega arith, refl), All-head (λ (x : Card). g.shown ≤ x.place) c cs beyond), tt),
-      subst (λ cards. Ties state waiting (withdrawn q) ps qs (event_withdrawn q t) (record g { cards = cards })) (sym gone)
-          (with_fewer state waiting q ps qs t g (f ∷ cs)
-          (second_fewer capacity room offered a e rest t.kept t.offered before g f c cs placed all names is) h),
+      subst (λ cards. Ties state waiting (withdrawn q) ps qs d (record g { cards = cards })) (sym gone)
+          (with_fewer state waiting q ps qs d g (f ∷ cs) (second_fewer capacity room offered a e rest d.stands g f c cs all names) h),
     )
   where
     event : (cards : List Card) → (card_at cards a).event ≡ a
     event [] = refl
     event (d ∷ ds) = refl
 
-pub withdrawing_event : (q : EventQueue) (state : State) (waiting : List Command) (ps qs : List Packet) (t : Account) (g : Ledger) (before : List Event)
-    → Placed g → t.kept ≡ before ++ unoffered_in q → Ties state waiting q ps qs t g → Withdraws q state waiting ps qs t g
-withdrawing_event q state waiting ps qs t g before placed is h =
-    by_parts q.events q.capacity q.room q.offered q.ever_offered state waiting ps qs t g before placed is h
+pub withdrawing_event : (q : EventQueue) (state : State) (waiting : List Command) (ps qs : List Packet) (d : Due) (g : Ledger) → Placed g → Ties state waiting q ps qs d g
+    → Withdraws q state waiting ps qs d g
+withdrawing_event q state waiting ps qs d g placed h = by_parts q.events q.capacity q.room q.offered q.ever_offered state waiting ps qs d g placed h

@@ -3,6 +3,7 @@ pub mod Facts
 pub mod Ties
 pub mod Telling
 pub mod Programs
+pub mod Dues
 pub mod Reports
 pub mod Events
 pub mod Reading

@@ -1,7 +1,7 @@
 -- What programs do, and a loss of power: the ledger stays tied.
-use Rattle.std.proofs.Common.{◌≡◌, ◌+◌, ◌⊎◌, ℕ, Bool, true, false, List, [], ◌∷◌, ◌++◌, length, map, drop, is_some, Option, Some, None, refl, sym, subst, ap, ◌∙◌, inl, inr, arith, append_assoc}
+use Rattle.std.proofs.Common.{◌≡◌, ◌+◌, ◌⊎◌, ℕ, Bool, true, false, List, [], ◌∷◌, ◌++◌, length, map, is_some, Option, Some, None, refl, sym, subst, ap, ◌∙◌, inl, inr, arith, append_assoc}
 use Rattle.std.proofs.lemmas.List.{append-nil, length-append, length-map, map-append}
-use Rattle.std.specs.Prelude.{option_to_list}
+use Rattle.std.specs.Prelude.{drop, option_to_list}
 use Rattle.osdp_frame.specs.Packet.{Packet}
 use Rattle.osdp_msg.specs.declared.command.Command.{Command}
 use Rattle.osdp_msg.specs.declared.event.Event.{Event}
@@ -16,54 +16,37 @@ use Rattle.osdp_reader.specs.Queue.{Queue as EventQueue, empty_queue, queued}
 use Rattle.osdp_ledger.specs.Ledger.{Card, Ledger, May, NoOffer, Offer, Order, Reported, RestartDevice, RestartPanel, Unreported, late_after, late_at_restart, panel_restarted}
 use Rattle.osdp_link_laws.specs.Headline.{asked}
 use Rattle.osdp_link_laws.specs.Link as link
-use Rattle.osdp_link_laws.specs.Link.{Account, Link, Removal, ThrownAway, Withdrawn, outstanding_command, reader_restarted}
-use Rattle.osdp_link_laws.specs.Sessions.{removed_command}
-use Rattle.osdp_link_laws.proofs.Removed.{gone}
+use Rattle.osdp_link_laws.specs.Link.{Link, outstanding_command}
 use Rattle.osdp_link_ledger.specs.Laws.{is_under_way}
 use Rattle.osdp_link_ledger.specs.Steps.{queues, submits, withdraws}
-use Rattle.osdp_link_ledger.proofs.Facts.{Facts, out_of}
-use Rattle.osdp_link_ledger.proofs.Lists.{IsOfferedFront, commands, front_more, front_order, no_items, not_offered, one_more_unoffered, same_ends, still_front}
+use Rattle.osdp_link_ledger.proofs.Facts.{Due, Facts, none_due, out_of}
+use Rattle.osdp_link_ledger.proofs.Lists.{IsOfferedFront, commands, front_more, front_order, no_items, not_offered, one_more_unoffered, still_front}
 use Rattle.osdp_link_ledger.proofs.Ties.{ActedIs, IsTied, IsUnderWay, Leads, OffersAre, Placed, SessionIs, Ties}
 
 -- ---- a command is submitted
 
-abbrev with_issued : Command → Account → Account
-with_issued c t = record t { issued = t.issued ++ c ∷ [] }
+acted_longer : (ahead : List Order) (o : Order) (acted : Option Reply) (owing : List (Command × Reply)) → ActedIs ahead acted owing → ActedIs (ahead ++ o ∷ []) acted owing
+acted_longer ahead o acted owing (inl none) = inl none
+acted_longer ahead o acted owing (inr one) = inr (record {
+  order = one.order;
+  rest = one.rest ++ o ∷ [];
+  answer = one.answer;
+  ahead = ap (λ os. os ++ o ∷ []) one.ahead;
+  acted = one.acted;
+  owing = one.owing;
+})
 
-one_longer : (taken late gone waiting issued : List Command) (c : Command) → issued ≡ taken ++ (late ++ (gone ++ waiting))
-    → issued ++ c ∷ [] ≡ taken ++ (late ++ (gone ++ (waiting ++ c ∷ [])))
-one_longer taken late gone waiting issued c is =
-    ap (λ cs. cs ++ c ∷ []) is ∙ append_assoc taken (late ++ (gone ++ waiting)) (c ∷ [])
-    ∙ ap (λ cs. taken ++ cs) (append_assoc late (gone ++ waiting) (c ∷ []))
-    ∙ ap (λ cs. taken ++ (late ++ cs)) (append_assoc gone waiting (c ∷ []))
+submitted_session : (state : State) (q : EventQueue) (ps qs : List Packet) (d : Due) (g : Ledger) (o : Order) → SessionIs state q ps qs d g
+    → SessionIs state q ps qs d (record g { submitted = g.submitted + 1; ahead = g.ahead ++ o ∷ [] })
+submitted_session state q ps qs d g o (inl s) = inl s
+submitted_session state q ps qs d g o (inr (inl s)) =
+    inr (inl (record { way = s.way; acted = acted_longer g.ahead o g.acted d.owing s.acted; late = s.late; offers = s.offers }))
+submitted_session state q ps qs d g o (inr (inr s)) = inr (inr (record { closed = s.closed; acted = s.acted; late = s.late; offers = s.offers }))
 
-acted_longer : (ahead : List Order) (o : Order) (acted : Option Reply) (given settled : List (Command × Reply)) → ActedIs ahead acted given settled
-    → ActedIs (ahead ++ o ∷ []) acted given settled
-acted_longer ahead o acted given settled (inl none) = inl none
-acted_longer ahead o acted given settled (inr (order, rest, answer, is, acts, all)) = inr (order, rest ++ o ∷ [], answer, ap (λ os. os ++ o ∷ []) is, acts, all)
-
-submitted_session : (state : State) (waiting : List Command) (q : EventQueue) (ps qs : List Packet) (t : Account) (g : Ledger) (c : Command)
-    → SessionIs state waiting q ps qs t g
-    → SessionIs state (waiting ++ c ∷ []) q ps qs (with_issued c t)
-    (record g { submitted = g.submitted + 1; ahead = g.ahead ++ record { place = g.submitted; command = c } ∷ [] })
-submitted_session state waiting q ps qs t g c (inl s) = inl s
-submitted_session state waiting q ps qs t g c (inr (inl s)) = inr (inl (record {
-  way = s.way;
-  acted = acted_longer g.ahead (record { place = g.submitted; command = c }) g.acted t.given t.settled s.acted;
-  late = s.late;
-  offers = s.offers;
-}))
-submitted_session state waiting q ps qs t g c (inr (inr s)) = inr (inr (record {
-  closed = s.closed;
-  acted = s.acted;
-  late = one_longer t.taken (commands (option_to_list g.late)) (gone t) waiting t.issued c s.late;
-  offers = s.offers;
-}))
-
-pub submitting : {H : Type 0} → (refusal : Option ControllerFault) (c : Command) (l : Link H) (g : Ledger) → IsTied l g
-    → Leads (submits refusal c g) g (IsTied (link.submits refusal c l))
-submitting {H} (Some fault) c l g h = (tt, h)
-submitting {H} None c l g h =
+pub submitting : {H : Type 0} → (refusal : Option ControllerFault) (c : Command) (l : Link H) (d : Due) (g : Ledger) → IsTied l d g
+    → Leads (submits refusal c g) g (IsTied (link.submits refusal c l) d)
+submitting {H} (Some fault) c l d g h = (tt, h)
+submitting {H} None c l d g h =
     let o : Order = record { place = g.submitted; command = c } in (
       (refl, tt),
       record {
@@ -72,57 +55,38 @@ submitting {H} None c l g h =
         is_open = h.is_open;
         cards = h.cards;
         front = h.front;
-        session = submitted_session l.controller.session.state l.controller.waiting l.reader.queue l.to_reader l.to_controller l.account g c h.session;
+        session = submitted_session l.controller.session.state l.reader.queue l.to_reader l.to_controller d g o h.session;
       },
     )
 
 -- ---- an event is queued
 
-queued_offers : (q : EventQueue) (e : Event) (kept offered reported : List Event) (g : Ledger) → Placed g → OffersAre q kept offered reported g.offer g.cards
-    → OffersAre (queued e q) (kept ++ e ∷ []) offered reported g.offer (g.cards ++ record { place = g.queued; event = e } ∷ [])
-queued_offers q e kept offered reported g placed o =
+queued_offers : (q : EventQueue) (e : Event) (waits : List Event) (stands : ℕ) (g : Ledger) → Placed g → OffersAre q waits stands g.offer g.cards
+    → OffersAre (queued e q) waits stands g.offer (g.cards ++ record { place = g.queued; event = e } ∷ [])
+queued_offers q e waits stands g placed o =
     let new : Card = record { place = g.queued; event = e } in
     record {
       untold = o.untold;
       front = λ on. by_front (o.front on);
-      counts = omega (arith, o.counts, length-append kept (e ∷ []), one_more_unoffered g.shown g.offer new g.cards placed.stands placed.shown);
+      counts = omega (arith, o.counts, length-append q.events (e ∷ []), one_more_unoffered g.shown g.offer new g.cards placed.stands placed.shown);
     }
   where
-    by_front : (offered ≡ []) ⊎ IsOfferedFront g.offer g.cards → (offered ≡ []) ⊎ IsOfferedFront g.offer (g.cards ++ record { place = g.queued; event = e } ∷ [])
+    by_front : (g.offer ≡ NoOffer) ⊎ IsOfferedFront g.offer g.cards → (g.offer ≡ NoOffer) ⊎ IsOfferedFront g.offer (g.cards ++ record { place = g.queued; event = e } ∷ [])
     by_front (inl none) = inl none
     by_front (inr front) = inr (still_front g.offer g.cards (record { place = g.queued; event = e } ∷ []) front)
 
-abbrev with_queued : Event → Account → Account
-with_queued e t = record t { queued = t.queued ++ e ∷ []; stayed = t.stayed ++ e ∷ []; kept = t.kept ++ e ∷ [] }
+queued_session : (state : State) (q : EventQueue) (ps qs : List Packet) (d : Due) (g : Ledger) (e : Event) → Placed g → SessionIs state q ps qs d g
+    → SessionIs state (queued e q) ps qs d (record g { queued = g.queued + 1; cards = g.cards ++ record { place = g.queued; event = e } ∷ [] })
+queued_session state q ps qs d g e placed (inl s) = inl s
+queued_session state q ps qs d g e placed (inr (inl s)) =
+    inr (inl (record { way = s.way; acted = s.acted; late = s.late; offers = queued_offers q e d.untold d.stands g placed s.offers }))
+queued_session state q ps qs d g e placed (inr (inr s)) =
+    inr (inr (record { closed = s.closed; acted = s.acted; late = s.late; offers = queued_offers q e d.untold d.stands g placed s.offers }))
 
-queued_session : (state : State) (waiting : List Command) (q : EventQueue) (ps qs : List Packet) (t : Account) (g : Ledger) (e : Event) → Placed g
-    → SessionIs state waiting q ps qs t g
-    → SessionIs state waiting (queued e q) ps qs (with_queued e t)
-    (record g { queued = g.queued + 1; cards = g.cards ++ record { place = g.queued; event = e } ∷ [] })
-queued_session state waiting q ps qs t g e placed (inl s) = inl (record {
-  way = s.way;
-  to_reader = s.to_reader;
-  to_controller = s.to_controller;
-  empty = s.empty;
-  kept = ap (λ es. es ++ e ∷ []) s.kept;
-  acted = s.acted;
-})
-queued_session state waiting q ps qs t g e placed (inr (inl s)) = inr (inl (record {
-  way = s.way;
-  acted = s.acted;
-  late = s.late;
-  offers = queued_offers q e t.kept t.offered t.reported g placed s.offers;
-}))
-queued_session state waiting q ps qs t g e placed (inr (inr s)) = inr (inr (record {
-  closed = s.closed;
-  acted = s.acted;
-  late = s.late;
-  offers = queued_offers q e t.kept t.offered t.reported g placed s.offers;
-}))
-
-pub queueing : {H : Type 0} → (full : Bool) (e : Event) (l : Link H) (g : Ledger) → Placed g → IsTied l g → Leads (queues full e g) g (IsTied (link.queues full e l))
-queueing {H} true e l g placed h = (tt, h)
-queueing {H} false e l g placed h =
+pub queueing : {H : Type 0} → (full : Bool) (e : Event) (l : Link H) (d : Due) (g : Ledger) → Placed g → IsTied l d g
+    → Leads (queues full e g) g (IsTied (link.queues full e l) d)
+queueing {H} true e l d g placed h = (tt, h)
+queueing {H} false e l d g placed h =
     let c : Card = record { place = g.queued; event = e } in (
       (refl, tt),
       record {
@@ -130,113 +94,77 @@ queueing {H} false e l g placed h =
         is_open = h.is_open;
         cards = map-append (λ (c : Card). c.event) g.cards (c ∷ []) ∙ ap (λ es. es ++ e ∷ []) h.cards;
         front = λ never. front_more g.shown g.cards c placed.shown (h.front never);
-        session = queued_session l.controller.session.state l.controller.waiting l.reader.queue l.to_reader l.to_controller l.account g e placed h.session;
+        session = queued_session l.controller.session.state l.reader.queue l.to_reader l.to_controller d g e placed h.session;
       },
     )
 
 -- ---- a command is withdrawn
 
-abbrev with_removed : List Removal → Account → Account
-with_removed more t = record t { removed = t.removed ++ more }
+closed_session : (q : EventQueue) (ps qs : List Packet) (d : Due) (g : Ledger) (ahead : List Order) → SessionIs Closed q ps qs d g
+    → SessionIs Closed q ps qs d (record g { ahead = ahead })
+closed_session q ps qs d g ahead (inl s) = inl s
+closed_session q ps qs d g ahead (inr (inl s)) = absurd (let e : false ≡ true = s.way in cc)
+closed_session q ps qs d g ahead (inr (inr s)) = inr (inr (record { closed = s.closed; acted = s.acted; late = s.late; offers = s.offers }))
 
--- what was withdrawn waited first
-removed_late : (late taken issued removed_commands waiting : List Command) (removed more : List Removal) (all : List Command)
-    → issued ≡ taken ++ (late ++ (map removed_command removed ++ all)) → all ≡ map removed_command more ++ waiting
-    → issued ≡ taken ++ (late ++ (map removed_command (removed ++ more) ++ waiting))
-removed_late late taken issued removed_commands waiting removed more all is split =
-    is ∙ ap (λ cs. taken ++ (late ++ (map removed_command removed ++ cs))) split
-    ∙ ap (λ cs. taken ++ (late ++ cs))
-    (sym (append_assoc (map removed_command removed) (map removed_command more) waiting)
-    ∙ ap (λ cs. cs ++ waiting) (sym (map-append removed_command removed more)))
-
-removed_session : (state : State) (waiting left : List Command) (more : List Removal) (q : EventQueue) (ps qs : List Packet) (t : Account) (g : Ledger) (ahead : List Order)
-    → waiting ≡ map removed_command more ++ left → (is_under_way state ≡ true → ahead ≡ g.ahead)
-    → SessionIs state waiting q ps qs t g → SessionIs state left q ps qs (with_removed more t) (record g { ahead = ahead })
-removed_session state waiting left more q ps qs t g ahead split same (inl s) = inl s
-removed_session state waiting left more q ps qs t g ahead split same (inr (inl s)) = inr (inl (record {
-  way = s.way;
-  acted = subst (λ os. ActedIs os g.acted t.given t.settled) (sym (same s.way)) s.acted;
-  late = s.late;
-  offers = s.offers;
-}))
-removed_session state waiting left more q ps qs t g ahead split same (inr (inr s)) = inr (inr (record {
-  closed = s.closed;
-  acted = s.acted;
-  late = removed_late (commands (option_to_list g.late)) t.taken t.issued [] left t.removed more waiting s.late split;
-  offers = s.offers;
-}))
-
-none_withdrawn : (state : State) (waiting : List Command) (q : EventQueue) (ps qs : List Packet) (t : Account) (g : Ledger)
-    → Ties state waiting q ps qs t g → Ties state waiting q ps qs (with_removed [] t) g
-none_withdrawn state waiting q ps qs t g h = record {
-  ahead = h.ahead;
-  is_open = h.is_open;
-  cards = h.cards;
-  front = h.front;
-  session = removed_session state waiting waiting [] q ps qs t g g.ahead refl (λ way. refl) h.session;
-}
-
-pub withdrawing : (state : State) (waiting : List Command) (q : EventQueue) (ps qs : List Packet) (t : Account) (g : Ledger) → Ties state waiting q ps qs t g
-    → Leads (withdraws (controllers.withdrawn_in state waiting) g) g
-    (Ties state (controllers.kept_in state waiting) q ps qs (with_removed (map Withdrawn (option_to_list (controllers.withdrawn_in state waiting))) t))
-withdrawing Closed [] q ps qs t g h = (tt, none_withdrawn Closed [] q ps qs t g h)
-withdrawing Closed (w ∷ rest) q ps qs t g h =
+pub withdrawing : (state : State) (waiting : List Command) (q : EventQueue) (ps qs : List Packet) (d : Due) (g : Ledger) → Ties state waiting q ps qs d g
+    → Leads (withdraws (controllers.withdrawn_in state waiting) g) g (Ties state (controllers.kept_in state waiting) q ps qs d)
+withdrawing Closed [] q ps qs d g h = (tt, h)
+withdrawing Closed (w ∷ rest) q ps qs d g h =
     let front = front_order g.ahead w rest h.ahead in (
       ((h.is_open, (drop 1 g.ahead, front.0)), tt),
-      record {
-        ahead = front.1;
-        is_open = h.is_open;
-        cards = h.cards;
-        front = h.front;
-        session = removed_session Closed (w ∷ rest) rest (Withdrawn w ∷ []) q ps qs t g (drop 1 g.ahead) refl (λ way. absurd cc) h.session;
-      },
+      record { ahead = front.1; is_open = h.is_open; cards = h.cards; front = h.front; session = closed_session q ps qs d g (drop 1 g.ahead) h.session },
     )
-withdrawing state waiting q ps qs t g h = (tt, none_withdrawn state waiting q ps qs t g h)
+withdrawing state waiting q ps qs d g h = (tt, h)
 
 -- ---- an address is set
 
-pub retargeting : {H : Type 0} → (refusal : Option ControllerFault) (address : ℕ) (l : Link H) (g : Ledger) → IsTied l g → IsTied (link.retargets refusal address l) g
-retargeting {H} (Some fault) address l g h = h
-retargeting {H} None address l g h = record { ahead = h.ahead; is_open = h.is_open; cards = h.cards; front = h.front; session = h.session }
+pub retargeting : {H : Type 0} → (refusal : Option ControllerFault) (address : ℕ) (l : Link H) (d : Due) (g : Ledger) → IsTied l d g
+    → IsTied (link.retargets refusal address l) d g
+retargeting {H} (Some fault) address l d g h = h
+retargeting {H} None address l d g h = record { ahead = h.ahead; is_open = h.is_open; cards = h.cards; front = h.front; session = h.session }
 
 -- ---- a packet is lost
 
-losing_session : (state : State) (waiting : List Command) (q : EventQueue) (ps qs xs ys : List Packet) (t : Account) (g : Ledger)
-    → (ps ≡ [] → xs ≡ []) → (qs ≡ [] → ys ≡ []) → SessionIs state waiting q ps qs t g → SessionIs state waiting q xs ys t g
-losing_session state waiting q ps qs xs ys t g first second (inl s) = inl (record {
+losing_session : (state : State) (q : EventQueue) (ps qs xs ys : List Packet) (d : Due) (g : Ledger) → (ps ≡ [] → xs ≡ []) → (qs ≡ [] → ys ≡ [])
+    → SessionIs state q ps qs d g → SessionIs state q xs ys d g
+losing_session state q ps qs xs ys d g first second (inl s) = inl (record {
   way = s.way;
   to_reader = first s.to_reader;
   to_controller = second s.to_controller;
   empty = s.empty;
-  kept = s.kept;
   acted = s.acted;
 })
-losing_session state waiting q ps qs xs ys t g first second (inr s) = inr s
+losing_session state q ps qs xs ys d g first second (inr s) = inr s
 
-pub losing : (state : State) (waiting : List Command) (q : EventQueue) (ps qs xs ys : List Packet) (t : Account) (g : Ledger)
-    → (ps ≡ [] → xs ≡ []) → (qs ≡ [] → ys ≡ []) → Ties state waiting q ps qs t g → Ties state waiting q xs ys t g
-losing state waiting q ps qs xs ys t g first second h = record {
+pub losing : (state : State) (waiting : List Command) (q : EventQueue) (ps qs xs ys : List Packet) (d : Due) (g : Ledger)
+    → (ps ≡ [] → xs ≡ []) → (qs ≡ [] → ys ≡ []) → Ties state waiting q ps qs d g → Ties state waiting q xs ys d g
+losing state waiting q ps qs xs ys d g first second h = record {
   ahead = h.ahead;
   is_open = h.is_open;
   cards = h.cards;
   front = h.front;
-  session = losing_session state waiting q ps qs xs ys t g first second h.session;
+  session = losing_session state q ps qs xs ys d g first second h.session;
 }
 
 -- ---- a session begins again
 
-none_acted : (state : State) (waiting : List Command) (q : EventQueue) (ps qs : List Packet) (t : Account) (g : Ledger) → state ≡ Closed
-    → SessionIs state waiting q ps qs t g → g.acted ≡ None
-none_acted state waiting q ps qs t g closed (inl s) = s.acted
-none_acted state waiting q ps qs t g closed (inr (inl s)) = absurd (let e : false ≡ true = ap is_under_way (sym closed) ∙ s.way in cc)
-none_acted state waiting q ps qs t g closed (inr (inr s)) = s.acted
+none_acted : (state : State) (q : EventQueue) (ps qs : List Packet) (d : Due) (g : Ledger) → state ≡ Closed → SessionIs state q ps qs d g → g.acted ≡ None
+none_acted state q ps qs d g closed (inl s) = s.acted
+none_acted state q ps qs d g closed (inr (inl s)) = absurd (let e : false ≡ true = ap is_under_way (sym closed) ∙ s.way in cc)
+none_acted state q ps qs d g closed (inr (inr s)) = s.acted
 
-pub reopening : {H : Type 0} → (refusal : Option ControllerFault) (ps qs : List Packet) (now : ℕ) (l : Link H) (g : Ledger) → controllers.begin_refusal l.controller ≡ refusal
-    → l.to_reader ≡ ps → l.to_controller ≡ qs → IsTied l g → IsTied (link.reopens refusal ps qs now l) g
-reopening {H} (Some fault) ps qs now l g may here there h = h
-reopening {H} None (p ∷ ps) qs now l g may here there h = h
-reopening {H} None [] (q ∷ qs) now l g may here there h = h
-reopening {H} None [] [] now l g may here there h =
+-- nothing has happened in it yet
+abbrev pub reopened : Option ControllerFault → List Packet → List Packet → Due → Due
+reopened None [] [] d = none_due
+reopened _ ps qs d = d
+
+pub reopening : {H : Type 0} → (refusal : Option ControllerFault) (ps qs : List Packet) (now : ℕ) (l : Link H) (d : Due) (g : Ledger)
+    → controllers.begin_refusal l.controller ≡ refusal → l.to_reader ≡ ps → l.to_controller ≡ qs → IsTied l d g
+    → IsTied (link.reopens refusal ps qs now l) (reopened refusal ps qs d) g
+reopening {H} (Some fault) ps qs now l d g may here there h = h
+reopening {H} None (p ∷ ps) qs now l d g may here there h = h
+reopening {H} None [] (q ∷ qs) now l d g may here there h = h
+reopening {H} None [] [] now l d g may here there h =
     let closed = was_closed l.controller.session.state may in
     record {
       ahead = h.ahead ∙ ap (λ state. out_of state ++ l.controller.waiting) closed;
@@ -247,9 +175,8 @@ reopening {H} None [] [] now l g may here there h =
         way = refl;
         to_reader = here;
         to_controller = there;
-        empty = record { given = refl; settled = refl; offered = refl; reported = refl };
-        kept = refl;
-        acted = none_acted l.controller.session.state l.controller.waiting l.reader.queue l.to_reader l.to_controller l.account g closed h.session;
+        empty = refl;
+        acted = none_acted l.controller.session.state l.reader.queue l.to_reader l.to_controller d g closed h.session;
       });
     }
 
@@ -260,70 +187,46 @@ no_cards NoOffer = refl
 no_cards (Unreported c) = refl
 no_cards (Reported c) = refl
 
-power_offers : (q : EventQueue) (room : Room) (t : Account) (g : Ledger) → OffersAre q t.kept t.offered t.reported g.offer g.cards
-    → OffersAre (empty_queue room.messages room.bytes) t.offered t.offered t.reported g.offer []
-power_offers q room t g o = record { untold = o.untold; front = λ on. absurd cc; counts = omega (arith, no_cards g.offer) }
+-- none of its events is left
+abbrev pub without_events : Due → Due
+without_events d = record d { stands = 0 }
 
-power_session : (state : State) (waiting : List Command) (q : EventQueue) (ps qs : List Packet) (t : Account) (g : Ledger) (room : Room) → SessionIs state waiting q ps qs t g
-    → SessionIs state waiting (empty_queue room.messages room.bytes) ps qs (reader_restarted t) (record g { cards = [] })
-power_session state waiting q ps qs t g room (inl s) = inl (record {
+power_offers : (q : EventQueue) (room : Room) (d : Due) (g : Ledger) → OffersAre q d.untold d.stands g.offer g.cards
+    → OffersAre (empty_queue room.messages room.bytes) d.untold 0 g.offer []
+power_offers q room d g o = record { untold = o.untold; front = λ on. absurd cc; counts = omega (arith, no_cards g.offer) }
+
+power_session : (state : State) (q : EventQueue) (ps qs : List Packet) (d : Due) (g : Ledger) (room : Room) → SessionIs state q ps qs d g
+    → SessionIs state (empty_queue room.messages room.bytes) ps qs (without_events d) (record g { cards = [] })
+power_session state q ps qs d g room (inl s) = inl (record {
   way = s.way;
   to_reader = s.to_reader;
   to_controller = s.to_controller;
-  empty = s.empty;
-  kept = s.empty.offered;
+  empty = ap without_events s.empty;
   acted = s.acted;
 })
-power_session state waiting q ps qs t g room (inr (inl s)) =
-    inr (inl (record { way = s.way; acted = s.acted; late = s.late; offers = power_offers q room t g s.offers }))
-power_session state waiting q ps qs t g room (inr (inr s)) =
-    inr (inr (record { closed = s.closed; acted = s.acted; late = s.late; offers = power_offers q room t g s.offers }))
+power_session state q ps qs d g room (inr (inl s)) =
+    inr (inl (record { way = s.way; acted = s.acted; late = s.late; offers = power_offers q room d g s.offers }))
+power_session state q ps qs d g room (inr (inr s)) =
+    inr (inr (record { closed = s.closed; acted = s.acted; late = s.late; offers = power_offers q room d g s.offers }))
 
-pub restarting_device : (state : State) (waiting : List Command) (q : EventQueue) (ps qs : List Packet) (t : Account) (g : Ledger) (room : Room) → Ties state waiting q ps qs t g
-    → Leads (RestartDevice ∷ []) g (Ties state waiting (empty_queue room.messages room.bytes) ps qs (reader_restarted t))
-restarting_device state waiting q ps qs t g room h = (
+pub restarting_device : (state : State) (waiting : List Command) (q : EventQueue) (ps qs : List Packet) (d : Due) (g : Ledger) (room : Room) → Ties state waiting q ps qs d g
+    → Leads (RestartDevice ∷ []) g (Ties state waiting (empty_queue room.messages room.bytes) ps qs (without_events d))
+restarting_device state waiting q ps qs d g room h = (
   (tt, tt),
-  record {
-    ahead = h.ahead;
-    is_open = h.is_open;
-    cards = refl;
-    front = λ never. tt;
-    session = power_session state waiting q ps qs t g room h.session;
-  },
+  record { ahead = h.ahead; is_open = h.is_open; cards = refl; front = λ never. tt; session = power_session state q ps qs d g room h.session },
 )
 
 -- ---- a session that ends over the order in front
 
--- the answer that is on its way is what the ledger has as acted on
-pub record NothingOwed (done : Option Reply) (answers : List (Command × Reply)) : Type 0 where
-  pub acted : done ≡ None
-  pub owing : answers ≡ []
-
-pub record OneOwed (orders : List Order) (done : Option Reply) (answers : List (Command × Reply)) : Type 0 where
-  pub order : Order
-  pub rest : List Order
-  pub answer : Reply
-  pub ahead : orders ≡ order ∷ rest
-  pub acted : done ≡ Some answer
-  pub owing : answers ≡ (order.command, answer) ∷ []
-
-pub owing_is : (ahead : List Order) (acted : Option Reply) (given settled owing : List (Command × Reply)) → ActedIs ahead acted given settled
-    → given ≡ settled ++ owing → NothingOwed acted owing ⊎ OneOwed ahead acted owing
-owing_is ahead acted given settled owing (inl (none, all)) is =
-    let e : length settled ≡ length (settled ++ owing) = ap length (sym all ∙ is) in
-    inl (record { acted = none; owing = no_items owing (omega (arith, e, length-append settled owing)) })
-owing_is ahead acted given settled owing (inr (order, rest, answer, front, acts, all)) is =
-    inr (record { order = order; rest = rest; answer = answer; ahead = front; acted = acts; owing = same_ends settled given owing ((order.command, answer) ∷ []) is all })
-
 -- nothing is outstanding: nothing was acted on, and nothing is late
-pub nothing_out : (ahead : List Order) (acted : Option Reply) (given settled owing : List (Command × Reply)) (pend : List Command) → ActedIs ahead acted given settled
-    → given ≡ settled ++ owing → [] ≡ pend ++ map asked owing → (acted ≡ None) × (pend ≡ [])
-nothing_out ahead acted given settled owing pend acts is out =
+pub nothing_out : (ahead : List Order) (acted : Option Reply) (owing : List (Command × Reply)) (pend : List Command) → ActedIs ahead acted owing
+    → [] ≡ pend ++ map asked owing → (acted ≡ None) × (pend ≡ [])
+nothing_out ahead acted owing pend acts out =
     let e : 0 ≡ length (pend ++ map asked owing) = ap length out in
     let both = length-append pend (map asked owing) in
-    (by_owing (owing_is ahead acted given settled owing acts is), no_items pend (omega (arith, e, both)))
+    (by_owing acts, no_items pend (omega (arith, e, both)))
   where
-    by_owing : NothingOwed acted owing ⊎ OneOwed ahead acted owing → acted ≡ None
+    by_owing : ActedIs ahead acted owing → acted ≡ None
     by_owing (inl none) = none.acted
     by_owing (inr one) =
         let e : 0 ≡ length (pend ++ map asked owing) = ap length out in
@@ -331,12 +234,11 @@ nothing_out ahead acted given settled owing pend acts is out =
         absurd (omega (arith, e, long, length-append pend (map asked owing), length-map owing asked))
 
 -- the outstanding one is late where the device hasn't acted on it
-pub front_late : (ahead : List Order) (acted : Option Reply) (given settled owing : List (Command × Reply)) (pend : List Command) (o : Order) (rest : List Order) (c : Command)
-    → ActedIs ahead acted given settled → given ≡ settled ++ owing → c ∷ [] ≡ pend ++ map asked owing → ahead ≡ o ∷ rest → o.command ≡ c
-    → commands (option_to_list (late_after acted o)) ≡ pend
-front_late ahead acted given settled owing pend o rest c acts is out front command = by_owing (owing_is ahead acted given settled owing acts is)
+pub front_late : (ahead : List Order) (acted : Option Reply) (owing : List (Command × Reply)) (pend : List Command) (o : Order) (c : Command)
+    → ActedIs ahead acted owing → c ∷ [] ≡ pend ++ map asked owing → o.command ≡ c → commands (option_to_list (late_after acted o)) ≡ pend
+front_late ahead acted owing pend o c acts out command = by_owing acts
   where
-    by_owing : NothingOwed acted owing ⊎ OneOwed ahead acted owing → commands (option_to_list (late_after acted o)) ≡ pend
+    by_owing : ActedIs ahead acted owing → commands (option_to_list (late_after acted o)) ≡ pend
     by_owing (inl none) =
         ap (λ a. commands (option_to_list (late_after a o))) none.acted ∙ ap (λ x. x ∷ []) command ∙ out
         ∙ ap (λ os. pend ++ map asked os) none.owing ∙ append-nil pend
@@ -348,34 +250,17 @@ front_late ahead acted given settled owing pend o rest c acts is out front comma
 
 -- ---- the panel loses power
 
-abbrev without_power : State → List Command → Account → Account
-without_power state waiting t = record t {
-  forgotten = t.forgotten ++ option_to_list (outstanding_command state);
-  removed = t.removed ++ map ThrownAway waiting;
-}
-
-thrown_are : (cs : List Command) → map removed_command (map ThrownAway cs) ≡ cs
-thrown_are [] = refl
-thrown_are (c ∷ cs) = ap (λ l. c ∷ l) (thrown_are cs)
-
-all_thrown : (waiting : List Command) → waiting ≡ map removed_command (map ThrownAway waiting) ++ []
-all_thrown waiting = sym (append-nil (map removed_command (map ThrownAway waiting)) ∙ thrown_are waiting)
-
--- without a session
-abbrev PanelIs : State → List Command → EventQueue → List Packet → List Packet → Account → Ledger → Type 0
-PanelIs state waiting q ps qs t g = Ties Closed [] q ps qs (without_power state waiting t) g
-
 none_outstanding : (state : State) → is_under_way state ≡ false → outstanding_command state ≡ None
 none_outstanding (Waiting until sends out) over = cc
 none_outstanding (Pausing until out) over = cc
 none_outstanding _ over = refl
 
-idle_panel : (state : State) (waiting : List Command) (q : EventQueue) (ps qs : List Packet) (t : Account) (g : Ledger) → is_under_way state ≡ false → g.is_open ≡ false → g.acted ≡ None
-    → Ties state waiting q ps qs t g → SessionIs Closed [] q ps qs (without_power state waiting t) (record g { ahead = [] })
-    → Leads (RestartPanel (is_some (outstanding_command state)) ∷ []) g (PanelIs state waiting q ps qs t)
-idle_panel state waiting q ps qs t g over closed none h session = (
+idle_panel : (state : State) (waiting : List Command) (q : EventQueue) (ps qs : List Packet) (d : Due) (g : Ledger) → is_under_way state ≡ false → g.is_open ≡ false → g.acted ≡ None
+    → Ties state waiting q ps qs d g → SessionIs Closed q ps qs d (record g { ahead = [] })
+    → Leads (RestartPanel (is_some (outstanding_command state)) ∷ []) g (Ties Closed [] q ps qs d)
+idle_panel state waiting q ps qs d g over closed none h session = (
   (subst (λ o. May (RestartPanel (is_some o)) g) (sym (none_outstanding state over)) none, tt),
-  subst (λ b. PanelIs state waiting q ps qs t (panel_restarted (is_some (outstanding_command state)) b g)) (sym closed) (record {
+  subst (λ b. Ties Closed [] q ps qs d (panel_restarted (is_some (outstanding_command state)) b g)) (sym closed) (record {
     ahead = refl;
     is_open = closed;
     cards = h.cards;
@@ -385,27 +270,18 @@ idle_panel state waiting q ps qs t g over closed none h session = (
 )
 
 -- in a session
-busy_panel : {H : Type 0} → (l : Link H) (g : Ledger) (out : Option Command) → outstanding_command l.controller.session.state ≡ out → Facts l
-    → IsTied l g → IsUnderWay l.controller.session.state l.reader.queue l.account g
-    → Leads (RestartPanel (is_some out) ∷ []) g
-    (PanelIs l.controller.session.state l.controller.waiting l.reader.queue l.to_reader l.to_controller l.account)
-busy_panel {H} l g out is f h s =
+busy_panel : {H : Type 0} → (l : Link H) (d : Due) (g : Ledger) (out : Option Command) → outstanding_command l.controller.session.state ≡ out → Facts l d
+    → IsTied l d g → IsUnderWay l.controller.session.state l.reader.queue d g
+    → Leads (RestartPanel (is_some out) ∷ []) g (Ties Closed [] l.reader.queue l.to_reader l.to_controller d)
+busy_panel {H} l d g out is f h s =
     let under_way : g.is_open ≡ true = h.is_open ∙ s.way in (
       (may out is g.ahead refl, tt),
-      subst (λ b. PanelIs l.controller.session.state l.controller.waiting l.reader.queue l.to_reader l.to_controller l.account (panel_restarted (is_some out) b g)) (sym under_way) (record {
+      subst (λ b. Ties Closed [] l.reader.queue l.to_reader l.to_controller d (panel_restarted (is_some out) b g)) (sym under_way) (record {
         ahead = refl;
         is_open = refl;
         cards = h.cards;
         front = h.front;
-        session = inr (inr (record {
-          closed = refl;
-          acted = refl;
-          late = removed_late (commands (option_to_list (late_at_restart (is_some out) g.acted g.ahead))) l.account.taken l.account.issued [] [] l.account.removed
-              (map ThrownAway l.controller.waiting) l.controller.waiting
-              (f.issued ∙ ap (λ cs. l.account.taken ++ (cs ++ (gone l.account ++ l.controller.waiting))) (sym (late out is g.ahead refl)))
-              (all_thrown l.controller.waiting);
-          offers = s.offers;
-        }));
+        session = inr (inr (record { closed = refl; acted = refl; late = late out is g.ahead refl; offers = s.offers }));
       }),
     )
   where
@@ -413,48 +289,31 @@ busy_panel {H} l g out is f h s =
     may (Some c) is [] same =
         let e : commands [] ≡ option_to_list (Some c) ++ l.controller.waiting = ap commands (sym same) ∙ h.ahead ∙ ap (λ o. option_to_list o ++ l.controller.waiting) is in absurd cc
     may (Some c) is (o ∷ rest) same = (h.is_open ∙ s.way, o, (rest, same))
-    may None is ahead same =
-        (nothing_out g.ahead g.acted l.account.given l.account.settled f.owing f.pend s.acted f.given (ap option_to_list (sym is) ∙ f.out s.way)).0
+    may None is ahead same = (nothing_out g.ahead g.acted d.owing d.pend s.acted (ap option_to_list (sym is) ∙ f.out s.way)).0
 
     late : (out : Option Command) → outstanding_command l.controller.session.state ≡ out → (ahead : List Order) → g.ahead ≡ ahead
-        → commands (option_to_list (late_at_restart (is_some out) g.acted ahead)) ≡ f.pend
-    late None is ahead same =
-        sym (nothing_out g.ahead g.acted l.account.given l.account.settled f.owing f.pend s.acted f.given (ap option_to_list (sym is) ∙ f.out s.way)).1
+        → commands (option_to_list (late_at_restart (is_some out) g.acted ahead)) ≡ d.pend
+    late None is ahead same = sym (nothing_out g.ahead g.acted d.owing d.pend s.acted (ap option_to_list (sym is) ∙ f.out s.way)).1
     late (Some c) is [] same =
         let e : commands [] ≡ option_to_list (Some c) ++ l.controller.waiting = ap commands (sym same) ∙ h.ahead ∙ ap (λ o. option_to_list o ++ l.controller.waiting) is in absurd cc
     late (Some c) is (o ∷ rest) same =
         let e : commands (o ∷ rest) ≡ option_to_list (Some c) ++ l.controller.waiting = ap commands (sym same) ∙ h.ahead ∙ ap (λ o. option_to_list o ++ l.controller.waiting) is in
         let command : o.command ≡ c = cc in
-        front_late g.ahead g.acted l.account.given l.account.settled f.owing f.pend o rest c s.acted f.given (ap option_to_list (sym is) ∙ f.out s.way) same command
+        front_late g.ahead g.acted d.owing d.pend o c s.acted (ap option_to_list (sym is) ∙ f.out s.way) command
 
-pub restarting_panel : {H : Type 0} → (l : Link H) (g : Ledger) → Facts l → IsTied l g
-    → Leads (RestartPanel (is_some (outstanding_command l.controller.session.state)) ∷ []) g
-    (PanelIs l.controller.session.state l.controller.waiting l.reader.queue l.to_reader l.to_controller l.account)
-restarting_panel {H} l g f h = by_session h.session
+pub restarting_panel : {H : Type 0} → (l : Link H) (d : Due) (g : Ledger) → Facts l d → IsTied l d g
+    → Leads (RestartPanel (is_some (outstanding_command l.controller.session.state)) ∷ []) g (Ties Closed [] l.reader.queue l.to_reader l.to_controller d)
+restarting_panel {H} l d g f h = by_session h.session
   where
     state : State
     state = l.controller.session.state
 
-    by_session : SessionIs l.controller.session.state l.controller.waiting l.reader.queue l.to_reader l.to_controller l.account g
-        → Leads (RestartPanel (is_some (outstanding_command l.controller.session.state)) ∷ []) g
-        (PanelIs l.controller.session.state l.controller.waiting l.reader.queue l.to_reader l.to_controller l.account)
+    by_session : SessionIs l.controller.session.state l.reader.queue l.to_reader l.to_controller d g
+        → Leads (RestartPanel (is_some (outstanding_command l.controller.session.state)) ∷ []) g (Ties Closed [] l.reader.queue l.to_reader l.to_controller d)
     by_session (inl s) =
-        idle_panel state l.controller.waiting l.reader.queue l.to_reader l.to_controller l.account g s.way (h.is_open ∙ s.way) s.acted h
-        (inl (record {
-          way = refl;
-          to_reader = s.to_reader;
-          to_controller = s.to_controller;
-          empty = s.empty;
-          kept = s.kept;
-          acted = s.acted;
-        }))
-    by_session (inr (inl s)) = busy_panel l g (outstanding_command state) refl f h s
+        idle_panel state l.controller.waiting l.reader.queue l.to_reader l.to_controller d g s.way (h.is_open ∙ s.way) s.acted h
+        (inl (record { way = refl; to_reader = s.to_reader; to_controller = s.to_controller; empty = s.empty; acted = s.acted }))
+    by_session (inr (inl s)) = busy_panel l d g (outstanding_command state) refl f h s
     by_session (inr (inr s)) =
-        idle_panel state l.controller.waiting l.reader.queue l.to_reader l.to_controller l.account g (ap is_under_way s.closed) (h.is_open ∙ ap is_under_way s.closed) s.acted h
-        (inr (inr (record {
-          closed = refl;
-          acted = s.acted;
-          late = removed_late (commands (option_to_list g.late)) l.account.taken l.account.issued [] [] l.account.removed
-              (map ThrownAway l.controller.waiting) l.controller.waiting s.late (all_thrown l.controller.waiting);
-          offers = s.offers;
-        })))
+        idle_panel state l.controller.waiting l.reader.queue l.to_reader l.to_controller d g (ap is_under_way s.closed) (h.is_open ∙ ap is_under_way s.closed) s.acted h
+        (inr (inr (record { closed = refl; acted = s.acted; late = s.late; offers = s.offers })))

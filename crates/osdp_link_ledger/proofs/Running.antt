@@ -17,8 +17,8 @@ use Rattle.osdp_link_laws.specs.Peers.{ReadEachOther}
 use Rattle.osdp_link_laws.proofs.InARow.{Assumed, Stands, assumed, begins, standing}
 use Rattle.osdp_link_ledger.specs.Laws.{HoldsByLedger, IsLedgerOf, LinkKeepsLedger, answered_in, is_under_way, unreported_in}
 use Rattle.osdp_link_ledger.specs.Steps.{after_steps, all_steps, queued_before, steps_before, steps_from, steps_of, submitted_before}
-use Rattle.osdp_link_ledger.proofs.Facts.{out_of}
-use Rattle.osdp_link_ledger.proofs.Keeping.{keeps_one}
+use Rattle.osdp_link_ledger.proofs.Facts.{Due, Says, SaysOf, determined, facts, none_due, out_of}
+use Rattle.osdp_link_ledger.proofs.Keeping.{due_of, keeps_one}
 use Rattle.osdp_link_ledger.proofs.Lists.{FrontUnshown, commands, events}
 use Rattle.osdp_link_ledger.proofs.Ties.{ActedIs, AllMay, IsTied, SessionIs, after_append, all_may_append, allowed, events_keep, placed, runs_after}
 
@@ -64,7 +64,7 @@ never_shown (c ∷ cs) = omega arith
 
 module _ {H : Type 0} where
   tied_before : (l : Link H) (g : Ledger) → Begins l → commands g.ahead ≡ l.controller.waiting → events g.cards ≡ l.reader.queue.events → g.is_open ≡ false → g.acted ≡ None
-      → g.shown ≡ 0 → IsTied l g
+      → g.shown ≡ 0 → IsTied l none_due g
   tied_before l g b ahead cards closed none shown = record {
     ahead = ahead ∙ ap (λ state. out_of state ++ l.controller.waiting) (sym b.quiet.1);
     is_open = closed ∙ ap is_under_way (sym b.quiet.1);
@@ -74,18 +74,17 @@ module _ {H : Type 0} where
       way = ap is_under_way b.quiet.1;
       to_reader = b.to_reader;
       to_controller = b.to_controller;
-      empty = record {
-        given = ap (λ t. t.given) b.account;
-        settled = ap (λ t. t.settled) b.account;
-        offered = ap (λ t. t.offered) b.account;
-        reported = ap (λ t. t.reported) b.account;
-      };
-      kept = ap (λ t. t.kept) b.account;
+      empty = refl;
       acted = none;
     });
   }
 
-  pub begins_tied : (l : Link H) → Begins l → AllMay (steps_before l) new_ledger × IsTied l (after_steps (steps_before l) new_ledger)
+  says_before : (l : Link H) → Begins l → SaysOf l none_due
+  says_before l b =
+      subst (λ t. Says t l.controller.waiting l.reader.queue.events none_due) (sym b.account)
+      (record { issued = refl; given = refl; offered = refl; past = []; kept = refl; stood = refl })
+
+  pub begins_tied : (l : Link H) → Begins l → AllMay (steps_before l) new_ledger × IsTied l none_due (after_steps (steps_before l) new_ledger)
   begins_tied l b =
       let first = submits_all 0 l.controller.waiting new_ledger refl in
       let k = after_steps (submitted_before 0 l.controller.waiting) new_ledger in
@@ -94,7 +93,7 @@ module _ {H : Type 0} where
       let m = after_steps (queued_before 0 l.reader.queue.events) k in
       let again : ◌≡◌ {A = Ledger} m (record k { queued = m.queued; cards = m.cards }) = second.1.same in (
         all_may_append (submitted_before 0 l.controller.waiting) (queued_before 0 l.reader.queue.events) new_ledger first.0 second.0,
-        subst (IsTied l) (sym (after_append (submitted_before 0 l.controller.waiting) (queued_before 0 l.reader.queue.events) new_ledger))
+        subst (IsTied l none_due) (sym (after_append (submitted_before 0 l.controller.waiting) (queued_before 0 l.reader.queue.events) new_ledger))
             (tied_before l m b (ap (λ g. commands g.ahead) again ∙ first.1.ahead)
             (second.1.cards ∙ ap (λ g. events g.cards ++ l.reader.queue.events) same)
             (ap (λ g. g.is_open) again ∙ ap (λ g. g.is_open) same) (ap (λ g. g.acted) again ∙ ap (λ g. g.acted) same)
@@ -102,57 +101,61 @@ module _ {H : Type 0} where
       )
 
 -- the ledger that is tied is the link's
-answered : (ahead : List Order) (acted : Option Reply) (given settled : List (Command × Reply)) → ActedIs ahead acted given settled
-    → given ≡ settled ++ answered_in ahead acted
-answered ahead acted given settled (inr (order, rest, answer, front, acts, all)) =
-    all ∙ ap (λ os. settled ++ answered_in os (Some answer)) (sym front) ∙ ap (λ a. settled ++ answered_in ahead a) (sym acts)
-answered ahead acted given settled (inl (none, all)) =
-    all ∙ sym (append-nil settled) ∙ ap (λ os. settled ++ os) (sym (nothing ahead)) ∙ ap (λ a. settled ++ answered_in ahead a) (sym none)
+answered : (ahead : List Order) (acted : Option Reply) (owing : List (Command × Reply)) → ActedIs ahead acted owing → owing ≡ answered_in ahead acted
+answered ahead acted owing (inr one) = one.owing ∙ ap (λ os. answered_in os (Some one.answer)) (sym one.ahead) ∙ ap (answered_in ahead) (sym one.acted)
+answered ahead acted owing (inl none) = none.owing ∙ sym (nothing ahead) ∙ ap (answered_in ahead) (sym none.acted)
   where
     nothing : (ahead : List Order) → answered_in ahead None ≡ []
     nothing [] = refl
     nothing (o ∷ os) = refl
 
 module _ {H : Type 0} where
-  pub is_links : (l : Link H) (g : Ledger) → IsTied l g → IsLedgerOf l g
-  is_links l g h = record {
+  pub is_links : (l : Link H) (d : Due) (g : Ledger) → SaysOf l d → IsTied l d g → IsLedgerOf l g
+  is_links l d g f h = record {
     ahead = h.ahead;
     is_open = h.is_open;
-    acted = λ going. by_session going h.session;
-    offer = λ going. offered_by going h.session;
+    acted = λ going. f.given ∙ ap (λ os. l.account.settled ++ os) (by_session going h.session);
+    offer = λ going. f.offered ∙ ap (λ es. l.account.reported ++ es) (offered_by going h.session);
     cards = h.cards;
   }
     where
-      by_session : g.is_open ≡ true → SessionIs l.controller.session.state l.controller.waiting l.reader.queue l.to_reader l.to_controller l.account g
-          → l.account.given ≡ l.account.settled ++ answered_in g.ahead g.acted
+      by_session : g.is_open ≡ true → SessionIs l.controller.session.state l.reader.queue l.to_reader l.to_controller d g → d.owing ≡ answered_in g.ahead g.acted
       by_session going (inl s) = absurd (let e : false ≡ true = sym s.way ∙ sym h.is_open ∙ going in cc)
-      by_session going (inr (inl s)) = answered g.ahead g.acted l.account.given l.account.settled s.acted
+      by_session going (inr (inl s)) = answered g.ahead g.acted d.owing s.acted
       by_session going (inr (inr s)) = absurd (let e : false ≡ true = ap is_under_way (sym s.closed) ∙ sym h.is_open ∙ going in cc)
 
-      offered_by : g.is_open ≡ true → SessionIs l.controller.session.state l.controller.waiting l.reader.queue l.to_reader l.to_controller l.account g
-          → l.account.offered ≡ l.account.reported ++ unreported_in g.offer
+      offered_by : g.is_open ≡ true → SessionIs l.controller.session.state l.reader.queue l.to_reader l.to_controller d g → d.untold ≡ unreported_in g.offer
       offered_by going (inl s) = absurd (let e : false ≡ true = sym s.way ∙ sym h.is_open ∙ going in cc)
       offered_by going (inr (inl s)) = s.offers.untold
       offered_by going (inr (inr s)) = s.offers.untold
 
 module _ {H : Type 0} (answer_of : H → Command → Answer) (after : H → Command → H) where
+  -- the ledger is tied to the link by the stage of its session
+  abbrev pub IsTiedNow : Link H → Ledger → Type 0
+  IsTiedNow l g = (s : Stands answer_of after l) × IsTied l (due_of answer_of after l s) g
+
+  pub tied_at_first : (l : Link H) (s : Stands answer_of after l) (g : Ledger) → Begins l → IsTied l none_due g → IsTied l (due_of answer_of after l s) g
+  tied_at_first l s g b tied =
+      subst (λ d. IsTied l d g)
+      (determined l.account l.controller.waiting l.reader.queue.events none_due (due_of answer_of after l s) (says_before l b) (facts s.fixed answer_of after l s.goes).says) tied
+
   pub keeps_all : Assumed answer_of after → (moves : List (Move H)) (l : Link H) (h : History) → MovesFit answer_of after moves l
-      → Stands answer_of after l → Events h → IsTied l h.ledger
-      → AreAllowed (all_steps answer_of after moves l h.ledger) h × IsTied (run answer_of after moves l) (runs (all_steps answer_of after moves l h.ledger) h).ledger
-  keeps_all given [] l h fits s i tied = (tt, tied)
+      → (s : Stands answer_of after l) → Events h → IsTied l (due_of answer_of after l s) h.ledger
+      → AreAllowed (all_steps answer_of after moves l h.ledger) h × IsTiedNow (run answer_of after moves l) (runs (all_steps answer_of after moves l h.ledger) h).ledger
+  keeps_all given [] l h fits s i tied = (tt, (s, tied))
   keeps_all given (move ∷ moves) l h fits s i tied =
       let one = keeps_one answer_of after given move l h.ledger (placed h i) fits.0 s tied in
       let steps = steps_of answer_of after move l h.ledger in
       let next = after_move answer_of after move l in
       let same = runs_after steps h in
-      let rest = keeps_all given moves next (runs steps h) fits.1 (standing answer_of after given move l fits.0 s) (events_keep steps h one.0 i)
-      (subst (IsTied next) (sym same) one.1) in
+      let n = standing answer_of after given move l fits.0 s in
+      let rest = keeps_all given moves next (runs steps h) fits.1 n (events_keep steps h one.0 i) (subst (IsTied next (due_of answer_of after next n)) (sym same) one.1) in
       let more = all_steps answer_of after moves next (after_steps steps h.ledger) in
-      let later : AreAllowed more (runs steps h) × IsTied (run answer_of after moves next) (runs more (runs steps h)).ledger =
+      let later : AreAllowed more (runs steps h) × IsTiedNow (run answer_of after moves next) (runs more (runs steps h)).ledger =
       subst (λ g. AreAllowed (all_steps answer_of after moves next g) (runs steps h)
-      × IsTied (run answer_of after moves next) (runs (all_steps answer_of after moves next g) (runs steps h)).ledger) same rest in (
+      × IsTiedNow (run answer_of after moves next) (runs (all_steps answer_of after moves next g) (runs steps h)).ledger) same rest in (
         allowed_both steps more h (allowed steps h one.0) later.0,
-        subst (λ k. IsTied (run answer_of after moves next) k.ledger) (sym (runs_then steps more h)) later.1,
+        subst (λ k. IsTiedNow (run answer_of after moves next) k.ledger) (sym (runs_then steps more h)) later.1,
       )
 
   pub keeps_ledger : ReadEachOther answer_of after → LinkKeepsLedger answer_of after
@@ -161,14 +164,17 @@ module _ {H : Type 0} (answer_of : H → Command → Answer) (after : H → Comm
       let first = begins_tied l b in
       let h = runs before new_history in
       let same = runs_after before new_history in
-      let rest = keeps_all (assumed answer_of after peers) moves l h fits (begins answer_of after l b) (events_keep before new_history first.0 at_first)
-      (subst (IsTied l) (sym same) first.1) in
+      let s = begins answer_of after l b in
+      let last = run answer_of after moves l in
+      let rest = keeps_all (assumed answer_of after peers) moves l h fits s (events_keep before new_history first.0 at_first)
+      (subst (IsTied l (due_of answer_of after l s)) (sym same) (tied_at_first l s (after_steps before new_ledger) b first.1)) in
       let more = all_steps answer_of after moves l (after_steps before new_ledger) in
-      let later : AreAllowed more h × IsTied (run answer_of after moves l) (runs more h).ledger =
-      subst (λ g. AreAllowed (all_steps answer_of after moves l g) h × IsTied (run answer_of after moves l) (runs (all_steps answer_of after moves l g) h).ledger) same rest in (
+      let later : AreAllowed more h × IsTiedNow last (runs more h).ledger =
+      subst (λ g. AreAllowed (all_steps answer_of after moves l g) h × IsTiedNow last (runs (all_steps answer_of after moves l g) h).ledger) same rest in
+      let tied = subst (λ k. IsTiedNow last k.ledger) (sym (runs_then before more new_history)) later.1 in (
         allowed_both before more new_history (allowed before new_history first.0) later.0,
-        is_links (run answer_of after moves l) (runs (before ++ more) new_history).ledger
-            (subst (λ k. IsTied (run answer_of after moves l) k.ledger) (sym (runs_then before more new_history)) later.1),
+        is_links last (due_of answer_of after last tied.0) (runs (before ++ more) new_history).ledger
+            (facts tied.0.fixed answer_of after last tied.0.goes).says tied.1,
       )
 
   pub holds_by_ledger : LinkKeepsLedger answer_of after → KeepsOrders → KeepsEvents → HoldsByLedger answer_of after

@@ -1,5 +1,5 @@
 -- What ties the ledger to a link.
-use Rattle.std.proofs.Common.{◌≡◌, ◌≤◌, ◌+◌, ◌⊎◌, true, false, List, [], ◌∷◌, ◌++◌, length, Option, Some, None, All, refl}
+use Rattle.std.proofs.Common.{◌≡◌, ◌≤◌, ◌+◌, ◌⊎◌, ℕ, true, false, List, [], ◌∷◌, ◌++◌, length, Option, Some, None, All, refl}
 use Rattle.std.specs.Prelude.{option_to_list}
 use Rattle.osdp_frame.specs.Packet.{Packet}
 use Rattle.osdp_msg.specs.declared.command.Command.{Command}
@@ -12,11 +12,10 @@ use Rattle.osdp_ledger.specs.History.{AreAllowed, History, runs, steps_on}
 use Rattle.osdp_ledger.specs.Ledger.{Card, Ledger, May, NoOffer, Offer, Order, Reported, Step, Unreported, after}
 use Rattle.osdp_ledger.proofs.Events.{keeps}
 use Rattle.osdp_ledger.proofs.Waiting.{Beyond, Events, IsUpTo, OfferIs, Rising}
-use Rattle.osdp_link_laws.specs.Link.{Account, Link}
-use Rattle.osdp_link_laws.proofs.Removed.{gone}
+use Rattle.osdp_link_laws.specs.Link.{Link}
 use Rattle.osdp_link_ledger.specs.Laws.{is_under_way, unreported_in}
 use Rattle.osdp_link_ledger.specs.Steps.{after_steps}
-use Rattle.osdp_link_ledger.proofs.Facts.{out_of}
+use Rattle.osdp_link_ledger.proofs.Facts.{Due, none_due, out_of}
 use Rattle.osdp_link_ledger.proofs.Lists.{FrontUnshown, IsOfferedFront, StandsAt, commands, events, not_offered}
 
 -- ---- steps of a ledger alone
@@ -82,61 +81,58 @@ placed h i = record {
 -- ---- a session
 
 -- nothing was acted on that isn't settled, or the order in front was
-abbrev pub ActedIs : List Order → Option Reply → List (Command × Reply) → List (Command × Reply) → Type 0
-ActedIs ahead acted given settled =
-    ((acted ≡ None) × (given ≡ settled))
-    ⊎ ((order : Order) × (rest : List Order) × (answer : Reply) × (ahead ≡ order ∷ rest) × (acted ≡ Some answer) × (given ≡ settled ++ (order.command, answer) ∷ []))
+pub record NothingOwed (done : Option Reply) (answers : List (Command × Reply)) : Type 0 where
+  pub acted : done ≡ None
+  pub owing : answers ≡ []
 
--- .. after its end the late order comes next
-abbrev pub LateIs : Option Order → List Command → Account → Type 0
-LateIs late waiting t = t.issued ≡ t.taken ++ (commands (option_to_list late) ++ (gone t ++ waiting))
+pub record OneOwed (orders : List Order) (done : Option Reply) (answers : List (Command × Reply)) : Type 0 where
+  pub order : Order
+  pub rest : List Order
+  pub answer : Reply
+  pub ahead : orders ≡ order ∷ rest
+  pub acted : done ≡ Some answer
+  pub owing : answers ≡ (order.command, answer) ∷ []
 
-pub record OffersAre (q : EventQueue) (kept offered reported : List Event) (offer : Offer) (cards : List Card) : Type 0 where
-  pub untold : offered ≡ reported ++ unreported_in offer
-  pub front : q.offered ≡ true → (offered ≡ []) ⊎ IsOfferedFront offer cards
-  pub counts : length kept ≡ length offered + length (not_offered offer cards)
+abbrev pub ActedIs : List Order → Option Reply → List (Command × Reply) → Type 0
+ActedIs ahead acted owing = NothingOwed acted owing ⊎ OneOwed ahead acted owing
 
--- nothing has happened in a session
-pub record AreEmpty (answers settles : List (Command × Reply)) (offers reports : List Event) : Type 0 where
-  pub given : answers ≡ []
-  pub settled : settles ≡ []
-  pub offered : offers ≡ []
-  pub reported : reports ≡ []
+pub record OffersAre (q : EventQueue) (waits : List Event) (stands : ℕ) (offer : Offer) (cards : List Card) : Type 0 where
+  pub untold : waits ≡ unreported_in offer
+  pub front : q.offered ≡ true → (offer ≡ NoOffer) ⊎ IsOfferedFront offer cards
+  pub counts : length q.events ≡ stands + length (not_offered offer cards)
 
 -- no packet of the session has gone out yet
-pub record IsUnopened (state : State) (ps qs : List Packet) (answers settles : List (Command × Reply)) (offers reports stays events : List Event) (done : Option Reply) : Type 0 where
+pub record IsUnopened (state : State) (ps qs : List Packet) (d : Due) (done : Option Reply) : Type 0 where
   pub way : is_under_way state ≡ false
   pub to_reader : ps ≡ []
   pub to_controller : qs ≡ []
-  pub empty : AreEmpty answers settles offers reports
-  pub kept : stays ≡ events
+  pub empty : d ≡ none_due
   pub acted : done ≡ None
 
-pub record IsUnderWay (state : State) (q : EventQueue) (t : Account) (g : Ledger) : Type 0 where
+pub record IsUnderWay (state : State) (q : EventQueue) (d : Due) (g : Ledger) : Type 0 where
   pub way : is_under_way state ≡ true
-  pub acted : ActedIs g.ahead g.acted t.given t.settled
+  pub acted : ActedIs g.ahead g.acted d.owing
   pub late : g.late ≡ None
-  pub offers : OffersAre q t.kept t.offered t.reported g.offer g.cards
+  pub offers : OffersAre q d.untold d.stands g.offer g.cards
 
-pub record IsOver (state : State) (waiting : List Command) (q : EventQueue) (t : Account) (g : Ledger) : Type 0 where
+pub record IsOver (state : State) (q : EventQueue) (d : Due) (g : Ledger) : Type 0 where
   pub closed : state ≡ Closed
   pub acted : g.acted ≡ None
-  pub late : LateIs g.late waiting t
-  pub offers : OffersAre q t.kept t.offered t.reported g.offer g.cards
+  pub late : commands (option_to_list g.late) ≡ d.pend
+  pub offers : OffersAre q d.untold d.stands g.offer g.cards
 
-abbrev pub SessionIs : State → List Command → EventQueue → List Packet → List Packet → Account → Ledger → Type 0
-SessionIs state waiting q ps qs t g =
-    IsUnopened state ps qs t.given t.settled t.offered t.reported t.kept q.events g.acted ⊎ (IsUnderWay state q t g ⊎ IsOver state waiting q t g)
+abbrev pub SessionIs : State → EventQueue → List Packet → List Packet → Due → Ledger → Type 0
+SessionIs state q ps qs d g = IsUnopened state ps qs d g.acted ⊎ (IsUnderWay state q d g ⊎ IsOver state q d g)
 
-pub record Ties (state : State) (waiting : List Command) (q : EventQueue) (ps qs : List Packet) (t : Account) (g : Ledger) : Type 0 where
+pub record Ties (state : State) (waiting : List Command) (q : EventQueue) (ps qs : List Packet) (d : Due) (g : Ledger) : Type 0 where
   pub ahead : commands g.ahead ≡ out_of state ++ waiting
   pub is_open : g.is_open ≡ is_under_way state
   pub cards : events g.cards ≡ q.events
   pub front : q.ever_offered ≡ false → FrontUnshown g.shown g.cards
-  pub session : SessionIs state waiting q ps qs t g
+  pub session : SessionIs state q ps qs d g
 
-abbrev pub IsTied : {H : Type 0} → Link H → Ledger → Type 0
-IsTied {H} l g = Ties l.controller.session.state l.controller.waiting l.reader.queue l.to_reader l.to_controller l.account g
+abbrev pub IsTied : {H : Type 0} → Link H → Due → Ledger → Type 0
+IsTied {H} l d g = Ties l.controller.session.state l.controller.waiting l.reader.queue l.to_reader l.to_controller d g
 
 -- steps may happen, and the ledger after them is tied
 abbrev pub Leads : List Step → Ledger → (Ledger → Type 0) → Type 0
