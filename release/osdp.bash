@@ -43,7 +43,7 @@ _osdp_port() {
 _osdp_report() {
   local word=${COMP_WORDS[COMP_CWORD]}
   COMPREPLY=($(compgen -f -- "$word"))
-  [[ $word != -* ]] || COMPREPLY=($(compgen -W '--hex --osdpcap --stamped --raw --json --osdp' -- "$word"))
+  [[ $word != -* ]] || COMPREPLY=($(compgen -W '--hex --osdpcap --stamped --raw --rate --json --osdp' -- "$word"))
 }
 
 complete -o filenames -F _osdp osdp

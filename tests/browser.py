@@ -5,8 +5,9 @@ The line is made here, with known moments: device 5 has a card, an order, a lost
 something else. A script that is put into a copy of the page (`browser.js`) writes down where each text and each mark of a timeline stands, in which colors, and
 whether it is what stands in front there. What must be seen is worked out from what was put into the line:
 
-- what is likely wrong comes first, then the devices, the timelines, the accusations and the monitor's table, each text within the page and told from its ground;
+- what is likely wrong comes first, then the devices, the whole line, the timelines, the accusations and the monitor's table, each text within the page and told from its ground;
 - the cells of a device's row stand below their heads;
+- the share of time in use, and packets, damage and turns of the panel a second are those of the line;
 - of each packet of a device there is a mark in its row of the timeline, at its moment, and no mark stands elsewhere;
 - each accusation has its packets field by field;
 - nothing is fetched, and the page names no source and has no script.
@@ -26,8 +27,9 @@ from terminals import packet
 HERE = Path(__file__).resolve().parent
 START = datetime(2026, 3, 1, 23, 59, 58, tzinfo=timezone.utc)
 POLL, ACK, OUT, RAW = 0x60, 0x40, 0x68, 0x50
+RATE = 9600
 HEADS = ["device", "asked", "answered", "repeats", "damage", "least ms", "median ms", "95 of 100 ms", "greatest ms", "cards and keys", "orders", "state", "last heard"]
-PARTS = ["What is likely wrong", "Devices", "Timelines", "Accusations", "The monitor's table"]
+PARTS = ["What is likely wrong", "Devices", "The line", "Timelines", "Accusations", "The monitor's table"]
 
 
 def stamp(moment):
@@ -114,7 +116,7 @@ def seven(line, card):
 
 
 def page_of(program, line):
-    done = subprocess.run([HERE.parent / "port/osdp-report", "--osdp", program], input=line.digits().encode(), capture_output=True)
+    done = subprocess.run([HERE.parent / "port/osdp-report", "--osdp", program, "--rate", str(RATE)], input=line.digits().encode(), capture_output=True)
     if done.returncode or done.stderr:
         sys.exit(f"browser: osdp-report has failed: {done.returncode} {done.stderr.decode()}")
     return done.stdout.decode()
@@ -223,6 +225,17 @@ def table(seen, line):
                 yield f"{cell['words']} doesn't stand below {head['words']}"
 
 
+def whole(seen, line):
+    """What is said of the whole line: each burst is a packet but a damaged one, and 5 is asked the most."""
+    time, damage, rounds = (line.bursts[-1][0] - line.bursts[0][0]) / 1000, line.count(5, "damage"), line.count(5, "polls", "orders")
+    share = sum(len(burst) for _, _, burst in line.bursts) * 10 / (RATE * time)
+    wanted = [f"In the whole capture, {time:.1f} s: {share:.0%} of the time in use; a second {(len(line.bursts) - damage) / time:.1f} packets, {damage / time:.1f} damaged, "
+              f"{rounds / time:.1f} turns of the panel."]
+    said = [each["words"] for each in seen.inside("The line", "p")]
+    if said != wanted or len(line.points[6, "polls"]) >= rounds:
+        yield f"of the line it is said {said}, and not {wanted}"
+
+
 def timeline(seen, line, drawing, address):
     """The marks of a device's timeline."""
     inside = [each for each in seen.of("text") if drawing["top"] <= each["top"] < drawing["bottom"]]
@@ -292,7 +305,7 @@ def alone(seen, line):
         yield f"it names {named}"
 
 
-CHECKS = (order, told, words, table, timelines, accusations, alone)
+CHECKS = (order, told, words, table, whole, timelines, accusations, alone)
 LI, SVG, HIDDEN = "<li>Somebody broke a rule", "<svg ", "position:absolute;left:0;background:#fff;"
 BROKEN = (  # what is broken, what stood there, what stands there then, and who must find it
     ("the accusations come first", "<h2>What is likely wrong</h2>", "<h2>Accusations</h2>", order),
@@ -305,6 +318,9 @@ BROKEN = (  # what is broken, what stood there, what stands there then, and who 
     ("a cell isn't there", "<td class=text>online</td>", "", table),
     ("a number is wrong", "<td>40</td>", "<td>41</td>", table),
     ("a cell stands elsewhere", "<td class=text>online</td>", "<td class=text style=position:relative;left:9px>online</td>", table),
+    ("the line isn't told", "In the whole capture", "In the capture", whole),
+    ("the line's figures are hidden", "<p>In the whole capture", "<p style=visibility:hidden>In the whole capture", told),
+    ("the line's figures stand elsewhere", "<h2>The line</h2>", "<h2>The line</h2><h2>More</h2>", whole),
     ("a timeline has no width", SVG + 'width="720"', SVG + 'width="0"', timelines),
     ("a timeline is cut off below", 'height="116" role', 'height="60" role', timelines),
     ("marks have no height", 'height="12"', 'height="0"', timelines),

@@ -3,6 +3,8 @@ import datetime
 import re
 from collections import namedtuple
 
+from .report_pace import Line
+
 Packet = namedtuple("Packet", "moment stamp way run place kind address sequence check text")
 Told = namedtuple("Told", "run place party address text lines")
 TOLD = re.compile(r"^(\d+):(\d+) (device|panel to|reader) (\d+): (.*)$")
@@ -105,15 +107,16 @@ class Device:
 
 
 class Figures:
-    """The packets of a capture, what is told of them, and each device."""
+    """The packets of a capture, what is told of them, each device, and the line as a whole."""
 
-    def __init__(self, packets, told, echoes):
+    def __init__(self, packets, told, echoes, sizes=(), rate=None):
         self.packets, self.echoes = packets, echoes
         self.devices = {}
         self.places = {}  # where a packet stands in the list, by its run and place
         self.read_told(told)
         self.read_packets()
         self.diagnoses = [self.with_period(each) for each in self.diagnoses]
+        self.line = Line(self, sizes, rate)
 
     def read_told(self, told):
         self.told, self.diagnoses, self.table = [], [], []

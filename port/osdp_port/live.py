@@ -7,13 +7,13 @@ import time
 from collections import deque
 
 from .console import stamp, write_all
+from .pace import Came, turns, words
 from .program import Stream
 
 HEADS = ("device  ", "runs ", "window  ", "+runs ")  # of a table, and of what came since the last one
 OF_DEVICE = re.compile(r"^(?:\d+:\d+ )?\+?(?:(?:device|panel to|reader) )?(\d+)\b")
 COUNTS = re.compile(r"(\w+) (\d+)")
 NAMES = "asked polls repeats answered busy nak events opened moved judged forgot accused".split()
-BITS = 10  # of a byte on the line: a start bit, eight bits and a stop bit
 DUE = 0.25  # seconds between two pictures
 WINDOW = 10.0  # seconds that the second table goes back
 CLEAR, HOME, LINE_END, REST, HIDE, SHOW = "\x1b[2J", "\x1b[H", "\x1b[K", "\x1b[J", "\x1b[?25l", "\x1b[?25h"
@@ -53,18 +53,15 @@ def since(tables, rate):
     old, new, windows = tables[0], tables[-1], list(tables)[1:]
     seconds = max(new.moment - old.moment, 0.001)
     packets, damaged = (sum(table.line.get(name, 0) for table in windows) for name in ("packets", "refused"))
-    rows, turns = [], []
+    rows, devices = [], []
     for address in new.addresses:
         asked, repeats, *replies = (sum(table.came.get(address, {}).get(name, 0) for table in windows) for name in ("asked", "repeats", "answered", "busy", "nak"))
         lost = max(0, asked - sum(replies))  # the answer to a packet of the first table may come after it
-        if asked:
-            turns.append(asked - repeats)
+        devices.append(asked - repeats)
         state = "online" if sum(replies) else "no answer" if asked else "not asked"
         rows.append(f"{address:<6} {asked:>6} {share(repeats, asked):>8.1f}% {share(lost, asked):>8.1f}%  {state}")
-    use = share((new.size - old.size) * BITS, rate * seconds)
-    line = f"last {seconds:.0f} s: {min(use, 100):.0f}% of the time in use; a second {packets / seconds:.1f} packets, {damaged / seconds:.1f} damaged, " \
-           f"{min(turns, default=0) / seconds:.1f} turns of the panel"
-    return [line, "device  asked   repeats      lost", *rows]
+    came = Came(seconds, new.size - old.size, packets, damaged, turns(devices))
+    return [f"last {seconds:.0f} s: {words(came, rate)}", "device  asked   repeats      lost", *rows]
 
 
 class Live(Stream):

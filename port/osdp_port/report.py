@@ -13,27 +13,36 @@ from .report_page import page
 
 HELP = """osdp-report: one page of HTML of a capture, which fetches nothing
 
-usage: osdp-report [FORM] [--json] [--osdp PROGRAM] [FILE] > report.html
+usage: osdp-report [FORM] [--rate R] [--json] [--osdp PROGRAM] [FILE] > report.html
 
   --hex       the capture is lines of digits, as osdp-port --trace writes them; so it is without a form
   --osdpcap   it is .osdpcap: an object of JSON a line
   --stamped   it is lines of a stamp, TX or RX, and digits
   --raw       it is bytes; they have no moments
+  --rate R    the line's rate in bits a second, by which the share of time in use is told
   --json      an object of JSON a line, in place of the page: man osdp-report has the names
   --osdp P    the path of the program osdp
 
 Without FILE it reads standard input. What an adapter hands back of a packet that was sent is left out, and told.
 The page has what is likely wrong in words, a table with answer times, a timeline for each device, and each
-accusation with its packets. It is 0 where the page is written, 2 at bad words, 3 where something can't be read.
+accusation with its packets; where the capture has moments, also packets, damage and turns of the panel a second.
+It is 0 where the page is written, 2 at bad words, 3 where something can't be read.
 """
 FORMS = ("--hex", "--osdpcap", "--stamped", "--raw")
 SHOWN = re.compile(r"^(?:-|(.+?) +(in|out|trace)) (\d+):(\d+) (cmd|reply|skip|refused)(.*)$")
 HEAD = re.compile(r"^ (\d+) seq (\d) (sum|crc)\S*(?: \S+=\S+)? (.*)$")
 
 
+def rate_of(word):
+    """The rate that a word names."""
+    if not re.fullmatch(r"[1-9][0-9]{0,6}", word):
+        raise Stop(f"--rate {word}: a number of bits a second, as 9600", BAD_WORDS)
+    return int(word)
+
+
 def words_of(words):
-    """The form, what writes, the program's path and the file that the words ask for; the last two may be none."""
-    form, writes, given, file = "--hex", page, None, None
+    """The form, what writes, the rate, the program's path and the file that the words ask for; the last three may be none."""
+    form, writes, rate, given, file = "--hex", page, None, None, None
     rest = list(words)
     while rest:
         word = rest.pop(0)
@@ -41,13 +50,15 @@ def words_of(words):
             form = word
         elif word == "--json":
             writes = lines
+        elif word == "--rate" and rest:
+            rate = rate_of(rest.pop(0))
         elif word == "--osdp" and rest:
             given = rest.pop(0)
         elif file is None and not word.startswith("--"):
             file = word
         else:
             raise Stop(f"no such word: {word}; try: osdp-report --help", BAD_WORDS)
-    return form, writes, given, file
+    return form, writes, rate, given, file
 
 
 def read(file):
@@ -85,10 +96,10 @@ def shown(program, form, capture):
 
 
 def burst_of(form, line):
-    """The digits of a line that is a run; none of a blank line or a comment."""
+    """The digits of a line that is a run; none of a blank line, a comment or an object without bytes."""
     if form == "--osdpcap":
         try:
-            return json.loads(line)["data"].replace("-", "").replace(" ", "").upper()
+            return json.loads(line)["data"].replace("-", "").replace(" ", "").upper() or None
         except (ValueError, KeyError, AttributeError, TypeError):
             return None
     text = line.decode(errors="replace").strip()
@@ -120,14 +131,20 @@ def without_echo(form, capture, packets):
     return b"".join(kept), echoes
 
 
-def report(program, form, writes, capture):
+def sizes_of(form, capture):
+    """How many bytes each run has; none of a capture of bytes, which has no moments."""
+    bursts = [] if form == "--raw" else (burst_of(form, line) for line in capture.splitlines())
+    return [len(burst) // 2 for burst in bursts if burst is not None]
+
+
+def report(program, form, writes, rate, capture):
     """The page of a capture, or its lines."""
     packets = shown(program, form, capture)
     capture, echoes = without_echo(form, capture, packets)
     if echoes:
         packets = shown(program, form, capture)
     told = run(program, ["monitor", form, *(["--recorded"] if form == "--raw" else [])], capture)
-    return writes(Figures(packets, told, echoes))
+    return writes(Figures(packets, told, echoes, sizes_of(form, capture), rate))
 
 
 def main(words):
@@ -138,8 +155,8 @@ def main(words):
         print(f"osdp-report {VERSION}")
         return 0
     try:
-        form, writes, given, file = words_of(words)
-        sys.stdout.write(report(find_program(given), form, writes, read(file)))
+        form, writes, rate, given, file = words_of(words)
+        sys.stdout.write(report(find_program(given), form, writes, rate, read(file)))
         sys.stdout.flush()
     except Stop as stop:
         print(f"osdp-report: {stop.why}", file=sys.stderr)

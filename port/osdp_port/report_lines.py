@@ -3,6 +3,7 @@ import json
 import re
 
 from .figures import rank
+from .pace import in_use
 
 
 def whole(time):
@@ -38,12 +39,24 @@ def devices(figures):
                "events": device.events, "orders": device.orders, "online": device.is_online(), "heard": None if heard is None else heard.stamp, "times": times_of(device)}
 
 
+def paces(figures):
+    """What came in the whole capture, and in its busiest minute; nothing where nothing can be said of a second."""
+    line = figures.line
+    if line.why_not() is not None:
+        return
+    for of, found in (("capture", line.whole()), ("minute", line.busiest())):
+        if found is not None:
+            run, came = found
+            yield {"kind": "pace", "of": of, "stamp": run.stamp, "time": whole(came.seconds), "bytes": came.bytes, "packets": came.packets, "refused": came.damaged,
+                   "turns": came.turns, "use": None if line.rate is None else round(in_use(came, line.rate), 1)}
+
+
 def line(figures):
     counts = re.findall(r"(\w+) (\d+)", next((each for each in figures.table if each.startswith("runs ")), ""))
     return {"kind": "line", **{name: int(count) for name, count in counts}, "echoes": figures.echoes}
 
 
 def lines(figures):
-    """All lines: what is told, in its order, late answers, the diagnoses, each device, and the counts of the whole line."""
-    said = [*told(figures), *late(figures), *({"kind": "diagnosis", "text": each} for each in figures.diagnoses), *devices(figures), line(figures)]
+    """All lines: what is told, in its order, late answers, the diagnoses, each device, what came of the whole line in a time, and its counts."""
+    said = [*told(figures), *late(figures), *({"kind": "diagnosis", "text": each} for each in figures.diagnoses), *devices(figures), *paces(figures), line(figures)]
     return "".join(json.dumps(each) + "\n" for each in said)

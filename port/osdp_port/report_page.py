@@ -1,6 +1,7 @@
 """The page: HTML with drawings in SVG, all in one file. Every text of the capture is escaped."""
 from html import escape
 
+from . import pace
 from .figures import rank
 
 COLUMNS = 600  # of a timeline: packets of one column are one mark
@@ -78,6 +79,27 @@ def devices(figures):
     return table(heads, map(device_row, figures.rows()), ("last heard", "state"))
 
 
+def line_words(line):
+    """What is said of the whole line, in sentences."""
+    why = line.why_not()
+    if why is not None:
+        yield f"{why[0].upper()}{why[1:]}, so nothing is said of a second."
+        return
+    _, came = line.whole()
+    yield f"In the whole capture, {came.seconds:.1f} s: {pace.words(came, line.rate)}."
+    busiest = line.busiest()
+    if busiest is not None:
+        yield f"In its busiest minute, from {busiest[0].stamp} on: {pace.words(busiest[1], line.rate)}."
+    if line.rate is None:
+        yield "What share of the time is in use isn't said, since the capture doesn't tell the line's rate: osdp-report --rate 9600 does."
+    if line.without:
+        yield f"{line.without} of {line.without + len(line.runs)} runs have no moment, and are left out here."
+
+
+def whole_line(figures):
+    return "".join(f"<p>{escape(each)}</p>\n" for each in line_words(figures.line))
+
+
 def span(figures):
     """What tells a packet's place on the time axis, from 0 to 1, and the axis' ends in words. Without moments it is the run."""
     moments = [packet.moment for packet in figures.packets]
@@ -148,6 +170,7 @@ def page(figures):
             f"<h1>What happened on this OSDP line</h1>\n<h2>What is likely wrong</h2>\n{words(figures)}"
             f"<h2>Devices</h2>\n{devices(figures)}"
             "<p>An answer's time goes from the first byte of the packet to the first byte of its answer, as the capture has them, where one packet alone waits for an answer.</p>\n"
+            f"<h2>The line</h2>\n{whole_line(figures)}"
             f"<h2>Timelines</h2>\n{timelines(figures)}"
             f"<h2>Accusations</h2>\n{accusations(figures)}"
             f"<h2>The monitor's table</h2>\n<pre>{escape(chr(10).join(figures.table))}</pre>\n</body></html>\n")
