@@ -10,6 +10,7 @@ import json
 import re
 import subprocess
 import sys
+import tempfile
 from datetime import datetime, timedelta, timezone
 from pathlib import Path
 
@@ -18,7 +19,7 @@ import jsonschema
 TOP = Path(__file__).resolve().parent.parent
 sys.dont_write_bytecode = True
 sys.path.insert(0, str(TOP / "port"))
-from osdp_port import live, pace, report, report_lines, report_pace, report_page  # noqa: E402
+from osdp_port import live, pace, report, report_lines, report_pace, report_page, trace  # noqa: E402
 from terminals import packet  # noqa: E402
 
 PROGRAM = str(Path(sys.argv[1]).resolve())
@@ -122,7 +123,7 @@ def joined(line):
     return "".join(f"# {stamp(at * 500)} in\n{burst.hex().upper()}\n" for at, burst in pairs.items())
 
 
-NO_RATE = "What share of the time is in use isn't said, since the capture doesn't tell the line's rate: osdp-report --rate 9600 does."
+NO_RATE = "What share of the time is in use isn't said, since the capture tells no rate: osdp-report --rate 9600 does."
 CALM = "In the whole capture, 10.0 s: 3% of the time in use; a second 4.1 packets, 0.0 damaged, 1.1 turns of the panel."  # 2870 of 96000 bits
 CALM_OBJECT = ("capture", stamp(0), 10000, 287, 41, 0, 11, 3.0)
 HALF = [(moment, way, burst) for moment, way, burst in calm()[:3]]
@@ -132,6 +133,12 @@ CASES = (  # what it is, its form, its rate, the capture, what is said of the li
     ("calm", "--hex", 9600, hexed(calm()), [CALM], [CALM_OBJECT]),
     ("a slow rate", "--hex", 1200, hexed(calm()), [CALM.replace("3%", "24%")], [(*CALM_OBJECT[:-1], 23.9)]),
     ("no rate", "--hex", None, hexed(calm()), [CALM.replace("3% of the time in use; ", ""), NO_RATE], [(*CALM_OBJECT[:-1], None)]),
+    ("a rate in the capture", "--hex", None, "# rate 1200\n" + hexed(calm()), [CALM.replace("3%", "24%")], [(*CALM_OBJECT[:-1], 23.9)]),
+    ("the same rate again", "--hex", None, "# rate 1200\r\n" + hexed(calm()) + "# rate 1200\n", [CALM.replace("3%", "24%")], [(*CALM_OBJECT[:-1], 23.9)]),
+    ("another rate than the capture's", "--hex", 9600, "# rate 1200\n" + hexed(calm()), [CALM], [CALM_OBJECT]),
+    ("two rates", "--hex", None, f"# rate 1200\n{hexed(calm()[:9])}# rate 9600\n{hexed(calm()[9:])}",
+     [CALM.replace("3% of the time in use; ", ""), NO_RATE.replace("tells no", "tells more than one")], [(*CALM_OBJECT[:-1], None)]),
+    ("words that name no rate", "--hex", None, "# rate 0\n# rate 12x\n# the rate 9600\n" + hexed(calm()), [CALM.replace("3% of the time in use; ", ""), NO_RATE], [(*CALM_OBJECT[:-1], None)]),
     ("calm as .osdpcap", "--osdpcap", 9600, osdpcap(calm()), [CALM], [("capture", "1772409595.000000000", *CALM_OBJECT[2:])]),
     ("calm as stamped lines", "--stamped", 9600, stamped(calm()), [CALM], [("capture", stamp(0), *CALM_OBJECT[2:])]),
     ("an echo", "--hex", 9600, hexed(echoed(calm())), [CALM], [CALM_OBJECT]),
@@ -249,6 +256,8 @@ BROKEN = (  # what is broken, where, its name, and what stands there
     ("the share may be more than all of the time", pace, "in_use", lambda came, rate: 100 * came.bytes * 10 / (rate * came.seconds)),
     ("small figures are 0.0", pace, "figure", lambda number: f"{number:.1f}"),
     ("echoes are counted", report, "without_echo", lambda form, capture, packets: (capture, 0)),
+    ("of several rates one is taken", report, "rates_of", lambda form, capture, kept=report.rates_of: set(sorted(kept(form, capture))[:1])),
+    ("no rate of a capture is taken", report, "rates_of", lambda form, capture: set()),
     ("a line without bytes counts as a run", report, "burst_of", lambda form, line, kept=report.burst_of: kept(form, line) or (None if b'"data": ""' not in line else "")),
 )
 
@@ -278,6 +287,26 @@ def looks_at_live():
         faults.append(f"--live says {said_live}, and not {wanted}")
 
 
+def looks_at_traces():
+    """A trace of `osdp-port` tells its rate above its bursts, again where it has another one and where the file is begun anew; an object has no place for it."""
+    with tempfile.TemporaryDirectory() as folder:
+        rate, path = [9600], Path(folder, "trace")
+        file = trace.Trace(str(path), 110, lambda line: None, rate=lambda: rate[0])
+        for moment, new in ((0, 9600), (1, 9600), (2, 19200), (3, 19200), (4, 19200)):
+            rate[0] = new
+            file.takes(moment, "in", packet(5, 0, POLL))
+        file.ended()
+        told = [re.sub(r"^# 1970.*T00:00:0(\d).*", r"\1", line) for line in f"{Path(folder, 'trace.1').read_text()}|{path.read_text()}".splitlines() if not line.startswith("53")]
+        # a burst has 30 and 15 bytes, and a rate 12 or 13: the second one reaches 110 bytes with neither, the third one with both
+        if told != ["# rate 9600", "0", "1", "# rate 19200", "2", "|# rate 19200", "3", "4"]:
+            faults.append(f"a trace tells {told}")
+        other = trace.Trace(str(Path(folder, "other")), 10000, lambda line: None, trace.osdpcap, lambda: 9600)
+        other.takes(0, "in", packet(5, 0, POLL))
+        other.ended()
+        if "rate" in Path(folder, "other").read_text():
+            faults.append("an object tells a rate")
+
+
 def looks_at_words():
     for words in (["--rate", "0"], ["--rate", "fast"], ["--rate", "-9600"], ["--rate", "96e2"], ["--rate", "12345678"], ["--rate", ""], ["--rate"]):
         done = subprocess.run([TOP / "port/osdp-report", "--osdp", PROGRAM, *words], stdin=subprocess.DEVNULL, capture_output=True)
@@ -288,6 +317,7 @@ def looks_at_words():
 looks_at_cases()
 looks_at_broken()
 looks_at_live()
+looks_at_traces()
 looks_at_words()
 for fault in faults:
     print(f"paces: {fault}")

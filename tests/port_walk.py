@@ -337,8 +337,9 @@ def traces():
             line.stops(script)
             asks(tells(script, "1 bursts, 7 bytes")(), f"trace: {script.lines}")
             text = file.read_text()
-            data = json.loads(text)["data"].replace("-", "") if options else text.splitlines()[1]
+            data = json.loads(text)["data"].replace("-", "") if options else text.splitlines()[2]
             asks(bytes.fromhex(data) == packet(5, 1, POLL), f"trace: {text}")
+            asks(options or text.startswith("# rate 9600\n# "), f"trace: it doesn't tell the rate: {text}")
         sys.path.insert(0, str(PORT.parent))
         from osdp_port.trace import Trace
         said = []

@@ -109,14 +109,14 @@ class Device:
 class Figures:
     """The packets of a capture, what is told of them, each device, and the line as a whole."""
 
-    def __init__(self, packets, told, echoes, sizes=(), rate=None):
+    def __init__(self, packets, told, echoes, sizes, rates):
         self.packets, self.echoes = packets, echoes
         self.devices = {}
         self.places = {}  # where a packet stands in the list, by its run and place
         self.read_told(told)
         self.read_packets()
         self.diagnoses = [self.with_period(each) for each in self.diagnoses]
-        self.line = Line(self, sizes, rate)
+        self.line = Line(self, sizes, rates)
 
     def read_told(self, told):
         self.told, self.diagnoses, self.table = [], [], []

@@ -28,7 +28,7 @@ def show(words, port, console, osdp):
 
 
 def trace(words, port, console, _):
-    file = Trace(words.rest[0], words.get("--size", 10) * 1000000, console.note, osdpcap if words.get("--osdpcap") else digits)
+    file = Trace(words.rest[0], words.get("--size", 10) * 1000000, console.note, osdpcap if words.get("--osdpcap") else digits, lambda: port.rate)
     bursts = Bursts(file.takes, "trace" if words.get("--osdpcap") else "in")
     until_stopped(port, console, bursts.came)
     bursts.flush()

@@ -28,7 +28,7 @@ def taps(words, port, console, osdp):
     """What else gets the bursts: a trace, and each packet as `osdp show` prints it. Their ends, which are called when the program ends."""
     ends = []
     if words.get("--trace"):
-        file = Trace(words.get("--trace"), words.get("--size", 10) * 1000000, console.note, osdpcap if words.get("--osdpcap") else digits)
+        file = Trace(words.get("--trace"), words.get("--size", 10) * 1000000, console.note, osdpcap if words.get("--osdpcap") else digits, lambda: port.rate)
         port.taps.append(Bursts(file.takes))
         ends += [port.taps[-1].flush, file.ended]
     if words.get("--all"):

@@ -19,7 +19,7 @@ usage: osdp-report [FORM] [--rate R] [--json] [--osdp PROGRAM] [FILE] > report.h
   --osdpcap   it is .osdpcap: an object of JSON a line
   --stamped   it is lines of a stamp, TX or RX, and digits
   --raw       it is bytes; they have no moments
-  --rate R    the line's rate in bits a second, by which the share of time in use is told
+  --rate R    the line's rate in bits a second, by which the share of time in use is told; a trace of osdp-port has it
   --json      an object of JSON a line, in place of the page: man osdp-report has the names
   --osdp P    the path of the program osdp
 
@@ -137,6 +137,11 @@ def sizes_of(form, capture):
     return [len(burst) // 2 for burst in bursts if burst is not None]
 
 
+def rates_of(form, capture):
+    """The rates that the comments of a capture tell, each once."""
+    return set(map(int, re.findall(rb"^# rate ([1-9][0-9]{0,6})\r?$", capture, re.M))) if form == "--hex" else set()
+
+
 def report(program, form, writes, rate, capture):
     """The page of a capture, or its lines."""
     packets = shown(program, form, capture)
@@ -144,7 +149,7 @@ def report(program, form, writes, rate, capture):
     if echoes:
         packets = shown(program, form, capture)
     told = run(program, ["monitor", form, *(["--recorded"] if form == "--raw" else [])], capture)
-    return writes(Figures(packets, told, echoes, sizes_of(form, capture), rate))
+    return writes(Figures(packets, told, echoes, sizes_of(form, capture), {rate} if rate else rates_of(form, capture)))
 
 
 def main(words):

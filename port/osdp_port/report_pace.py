@@ -10,10 +10,11 @@ Run = namedtuple("Run", "number at stamp size")  # `at` is in whole milliseconds
 
 
 class Line:
-    """The runs of a capture that have a moment. `sizes` has how many bytes each run has, `rate` is in bits a second or none."""
+    """The runs of a capture that have a moment. `sizes` has how many bytes each run has, `rates` are those that the line may have, in bits a second: of several nobody knows when it had which."""
 
-    def __init__(self, figures, sizes, rate):
-        self.figures, self.rate = figures, rate
+    def __init__(self, figures, sizes, rates):
+        self.figures, self.rates = figures, rates
+        self.rate = next(iter(rates)) if len(rates) == 1 else None
         firsts = {}
         for packet in figures.packets:
             firsts.setdefault(packet.run, packet)

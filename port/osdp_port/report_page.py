@@ -91,7 +91,7 @@ def line_words(line):
     if busiest is not None:
         yield f"In its busiest minute, from {busiest[0].stamp} on: {pace.words(busiest[1], line.rate)}."
     if line.rate is None:
-        yield "What share of the time is in use isn't said, since the capture doesn't tell the line's rate: osdp-report --rate 9600 does."
+        yield f"What share of the time is in use isn't said, since the capture tells {'more than one' if line.rates else 'no'} rate: osdp-report --rate 9600 does."
     if line.without:
         yield f"{line.without} of {line.without + len(line.runs)} runs have no moment, and are left out here."
 

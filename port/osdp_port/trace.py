@@ -14,6 +14,11 @@ def digits(since, way, burst):
     return f"# {stamp}.{int(since * 1000) % 1000:03}Z {way}\n{burst.hex().upper()}\n"
 
 
+def rate_line(rate):
+    """A comment that tells the rate of what comes after it, in bits a second."""
+    return f"# rate {rate}\n"
+
+
 def osdpcap(since, way, burst):
     """A burst as an object of a line, as other tools of OSDP read it."""
     whole = int(since * 1000000)
@@ -47,14 +52,17 @@ class Bursts:
 
 
 class Trace:
-    """A file of bursts. At `size` bytes it is renamed to FILE.1, in the place of the one before, and begun anew."""
+    """A file of bursts. At `size` bytes it is renamed to FILE.1, in the place of the one before, and begun anew.
 
-    def __init__(self, path, size, tell, form=digits):
-        self.path, self.size, self.tell, self.form = path, size, tell, form
+    Lines of digits have the line's rate above them, once and after each new one. `rate` tells it, and may tell none."""
+
+    def __init__(self, path, size, tell, form=digits, rate=lambda: None):
+        self.path, self.size, self.tell, self.form, self.rate = path, size, tell, form, rate
         self.count = self.bytes = 0
         self.open()
 
     def open(self):
+        self.named = None  # the rate that this file has told last
         try:
             self.file = open(self.path, "a", encoding="ascii")
         except OSError as error:
@@ -64,6 +72,9 @@ class Trace:
         if self.file is None:
             return
         try:
+            if self.form is digits and self.rate() != self.named:
+                self.named = self.rate()
+                self.file.write(rate_line(self.named))
             self.file.write(self.form(since, way, burst))
             self.file.flush()
             self.count, self.bytes = self.count + 1, self.bytes + len(burst)
