@@ -9,12 +9,12 @@ use Rattle.osdp_tool_objects.specs.Outputs.{IsNew, fault_of, lines_taken, output
 use Rattle.osdp_tool_objects.specs.Streams.{marked}
 use Rattle.osdp_tool_objects.specs.declared.stream.Objects.{Objects}
 use Rattle.osdp_tool_objects.proofs.Outputs.{new_front, objects_written}
-use Rattle.osdp_tool_show.specs.Ending.{Stream, streamed}
+use Rattle.osdp_tool_show.specs.Ending.{Stream, streamed, watched}
 use Rattle.osdp_tool_streams.specs.Watched.{inner_of}
 use Rattle.osdp_tool_streams.specs.declared.fault.ToolFault.{ToolFault}
 use Rattle.osdp_tool_streams.specs.declared.fault.ToolFault.TheVariants.{NoMemory, NotHex, ReadFailed, TooLong, WriteFailed}
 use Rattle.osdp_tool_inputs.specs.Asked.{has_lines}
-use Rattle.osdp_tool_inputs.specs.Done.{Does, DoesInput, DoesObjects, EndsHeard, Listens, Read, Unread, has_objects, is_whole, text_of}
+use Rattle.osdp_tool_inputs.specs.Done.{Does, DoesInput, DoesObjects, EndsHeard, Listens, Read, Unread, has_objects, is_whole, text_of, unless_failed}
 use Rattle.osdp_tool_inputs.specs.declared.asked.Asked.{Asked}
 use Rattle.osdp_tool_inputs.specs.declared.asked.Task.{Task}
 use Rattle.osdp_tool_inputs.specs.declared.asked.Task.TheVariants.{Listen, Print, Time}
@@ -76,14 +76,14 @@ after_front : (front lines : List ℕ) (after : Option (List ℕ)) → Appends (
 after_front front lines None appends = absurd appends
 after_front front lines (Some x) appends = ap Some appends
 
-module _ (asked : Asked) (limit : ℕ) (input : Stream) {W : Type 0} (contents : W → Option (List ℕ)) (old new : Objects W) (failed other : Bool) where
-  pub does_objects : (result : Result Told ToolFault) → has_objects asked.task asked.format ≡ true → IsNew contents old → fault_of new ≡ None
-      → DoesInput (is_whole asked.format asked.task) asked limit input (streamed (lines_taken contents old) (lines_taken contents new) failed) result
-      → DoesObjects asked limit input (streamed (contents (inner_of (output_of old))) (contents (inner_of (output_of new))) other) result
-  does_objects (Err fault) e is well done = tt
-  does_objects (Ok told) e is well done =
+module _ (asked : Asked) (limit : ℕ) (input : Stream) {W : Type 0} (contents : W → Option (List ℕ)) (old new : Objects W) (failed : Bool) where
+  pub does_objects : (answer result : Result Told ToolFault) → has_objects asked.task asked.format ≡ true → IsNew contents old
+      → DoesInput (is_whole asked.format asked.task) asked limit input (streamed (lines_taken contents old) (lines_taken contents new) failed) answer
+      → result ≡ unless_failed (fault_of new) answer
+      → DoesObjects asked limit input (watched contents (output_of old) (output_of new)) result
+  does_objects answer result e is done told =
       let between = streamed (lines_taken contents old) (lines_taken contents new) failed in
-      let told_lines = input_lines (is_whole asked.format asked.task) asked limit input between (Ok told) e done in
+      let told_lines = input_lines (is_whole asked.format asked.task) asked limit input between answer e done in
       let front = new_front contents old new is in
       record {
         between = between;
@@ -93,6 +93,9 @@ module _ (asked : Asked) (limit : ℕ) (input : Stream) {W : Type 0} (contents :
         after =
             after_front (marked (contents (inner_of (output_of old)))) told_lines.0 (lines_taken contents new)
             (subst (λ f. Appends f (lines_taken contents new) told_lines.0) front told_lines.1);
+        answer = answer;
         done = done;
-        written = objects_written contents old new told_lines.0 is well told_lines.1;
+        fault = fault_of new;
+        written = objects_written contents old new told_lines.0 is told_lines.1;
+        told = told;
       }

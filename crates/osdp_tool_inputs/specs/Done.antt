@@ -9,8 +9,7 @@ use Rattle.osdp_tool_captures.specs.declared.format.Format.TheVariants.{Bytes, D
 use Rattle.osdp_tool_monitor.specs.Ending as monitor
 use Rattle.osdp_tool_monitor.specs.declared.mode.MonitorMode.{MonitorMode}
 use Rattle.osdp_tool_show.specs.Ending.{Ends, EndsWhole, Stream}
-use Rattle.osdp_tool_objects.specs.Streams.{objects_of}
-use Rattle.osdp_tool_streams.specs.Cut.{ended_lines}
+use Rattle.osdp_tool_objects.specs.Streams.{Writes}
 use Rattle.osdp_tool_streams.specs.ToolFault.{status_of as fault_status}
 use Rattle.osdp_tool_streams.specs.declared.fault.ToolFault.{ToolFault}
 use Rattle.osdp_tool_streams.specs.declared.fault.ToolFault.TheVariants.{NoMemory, WriteFailed}
@@ -187,20 +186,24 @@ has_objects (Print detail join) format = false
 has_objects (Time detail join) format = false
 has_objects (Listen mode) format = mode.json && not (mode.times && has_lines format)
 
--- the lines are told to an output that stands between: where it holds something, they come after that
-pub record TellsObjects (asked : Asked) (limit : ℕ) (input output : Stream) (result : Result Told ToolFault) : Type 0 where
+-- where the output of objects failed, that is told
+abbrev pub unless_failed : Option ToolFault → Result Told ToolFault → Result Told ToolFault
+unless_failed None told = told
+unless_failed (Some fault) told = Err fault
+
+-- The lines are told to an output that stands between: where it holds something, they come after that. Their objects are written, or as many as it says by what
+-- failed.
+pub record DoesObjects (asked : Asked) (limit : ℕ) (input output : Stream) (result : Result Told ToolFault) : Type 0 where
   pub between : Stream
   pub front : List ℕ
   pub lines : List ℕ
   pub before : between.before ≡ Some front
   pub after : between.after ≡ Some (front ++ lines)
-  pub done : DoesInput (is_whole asked.format asked.task) asked limit input between result
-  pub written : Appends output.before output.after (objects_of (ended_lines lines))
-
--- by the answer: where the output or memory fails, nothing is said of what was written
-abbrev pub DoesObjects : Asked → ℕ → Stream → Stream → Result Told ToolFault → Type 0
-DoesObjects asked limit input output (Ok told) = TellsObjects asked limit input output (Ok told)
-DoesObjects asked limit input output (Err fault) = Unit {0}
+  pub answer : Result Told ToolFault
+  pub done : DoesInput (is_whole asked.format asked.task) asked limit input between answer
+  pub fault : Option ToolFault
+  pub written : Writes fault output.failed output.before output.after lines
+  pub told : result ≡ unless_failed fault answer
 
 -- ---- statuses
 

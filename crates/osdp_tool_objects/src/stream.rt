@@ -1,6 +1,6 @@
 //! An output that takes the lines of `monitor`, and writes an object of JSON for each.
 
-ghost use Rattle.std.specs.Prelude.{◌≡◌, ◌++◌, ◌≤◌, [], length, IfErr, IfOk, OnOk, Some};
+ghost use Rattle.std.specs.Prelude.{◌≡◌, ◌++◌, [], length, IfErr, IfOk, MatchOption, OnOk, is_err, is_some};
 ghost use Rattle.std.specs.Io.{WritesAtMost};
 ghost use Rattle.std.specs.Io.KnownBytes.{Appends, Keeps, WriteAppends};
 ghost use Rattle.osdp_tool_streams.specs.Watched.{has_failed, inner_of};
@@ -23,12 +23,14 @@ pub struct Objects<W> {
     inner: Watched<W>,
     /// The line that has not ended.
     held: Vec<u8>,
-    /// Why a write failed.
+    /// Why a write or a flush failed.
     fault: Option<ToolFault>,
     /// The output as it was at first, which proofs alone read.
     start: Log<Watched<W>, ()>,
     /// The bytes of the lines that were taken, which proofs alone read.
     taken: Log<u8, ()>,
+    /// Those after them whose objects weren't all written, which proofs alone read.
+    lost: Log<u8, ()>,
 }
 
 /// A line has ended, with these characters after those held: its object is added.
@@ -112,10 +114,11 @@ impl<W: Write> Objects<W> {
             fault: None,
             start,
             taken: Log::new(),
+            lost: Log::new(),
         }
     }
 
-    /// Why a write failed; None where each write wrote the objects of its lines.
+    /// Why a write or a flush failed; None where each write wrote the objects of its lines.
     pub fn fault(&self) -> Option<ToolFault>
         ensures { result ≡ fault_of self.now }
     {
@@ -125,22 +128,26 @@ impl<W: Write> Objects<W> {
 
 impl<W: Write> Write for Objects<W> {
     ghost use Rattle.osdp_tool_objects.specs.Outputs.{fault_of, lines_taken, output_of};
-    ghost use Rattle.osdp_tool_streams.specs.declared.fault.ToolFault.{ToolFault};
 
     ghost contents = { lines_taken W.contents };
 
-    /// Takes all bytes. An error is one of the output, after which a beginning of the objects of these bytes is written, or out of memory, and then
-    /// none of them is. `fault` tells which.
+    /// Takes all bytes. Where memory runs out, or the output fails, `fault` tells it from then on: of the objects of these bytes none is written then, or a
+    /// beginning. The next flush and each later write answer an error, and do nothing.
     fn write(&mut self, buf: &[u8]) -> io::Result<usize>
         ensures bound { WritesAtMost result buf.now }
         ensures bytes { WriteAppends (lines_taken W.contents self.old) (lines_taken W.contents self.new) result buf.now }
         ensures all { IfOk result (λ count. count ≡ length buf.now) }
-        ensures written { IfOk result (λ count. Appends (W.contents (inner_of (output_of self.old))) (W.contents (inner_of (output_of self.new))) (written_after self.old.held.items buf.now)) }
-        ensures held { IfOk result (λ count. self.new.held.items ≡ held_after self.old.held.items buf.now) }
-        ensures well { IfOk result (λ count. fault_of self.new ≡ fault_of self.old) }
-        ensures stops { IfErr result (λ error. (fault : ToolFault) × (fault_of self.new ≡ Some fault) × StopsWriting (written_after self.old.held.items buf.now)
-            (W.contents (inner_of (output_of self.old))) (W.contents (inner_of (output_of self.new))) (has_failed (output_of self.old)) (has_failed (output_of self.new)) fault) }
+        ensures answer { is_err result ≡ is_some (fault_of self.old) }
+        ensures after { IfErr result (λ error. self.new ≡ self.old) }
+        ensures written { IfOk result (λ count. MatchOption (fault_of self.new)
+            (Appends (W.contents (inner_of (output_of self.old))) (W.contents (inner_of (output_of self.new))) (written_after self.old.held.items buf.now)
+            × (self.new.held.items ≡ held_after self.old.held.items buf.now) × (has_failed (output_of self.new) ≡ has_failed (output_of self.old)))
+            (StopsWriting (written_after self.old.held.items buf.now) (W.contents (inner_of (output_of self.old))) (W.contents (inner_of (output_of self.new)))
+            (has_failed (output_of self.old)) (has_failed (output_of self.new)))) }
     {
+        if self.fault.is_some() {
+            return Err(io::Error::from(ErrorKind::Other));
+        }
         match write_objects(self.alloc, &mut self.held, buf, &mut self.inner) {
             Ok(()) => {
                 note(&mut self.taken, buf);
@@ -148,19 +155,28 @@ impl<W: Write> Write for Objects<W> {
             }
             Err(fault) => {
                 self.fault = Some(fault);
-                Err(io::Error::from(ErrorKind::Other))
+                note(&mut self.lost, buf);
+                Ok(buf.len())
             }
         }
     }
 
+    /// Flushes the output. It fails after a write whose objects weren't all written; `fault` tells why.
     fn flush(&mut self) -> io::Result<()>
         ensures bytes { Keeps (lines_taken W.contents self.old) (lines_taken W.contents self.new) }
         ensures written { Keeps (W.contents (inner_of (output_of self.old))) (W.contents (inner_of (output_of self.new))) }
         ensures held { self.new.held ≡ self.old.held }
+        ensures answer { is_err result ≡ is_some (fault_of self.new) }
     {
+        if self.fault.is_some() {
+            return Err(io::Error::from(ErrorKind::Other));
+        }
         match flush_out(&mut self.inner) {
             Ok(()) => Ok(()),
-            Err(_) => Err(io::Error::from(ErrorKind::Other)),
+            Err(fault) => {
+                self.fault = Some(fault);
+                Err(io::Error::from(ErrorKind::Other))
+            }
         }
     }
 }

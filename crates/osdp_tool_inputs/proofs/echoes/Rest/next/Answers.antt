@@ -1,6 +1,5 @@
-use Rattle.std.proofs.Common.{◌≡◌, ◌+◌, Bool, true, length, arith, sym, ap, ◌∙◌}
-use Rattle.osdp_tool_inputs.specs.Echoes.{echoes_below, is_echo}
-use Rattle.osdp_tool_inputs.specs.Times.{has_digits}
+use Rattle.std.proofs.Common.{◌+◌, length, arith, sym, ap, ◌∙◌}
+use Rattle.osdp_tool_inputs.specs.Echoes.{echoes_below}
 use Rattle.osdp_tool_inputs.specs.declared.echoes.Rest.{Rest}
 use Rattle.osdp_tool_inputs.proofs.Echoing.{echo_counts, echo_next, none_next, other_counts, other_next}
 use Rattle.osdp_tool_inputs.proofs.RunPlaces.{after_digits, no_echo_other, went_digits, went_other}
