@@ -12,7 +12,7 @@ pub fn pieces_hold_the_same()
     ensures { PiecesHoldTheSame }
 {}
 
-/// An output of lines has written the objects of the lines that it took, or a beginning of them once memory or it failed, and nothing else.
+/// What an output of lines has written is a beginning of their objects: all of them where nothing failed.
 pub fn writes_their_objects()
     ensures { WritesTheirObjects }
 {}
