@@ -104,7 +104,7 @@ usage: osdp monitor [FORM] [OPTION]... [FILE]...
 
 Input: that of show: lines of digits, each of which is a run, or what one of the first four options says. The
 table comes where the input ends: end the program that gives the bytes. Ctrl-C ends this one, and no table is
-printed. The bytes of a file were recorded before. man osdp-monitor says what each accusation and diagnosis means.
+printed. The bytes of a file were recorded before. man osdp-monitor says what accusations and diagnoses mean.
 
 Examples:
 
