@@ -1,13 +1,13 @@
 -- Devices are added to a bus, one for each reader.
-use Rattle.std.proofs.Common.{◌≡◌, ℕ, arith, List, [], ◌∷◌, ◌++◌, length, map, Some, None, refl, sym, subst, ap, ◌∙◌}
+use Rattle.std.proofs.Common.{◌≡◌, List, [], ◌∷◌, ◌++◌, length, map, Some, refl, sym, subst, ap, ◌∙◌}
 use Rattle.std.specs.Prelude.{slice_get, slice_set}
 use Rattle.std.specs.Option.{option_map_or}
-use Rattle.std.proofs.lemmas.List.{append-nil, append_assoc}
-use Rattle.osdp_bus.specs.Buses.{BusState, new_bus}
-use Rattle.osdp_bus.specs.Machine.{after_add, after_begin_at, begin_refusal_at, begin_refusal_of, entry_begins, new_device}
+use Rattle.std.proofs.lemmas.List.{append_assoc}
+use Rattle.osdp_bus.specs.Buses.{BusState}
+use Rattle.osdp_bus.specs.Machine.{after_add, after_begin_at, entry_begins, new_device}
 use Rattle.osdp_bus.specs.declared.config.BusConfig.{BusConfig}
 use Rattle.osdp_bus.specs.declared.entry.Entry.{Entry}
-use Rattle.osdp_sim_bus.specs.State.{Given, address_of, begun_bus, begun_device, bus_with}
+use Rattle.osdp_sim_bus.specs.State.{Given, address_of, begun_device, bus_with}
 
 -- the last one
 pub last_there : {X : Type 0} (xs : List X) (x : X) → slice_get (xs ++ x ∷ []) (length xs) ≡ Some x
@@ -17,10 +17,6 @@ last_there (y ∷ xs) x = last_there xs x
 pub last_set : {X : Type 0} (xs : List X) (x next : X) → slice_set (xs ++ x ∷ []) (length xs) next ≡ xs ++ next ∷ []
 last_set [] x next = refl
 last_set (y ∷ xs) x next = ap (λ l. y ∷ l) (last_set xs x next)
-
--- a device that was added may begin
-pub may_begin : (address : ℕ) (b : BusState) → begin_refusal_at (length b.devices.entries) (after_add address b) ≡ None
-may_begin address b = ap begin_refusal_of (last_there b.devices.entries (new_device address b.config))
 
 -- one device more, whose session has begun
 pub begins_added : {H : Type 0} (config : BusConfig) (devices : List Entry) (given : Given H)
@@ -37,10 +33,6 @@ pub record HaveBegun {H : Type 0} (config : BusConfig) (all left : List (Given H
   pub bus : b ≡ bus_with config b.devices.entries
   pub devices : b.devices.entries ++ map (begun_device config) left ≡ map (begun_device config) all
 
-pub none_has_begun : {H : Type 0} (config : BusConfig) (all : List (Given H)) (bus : BusState) → bus ≡ new_bus config → HaveBegun config all all bus
-none_has_begun config all bus is =
-    subst (HaveBegun config all all) (sym is) (record { bus = refl; devices = refl })
-
 pub one_more_begun : {H : Type 0} (config : BusConfig) (all old left : List (Given H)) (given : Given H) (bus next : BusState)
     → HaveBegun config all old bus → old ≡ given ∷ left
     → next ≡ after_begin_at (length bus.devices.entries) 0 (after_add (address_of given) bus)
@@ -55,22 +47,8 @@ one_more_begun config all old left given bus next h is led =
           ∙ ap (λ l. es ++ map (begun_device config) l) (sym is) ∙ h.devices;
     })
 
-pub all_have_begun : {H : Type 0} (config : BusConfig) (all left : List (Given H)) (bus : BusState)
-    → HaveBegun config all left bus → left ≡ [] → bus ≡ begun_bus config all
-all_have_begun config all left bus h none =
-    h.bus ∙ ap (bus_with config) (sym (append-nil bus.devices.entries) ∙ ap (λ l. bus.devices.entries ++ map (begun_device config) l) (sym none) ∙ h.devices)
-
 -- what is put at the end of a list, one element after the other
 pub one_more_put : {X Y : Type 0} (f : X → Y) (done : List Y) (old left : List X) (x : X) (whole : List Y)
     → done ++ map f old ≡ whole → old ≡ x ∷ left → (done ++ f x ∷ []) ++ map f left ≡ whole
 one_more_put f done old left x whole so_far is =
     append_assoc done (f x ∷ []) (map f left) ∙ ap (λ l. done ++ map f l) (sym is) ∙ so_far
-
-pub all_put : {X Y : Type 0} (f : X → Y) (done : List Y) (left : List X) (whole : List Y)
-    → done ++ map f left ≡ whole → left ≡ [] → done ≡ whole
-all_put f done left whole so_far none =
-    sym (append-nil done) ∙ ap (λ l. done ++ map f l) (sym none) ∙ so_far
-
-pub nothing_left : {X : Type 0} (xs : List X) → length xs ≡ 0 → xs ≡ []
-nothing_left [] none = refl
-nothing_left (x ∷ xs) none = absurd (omega arith)

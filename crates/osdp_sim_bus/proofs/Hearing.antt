@@ -1,7 +1,7 @@
 -- The readers hear a packet one after the other.
-use Rattle.std.proofs.Common.{◌≡◌, ℕ, ◌+◌, ◌<◌, ◌≤◌, arith, All, List, [], ◌∷◌, ◌++◌, length, map, take, drop, get_or, set, refl, sym, subst, ap, ◌∙◌}
-use Rattle.std.proofs.lemmas.List.{append-nil, append_assoc, drop-set-lt, drop_more, length-set, map-append, take_all, take_more, take_more_set}
-use Rattle.std.proofs.lemmas.List.Elements.{All-nil, All-push}
+use Rattle.std.proofs.Common.{◌≡◌, ℕ, ◌+◌, ◌<◌, ◌≤◌, arith, All, List, [], ◌∷◌, ◌++◌, length, map, take, drop, get_or, set, sym, subst, ap, ◌∙◌}
+use Rattle.std.proofs.lemmas.List.{append-nil, append_assoc, drop-set-lt, drop_more, length-set, map-append, take_more, take_more_set}
+use Rattle.std.proofs.lemmas.List.Elements.{All-push}
 use Rattle.std.proofs.lemmas.Grind.{drop_more_same, flat_map-append}
 use Rattle.std.specs.List.{flat_map}
 use Rattle.osdp_frame.specs.Packet.{Packet}
@@ -29,15 +29,6 @@ module _ {H : Type 0} (answer_of : H → Command → Answer) (after : H → Comm
     pub rest : drop count new ≡ drop count old
     pub line : later ≡ before ++ flat_map (site_says answer_of after p) (sites_of (take count old))
     pub fits : All Says (sites_of (take count old))
-
-  pub none_has : (sites : List (declared.ReaderSite H)) (line : List (List ℕ)) → HaveHeard 0 sites sites line line
-  none_has sites line = record {
-    many = refl;
-    done = refl;
-    rest = refl;
-    line = sym (append-nil line);
-    fits = All-nil Says;
-  }
 
   one_longer : (sites : List (declared.ReaderSite H)) (count : ℕ) (site : declared.ReaderSite H) → count < length sites
       → sites_of (take (count + 1) sites) ≡ sites_of (take count sites) ++ site_of (get_or sites count site) ∷ []
@@ -72,21 +63,4 @@ module _ {H : Type 0} (answer_of : H → Command → Answer) (after : H → Comm
             (ap (λ l. flat_map (site_says answer_of after p) (sites_of (take count old)) ++ l) (sym (append-nil (site_says answer_of after p site)))
             ∙ sym (ap (flat_map (site_says answer_of after p)) longer ∙ flat_map-append (site_says answer_of after p) (sites_of (take count old)) (site ∷ [])));
         fits = subst (All Says) (sym longer) (All-push Says (sites_of (take count old)) site h.fits fit);
-      }
-
-  -- all of them have
-  pub record AllHaveHeard (old new : List (declared.ReaderSite H)) (before later : List (List ℕ)) : Type 0 where
-    pub sites : sites_of new ≡ map (site_hears answer_of after p) (sites_of old)
-    pub line : later ≡ before ++ flat_map (site_says answer_of after p) (sites_of old)
-    pub fits : All Says (sites_of old)
-
-  pub all_have : (count : ℕ) (old new : List (declared.ReaderSite H)) (before later : List (List ℕ)) → length new ≤ count
-      → HaveHeard count old new before later → AllHaveHeard old new before later
-  all_have count old new before later over h =
-      let whole : take count old ≡ old = take_all count old (omega (arith, over, h.many)) in
-      let now : take count new ≡ new = take_all count new over in
-      record {
-        sites = ap sites_of (sym now) ∙ h.done ∙ ap (λ l. map (site_hears answer_of after p) (sites_of l)) whole;
-        line = h.line ∙ ap (λ l. before ++ flat_map (site_says answer_of after p) (sites_of l)) whole;
-        fits = subst (λ l. All Says (sites_of l)) whole h.fits;
       }

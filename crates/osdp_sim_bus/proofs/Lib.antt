@@ -1,4 +1,3 @@
-pub mod Searches
 pub mod Hearing
 pub mod Places
 pub mod Adding
