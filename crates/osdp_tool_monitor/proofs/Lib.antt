@@ -11,5 +11,4 @@ pub mod Sessions
 pub mod Writing
 pub mod Pieces
 pub mod Closing
-pub mod Words
 pub mod Weights
