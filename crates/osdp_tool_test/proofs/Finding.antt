@@ -1,7 +1,6 @@
 -- How the packets of a run are found, item by item.
 use Rattle.std.proofs.Common.{◌≡◌, ℕ, ◌+◌, ◌≤◌, Bool, true, false, cond, List, [], ◌∷◌, ◌++◌, drop, length, length-drop, filter, Option, None, refl, sym, ap, ◌∙◌, arith, append_assoc, append-nil}
 use Rattle.std.proofs.lemmas.List.{length-append}
-use Rattle.osdp_frame.proofs.Head.{Tells-Begins}
 use Rattle.osdp_frame.specs.Bytes.{AreBytes}
 use Rattle.osdp_frame.specs.Items.{whole_packets}
 use Rattle.osdp_frame.specs.Packet.{Packet, packet_length}
@@ -53,9 +52,6 @@ pub byte_step : (devices : Bool) (run rest next : List ℕ) (first second : Opti
 byte_step devices run rest next first second count (PacketItem p) s is cut h = cc
 byte_step devices run rest next first second count (SkippedItem b) s is cut h = passed devices run rest next first second count (SkippedItem b) (λ parts. refl) refl s cut h
 byte_step devices run rest next first second count (RefusedItem f) s is cut h = passed devices run rest next first second count (RefusedItem f) (λ parts. refl) refl s cut h
-
-pub has_room : (bytes : List ℕ) (p : Packet) → Stands bytes (PacketItem p) → packet_length p ≤ length bytes
-has_room bytes p stands = (Tells-Begins p bytes stands).long
 
 first_more : (had : List Packet) (p : Packet) → or_first (first_of had) p ≡ first_of (had ++ p ∷ [])
 first_more [] p = refl
