@@ -1,5 +1,5 @@
 -- A loop that changes each rule of a list, and one that makes them.
-use Rattle.std.proofs.Common.{◌≡◌, ℕ, ◌+◌, ◌<◌, ◌≤◌, List, [], ◌∷◌, ◌++◌, length, get_or, map, take, drop, set, refl, sym, subst, ap, ◌∙◌, append_assoc, append-nil, arith}
+use Rattle.std.proofs.Common.{◌≡◌, ℕ, ◌+◌, ◌<◌, ◌≤◌, List, [], ◌∷◌, ◌++◌, length, get_or, map, take, drop, set, sym, subst, ap, ◌∙◌, append_assoc, append-nil, arith}
 use Rattle.std.proofs.lemmas.List.{drop-set-lt, drop_all, drop_more, map-append, take_all, take_more_set}
 use Rattle.osdp_tool_test.specs.Entries.{Told, new_entry, told}
 use Rattle.osdp_tool_test.specs.declared.entry.Entry.{Entry}
@@ -9,9 +9,6 @@ use Rattle.osdp_tool_test_panel.specs.declared.rules.PanelRule.{PanelRule}
 -- those before a place were changed so, and the others not
 pub record Changed (f : Told → Told) (old : List Entry) (k : ℕ) (now : List Entry) : Type 0 where
   pub so_far : map told (take k now) ++ map f (map told (drop k now)) ≡ map f (map told old)
-
-pub changed_none : (f : Told → Told) (old : List Entry) → Changed f old 0 old
-changed_none f old = record { so_far = refl }
 
 pub changed_more : (f : Told → Told) (old : List Entry) (k : ℕ) (now next : List Entry) (d new : Entry) → k < length now → next ≡ set now k new
     → told new ≡ f (told (get_or now k d)) → Changed f old k now → Changed f old (k + 1) next

@@ -2,21 +2,11 @@
 use Rattle.std.proofs.Common.{◌≡◌, ℕ, codes, refl}
 use Rattle.osdp_msg.proofs.RowTexts.{differ}
 use Rattle.osdp_tool_test.specs.Lines.{LeftOut}
-use Rattle.osdp_tool_test_panel.specs.Lines.{Line, device, hears, said_name, says, skips}
-use Rattle.osdp_tool_test_panel.specs.declared.exchange.Exchange.{Exchange}
-use Rattle.osdp_tool_test_panel.specs.declared.exchange.More.{More}
+use Rattle.osdp_tool_test_panel.specs.Lines.{Line, device, said_name, skips}
 
 pub is_device : (m : Line) → said_name m ≡ codes "device" → (x : ℕ) × (m ≡ device x)
 is_device (device x) e = (x, refl)
 is_device m e = absurd (differ (said_name m) (codes "device") refl e)
-
-pub is_hears : (m : Line) → said_name m ≡ codes "hears" → (x : Exchange) × (m ≡ hears x)
-is_hears (hears x) e = (x, refl)
-is_hears m e = absurd (differ (said_name m) (codes "hears") refl e)
-
-pub is_says : (m : Line) → said_name m ≡ codes "says" → (x : More) × (m ≡ says x)
-is_says (says x) e = (x, refl)
-is_says m e = absurd (differ (said_name m) (codes "says") refl e)
 
 pub is_skips : (m : Line) → said_name m ≡ codes "skips" → (x : LeftOut) × (m ≡ skips x)
 is_skips (skips x) e = (x, refl)
