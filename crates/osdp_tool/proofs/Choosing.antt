@@ -112,17 +112,9 @@ after_help (name ∷ []) plain = elim (names name) [
 ]
 after_help (name ∷ more ∷ rest) plain = inr refl
 
-after_long_help : (rest : Words) → wants_help rest ≡ false → Chooses (codes "--help" ∷ rest)
-after_long_help [] plain = inl (Help topic.Program, refl, inr (inr (inl refl)), refl)
-after_long_help (word ∷ rest) plain = inr (rw plain)
-
 after_short_help : (rest : Words) → wants_help rest ≡ false → Chooses (codes "-h" ∷ rest)
 after_short_help [] plain = inl (Help topic.Program, refl, inr (inr (inr refl)), refl)
 after_short_help (word ∷ rest) plain = inr (rw plain)
-
-after_version : (rest : Words) → wants_help rest ≡ false → Chooses (codes "--version" ∷ rest)
-after_version [] plain = inl (Version, refl, refl, refl)
-after_version (word ∷ rest) plain = inr (rw plain)
 
 -- any words after the first but a flag that asks for help alone
 by_name : (first : List ℕ) (rest : Words) → wants_help rest ≡ false → Chooses (first ∷ rest)

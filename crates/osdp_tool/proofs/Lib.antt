@@ -1,5 +1,4 @@
 mod JobLemmas
-mod CaptureWords
 mod Choosing
 pub mod Names
 pub mod Orders
