@@ -1,5 +1,5 @@
 -- Lines as they are written, and lists of lines one by one.
-use Rattle.std.proofs.Common.{◌≡◌, ◌<◌, ℕ, Bool, true, false, List, [], ◌∷◌, ◌++◌, arith, codes, drop, length, map, refl, subst, sym, ap, ◌∙◌, append_assoc, append-nil, Result, Ok, Err, OnOk, Some, None}
+use Rattle.std.proofs.Common.{◌≡◌, ◌<◌, ℕ, true, List, [], ◌∷◌, ◌++◌, codes, drop, length, map, refl, subst, sym, ap, ◌∙◌, append_assoc, append-nil, Result, Ok, Err, OnOk, Some}
 use Rattle.std.specs.Prelude.{slice_get}
 use Rattle.std.specs.Fmt.{decimal}
 use Rattle.std.specs.List.{flat_map}
@@ -36,15 +36,6 @@ settled_is name c r =
     ∙ append_assoc name ((codes " " ++ text_of (command_words c)) ++ (codes " = " ++ text_of (reply_words r))) (codes "\n")
     ∙ ap (λ l. name ++ (codes " " ++ l)) (append_assoc (text_of (command_words c)) (codes " = " ++ text_of (reply_words r)) (codes "\n"))
 
-pub end_is : (name word : List ℕ) → line_text (plain name ∷ plain word ∷ []) ≡ name ++ (codes " " ++ (word ++ codes "\n"))
-end_is name word = append_assoc name (codes " " ++ (word ++ [])) (codes "\n") ∙ ap (λ l. name ++ (codes " " ++ (l ++ codes "\n"))) (append-nil word)
-
--- a list of which nothing, or a string, comes next
-pub no_next : {A B : Type 0} (words : B → List Word) (kept : A → B) (left rest : List A) (name text : List ℕ) → None ≡ slice_get left 0 → rest ≡ drop 1 left
-    → AddsNext (map words (map kept left)) (map words (map kept rest)) name text text false
-no_next words kept [] rest name text none others = (refl, ap (λ l. map words (map kept l)) others, refl)
-no_next words kept (x ∷ left) rest name text none others = absurd cc
-
 pub one_next : {A B : Type 0} (words : B → List Word) (kept : A → B) (left rest : List A) (item : A) (name text new : List ℕ) → Some item ≡ slice_get left 0
     → rest ≡ drop 1 left → new ≡ text ++ line_text (plain name ∷ words (kept item))
     → AddsNext (map words (map kept left)) (map words (map kept rest)) name text new true
@@ -53,36 +44,10 @@ one_next words kept (x ∷ left) rest item name text new first others written =
     let same : item ≡ x = cc in
     (refl, ap (λ l. map words (map kept l)) others, written ∙ ap (λ y. text ++ line_text (plain name ∷ words (kept y))) same)
 
--- .. or of which this was split off
-pub none_split : {A : Type 0} (words : A → List Word) (left : List A) (name text : List ℕ) → left ≡ []
-    → AddsNext (map words left) (map words left) name text text false
-none_split words [] name text none = (refl, refl, refl)
-none_split words (x ∷ left) name text none = absurd cc
-
 pub one_split : {A : Type 0} (words : A → List Word) (left rest : List A) (item : A) (name text new : List ℕ) → left ≡ item ∷ rest
     → new ≡ text ++ line_text (plain name ∷ words item) → AddsNext (map words left) (map words rest) name text new true
 one_split words left rest item name text new cut written =
     subst (λ l. AddsNext (map words l) (map words rest) name text new true) (sym cut) (refl, refl, written)
-
--- the lines that are added and those that are left are the whole
-pub next_more : (left rest : List (List Word)) (name text new whole : List ℕ) (added : Bool) → added ≡ true → AddsNext left rest name text new added
-    → text ++ lines_text (named name left) ≡ whole → new ++ lines_text (named name rest) ≡ whole
-next_more [] rest name text new whole added more adds all = absurd (let e = sym more ∙ adds.0 in cc)
-next_more (words ∷ left) rest name text new whole added more adds all =
-    ap (λ l. l ++ lines_text (named name rest)) adds.2
-    ∙ append_assoc text (line_text (plain name ∷ words)) (lines_text (named name rest))
-    ∙ ap (λ l. text ++ (line_text (plain name ∷ words) ++ lines_text (named name l))) adds.1
-    ∙ all
-
-pub next_fewer : (left rest : List (List Word)) (name text new : List ℕ) (added : Bool) → added ≡ true → AddsNext left rest name text new added
-    → length rest < length left
-next_fewer [] rest name text new added more adds = absurd (let e = sym more ∙ adds.0 in cc)
-next_fewer (words ∷ left) rest name text new added more adds = omega (arith, ap length adds.1)
-
-pub next_done : (left rest : List (List Word)) (name text new whole : List ℕ) (added : Bool) → added ≡ false → AddsNext left rest name text new added
-    → text ++ lines_text (named name left) ≡ whole → new ≡ whole
-next_done [] rest name text new whole added none adds all = adds.2 ∙ sym (append-nil text) ∙ all
-next_done (words ∷ left) rest name text new whole added none adds all = absurd (let e = sym none ∙ adds.0 in cc)
 
 -- the lines of items
 pub named_map : {A : Type 0} (name : List ℕ) (words : A → List Word) (items : List A) → named name (map words items) ≡ map (λ item. plain name ∷ words item) items
