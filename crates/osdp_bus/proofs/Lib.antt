@@ -1,5 +1,4 @@
 pub mod Runs
 pub mod Waiting
 pub mod Defaults
-pub mod Telling
 pub mod Remembering
