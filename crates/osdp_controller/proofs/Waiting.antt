@@ -1,26 +1,19 @@
 -- Commands that wait as their bytes.
-use Rattle.std.proofs.Common.{◌≡◌, ◌+◌, ◌-◌, ◌≤◌, ◌<◌, ◌&&◌, Bool, true, false, ℕ, List, [], ◌∷◌, ◌++◌, length, map, drop, refl, sym, ap, ◌∙◌, subst, arith, length-append}
+use Rattle.std.proofs.Common.{◌≡◌, ◌+◌, ◌-◌, ◌≤◌, ◌<◌, ◌&&◌, ℕ, List, [], ◌∷◌, ◌++◌, length, map, drop, refl, sym, ap, ◌∙◌, subst, arith}
 use Rattle.std.specs.List.{All}
 use Rattle.std.specs.Prelude.{nat_le, nat_lt}
-use Rattle.std.proofs.lemmas.Bool.{ltb-true}
 use Rattle.std.proofs.lemmas.List.{length-map, length-drop}
-use Rattle.std.proofs.lemmas.List.Elements.{All-drop, All-head, All-push, All-tail}
+use Rattle.std.proofs.lemmas.List.Elements.{All-drop, All-head, All-tail}
 use Rattle.osdp_msg.specs.declared.command.Command.{Command}
-use Rattle.osdp_msg.specs.declared.command.Command.TheVariants.{Poll, Id, Cap, LocalStatus, InputStatus, OutputStatus, ReaderStatus, Output, Led, Buzzer, Text, Comset, Maker}
+use Rattle.osdp_msg.specs.declared.command.Command.TheVariants.{Poll}
 use Rattle.osdp_msg.specs.CommandTable.{command_code, command_data}
 use Rattle.osdp_msg.specs.Kept.{command_kept}
-use Rattle.osdp_msg.specs.Limits.{most_data}
 use Rattle.osdp_controller.specs.declared.session.Session.{Session}
 use Rattle.osdp_controller.specs.Comsets.{has_comset, is_comset}
 use Rattle.osdp_controller.specs.Commands.{IsCommand}
 use Rattle.osdp_controller.specs.Waiting.{IsController}
 use Rattle.osdp_controller.specs.Machine.{IsSession, IsSubmitted, bytes_waiting, command_size}
-use Rattle.osdp_controller.proofs.Choices.{first_true}
-use Rattle.osdp_ring.specs.Ring.{Strings, begins, fits_in, has_first, popped, pushed_if, total}
-
--- what was written is kept as itself
-pub is_command : (c : Command) (bytes : List ℕ) → length bytes ≤ 1 + most_data → bytes ≡ command_code c ∷ command_data c → command_kept bytes ≡ c → IsCommand bytes
-is_command c bytes size spelled kept = record { size = size; spelled = spelled ∙ ap (λ (m : Command). command_code m ∷ command_data m) (sym kept) }
+use Rattle.osdp_ring.specs.Ring.{Strings, begins, has_first, popped, total}
 
 size_is : (bytes : List ℕ) → IsCommand bytes → command_size (command_kept bytes) ≡ length bytes
 size_is bytes is = sym (ap length is.spelled)
@@ -48,22 +41,6 @@ pub map_pop : (ss : List (List ℕ)) → map command_kept (drop 1 ss) ≡ drop 1
 map_pop [] = refl
 map_pop (s ∷ ss) = refl
 
--- what holds of each controller is kept where a command is put after the others, or the first one leaves
-pub keeps_pushed : (fits : Bool) (bytes : List ℕ) (session : Session) (q : Strings) → fits ≡ fits_in (length bytes) q → IsSubmitted (command_kept bytes) → IsCommand bytes
-    → IsController session q → IsController session (pushed_if fits bytes q)
-keeps_pushed false bytes session q fits submitted command is = is
-keeps_pushed true bytes session q fits submitted command is =
-    let fewer : length q.items < q.capacity = ltb-true (length q.items) q.capacity (first_true (nat_lt (length q.items) q.capacity) (nat_le (length bytes) (q.room - total q.items)) (sym fits)) in
-    record {
-      machine = record {
-        session = is.machine.session;
-        capacity = is.machine.capacity;
-        waiting = subst (λ (cs : List Command). All IsSubmitted cs) (sym (map_push q.items bytes)) (All-push IsSubmitted (map command_kept q.items) (command_kept bytes) is.machine.waiting submitted);
-        room = subst (λ (k : ℕ). k ≤ q.capacity) (sym (length-map (q.items ++ bytes ∷ []) command_kept)) (let longer = length-append q.items (bytes ∷ []) in omega (arith, longer, fewer));
-      };
-      commands = All-push IsCommand q.items bytes is.commands command;
-    }
-
 pub keeps_popped : (old session : Session) (q : Strings) → IsSession session → IsController old q → IsController session (popped q)
 keeps_popped old session q kept is = record {
   machine = record {
@@ -84,18 +61,7 @@ keeps_session old session q kept is = record {
 -- a COMSET by its code
 comset_begins : (c : Command) → begins 0x6E (command_code c ∷ command_data c) ≡ is_comset c
 comset_begins Poll = refl
-comset_begins (Id b) = refl
-comset_begins (Cap b) = refl
-comset_begins LocalStatus = refl
-comset_begins InputStatus = refl
-comset_begins OutputStatus = refl
-comset_begins ReaderStatus = refl
-comset_begins (Output records) = refl
-comset_begins (Led records) = refl
-comset_begins (Buzzer b) = refl
-comset_begins (Text t) = refl
-comset_begins (Comset asked) = refl
-comset_begins (Maker m) = refl
+comset_begins _ = refl
 
 pub comset_is : (ss : List (List ℕ)) → All IsCommand ss → has_first 0x6E ss ≡ has_comset (map command_kept ss)
 comset_is [] commands = refl
