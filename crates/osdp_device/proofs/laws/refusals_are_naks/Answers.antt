@@ -7,7 +7,7 @@ use Rattle.osdp_msg.specs.declared.command.Command.{Command}
 use Rattle.osdp_msg.specs.declared.fault.MsgFault.{MsgFault}
 use Rattle.osdp_msg.specs.declared.nak.NakReason.TheVariants.{SecurityBlock, UnexpectedSequence}
 use Rattle.osdp_msg.specs.declared.reply.Reply.{Reply}
-use Rattle.osdp_msg.specs.declared.reply.Reply.TheVariants.{Ack, Nak, PdId, PdCap, LocalState, Inputs, Outputs, Readers, Raw, Formatted, Keypad, Com, Busy, MakerReply}
+use Rattle.osdp_msg.specs.declared.reply.Reply.TheVariants.{Ack, Busy}
 use Rattle.osdp_reader.specs.declared.handler.Answer.{Answer}
 use Rattle.osdp_reader.specs.declared.kind.Kind.{Kind}
 use Rattle.osdp_reader.specs.declared.kind.Kind.TheVariants as kind
@@ -21,19 +21,7 @@ use Rattle.osdp_device.proofs.laws.refusals_are_naks.Goals as goal
 -- the code of a reply is the sixth byte of its packet
 by_code : (p : Packet) (sequence : ℕ) (reply : Reply) → is_nak (spelling (reply_packet p sequence reply)) ≡ is_refusal reply
 by_code p sequence Ack = refl
-by_code p sequence (Nak n) = refl
-by_code p sequence (PdId i) = refl
-by_code p sequence (PdCap c) = refl
-by_code p sequence (LocalState s) = refl
-by_code p sequence (Inputs states) = refl
-by_code p sequence (Outputs states) = refl
-by_code p sequence (Readers states) = refl
-by_code p sequence (Raw r) = refl
-by_code p sequence (Formatted f) = refl
-by_code p sequence (Keypad k) = refl
-by_code p sequence (Com c) = refl
-by_code p sequence Busy = refl
-by_code p sequence (MakerReply m) = refl
+by_code p sequence _ = refl
 
 said_so : (p : Packet) (sequence : ℕ) (said reply : Reply) → Some said ≡ Some reply
     → is_nak (bytes_of (Some (reply_packet p sequence said))) ≡ is_refusal reply
