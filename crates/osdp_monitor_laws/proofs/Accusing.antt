@@ -234,10 +234,8 @@ said_of Answer k p r = answer_of (repeat_reply k p) k p r
 
 -- NAK 1 is accused of nothing
 harmless : (s : Said) (k : Known) (p r : Packet) (x : Accusation) → reply_accused s k p r ≡ Some x → is_damage s ≡ false
-harmless Busy k p r x is = refl
 harmless Damage k p r x is = absurd (none_some x is)
-harmless Refusal k p r x is = refl
-harmless Answer k p r x is = refl
+harmless _ k p r x is = refl
 
 -- .. and what is accused was judged
 abbrev Judged : Bool → Found → Type 0

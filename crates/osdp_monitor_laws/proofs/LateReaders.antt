@@ -67,10 +67,8 @@ answer_same k p q None = refl
 answer_same k p q (Some stored) = refl
 
 reply_same : (k : Known) (p q : Packet) (s : Said) → reply_accused s (unreplied k) p q ≡ reply_accused s k p q
-reply_same k p q Busy = refl
-reply_same k p q Damage = refl
-reply_same k p q Refusal = refl
 reply_same k p q Answer = answer_same k p q (repeat_reply k p)
+reply_same k p q _ = refl
 
 -- one more reply where one is owed is judged as the first one
 same_accused : (k : Known) (p q : Packet) → (k.replied ≡ true → is_owed k ≡ true) → reader_accused (unreplied k) p q ≡ None → reader_accused k p q ≡ None

@@ -136,12 +136,10 @@ first_unanswered k p (Some old) first =
 
 reply_unanswered : (s : Said) (k : Known) (p x : Packet) → k.answered ≡ false → (x.sequence ≢ p.sequence) ⊎ (s ≢ Answer)
     → (after_reply_of s k p x).answered ≡ false
-reply_unanswered Busy k p x none other = none
-reply_unanswered Damage k p x none other = none
-reply_unanswered Refusal k p x none other = none
 reply_unanswered Answer k p x none (inl other) =
     by_number (λ j. j.answered ≡ false) (is_some (repeat_reply k p)) p.sequence k x (λ own. absurd (other own)) (λ _. none)
 reply_unanswered Answer k p x none (inr other) = absurd (other refl)
+reply_unanswered _ k p x none other = none
 
 pub unanswered_step : (a : ℕ) (p : Packet) → p.reply ≡ false → (line : Knowledge) (x : Packet) → IsUnanswered p (line.devices a)
     → (x.address ≡ a → LeavesUnanswered p x) → IsRemembered a (PacketItem x) line → IsUnanswered p ((after_packet line x).devices a)

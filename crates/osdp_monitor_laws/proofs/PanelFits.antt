@@ -230,9 +230,6 @@ module _ (reached : Bool) (k : Known) where
 
     hear_in : (state : State) → s.state ≡ state → ((x : Exchange) → IsOut reached k (frame s.number s.config x) → IsTaken s.number s.config p x)
         → HearFits s (hears_in state p.sequence (meaning_of p) s)
-    hear_in Closed is taken = ignored s fits
-    hear_in (Quiet until) is taken = ignored s fits
-    hear_in (Idle due) is taken = ignored s fits
     hear_in (Waiting until sends o) is taken =
         let out : IsOut reached k (frame s.number s.config o.exchange) = subst (λ state. FitsIn state s.number s.config reached k) is fits in
         cond_both (is_numbered p.sequence (meaning_of p) s) (waiting_hears (meaning_of p) sends o s) (ignores s) (HearFits s)
@@ -241,6 +238,7 @@ module _ (reached : Bool) (k : Known) where
         let out : IsOut reached k (frame s.number s.config o.exchange) = subst (λ state. FitsIn state s.number s.config reached k) is fits in
         cond_both (is_numbered p.sequence (meaning_of p) s) (pausing_hears (meaning_of p) o s) (ignores s) (HearFits s)
         (λ number. pausing_fits (meaning_of p) o refl number (taken o.exchange out)) (λ _. ignored s fits)
+    hear_in _ is taken = ignored s fits
 
   pub hear_fits : (p : Packet) (now : ℕ) (s : Session) → Fits s reached k
       → (is_from_reader p s ≡ true → (x : Exchange) → IsOut reached k (frame s.number s.config x) → IsTaken s.number s.config p x)

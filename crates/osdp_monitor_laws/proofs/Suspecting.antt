@@ -9,7 +9,7 @@ use Rattle.osdp_frame.specs.Reading.{RunItem, PacketItem, SkippedItem, RefusedIt
 use Rattle.osdp_monitor.specs.declared.accusation.Accusation.TheVariants.{NotAnswered}
 use Rattle.osdp_monitor.specs.declared.found.Notice.TheVariants.{Unanswered, Unsure}
 use Rattle.osdp_monitor.specs.declared.said.Said.{Said}
-use Rattle.osdp_monitor.specs.declared.said.Said.TheVariants.{Busy, Damage, Refusal, Answer}
+use Rattle.osdp_monitor.specs.declared.said.Said.TheVariants.{Answer}
 use Rattle.osdp_monitor.specs.Known.{Known, same_packet}
 use Rattle.osdp_monitor.specs.Line.{Knowledge, after_item, after_items, after_packet, found_in, no_knowledge, notice_if, notice_in_sent}
 use Rattle.osdp_monitor.specs.Panel.{after_another, after_copy, after_sent, is_doubt, is_first_doubt, is_missed, keeps_number, left_waiting, panel_accused, still_suspected, suspected_for}
@@ -100,10 +100,8 @@ certain_less k old p last none =
     (λ _. refl) (λ _. ap (λ o. still_suspected o k p) last ∙ cond-false (is_doubt old k.answered p) suspected_for (k.suspected - 1) none)
 
 reply_less : (s : Said) (k : Known) (p x : Packet) → (after_reply_of s k p x).suspected ≡ k.suspected
-reply_less Busy k p x = refl
-reply_less Damage k p x = refl
-reply_less Refusal k p x = refl
 reply_less Answer k p x = by_number (λ j. j.suspected ≡ k.suspected) (is_some (repeat_reply k p)) p.sequence k x (λ _. refl) (λ _. refl)
+reply_less _ k p x = refl
 
 step : (a : ℕ) (line : Knowledge) (x : Packet) → IsAsked (line.devices a) → IsRemembered a (PacketItem x) line → IsInNoDoubt a (PacketItem x) line
     → IsLess (line.devices a).suspected (cond (is_to a (PacketItem x)) 1 0) ((after_packet line x).devices a)
