@@ -153,11 +153,8 @@ wait_open k p number wait s order zero =
     by_said said s zero = tt
 
 online_open : (k : Known) (p : Packet) (number wait : ℕ) (s : Sequel) → s ≢ Next → IsFine (last_judged rule.Online k p number s wait)
-online_open k p number wait Again other = fine_both k.answered Nothing Nothing tt tt
-online_open k p number wait Anew other = fine_both k.answered Nothing Nothing tt tt
-online_open k p number wait Altered other = fine_both k.answered Nothing Nothing tt tt
 online_open k p number wait Next other = absurd (other refl)
-online_open k p number wait Out other = fine_both k.answered Nothing Nothing tt tt
+online_open k p number wait _ other = fine_both k.answered Nothing Nothing tt tt
 
 -- a packet to the device follows the last one so that no rule is broken
 open_by : (aspect : Aspect) (address : ℕ) (k : Known) (q : Packet) (wait : ℕ) → q.reply ≡ false
