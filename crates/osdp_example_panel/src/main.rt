@@ -58,15 +58,15 @@ fn turn(
     if let Some(unsent) = panel.turn(bytes, now, &mut turn) {
         send(rt, unsent.bytes(&turn))?;
     }
-    for told in [&turn.heard, &turn.ticked] {
-        let Some((_, report)) = told.read() else {
+    for part in [&turn.heard, &turn.ticked] {
+        let Some((_, report)) = part.report.read() else {
             continue;
         };
         println!(rt; "report {report:?}")?;
         door.heed(rt, &report, now)?;
         // a card that may have been told before makes no second order
         if let Report::Event(Event::Raw(card)) = &report
-            && !turn.maybe_again
+            && !part.maybe_again
             && door.may_order()
             && may_enter(card)
         {

@@ -22,3 +22,5 @@ mod line;
 #[cfg(test)]
 mod packets;
 pub mod panel;
+#[cfg(test)]
+mod told_again;

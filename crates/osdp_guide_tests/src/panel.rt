@@ -75,9 +75,9 @@ pub fn panel_turn(
     turn: &mut Turn,
 ) -> Option<Unsent> {
     let unsent = panel.turn(bytes, now, turn);
-    for told in [&turn.heard, &turn.ticked] {
-        if let Some((_, report)) = told.read() {
-            decide(panel, door, &report, turn.maybe_again, now);
+    for part in [&turn.heard, &turn.ticked] {
+        if let Some((_, report)) = part.report.read() {
+            decide(panel, door, &report, part.maybe_again, now);
         }
     }
     unsent

@@ -1,2 +1,3 @@
+mod Marking
 mod Moments
 pub mod Ordering

@@ -15,7 +15,9 @@
 //!     if let Some(unsent) = panel.turn(&buffer[..count], clock.now(), &mut turn) {
 //!         .. unsent.bytes(&turn) is written, all of it, and flushed ..
 //!     }
-//!     for told in [&turn.heard, &turn.ticked] { if let Some((entry, report)) = told.read() { .. the panel's own code .. } }
+//!     for part in [&turn.heard, &turn.ticked] {
+//!         if let Some((entry, report)) = part.report.read() { .. the panel's own code, which looks at part.maybe_again before it opens for a card .. }
+//!     }
 //! }
 //! ```
 //!
@@ -27,9 +29,11 @@
 
 pub mod laws;
 mod panel;
+mod turn_report;
 mod unsent;
 
 ghost use Rattle.std.specs.Prelude.{◌≡◌, [], None, false};
+ghost use Rattle.osdp_panel.specs.Turns.{brought_nothing};
 
 pub use osdp_bus::{Bus, BusConfig, BusFault, EntryNumber, Told};
 pub use osdp_controller::{LostCause, Report};
@@ -40,22 +44,20 @@ pub use osdp_msg::{
     Reply, Room, Spelling, Text,
 };
 pub use panel::Panel;
+pub use turn_report::TurnReport;
 pub use unsent::Unsent;
 
 /// What a turn of the loop came to.
 #[derive(Debug, Drop)]
 pub struct Turn {
-    /// What the bytes brought, with the entry of the device that it is about.
-    pub heard: Told,
-    /// Whether that is an event which may have been reported before, as the last one of its entry before the session under way. The card or key that it tells may be
-    /// one that an order was given for already.
-    pub maybe_again: bool,
+    /// What the bytes brought.
+    pub heard: TurnReport,
     /// Whether a burst is to be written to the port.
     pub sends: bool,
     /// That burst; else the one of a turn before.
     pub burst: Burst,
-    /// What the moment brought: where it is a report, nothing is to be written.
-    pub ticked: Told,
+    /// What the moment brought: where it is a report, nothing is to be written. It may be an event too, since a moment can end a run of bytes.
+    pub ticked: TurnReport,
     /// The moment of the next turn, if no bytes come before; one that has passed already asks for it at once. None where nothing is to be
     /// done before bytes come or the panel's own code calls the bus.
     pub sleep_until: Option<u64>,
@@ -64,14 +66,13 @@ pub struct Turn {
 impl Turn {
     /// Nothing came of it, and nothing is to be done.
     pub fn new() -> Turn
-        ensures { result ≡ record { heard = None; maybe_again = false; sends = false; burst = record { items = [] }; ticked = None; sleep_until = None } }
+        ensures { result ≡ record { heard = brought_nothing; sends = false; burst = record { items = [] }; ticked = brought_nothing; sleep_until = None } }
     {
         Turn {
-            heard: Told::new(),
-            maybe_again: false,
+            heard: TurnReport::new(),
             sends: false,
             burst: Burst::new(),
-            ticked: Told::new(),
+            ticked: TurnReport::new(),
             sleep_until: None,
         }
     }

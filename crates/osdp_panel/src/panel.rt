@@ -1,19 +1,19 @@
 //! A panel, whose turns write into what its program has.
 
 ghost use Rattle.std.specs.Prelude.{◌≡◌, ◌↔◌, IfErr, IsSome, IsTrue, None, OnOk, Some, false, is_some, length, option_map, true};
-ghost use Rattle.osdp_bus.specs.Buses.{device_of, is_maybe_again};
+ghost use Rattle.osdp_bus.specs.Buses.{device_of};
 ghost use Rattle.osdp_bus.specs.Deadlines.{IsDeadline};
 ghost use Rattle.osdp_bus.specs.Entries.{address_of};
-ghost use Rattle.osdp_bus.specs.Machine.{after_retarget_at, after_next_report, begin_refusal_at, changed_unless, retarget_refusal_at, unless_refused};
+ghost use Rattle.osdp_bus.specs.Machine.{after_retarget_at, begin_refusal_at, changed_unless, retarget_refusal_at, unless_refused};
 ghost use Rattle.osdp_controller.specs.Lent.{IsWritten};
 ghost use Rattle.osdp_controller.specs.States.{is_closed};
 ghost use Rattle.osdp_orders.specs.Orders.{AddEnds, after_begin, after_submit, after_withdraw, is_taken_back, submit_refusal, waiting, withdrawal};
 ghost use Rattle.osdp_panel.specs.Panels.{NewEnds};
-ghost use Rattle.osdp_panel.specs.Turns.{after_panel_turn, heard_in, ticked_in, ticks_panel};
+ghost use Rattle.osdp_panel.specs.Turns.{after_panel_turn, brought_by_bytes, brought_by_moment, ticked_in};
 
 use crate::Turn;
 use crate::unsent::Unsent;
-use osdp_bus::{Bus, BusConfig, BusFault, EntryNumber, Told};
+use osdp_bus::{Bus, BusConfig, BusFault, EntryNumber};
 use osdp_frame::Address;
 use osdp_msg::Command;
 use osdp_orders::Orders;
@@ -127,18 +127,16 @@ impl Panel {
     pub fn turn(&mut self, bytes: &[u8], now: u64, turn: &mut Turn) -> Option<Unsent>
         ensures unsent { IsSome result ↔ IsTrue turn.new.sends }
         ensures panel { self.new ≡ after_panel_turn bytes.now now self.old }
-        ensures heard { turn.new.heard ≡ (heard_in bytes.now now self.old.bus).devices.report }
-        ensures maybe_again { turn.new.maybe_again ≡ is_maybe_again (heard_in bytes.now now self.old.bus) }
+        ensures heard { turn.new.heard ≡ brought_by_bytes bytes.now now self.old }
         ensures sent { turn.new.sends ≡ is_some (ticked_in bytes.now now self.old.bus).sent }
         ensures burst { IsWritten (ticked_in bytes.now now self.old.bus).sent turn.old.burst.items turn.new.burst.items }
-        ensures ticked { turn.new.ticked ≡ (ticks_panel bytes.now now self.old).bus.devices.report }
+        ensures ticked { turn.new.ticked ≡ brought_by_moment bytes.now now self.old }
         ensures sleep_until { IsDeadline self.new.bus turn.new.sleep_until }
     {
         self.bus.on_bytes(bytes, now);
-        turn.maybe_again = self.bus.is_maybe_again();
-        take_report(&mut self.bus, &mut turn.heard);
+        turn.heard.take(&mut self.bus);
         turn.sends = self.orders.tick(&mut self.bus, now, &mut turn.burst);
-        take_report(&mut self.bus, &mut turn.ticked);
+        turn.ticked.take(&mut self.bus);
         turn.sleep_until = self.bus.next_deadline();
         Unsent::of(turn)
     }
@@ -177,16 +175,4 @@ impl Panel {
     {
         self.bus.is_closed(entry)
     }
-}
-
-/// Takes the report of a bus that waits into a place of its own.
-fn take_report(bus: &mut Bus, place: &mut Told)
-    ensures report { place.new ≡ bus.old.devices.report }
-    ensures bus { bus.new ≡ after_next_report bus.old }
-{
-    match bus.report() {
-        Some((entry, report)) => place.keep(entry, &report),
-        None => place.clear(),
-    }
-    bus.settle();
 }

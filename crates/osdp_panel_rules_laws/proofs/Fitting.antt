@@ -184,9 +184,6 @@ module _ (Here : Type 0) (sent : Option Packet) (k : Known) where
         unread_fits o.exchange code s (rest_after (Unreadable code) o.exchange says tt (numbered p s (Unreadable code) refl number) out) fits
 
     hear_in : (state : State) → s.state ≡ state → HearFits s (hears_in state p.sequence (meaning_of p) s)
-    hear_in Closed is = ignored s fits
-    hear_in (Quiet until) is = ignored s fits
-    hear_in (Idle due) is = ignored s fits
     hear_in (Waiting until sends o) is =
         cond_both (is_numbered p.sequence (meaning_of p) s) (waiting_hears (meaning_of p) sends o s) (ignores s) (HearFits s)
         (λ number. waiting_fits (meaning_of p) sends o refl number (λ here. subst (λ state. FitsIn state s.number s.config sent k) is (fits here)))
@@ -195,6 +192,7 @@ module _ (Here : Type 0) (sent : Option Packet) (k : Known) where
         cond_both (is_numbered p.sequence (meaning_of p) s) (pausing_hears (meaning_of p) o s) (ignores s) (HearFits s)
         (λ number. pausing_fits (meaning_of p) o refl number (λ here. subst (λ state. FitsIn state s.number s.config sent k) is (fits here)))
         (λ _. ignored s fits)
+    hear_in _ is = ignored s fits
 
   pub hear_fits : (p : Packet) (now : ℕ) (s : Session) → (Here → Fits s sent k) → (Here → is_from_reader p s ≡ true → AreTaken p s)
       → HearFits (seen now s) (hears p now s)

@@ -15,7 +15,7 @@ use Rattle.osdp_panel_rules.specs.declared.sequel.Sequel.TheVariants.{Again, Ane
 use Rattle.osdp_rules.specs.Packets.{same_packet}
 use Rattle.osdp_rules.specs.declared.finding.Finding.TheVariants.{Nothing, Kept, Either, Broken}
 use Rattle.osdp_rules_laws.proofs.Fine.{IsFine, fine_both, fine_true, fine_unbroken}
-use Rattle.osdp_rules_laws.proofs.Same.{packet_is}
+use Rattle.osdp_rules.proofs.Comparing.{packet_is}
 use Rattle.osdp_panel_rules_laws.proofs.Suiting.{IsInOrder, again, judged_fine, last_fine, next_above_zero, next_differs, next_in_order, zero_in_order}
 use Rattle.osdp_panel_rules_laws.specs.Laws.{AnsweredBreaksNothing, CopyBreaksNothing, FindsAltered, FindsHaste, FindsLateness, FindsOutOfTurn, FindsReply, FindsUnanswered, FirstBreaksNothing, Follows, LooksAt, ZeroBreaksNothing}
 
@@ -153,11 +153,8 @@ wait_open k p number wait s order zero =
     by_said said s zero = tt
 
 online_open : (k : Known) (p : Packet) (number wait : ℕ) (s : Sequel) → s ≢ Next → IsFine (last_judged rule.Online k p number s wait)
-online_open k p number wait Again other = fine_both k.answered Nothing Nothing tt tt
-online_open k p number wait Anew other = fine_both k.answered Nothing Nothing tt tt
-online_open k p number wait Altered other = fine_both k.answered Nothing Nothing tt tt
 online_open k p number wait Next other = absurd (other refl)
-online_open k p number wait Out other = fine_both k.answered Nothing Nothing tt tt
+online_open k p number wait _ other = fine_both k.answered Nothing Nothing tt tt
 
 -- a packet to the device follows the last one so that no rule is broken
 open_by : (aspect : Aspect) (address : ℕ) (k : Known) (q : Packet) (wait : ℕ) → q.reply ≡ false

@@ -17,7 +17,7 @@ use Rattle.osdp_panel_rules.specs.declared.known.Known.{Known}
 use Rattle.osdp_panel_rules.specs.declared.said.Said.{Said}
 use Rattle.osdp_panel_rules.specs.declared.said.Said.TheVariants.{Silence, Astray, Busy, Damage, Refusal}
 use Rattle.osdp_rules.specs.Packets.{same_packet}
-use Rattle.osdp_rules_laws.proofs.Same.{is_packet, packet_is}
+use Rattle.osdp_rules.proofs.Comparing.{is_packet, packet_is}
 use Rattle.osdp_panel_rules_laws.proofs.Running.{answers, answers_last, none_some, same_some}
 use Rattle.osdp_panel_rules_laws.specs.Laws.{Answers, IsAnswer, IsFrom, KnowsAnswers, KnowsBusyWithZero, KnowsCopies, KnowsNewPackets, KnowsNoOthers, KnowsWhatWasSaid, Puts}
 

@@ -136,9 +136,7 @@ module _ (address : ℕ) where
       → or_no_device (refused_unless_closed state) to ≡ None → FitsIn state number config sent k
   retargeted Closed to number config sent k none = tt
   retargeted (Quiet until) to number config sent k none = tt
-  retargeted (Idle due) to number config sent k none = absurd cc
-  retargeted (Waiting until sends o) to number config sent k none = absurd cc
-  retargeted (Pausing until o) to number config sent k none = absurd cc
+  retargeted _ to number config sent k none = absurd cc
 
   -- the panel hears a packet: of the device, who spoke to what it sent last, or of another
   heard_holds : (p : Packet) (now : ℕ) (m : Machine) (sent : Option Packet) (k : Known) → HoldsOf m sent k

@@ -15,7 +15,7 @@ use Rattle.osdp_panel_rules.specs.declared.sequel.Sequel.TheVariants.{Again, Ane
 use Rattle.osdp_rules.specs.Packets.{same_packet}
 use Rattle.osdp_rules.specs.declared.finding.Finding.TheVariants.{Nothing, Kept, Either}
 use Rattle.osdp_rules_laws.proofs.Fine.{IsFine, fine_both, fine_true}
-use Rattle.osdp_rules_laws.proofs.Same.{is_packet}
+use Rattle.osdp_rules.proofs.Comparing.{is_packet}
 use Rattle.osdp_panel_rules_laws.specs.Laws.{needs_clock}
 
 -- a packet follows the last one in order
@@ -104,25 +104,16 @@ open_fine aspect answered said p number Out order = absurd order
 
 turn_fine : (aspect : Aspect) (k : Known) (p : Packet) (number wait : ℕ) (s : Sequel) → aspect ≡ rule.Turn → IsInOrder k.answered s
     → IsFine (last_judged rule.Turn k p number s wait)
-turn_fine aspect k p number wait Again is order = tt
-turn_fine aspect k p number wait Anew is order = tt
-turn_fine aspect k p number wait Altered is order = tt
-turn_fine aspect k p number wait Next is order = tt
 turn_fine aspect k p number wait Out is order = absurd order
+turn_fine aspect k p number wait _ is order = tt
 
 copy_fine : (k : Known) (p : Packet) (number wait : ℕ) (s : Sequel) → IsInOrder k.answered s → IsFine (last_judged rule.Copy k p number s wait)
-copy_fine k p number wait Again order = tt
-copy_fine k p number wait Anew order = tt
 copy_fine k p number wait Altered order = absurd order
-copy_fine k p number wait Next order = tt
-copy_fine k p number wait Out order = tt
+copy_fine k p number wait _ order = tt
 
 taken_fine : (s : Sequel) → IsFine (taken_finding s)
 taken_fine Again = tt
-taken_fine Anew = tt
-taken_fine Altered = tt
-taken_fine Next = tt
-taken_fine Out = tt
+taken_fine _ = tt
 
 pub last_fine : (aspect : Aspect) → needs_clock aspect ≡ false → (k : Known) (p : Packet) (number wait : ℕ) (s : Sequel) → IsInOrder k.answered s
     → IsFine (last_judged aspect k p number s wait)

@@ -15,22 +15,14 @@ use Rattle.osdp_site.specs.Sites.{Both, SiteState, acts_first, earlier, earliest
 -- ---- after the end of a session
 
 ended : (pause now : ℕ) (r : Report) (p : PlaceState) → is_end r ≡ true → (heeds pause now r p).begins ≡ Some (after_pause pause now)
-ended pause now (report.Opened id) p is = absurd cc
 ended pause now (report.Moved command answered) p is = refl
 ended pause now (report.Lost cause command) p is = refl
-ended pause now (report.Settled command reply) p is = absurd cc
-ended pause now (report.Event event) p is = absurd cc
-ended pause now (report.PollAnswered reply) p is = absurd cc
-ended pause now (report.Unread command code) p is = absurd cc
+ended pause now _ p is = absurd cc
 
 still : (pause now : ℕ) (r : Report) (p : PlaceState) → is_end r ≡ false → (heeds pause now r p).begins ≡ p.begins
-still pause now (report.Opened id) p unlike = refl
 still pause now (report.Moved command answered) p unlike = absurd cc
 still pause now (report.Lost cause command) p unlike = absurd cc
-still pause now (report.Settled command reply) p unlike = refl
-still pause now (report.Event event) p unlike = refl
-still pause now (report.PollAnswered reply) p unlike = refl
-still pause now (report.Unread command code) p unlike = refl
+still pause now _ p unlike = refl
 
 stays : (pause : ℕ) (hs : List (Report × ℕ)) (p : PlaceState) → All NoEnd hs → (heeds_all pause hs p).begins ≡ p.begins
 stays pause [] p none = refl
@@ -47,11 +39,6 @@ begins_if : (due : Bool) (entry now : ℕ) (x : Acted) → is_due now x.place �
     → is_due now (if due then record { place = record x.place { begins = None }; panel = begins_anew entry now x.panel } else x).place ≡ false
 begins_if true entry now x is = refl
 begins_if false entry now x is = is
-
-same_if : (online : Bool) (entry : ℕ) (x : Acted)
-    → (if online then submitted x.place (submits entry x.place.wanted x.panel) else x).place.begins ≡ x.place.begins
-same_if true entry x = refl
-same_if false entry x = refl
 
 refreshed_if : (online : Bool) (entry now : ℕ) (x y : Acted) → y.place.begins ≡ x.place.begins → is_due now x.place ≡ false
     → is_due now (if online then y else x).place ≡ false

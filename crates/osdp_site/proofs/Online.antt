@@ -22,39 +22,24 @@ went_offline now (Offline since) is = absurd cc
 
 opened : (pause now : ℕ) (r : Report) (p : PlaceState) → is_opening r ≡ true → is_online p.presence ≡ false → (heeds pause now r p).presence ≡ Online now
 opened pause now (report.Opened id) p is off = came_online now p.presence off
-opened pause now (report.Moved command answered) p is off = absurd cc
-opened pause now (report.Lost cause command) p is off = absurd cc
-opened pause now (report.Settled command reply) p is off = absurd cc
-opened pause now (report.Event event) p is off = absurd cc
-opened pause now (report.PollAnswered reply) p is off = absurd cc
-opened pause now (report.Unread command code) p is off = absurd cc
+opened pause now _ p is off = absurd cc
 
 ended : (pause now : ℕ) (r : Report) (p : PlaceState) → is_end r ≡ true → is_online p.presence ≡ true → (heeds pause now r p).presence ≡ Offline now
-ended pause now (report.Opened id) p is on = absurd cc
 ended pause now (report.Moved command answered) p is on = went_offline now p.presence on
 ended pause now (report.Lost cause command) p is on = went_offline now p.presence on
-ended pause now (report.Settled command reply) p is on = absurd cc
-ended pause now (report.Event event) p is on = absurd cc
-ended pause now (report.PollAnswered reply) p is on = absurd cc
-ended pause now (report.Unread command code) p is on = absurd cc
+ended pause now _ p is on = absurd cc
 
 online_still : (pause now t : ℕ) (r : Report) (p : PlaceState) → is_end r ≡ false → p.presence ≡ Online t → (heeds pause now r p).presence ≡ Online t
 online_still pause now t (report.Opened id) p unlike is = ap (goes_online now) is
 online_still pause now t (report.Moved command answered) p unlike is = absurd cc
 online_still pause now t (report.Lost cause command) p unlike is = absurd cc
-online_still pause now t (report.Settled command reply) p unlike is = is
-online_still pause now t (report.Event event) p unlike is = is
-online_still pause now t (report.PollAnswered reply) p unlike is = is
-online_still pause now t (report.Unread command code) p unlike is = is
+online_still pause now t _ p unlike is = is
 
 offline_still : (pause now t : ℕ) (r : Report) (p : PlaceState) → is_opening r ≡ false → p.presence ≡ Offline t → (heeds pause now r p).presence ≡ Offline t
 offline_still pause now t (report.Opened id) p unlike is = absurd cc
 offline_still pause now t (report.Moved command answered) p unlike is = ap (goes_offline now) is
 offline_still pause now t (report.Lost cause command) p unlike is = ap (goes_offline now) is
-offline_still pause now t (report.Settled command reply) p unlike is = is
-offline_still pause now t (report.Event event) p unlike is = is
-offline_still pause now t (report.PollAnswered reply) p unlike is = is
-offline_still pause now t (report.Unread command code) p unlike is = is
+offline_still pause now t _ p unlike is = is
 
 stays_online : (pause t : ℕ) (hs : List (Report × ℕ)) (p : PlaceState) → All NoEnd hs → p.presence ≡ Online t → (heeds_all pause hs p).presence ≡ Online t
 stays_online pause t [] p none is = is

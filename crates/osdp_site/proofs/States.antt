@@ -44,12 +44,7 @@ wants_of (Ok s) c p is all =
 
 heeds_pure : (pause now : ℕ) (r : Report) (p : PlaceState) → Pure p.wanted → Pure (heeds pause now r p).wanted
 heeds_pure pause now (report.Opened id) p all = all
-heeds_pure pause now (report.Moved command answered) p all = all
-heeds_pure pause now (report.Lost cause command) p all = all
-heeds_pure pause now (report.Settled command reply) p all = all
-heeds_pure pause now (report.Event event) p all = all
-heeds_pure pause now (report.PollAnswered reply) p all = all
-heeds_pure pause now (report.Unread command code) p all = all
+heeds_pure pause now _ p all = all
 
 begun_if : (due : Bool) (entry now : ℕ) (x : Acted)
     → (if due then record { place = record x.place { begins = None }; panel = begins_anew entry now x.panel } else x).place.wanted ≡ x.place.wanted

@@ -11,8 +11,8 @@
 //!     .. waits for bytes, at most until the earlier of panel.next_deadline() and site.next_deadline() ..
 //!     site.act(&mut panel, now);
 //!     if let Some(unsent) = panel.turn(bytes, now, &mut turn) { .. it goes out .. }
-//!     for told in [&turn.heard, &turn.ticked] {
-//!         let Some((entry, report)) = told.read() else { continue };
+//!     for part in [&turn.heard, &turn.ticked] {
+//!         let Some((entry, report)) = part.report.read() else { continue };
 //!         if let Some(presence) = site.heed(entry, &report, now) { .. it is online or offline from now on .. }
 //!     }
 //! }

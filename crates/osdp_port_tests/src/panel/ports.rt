@@ -64,12 +64,12 @@ impl Counts {
         if turn.sends {
             self.frames = self.frames.saturating_add(1);
         }
-        match turn.heard.read() {
+        match turn.heard.report.read() {
             Some((_, Report::Opened(_))) => self.opened = self.opened.saturating_add(1),
             Some(_) => self.others = self.others.saturating_add(1),
             None => {}
         }
-        if turn.ticked.is_some() {
+        if turn.ticked.report.is_some() {
             self.others = self.others.saturating_add(1);
         }
     }

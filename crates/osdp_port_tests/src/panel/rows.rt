@@ -67,8 +67,8 @@ fn turns(rt: &impl Abort, panel: &mut Panel, turn: &mut Turn, row: &str) {
         assert!(rt; !unsent.bytes(turn).is_empty());
     }
     is_written(rt, turn, written);
-    is_told(rt, &turn.heard, heard);
-    is_told(rt, &turn.ticked, ticked);
+    is_told(rt, &turn.heard.report, heard);
+    is_told(rt, &turn.ticked.report, ticked);
     assert_eq!(rt; turn.sleep_until, sleeps.parse::<u64>().ok());
 }
 
