@@ -1,6 +1,5 @@
 -- What a frame does to the reader: which line of its table it meets, and what the reader keeps.
-use Rattle.std.proofs.Common.{◌≡◌, ◌≢◌, ◌<◌, ℕ, Bool, false, not, cond, eqb, List, [], ◌∷◌, ◌++◌, drop, take, Option, Some, None, refl, sym, subst, ap, ◌∙◌, inl, inr, arith, append_assoc}
-use Rattle.std.proofs.lemmas.List.{append-nil}
+use Rattle.std.proofs.Common.{◌≡◌, ◌≢◌, ◌<◌, ℕ, Bool, false, not, cond, eqb, List, [], ◌∷◌, ◌++◌, drop, take, Option, Some, None, refl, sym, subst, ap, ◌∙◌, inl, inr, arith}
 use Rattle.std.specs.Prelude.{◌||◌, is_some, option_to_list}
 use Rattle.std.proofs.lemmas.Bool.Decides.{eqb_tells}
 use Rattle.osdp_frame.specs.Packet.{next_sequence}
@@ -21,10 +20,8 @@ use Rattle.osdp_reader.specs.State.{ReaderState}
 use Rattle.osdp_reader_laws.proofs.Sequences.{same_own}
 use Rattle.osdp_reader.specs.Table.{answer_to, answered, event_or_answer, kind_by_number, kind_of, moved}
 use Rattle.osdp_link_laws.specs.Link.{Account, given_to, taken_command}
-use Rattle.osdp_link_laws.proofs.Lines.{both}
 use Rattle.osdp_link_laws.proofs.Numbers.{is_true, is_false, next_above_zero, next_differs}
-use Rattle.osdp_link_laws.proofs.Stages.{Before, EventsAre, HasActed, Offers, OffersEvent, frame, shown}
-use Rattle.osdp_link_laws.proofs.Without.{without_keeps}
+use Rattle.osdp_link_laws.proofs.Stages.{HasActed, Offers, OffersEvent, frame, shown}
 
 module _ (fixed : ControllerConfig) {H : Type 0} where
   -- a frame for another address
@@ -83,14 +80,6 @@ module _ (fixed : ControllerConfig) {H : Type 0} where
             (record { here = λ e. absurd (other.1 (e ∙ sym here)); offer = acted.offer })
       ]
 
-  pub moved_keeps : (P : ReaderConfig → Queue → H → Type 0) → (to : Option ℕ) (r : ReaderState H)
-      → ((address : ℕ) → P (record r.config { address = address }) r.queue r.handler) → P r.config r.queue r.handler
-      → P (moved to r).config (moved to r).queue (moved to r).handler
-  moved_keeps P None r elsewhere here = here
-  moved_keeps P (Some address) r elsewhere here =
-      both (λ s. P s.config s.queue s.handler) (eqb address r.config.address) r
-      (record r { config = record r.config { address = address }; last = None; stored = None }) here (elsewhere address)
-
   -- a POLL: the front is told and offered, or nothing is
   pub polled : (events : List Event) (capacity room : ℕ) (ever : Bool) (answer_of : H → Command → Answer) (after : H → Command → H) (config : ReaderConfig) (handler : H)
       → let told = event_for command.Poll events in
@@ -124,28 +113,15 @@ pub taken_is : (c : Command) (said : Option Reply) (front : List Event) (t : Acc
 taken_is command.Poll said front t other = absurd (other refl)
 taken_is c said front t other = refl
 
--- an event that was reported leaves when the next number is taken
-abbrev pub Leaves : List Event → Queue → Account → Type 0
-Leaves front q t = EventsAre Before front q.events t → EventsAre Before [] (released q).events t
+-- the event that an answer told leaves the queue when the next number is taken
+leaves_none : (q : Queue) → q.offered ≡ false → q.events ≡ (released q).events
+leaves_none q off = sym (ap (λ b. cond b (drop 1 q.events) q.events) off)
 
-kept : (t : Account) (q : Queue) → q.offered ≡ false → Leaves [] q t
-kept t q off are = subst (λ b. EventsAre Before [] (cond b (drop 1 q.events) q.events) t) (sym off) are
+leaves_event : (told : Option Event) (q : Queue) → OffersEvent told q → q.events ≡ option_to_list told ++ (released q).events
+leaves_event None q off = leaves_none q off
+leaves_event (Some e) q (on, ever, (rest, is)) = is ∙ ap (λ l. e ∷ l) (sym (ap (λ b. cond b (drop 1 q.events) q.events) on ∙ ap (drop 1) is))
 
-released_event : (told : Option Event) (t : Account) (q : Queue) → OffersEvent told q → Leaves (option_to_list told) q t
-released_event None t q off are = kept t q off are
-released_event (Some e) t q (on, ever, (rest, is)) are =
-    let waits : rest ≡ (released q).events =
-    sym (ap (λ b. cond b (drop 1 q.events) q.events) on ∙ ap (drop 1) is) in
-    record {
-      left = are.left ++ e ∷ [];
-      past = are.past ++ e ∷ [];
-      stayed = are.stayed ∙ ap (λ l. are.left ++ l) is ∙ sym (append_assoc are.left (e ∷ []) rest) ∙ ap (λ l. (are.left ++ e ∷ []) ++ l) waits;
-      kept = are.kept ∙ ap (λ l. are.past ++ l) is ∙ sym (append_assoc are.past (e ∷ []) rest) ∙ ap (λ l. (are.past ++ e ∷ []) ++ l) waits;
-      without = without_keeps t.thrown_away are.left are.past (e ∷ []) are.without;
-      reported = are.reported ∙ sym (append-nil (are.past ++ e ∷ []));
-    }
-
-pub released_past : (x : Exchange) (a : Reply) (t : Account) (q : Queue) → Offers x a q → Leaves (shown x a) q t
-released_past Opening a t q off are = kept t q off are
-released_past Polling a t q offers are = released_event (event_in a) t q offers are
-released_past (Asking c) a t q off are = kept t q off are
+pub leaves_shown : (x : Exchange) (a : Reply) (q : Queue) → Offers x a q → q.events ≡ shown x a ++ (released q).events
+leaves_shown Opening a q off = leaves_none q off
+leaves_shown Polling a q offers = leaves_event (event_in a) q offers
+leaves_shown (Asking c) a q off = leaves_none q off

@@ -13,7 +13,7 @@ use Rattle.osdp_controller.specs.declared.config.ControllerConfig.{ControllerCon
 use Rattle.osdp_controller.specs.declared.exchange.Exchange.TheVariants.{Polling}
 use Rattle.osdp_controller.specs.declared.fault.ControllerFault.{ControllerFault}
 use Rattle.osdp_controller.specs.declared.session.Session.{Session}
-use Rattle.osdp_controller.specs.declared.state.State.TheVariants.{Quiet, Idle}
+use Rattle.osdp_controller.specs.declared.state.State.TheVariants.{Closed, Quiet, Idle}
 use Rattle.osdp_frame.specs.Packet.{next_sequence}
 use Rattle.osdp_controller.specs.Exchanges.{exchange_command}
 use Rattle.osdp_reader.specs.Queue.{Queue, event_for, offering, queued, released, lacks_room}
@@ -35,9 +35,11 @@ use Rattle.osdp_link_laws.proofs.Growing.{GoesOn, goes_on}
 use Rattle.osdp_link_laws.proofs.InARow.{assumed}
 use Rattle.osdp_link_laws.proofs.Lines.{each_append, each_map, each_of}
 use Rattle.osdp_link_laws.proofs.Moves.{Premises, not_poll}
-use Rattle.osdp_link_laws.proofs.Once.{bare, fresh}
+use Rattle.osdp_link_laws.proofs.Once.{Goes, fresh}
+use Rattle.osdp_link_laws.proofs.Sessions.{lasts}
+use Rattle.osdp_link_laws.proofs.Accounts.{Accounts}
 use Rattle.osdp_link_laws.proofs.OneHandler.{gives_its_answers}
-use Rattle.osdp_link_laws.proofs.Parts.{At, HoldsAtSomeStage}
+use Rattle.osdp_link_laws.proofs.Parts.{At}
 use Rattle.osdp_link_laws.proofs.Round.{IsIdle, IsStill, goes}
 use Rattle.osdp_link_laws.proofs.Rounds.{idle_exchange, rested_idle}
 use Rattle.osdp_link_laws.proofs.Stages.{Asks, Behind, Each, Fresh, Level, Rest, Restarted, Stage, Waits, number_after}
@@ -68,7 +70,7 @@ module _ (fixed : ControllerConfig) {H : Type 0} (answer_of : H → Command → 
   Given = Premises fixed answer_of after
 
   abbrev Holds : Link H → Type 0
-  Holds l = HoldsAtSomeStage fixed answer_of after l
+  Holds l = Goes fixed answer_of after l
 
   abbrev Idles : Link H → Type 0
   Idles l = IsIdle fixed answer_of after l
@@ -164,21 +166,24 @@ module _ (fixed : ControllerConfig) {H : Type 0} (answer_of : H → Command → 
       let last = run answer_of after (rounds later) m in
       let rest = rounds_make given wait interval short later m next spaced.1 fits.1.1.1 in
       let afterwards = subst (λ k. Made (length later) k.controller.waiting (unreported k) k.account last.account) is rest.1 in
-      let left = left_is w (unreported l) l.reader.queue.capacity l.reader.queue.room (released l.reader.queue).ever_offered b.holds.2.waiting in (
+      let left = left_is w (unreported l) l.reader.queue.capacity l.reader.queue.room (released l.reader.queue).ever_offered b.holds.holds.2.waiting in (
         rest.0,
         made_more (length later) w (unreported l) l.reader l.account last.account
             (subst (λ es. Made (length later) (drop 1 w) es (accounted answer_of after w (unreported l) l.reader l.account) last.account) left afterwards),
       )
 
   -- at rest each command that was taken is settled, and none is told unsettled
-  settled_all : (since : Restarted) (at : Stage) (l : Link H) → At fixed answer_of after since at l → (due : ℕ) → l.controller.session.state ≡ Idle due
-      → (l.account.settled ≡ l.account.given) × (l.account.unsettled ≡ [])
-  settled_all since Fresh l h due idle = absurd (subst (λ st. Waits fixed st l.controller.session) idle h.controller)
-  settled_all since (Behind past x) l h due idle =
-      absurd (subst (λ st. Asks fixed st (number_after past) x l.controller.session) idle h.controller)
-  settled_all since (Level past x a) l h due idle =
-      absurd (subst (λ st. Asks fixed st (number_after past) x l.controller.session) idle h.controller)
-  settled_all since (Rest n x a) l h due idle = (sym (append-nil l.account.settled) ∙ h.account.settled, h.account.unsettled)
+  settled_all : (l : Link H) → Holds l → (due : ℕ) → l.controller.session.state ≡ Idle due → (l.account.settled ≡ l.account.given) × (l.account.unsettled ≡ [])
+  settled_all l held due idle = (
+    by_stage held.holds.0 held.holds.1 held.holds.2 held.accounts,
+    (lasts fixed answer_of after l held (λ closed. let same : Idle due ≡ Closed = sym idle ∙ closed in absurd cc)).0,
+  )
+    where
+      by_stage : (since : Restarted) (at : Stage) → At fixed answer_of after since at l → Accounts since at l → l.account.settled ≡ l.account.given
+      by_stage since Fresh h a = sym (append-nil l.account.settled) ∙ a.orders.settled
+      by_stage since (Behind past x) h a = sym (append-nil l.account.settled) ∙ a.orders.settled
+      by_stage since (Level past x b) h a = absurd (subst (λ st. Asks fixed st (number_after past) x l.controller.session) idle h.controller)
+      by_stage since (Rest n x b) h a = sym (append-nil l.account.settled) ∙ a.orders.settled
 
   as_many : (h : H) (cs : List Command) → length (with_answers answer_of after settings h cs) ≡ length cs
   as_many h [] = refl
@@ -189,7 +194,7 @@ module _ (fixed : ControllerConfig) {H : Type 0} (answer_of : H → Command → 
       → l.account.given ≡ with_answers answer_of after settings handler l.account.taken
       → Made n waiting events (new_account waiting events) l.account → IsInTurn answer_of after settings handler n l.account
   in_turn handler n interval waiting events l b answered made =
-      let all = settled_all b.holds.0 b.holds.1 l b.holds.2 b.idle.idle.0 b.idle.idle.1 in
+      let all = settled_all l b.holds b.idle.idle.0 b.idle.idle.1 in
       let taken : l.account.taken ≡ take n l.account.issued = made.taken ∙ ap (take n) (sym made.issued) in
       let settled = all.0 ∙ answered ∙ ap (with_answers answer_of after settings handler) taken in
       let count = ap length settled ∙ as_many handler (take n l.account.issued) ∙ length-take n l.account.issued in
@@ -293,8 +298,6 @@ module _ (fixed : ControllerConfig) {H : Type 0} (answer_of : H → Command → 
         to_controller = h.line.1;
         account = h.account;
       }) in
-      let held : Holds l =
-      bare fixed answer_of after l (ap (λ (t : Account). t.removed) h.account) (ap (λ (t : Account). t.forgotten) h.account) new.holds in
       let still : IsStill fixed answer_of after l = record {
         to_reader = h.line.0;
         to_controller = h.line.1;
@@ -305,7 +308,7 @@ module _ (fixed : ControllerConfig) {H : Type 0} (answer_of : H → Command → 
       let m = goes answer_of after opening l in
       let interval = s.config.poll_interval in
       let between : IsBetween interval m = record {
-        holds = held_after fixed answer_of after given opening l fits.1.0 held;
+        holds = held_after fixed answer_of after given opening l fits.1.0 new;
         idle = subst Idles (sym is) (record {
           idle = (later_by l.controller.session.config.poll_interval (seen opening (record (seen opening l.controller.session) { number = 0 })), refl);
           still = record {

@@ -16,7 +16,14 @@ use Rattle.osdp_reader.specs.Queue.{lacks_room}
 use Rattle.osdp_link_laws.specs.Link as link
 use Rattle.osdp_link_laws.specs.Link.{Delivered, Delivery, Link, Lost, Move, Queue as QueueEvent, Reopen, Repeated, RestartController, Retarget, SetBusy, Submit, Tick, ToController, ToReader, Withdraw, after_move, run}
 use Rattle.osdp_link_laws.specs.Headline.{MoveFits, MovesFit}
-use Rattle.osdp_link_laws.proofs.Removed.{IsInside}
+
+-- a move that begins no session, withdraws nothing, and leaves the controller as it is or sends something to it
+abbrev pub IsInside : {H : Type 0} → Move H → Type 0
+IsInside (Reopen now) = ⊥
+IsInside Withdraw = ⊥
+IsInside (Retarget address) = ⊥
+IsInside (RestartController config room) = ⊥
+IsInside _ = Unit {0}
 
 -- ticks and frames keep it
 pub record IsKept (P : Session → Type 0) : Type 0 where

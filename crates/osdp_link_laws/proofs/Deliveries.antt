@@ -1,19 +1,20 @@
 -- What holds of a session holds after each packet that comes, or is lost.
-use Rattle.std.proofs.Common.{◌≡◌, ◌⊎◌, ℕ, List, [], ◌∷◌, ◌++◌, Option, Some, refl, sym, subst, ap, ◌∙◌, inl, inr, arith}
+use Rattle.std.proofs.Common.{◌≡◌, ◌⊎◌, ℕ, List, [], ◌∷◌, ◌++◌, Option, Some, None, refl, sym, subst, ap, ◌∙◌, inl, inr, arith}
 use Rattle.std.proofs.lemmas.List.{append-nil}
-use Rattle.std.specs.Prelude.{IfSome, option_to_list}
+use Rattle.std.specs.Prelude.{IfSome}
 use Rattle.osdp_frame.specs.Packet.{Packet, next_sequence}
 use Rattle.osdp_msg.specs.ReplyTable.{ReplyFits}
 use Rattle.osdp_msg.specs.declared.command.Command.{Command}
-use Rattle.osdp_msg.specs.declared.event.Event.{Event}
 use Rattle.osdp_msg.specs.declared.reply.Reply.{Reply}
 use Rattle.osdp_msg.specs.declared.reply.Reply.TheVariants as reply
 use Rattle.osdp_msg.specs.declared.reply_fields.PdId.{PdId}
 use Rattle.osdp_controller.specs.Answers as packets
 use Rattle.osdp_controller.specs.Hearing as controller
-use Rattle.osdp_msg.specs.Events.{event_in}
+use Rattle.osdp_controller.specs.Machine.{Machine}
+use Rattle.osdp_controller.specs.declared.state.State.TheVariants.{Closed}
 use Rattle.osdp_controller.specs.declared.meaning.ReplyMeaning.TheVariants.{NotTaken, NumberRefused, Plain}
 use Rattle.osdp_controller.specs.declared.config.ControllerConfig.{ControllerConfig}
+use Rattle.osdp_controller.specs.declared.report.Report.{Report}
 use Rattle.osdp_controller.specs.declared.session.Session.{Session}
 use Rattle.osdp_controller.specs.declared.exchange.Exchange.{Exchange}
 use Rattle.osdp_controller.specs.declared.exchange.Exchange.TheVariants.{Opening, Polling, Asking}
@@ -24,17 +25,18 @@ use Rattle.osdp_reader.specs.Table as reader
 use Rattle.osdp_reader_laws.specs.Laws.{IsPlain}
 use Rattle.osdp_link_laws.specs.Headline.{SaysWhatFitsIf}
 use Rattle.osdp_link_laws.specs.Link as link
-use Rattle.osdp_link_laws.specs.Link.{Account, Delivered, Delivery, Link, Lost, Repeated, after_report, lost_at}
+use Rattle.osdp_link_laws.specs.Link.{Delivered, Delivery, Link, Lost, Repeated, lost_at}
 use Rattle.osdp_link_laws.specs.Peers.{IsPlainlySaid}
+use Rattle.osdp_link_laws.specs.Refusals.{told_by_front}
 use Rattle.osdp_link_laws.proofs.Advancing.{SaysWell, goes_on, opens}
-use Rattle.osdp_link_laws.proofs.Hearing.{Ignored, Settles, hears_answer, hears_other, hears_refused, hears_resting, settled_by}
+use Rattle.osdp_link_laws.proofs.Coming.{Announces, Controls, HearsTo, Reads, ReadsFront, lost_in, reported_in, settled_in}
+use Rattle.osdp_link_laws.proofs.Hearing.{Ignored, Settles, closed_hears, hears_answer, hears_other, hears_refused, hears_resting}
 use Rattle.osdp_link_laws.proofs.Lines.{each_append, each_map, runs_append, runs_each, each_lost, runs_lost}
 use Rattle.osdp_link_laws.proofs.Moves.{Premises, asked_fits, runs_last}
 use Rattle.osdp_link_laws.proofs.Numbers.{next_above_zero, next_differs}
-use Rattle.osdp_link_laws.proofs.Stages.{Accounts, Acted, After, Asks, Before, Behind, ControllerAt, Each, EventsAre, Fresh, Introduces, IsFrame, IsOldFrame, IsPast, Level, MayRefuse, Never, Now, Past, PastIs, Refuses, Rest, Restarted, Says, SaysOld, Stage, Start, ToControllerAt, ToReaderAt, answer, frame, given_up, given_up_at, number_after, owed, shown}
-use Rattle.osdp_link_laws.proofs.Parts.{At, HoldsAtSomeStage, with_session, with_to_controller, with_to_reader}
-use Rattle.osdp_link_laws.proofs.Since.{events_moved, events_same, past_same}
-use Rattle.osdp_link_laws.proofs.Taking.{heard_again, shows_none}
+use Rattle.osdp_link_laws.proofs.Stages.{Acted, After, Asks, Behind, ControllerAt, Each, Fresh, Introduces, IsFrame, IsOldFrame, IsPast, Level, MayRefuse, Past, Refuses, Rest, Restarted, Says, SaysOld, Stage, Start, ToControllerAt, ToReaderAt, answer, frame, given_up, given_up_at, number_after, pending_at}
+use Rattle.osdp_link_laws.proofs.Parts.{At, HoldsThen, with_session, with_to_controller, with_to_reader}
+use Rattle.osdp_link_laws.proofs.Taking.{HeardAt, heard_again, shows_none}
 
 -- BUSY, a reply that settles, or a refused number
 abbrev pub IsRead : Packet → Type 0
@@ -48,12 +50,20 @@ refusal_fits = record { reason = tt; room = omega arith; detail = λ k. omega ar
 said_plainly : (said : Option Reply) → ((r : Reply) × (said ≡ Some r) × IsPlain r) → IfSome said IsPlain
 said_plainly said (r, is, plain) = subst (λ o. IfSome o IsPlain) (sym is) plain
 
+-- the stage stays
+stays_at : (r : Option Report) (at : Stage) → Announces r [] [] → HearsTo r at at
+stays_at r (Level past x a) none = inl (refl, none)
+stays_at r Fresh none = (refl, none)
+stays_at r (Behind past x) none = (refl, none)
+stays_at r (Rest n x a) none = (refl, none)
+
 module _ (fixed : ControllerConfig) {H : Type 0} (answer_of : H → Command → Answer) (after : H → Command → H) (since : Restarted) where
   abbrev AtStage : Stage → Link H → Type 0
   AtStage at l = At fixed answer_of after since at l
 
-  abbrev AtSomeStage : Link H → Type 0
-  AtSomeStage l = HoldsAtSomeStage fixed answer_of after l
+  -- how far the session has come once this packet is read
+  abbrev HoldsRead : Stage → Packet → Link H → Type 0
+  HoldsRead at p l = HoldsThen fixed answer_of after (Reads answer_of after (reader.kind_of l.reader p) p l.reader since at) (link.reader_gets answer_of after p l)
 
   abbrev Assumed : Type 0
   Assumed = Premises fixed answer_of after
@@ -77,37 +87,37 @@ module _ (fixed : ControllerConfig) {H : Type 0} (answer_of : H → Command → 
   )
 
   -- the frame of an exchange that the reader has acted on
-  heard_at : {at : Stage} {m : Link H} → (s : Restarted) × At fixed answer_of after s at m → AtSomeStage m
-  heard_at {at} {m} (s, h) = (s, at, h)
+  heard_at : (at : Stage) (p : Packet) (l : Link H) → HeardAt fixed answer_of after since at (reader.kind_of l.reader p) p l → HoldsRead at p l
+  heard_at at p l (s, reads, h) = (s, at, reads, h)
 
   reader_gets : Assumed → (at : Stage) (p : Packet) (l : Link H) → AtStage at l → FrontToReader at p l
       → IfSome (reader.hears answer_of after l.reader p).said ReplyFits
-      → AtSomeStage (link.reader_gets answer_of after p l)
+      → HoldsRead at p l
   reader_gets given Fresh p l h front fits = absurd front
   reader_gets given (Behind Start x) p l h (inl old) fits = absurd old
   reader_gets given (Behind Start Opening) p l h (inr (is, frames)) fits =
-      subst (λ q. IfSome (reader.hears answer_of after l.reader q).said ReplyFits → AtSomeStage (link.reader_gets answer_of after q l)) (sym is)
+      subst (λ q. IfSome (reader.hears answer_of after l.reader q).said ReplyFits → HoldsRead (Behind Start Opening) q l) (sym is)
       (λ f. opens fixed answer_of after since l given.device (given.reads Opening 0 (omega arith)) h frames
       (says_well given (frame fixed Opening 0) l f)) fits
   reader_gets given (Behind Start Polling) p l h (inr (is, frames)) fits = absurd h.stage.1
   reader_gets given (Behind Start (Asking c)) p l h (inr (is, frames)) fits = absurd h.stage.1
   reader_gets given (Behind (After n y b) x) p l h (inl old) fits =
-      subst (λ q. IfSome (reader.hears answer_of after l.reader q).said ReplyFits → AtSomeStage (link.reader_gets answer_of after q l)) (sym old)
-      (λ f. heard_at (heard_again fixed answer_of after since (Behind (After n y b) x) n y b l given.device (given.reads Opening 0 (omega arith)) h h.reader h.stage.0
+      subst (λ q. IfSome (reader.hears answer_of after l.reader q).said ReplyFits → HoldsRead (Behind (After n y b) x) q l) (sym old)
+      (λ f. heard_at (Behind (After n y b) x) (frame fixed y n) l (heard_again fixed answer_of after since (Behind (After n y b) x) n y b l given.device (given.reads Opening 0 (omega arith)) h h.reader h.stage.0
       (λ is. (shows_none fixed answer_of after y b is, refl))
       (λ q says. each_append (SaysOld fixed since (After n y b)) l.to_controller (q ∷ []) h.to_controller (says, tt)) (λ s r knows. knows) f)) fits
   reader_gets given (Behind (After n y b) x) p l h (inr (is, frames)) fits =
-      subst (λ q. IfSome (reader.hears answer_of after l.reader q).said ReplyFits → AtSomeStage (link.reader_gets answer_of after q l)) (sym is)
+      subst (λ q. IfSome (reader.hears answer_of after l.reader q).said ReplyFits → HoldsRead (Behind (After n y b) x) q l) (sym is)
       (λ f. goes_on fixed answer_of after since n y b x l given.device (given.reads x (next_sequence n) (asked_fits (After n y b) x h.stage.1)) h frames
       (says_well given (frame fixed x (next_sequence n)) l f)) fits
   reader_gets given (Level past x a) p l h is fits =
-      subst (λ q. IfSome (reader.hears answer_of after l.reader q).said ReplyFits → AtSomeStage (link.reader_gets answer_of after q l)) (sym is)
-      (λ f. heard_at (heard_again fixed answer_of after since (Level past x a) (number_after past) x a l given.device (given.reads Opening 0 (omega arith)) h h.reader h.stage.2
+      subst (λ q. IfSome (reader.hears answer_of after l.reader q).said ReplyFits → HoldsRead (Level past x a) q l) (sym is)
+      (λ f. heard_at (Level past x a) (frame fixed x (number_after past)) l (heard_again fixed answer_of after since (Level past x a) (number_after past) x a l given.device (given.reads Opening 0 (omega arith)) h h.reader h.stage.2
       (λ is. (refl, shows_none fixed answer_of after x a is))
       (λ q says. runs_append (SaysOld fixed since past) (Says fixed since (number_after past) a) l.to_controller (q ∷ []) h.to_controller (says, tt)) (λ s r knows. knows) f)) fits
   reader_gets given (Rest n x a) p l h is fits =
-      subst (λ q. IfSome (reader.hears answer_of after l.reader q).said ReplyFits → AtSomeStage (link.reader_gets answer_of after q l)) (sym is)
-      (λ f. heard_at (heard_again fixed answer_of after since (Rest n x a) n x a l given.device (given.reads Opening 0 (omega arith)) h h.reader h.stage
+      subst (λ q. IfSome (reader.hears answer_of after l.reader q).said ReplyFits → HoldsRead (Rest n x a) q l) (sym is)
+      (λ f. heard_at (Rest n x a) (frame fixed x n) l (heard_again fixed answer_of after since (Rest n x a) n x a l given.device (given.reads Opening 0 (omega arith)) h h.reader h.stage
       (λ is. (shows_none fixed answer_of after x a is, refl))
       (λ q says. each_append (Says fixed since n a) l.to_controller (q ∷ []) h.to_controller (says, tt)) (λ s r knows. knows) f)) fits
 
@@ -147,12 +157,12 @@ module _ (fixed : ControllerConfig) {H : Type 0} (answer_of : H → Command → 
       with_to_reader fixed answer_of after since at l (lost_at place l.to_reader) h (less_to_reader place at l.to_reader h.to_reader)
 
   pub coming_to_reader : Assumed → (how : Delivery) (ps : List Packet) (l : Link H) → l.to_reader ≡ ps → (at : Stage) → AtStage at l
-      → SaysWhatFitsIf answer_of after how ps l.reader → AtSomeStage (link.to_reader answer_of after ps how l)
-  coming_to_reader given how [] l is at h fits = (since, at, h)
+      → SaysWhatFitsIf answer_of after how ps l.reader → HoldsThen fixed answer_of after (ReadsFront answer_of after ps how l.reader since at) (link.to_reader answer_of after ps how l)
+  coming_to_reader given how [] l is at h fits = (since, at, (refl, refl), h)
   coming_to_reader given Delivered (p ∷ ps) l is at h fits =
       reader_gets given at p (record l { to_reader = ps }) (losing_to_reader at p ps l is h)
       (front_to_reader at p ps ps (record l { to_reader = ps }) refl (inl refl) (subst (ToReaderAt fixed at) is h.to_reader)) fits
-  coming_to_reader given Lost (p ∷ ps) l is at h fits = (since, at, losing_to_reader at p ps l is h)
+  coming_to_reader given Lost (p ∷ ps) l is at h fits = (since, at, (refl, refl), losing_to_reader at p ps l is h)
   coming_to_reader given Repeated (p ∷ ps) l is at h fits =
       reader_gets given at p l h (front_to_reader at p ps (p ∷ ps) l is (inr refl) (subst (ToReaderAt fixed at) is h.to_reader)) fits
 
@@ -223,116 +233,85 @@ module _ (fixed : ControllerConfig) {H : Type 0} (answer_of : H → Command → 
   pub all_read : Assumed → (at : Stage) (l : Link H) → AtStage at l → Each IsRead l.to_controller
   all_read given at l h = all_so IsRead (λ p is. inl is) (λ p may refuses. inr refuses) given at l h
 
+  -- how far the session has come once this report is told, and what it makes of the commands
+  abbrev Heard : Option Report → Stage → Link H → Link H → Type 0
+  Heard r at l m =
+      (to : Stage)
+      × (HearsTo r at to × Controls at to l.controller.session.state m.controller.session.state l.controller.waiting l.controller.waiting r) × AtStage to m
+
+  over_heard : (at to : Stage) (now : ℕ) (p : Packet) (s : Session) (ws : List Command) → pending_at to ≡ pending_at at → s.state ≡ Closed
+      → let heard = controller.hears p now s in (heard.session.state ≡ Closed) × (pending_at to ≡ pending_at at) × (ws ≡ ws) × (lost_in heard.report ≡ [])
+  over_heard at to now p s ws same closed =
+      let is = closed_hears p now s closed in
+      (ap (λ (h : controller.Heard). h.session.state) is ∙ closed, same, refl, ap (λ (h : controller.Heard). lost_in h.report) is)
+
   -- a packet that settles nothing
   passed_over : (at : Stage) (now : ℕ) (p : Packet) (l : Link H) → let heard = controller.hears p now l.controller.session in
-      after_report heard.report l.account ≡ record l.account { unsettled = given_up_at at heard.session.state } → ControllerAt fixed at heard.session
-      → AtStage at l → AtStage at (link.controller_gets p now l)
-  passed_over at now p l says stands h =
-      let s = (controller.hears p now l.controller.session).session in
-      subst (λ a. AtStage at (record l { controller = record l.controller { session = s }; account = a })) (sym says)
-      (with_session fixed answer_of after since at l s h stands)
+      given_up_at at l.controller.session.state ++ lost_in heard.report ≡ given_up_at at heard.session.state → Announces heard.report [] []
+      → ControllerAt fixed at heard.session → AtStage at l → Heard heard.report at l (link.controller_gets p now l)
+  passed_over at now p l lost none stands h =
+      let heard = controller.hears p now l.controller.session in (
+        at,
+        (stays_at heard.report at none, record { waits = refl; lost = lost; over = over_heard at at now p l.controller.session l.controller.waiting refl }),
+        with_session fixed answer_of after since at l heard.session h stands,
+      )
 
   -- the answer comes
-  settled_told : (x : Exchange) (a : Reply) (events : List Event) (t : Account) → EventsAre since [] events t → t.offered ≡ t.reported ++ shown x a
-      → EventsAre since (shown x a) events (settled_by fixed x a t)
-  settled_told Opening a events t told offered = told
-  settled_told Polling a events t told offered =
-      let u = record t { reported = t.reported ++ option_to_list (event_in a) } in
-      events_moved since since [] (option_to_list (event_in a)) events t u refl refl refl (polled_past since) told
-    where
-      polled_past : (s : Restarted) (past : List Event) → PastIs s past [] t
-          → PastIs s past (option_to_list (event_in a)) (record t { reported = t.reported ++ option_to_list (event_in a) })
-      polled_past Never past is = ap (λ l. l ++ option_to_list (event_in a)) is ∙ ap (λ l. l ++ option_to_list (event_in a)) (append-nil past)
-      polled_past Before past is = ap (λ l. l ++ option_to_list (event_in a)) is ∙ ap (λ l. l ++ option_to_list (event_in a)) (append-nil past)
-      polled_past Now past is = is
-  settled_told (Asking c) a events t told offered =
-      let u = record t { settled = t.settled ++ (c, a) ∷ [] } in
-      events_same since [] events t u refl refl refl (λ past. past_same since [] past t u refl refl) told
-
-  settled_account : (x : Exchange) (a : Reply) (waiting : List Command) (events : List Event) (t : Account)
-      → Accounts fixed answer_of after since [] (owed x a) [] [] (shown x a) waiting events t
-      → Accounts fixed answer_of after since [] [] [] (shown x a) [] waiting events (settled_by fixed x a t)
-  settled_account Opening a waiting events t is = is
-  settled_account Polling a waiting events t is = record {
-    issued = is.issued;
-    answered = is.answered;
-    settled = is.settled;
-    unsettled = is.unsettled;
-    told = settled_told Polling a events t is.told is.offered;
-    offered = is.offered ∙ sym (append-nil (t.reported ++ option_to_list (event_in a)));
-    restarts = is.restarts;
-  }
-  settled_account (Asking c) a waiting events t is = record {
-    issued = is.issued;
-    answered = is.answered;
-    settled = append-nil (t.settled ++ (c, a) ∷ []) ∙ is.settled;
-    unsettled = is.unsettled;
-    told = settled_told (Asking c) a events t is.told is.offered;
-    offered = is.offered;
-    restarts = is.restarts;
-  }
-
   settles : (past : Past) (x : Exchange) (a : Reply) (now : ℕ) (p : Packet) (l : Link H) → given_up l.controller.session.state x ≡ [] → AtStage (Level past x a) l
       → Settles fixed (number_after past) x a (controller.hears p now l.controller.session)
       → Each (Says fixed since (number_after past) a) l.to_controller
-      → AtStage (Rest (number_after past) x a) (link.controller_gets p now l)
-  settles past x a now p l none h (settled, rests) line =
-      subst (λ t. AtStage (Rest (number_after past) x a) (record l {
-        controller = record l.controller { session = (controller.hears p now l.controller.session).session };
-        account = t;
-      })) (sym (settled l.account)) (record {
-        stage = h.stage.2;
-        controller = rests;
-        waiting = h.waiting;
-        reader = h.reader;
-        to_reader = h.to_reader;
-        to_controller = line;
-        account = settled_account x a l.controller.waiting l.reader.queue.events l.account
-            (subst (λ lost. Accounts fixed answer_of after since [] (owed x a) lost [] (shown x a) l.controller.waiting l.reader.queue.events l.account) none h.account);
-      })
-
-  abbrev Stays : Link H → Type 0
-  Stays l = (at : Stage) × AtStage at l
+      → Heard (controller.hears p now l.controller.session).report (Level past x a) l (link.controller_gets p now l)
+  settles past x a now p l none h ((tells, lost), rests) line =
+      let at = Level past x a in
+      let to = Rest (number_after past) x a in (
+        to,
+        (
+          inr (refl, tells),
+          record {
+            waits = refl;
+            lost = (λ i. none i ++ lost i);
+            over = over_heard at to now p l.controller.session l.controller.waiting refl;
+          },
+        ),
+        record { stage = h.stage.2; controller = rests; waiting = h.waiting; reader = h.reader; to_reader = h.to_reader; to_controller = line },
+      )
 
   -- the answer to the opening, from the device that is there by then
   identity_comes : Assumed → (past : Past) (x : Exchange) (a : Reply) (now : ℕ) (p : Packet) (l : Link H) → AtStage (Level past x a) l
       → Introduces fixed (number_after past) p → Each (Says fixed since (number_after past) a) l.to_controller
-      → Stays (link.controller_gets p now l)
+      → Heard (controller.hears p now l.controller.session).report (Level past x a) l (link.controller_gets p now l)
   identity_comes given (After n y b) x a now p l h (first, identity) line = absurd (next_above_zero n first)
   identity_comes given Start Polling a now p l h identity line = absurd h.stage.1
   identity_comes given Start (Asking c) a now p l h identity line = absurd h.stage.1
   identity_comes given Start Opening a now p l h (first, (pd, fits, is)) line =
       elim (hears_answer fixed p now 0 Opening (reply.PdId pd) l.controller.session (identity_is given pd p fits is) (pd, refl) h.controller) [
-        | inl i ↦ (Level Start Opening a, passed_over (Level Start Opening a) now p l (i.0 l.account h.account.unsettled) i.1 h)
-        | inr (none, settled) ↦ (Rest 0 Opening a, settles Start Opening a now p l none h settled line)
+        | inl i ↦ passed_over (Level Start Opening a) now p l i.0.0 i.0.1 i.1 h
+        | inr (none, ((tells, lost), rests)) ↦ settles Start Opening a now p l none h ((tells, lost), rests) line
       ]
 
   controller_gets : Assumed → (at : Stage) (now : ℕ) (p : Packet) (l : Link H) → AtStage at l → FrontToController at p l
-      → Stays (link.controller_gets p now l)
+      → Heard (controller.hears p now l.controller.session).report at l (link.controller_gets p now l)
   controller_gets given Fresh now p l h front = absurd front
   controller_gets given (Behind past x) now p l h old =
-      let i = old_is given past p now x l.controller.session h.stage.0 old h.controller in
-      (Behind past x, passed_over (Behind past x) now p l (i.0 l.account h.account.unsettled) i.1 h)
+      let i = old_is given past p now x l.controller.session h.stage.0 old h.controller in passed_over (Behind past x) now p l i.0.0 i.0.1 i.1 h
   controller_gets given (Level past x a) now p l h (inl old) =
-      let i = old_is given past p now x l.controller.session h.stage.0 old h.controller in
-      (Level past x a, passed_over (Level past x a) now p l (i.0 l.account h.account.unsettled) i.1 h)
+      let i = old_is given past p now x l.controller.session h.stage.0 old h.controller in passed_over (Level past x a) now p l i.0.0 i.0.1 i.1 h
   controller_gets given (Level past x a) now p l h (inr (inl busy, line)) =
       let i = hears_other fixed p now (number_after past) x l.controller.session (inl (busy_is given p busy)) h.controller in
-      (Level past x a, passed_over (Level past x a) now p l (i.0 l.account h.account.unsettled) i.1 h)
+      passed_over (Level past x a) now p l i.0.0 i.0.1 i.1 h
   controller_gets given (Level past x a) now p l h (inr (inr (inl is), line)) =
       elim (hears_answer fixed p now (number_after past) x a l.controller.session
       (plain_is given (number_after past) x a p h.stage.2 is) h.stage.2.1 h.controller) [
-        | inl i ↦ (Level past x a, passed_over (Level past x a) now p l (i.0 l.account h.account.unsettled) i.1 h)
-        | inr (none, settled) ↦ (Rest (number_after past) x a, settles past x a now p l none h settled line)
+        | inl i ↦ passed_over (Level past x a) now p l i.0.0 i.0.1 i.1 h
+        | inr (none, settled) ↦ settles past x a now p l none h settled line
       ]
   controller_gets given (Level past x a) now p l h (inr (inr (inr (inr identity)), line)) = identity_comes given past x a now p l h identity line
   controller_gets given (Level past x a) now p l h (inr (inr (inr (inl refused)), line)) =
       let i = hears_refused fixed p now (number_after past) x l.controller.session (refused_is given p refused) h.controller in
-      (Level past x a, passed_over (Level past x a) now p l (i.0 l.account h.account.unsettled) i.1 h)
+      passed_over (Level past x a) now p l i.0.0 i.0.1 i.1 h
   controller_gets given (Rest n x a) now p l h front =
       let heard = hears_resting fixed p now n l.controller.session h.controller in
-      let says = ap (λ o. after_report o l.account) heard.0 ∙ ap (λ (cs : List Command). record l.account { unsettled = cs }) h.account.unsettled in
-      (Rest n x a, passed_over (Rest n x a) now p l says heard.1 h)
+      passed_over (Rest n x a) now p l (ap lost_in heard.0) (ap settled_in heard.0, ap reported_in heard.0) heard.1 h
 
   rest_to_controller : (at : Stage) (p : Packet) (ps : List Packet) → ToControllerAt fixed since at (p ∷ ps) → ToControllerAt fixed since at ps
   rest_to_controller Fresh p ps line = absurd cc
@@ -369,12 +348,29 @@ module _ (fixed : ControllerConfig) {H : Type 0} (answer_of : H → Command → 
   missing_to_controller place at l h =
       with_to_controller fixed answer_of after since at l (lost_at place l.to_controller) h (less_to_controller place at l.to_controller h.to_controller)
 
+  -- nothing is heard
+  unheard : (at : Stage) (l m : Link H) → m.controller ≡ l.controller → AtStage at m → Heard None at l m
+  unheard at l m same h = (
+    at,
+    (
+      stays_at None at (refl, refl),
+      record {
+        waits = refl;
+        lost = append-nil (given_up_at at l.controller.session.state) ∙ ap (λ (c : Machine). given_up_at at c.session.state) (sym same);
+        over = λ closed. (ap (λ (c : Machine). c.session.state) same ∙ closed, refl, refl, refl);
+      },
+    ),
+    h,
+  )
+
   pub coming_to_controller : Assumed → (how : Delivery) (now : ℕ) (ps : List Packet) (l : Link H) → l.to_controller ≡ ps → (at : Stage) → AtStage at l
-      → Stays (link.to_controller ps how now l)
-  coming_to_controller given how now [] l is at h = (at, h)
+      → Heard (told_by_front how ps now l.controller.session) at l (link.to_controller ps how now l)
+  coming_to_controller given Delivered now [] l is at h = unheard at l l refl h
+  coming_to_controller given Lost now [] l is at h = unheard at l l refl h
+  coming_to_controller given Repeated now [] l is at h = unheard at l l refl h
   coming_to_controller given Delivered now (p ∷ ps) l is at h =
       controller_gets given at now p (record l { to_controller = ps }) (losing_to_controller at p ps l is h)
       (front_to_controller at p ps ps (record l { to_controller = ps }) refl (inl refl) (subst (ToControllerAt fixed since at) is h.to_controller))
-  coming_to_controller given Lost now (p ∷ ps) l is at h = (at, losing_to_controller at p ps l is h)
+  coming_to_controller given Lost now (p ∷ ps) l is at h = unheard at l (record l { to_controller = ps }) refl (losing_to_controller at p ps l is h)
   coming_to_controller given Repeated now (p ∷ ps) l is at h =
       controller_gets given at now p l h (front_to_controller at p ps (p ∷ ps) l is (inr refl) (subst (ToControllerAt fixed since at) is h.to_controller))

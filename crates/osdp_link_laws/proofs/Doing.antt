@@ -28,7 +28,7 @@ use Rattle.osdp_link_laws.specs.Link as link
 use Rattle.osdp_link_laws.specs.Link.{Account, Link, RestartController, RestartReader, SetHandler, Withdrawn, after_move, but_oldest, lost_at, reader_restarted, unoffered_in}
 use Rattle.osdp_link_laws.proofs.Acting.{no_event}
 use Rattle.osdp_link_laws.proofs.Numbers.{is_false, is_true}
-use Rattle.osdp_link_laws.proofs.Restarts.{drop_front}
+use Rattle.osdp_link_laws.proofs.Accounting.{drop_front}
 use Rattle.osdp_link_laws.proofs.Withdrawing.{place_is}
 
 -- ---- a reader that knows no number

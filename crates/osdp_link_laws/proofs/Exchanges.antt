@@ -35,7 +35,7 @@ use Rattle.osdp_link_laws.specs.Progress.{SetsNoAddress}
 use Rattle.osdp_link_laws.proofs.Acting.{kind_next, kind_zero, no_event, taken_is}
 use Rattle.osdp_link_laws.proofs.Answering.{Replies, SaysFit, no_address, opening, taken_answer, taken_hears, taking}
 use Rattle.osdp_link_laws.proofs.Due.{Acts, next_exchange, stays_rests}
-use Rattle.osdp_link_laws.proofs.Lines.{chosen, each_rest}
+use Rattle.osdp_link_laws.proofs.Lines.{chosen}
 use Rattle.osdp_link_laws.proofs.Moves.{Premises}
 use Rattle.osdp_link_laws.proofs.Parts.{At}
 use Rattle.osdp_link_laws.proofs.Round.{IsStill, answered_link, at_tick, come_through, delivered, goes}
@@ -202,11 +202,11 @@ module _ (fixed : ControllerConfig) {H : Type 0} (answer_of : H → Command → 
   next_moves (c ∷ waiting) none = none.0
 
   pub exchange_from_rest : Given → (now due : ℕ) (since : Restarted) (n : ℕ) (y : Exchange) (b : Reply) (l : Link H) → Hears since
-      → At fixed answer_of after since (Rest n y b) l
+      → At fixed answer_of after since (Rest n y b) l → Each SetsNoAddress l.controller.waiting
       → l.controller.session.state ≡ Idle due → IsOpen fixed n l.controller.session → Still l
       → Acts (ticks now l.controller.session l.controller.waiting) → SaysWhatFits answer_of after (at_tick now l).to_reader l.reader
       → goes answer_of after now l ≡ rested_link now l
-  exchange_from_rest given now due since n y b l hears_it h is opened still does fits =
+  exchange_from_rest given now due since n y b l hears_it h set is opened still does fits =
       let s = l.controller.session in
       let w = l.controller.waiting in
       let r = l.reader in
@@ -217,7 +217,7 @@ module _ (fixed : ControllerConfig) {H : Type 0} (answer_of : H → Command → 
       let last : r.last ≡ Some s.number = ((has_acted fixed since n y b l.reader hears_it h.reader).here still.ready.here).0 ∙ ap (λ m. Some m) (sym opened.1) in
       let starts = begins_next_at s.state due (seen now s) w is does in
       let asked = next_asked s.number y b w h.waiting in
-      let none = next_moves w (each_rest SetsNoAddress l.account.taken w (subst (Each SetsNoAddress) h.account.issued still.issued)) in
+      let none = next_moves w set in
       let said = fits_there now x k (drop 1 w) l still opened.0 starts fits in
       let replies = taking fixed answer_of after given s.number y b x r still.ready last asked said in
       let kind : kind_of r p ≡ Taken = kind_next fixed r x s.number still.ready.here last ∙ ap (λ u. cond u Busy Taken) still.ready.ready in

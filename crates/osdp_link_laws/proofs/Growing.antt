@@ -20,7 +20,6 @@ use Rattle.osdp_reader.specs.Queue.{lacks_room}
 use Rattle.osdp_link_laws.specs.Link as link
 use Rattle.osdp_link_laws.specs.Link.{Account, Delivered, Delivery, Link, Lost, Move, Queue as QueueEvent, Reopen, Repeated, RestartController, RestartReader, Retarget, Submit, Tick, ToController, ToReader, Withdraw, WithdrawEvent, after_move, after_report}
 use Rattle.osdp_link_laws.specs.Sessions.{accepted, queued, unless_full, submitted}
-use Rattle.osdp_link_laws.proofs.Removed.{IsInside}
 
 -- a move that begins no session again
 abbrev pub GoesOn : {H : Type 0} → Move H → Type 0
@@ -32,24 +31,15 @@ pub record Grows (cs : List Command) (es : List Event) (t u : Account) : Type 0 
   pub issued : u.issued ≡ t.issued ++ cs
   pub queued : u.queued ≡ t.queued ++ es
 
--- .. where no command is removed or forgotten
-pub record Extends (cs : List Command) (es : List Event) (t u : Account) : Type 0 where
-  pub grows : Grows cs es t u
-  pub removed : u.removed ≡ t.removed
-  pub forgotten : u.forgotten ≡ t.forgotten
-
 as_before : (t u : Account) → u.issued ≡ t.issued → u.queued ≡ t.queued → Grows [] [] t u
 as_before t u issued queued = record { issued = issued ∙ sym (append-nil t.issued); queued = queued ∙ sym (append-nil t.queued) }
 
-all_before : (t u : Account) → u.issued ≡ t.issued → u.queued ≡ t.queued → u.removed ≡ t.removed → u.forgotten ≡ t.forgotten → Extends [] [] t u
-all_before t u issued queued removed forgotten = record { grows = as_before t u issued queued; removed = removed; forgotten = forgotten }
-
-told_keeps : (r : Option Report) (t : Account) → Extends [] [] t (after_report r t)
-told_keeps (Some (report.Opened id)) t = all_before t t refl refl refl refl
-told_keeps r t = all_before t (after_report r t) refl refl refl refl
+told_keeps : (r : Option Report) (t : Account) → Grows [] [] t (after_report r t)
+told_keeps (Some (report.Opened id)) t = as_before t t refl refl
+told_keeps r t = as_before t (after_report r t) refl refl
 
 pub told_issues : (r : Option Report) (t : Account) → (after_report r t).issued ≡ t.issued
-told_issues r t = (told_keeps r t).grows.issued ∙ append-nil t.issued
+told_issues r t = (told_keeps r t).issued ∙ append-nil t.issued
 
 -- a taken command changes nothing but the commands taken, the answers given and the events offered
 abbrev pub TakesMore : Account → Account → Type 0
@@ -63,26 +53,25 @@ pub taken_takes : (k : Kind) (c : Option Command) (said : Option Reply) (front :
 taken_takes kind.Taken (Some c) said front t = command_takes c said front t
 taken_takes k c said front t = ((t.taken, t.given, t.offered), refl)
 
-taken_keeps : (k : Kind) (c : Option Command) (said : Option Reply) (front : List Event) (t : Account) → Extends [] [] t (link.taken k c said front t)
+taken_keeps : (k : Kind) (c : Option Command) (said : Option Reply) (front : List Event) (t : Account) → Grows [] [] t (link.taken k c said front t)
 taken_keeps k c said front t =
-    let more = taken_takes k c said front t in
-    all_before t (link.taken k c said front t) (ap (λ u. u.issued) more.1) (ap (λ u. u.queued) more.1) (ap (λ u. u.removed) more.1) (ap (λ u. u.forgotten) more.1)
+    let more = taken_takes k c said front t in as_before t (link.taken k c said front t) (ap (λ u. u.issued) more.1) (ap (λ u. u.queued) more.1)
 
 module _ {H : Type 0} (answer_of : H → Command → Answer) (after : H → Command → H) where
   -- within a session the account goes on, and those before it stay
   abbrev pub SameSession : List Command → List Event → Link H → Link H → Type 0
-  SameSession cs es l m = Extends cs es l.account m.account × (m.earlier ≡ l.earlier)
+  SameSession cs es l m = Grows cs es l.account m.account × (m.earlier ≡ l.earlier)
 
   same : (l : Link H) → SameSession [] [] l l
-  same l = (all_before l.account l.account refl refl refl refl, refl)
+  same l = (as_before l.account l.account refl refl, refl)
 
   submits_on : (refusal : Option ControllerFault) (c : Command) (l : Link H) → SameSession (accepted refusal c) [] l (link.submits refusal c l)
   submits_on (Some fault) c l = same l
-  submits_on None c l = (record { grows = record { issued = refl; queued = sym (append-nil l.account.queued) }; removed = refl; forgotten = refl }, refl)
+  submits_on None c l = (record { issued = refl; queued = sym (append-nil l.account.queued) }, refl)
 
   queues_on : (full : Bool) (e : Event) (l : Link H) → SameSession [] (unless_full full e) l (link.queues full e l)
   queues_on true e l = same l
-  queues_on false e l = (record { grows = record { issued = sym (append-nil l.account.issued); queued = refl }; removed = refl; forgotten = refl }, refl)
+  queues_on false e l = (record { issued = sym (append-nil l.account.issued); queued = refl }, refl)
 
   reader_gets_on : (p : Packet) (l : Link H) → SameSession [] [] l (link.reader_gets answer_of after p l)
   reader_gets_on p l =
@@ -94,43 +83,29 @@ module _ {H : Type 0} (answer_of : H → Command → Answer) (after : H → Comm
   to_reader_on : (how : Delivery) (ps : List Packet) (l : Link H) → SameSession [] [] l (link.to_reader answer_of after ps how l)
   to_reader_on how [] l = same l
   to_reader_on Delivered (p ∷ ps) l = reader_gets_on p (record l { to_reader = ps })
-  to_reader_on Lost (p ∷ ps) l = (all_before l.account l.account refl refl refl refl, refl)
+  to_reader_on Lost (p ∷ ps) l = (as_before l.account l.account refl refl, refl)
   to_reader_on Repeated (p ∷ ps) l = reader_gets_on p l
 
   to_controller_on : (how : Delivery) (now : ℕ) (ps : List Packet) (l : Link H) → SameSession [] [] l (link.to_controller ps how now l)
   to_controller_on how now [] l = same l
   to_controller_on Delivered now (p ∷ ps) l = controller_gets_on p now (record l { to_controller = ps })
-  to_controller_on Lost now (p ∷ ps) l = (all_before l.account l.account refl refl refl refl, refl)
+  to_controller_on Lost now (p ∷ ps) l = (as_before l.account l.account refl refl, refl)
   to_controller_on Repeated now (p ∷ ps) l = controller_gets_on p now l
 
-  pub inside_on : (move : Move H) (l : Link H) → IsInside move → SameSession (submitted move l) (queued move l) l (after_move answer_of after move l)
-  inside_on (Submit c) l on = submits_on (controllers.submit_refusal c l.controller) c l
-  inside_on (QueueEvent e) l on = queues_on (lacks_room e l.reader.queue) e l
-  inside_on WithdrawEvent l on = (all_before l.account (link.withdraws_event l).account refl refl refl refl, refl)
-  inside_on (Tick now) l on = (told_keeps (ticks now l.controller.session l.controller.waiting).step.report l.account, refl)
-  inside_on (ToReader how) l on = to_reader_on how l.to_reader l
-  inside_on (ToController how now) l on = to_controller_on how now l.to_controller l
-  inside_on (RestartReader config handler room) l on = (all_before l.account (link.reader_restarted l.account) refl refl refl refl, refl)
-  inside_on (Reopen now) l on = absurd on
-  inside_on Withdraw l on = absurd on
-  inside_on (Retarget address) l on = absurd on
-  inside_on (RestartController config room) l on = absurd on
-  inside_on _ l on = (all_before l.account l.account refl refl refl refl, refl)
-
-  -- .. and no other move but the beginning of a session submits or queues anything
-  abbrev pub GoesOnWith : List Command → List Event → Link H → Link H → Type 0
-  GoesOnWith cs es l m = Grows cs es l.account m.account × (m.earlier ≡ l.earlier)
-
-  retargets_on : (refusal : Option ControllerFault) (address : ℕ) (l : Link H) → GoesOnWith [] [] l (link.retargets refusal address l)
-  retargets_on (Some fault) address l = (as_before l.account l.account refl refl, refl)
+  retargets_on : (refusal : Option ControllerFault) (address : ℕ) (l : Link H) → SameSession [] [] l (link.retargets refusal address l)
+  retargets_on (Some fault) address l = same l
   retargets_on None address l = (as_before l.account l.account refl refl, refl)
 
-  inside : (move : Move H) (l : Link H) → IsInside move → GoesOnWith (submitted move l) (queued move l) l (after_move answer_of after move l)
-  inside move l on = let same = inside_on move l on in (same.0.grows, same.1)
-
-  pub goes_on : (move : Move H) (l : Link H) → GoesOn move → GoesOnWith (submitted move l) (queued move l) l (after_move answer_of after move l)
+  pub goes_on : (move : Move H) (l : Link H) → GoesOn move → SameSession (submitted move l) (queued move l) l (after_move answer_of after move l)
+  goes_on (Submit c) l on = submits_on (controllers.submit_refusal c l.controller) c l
+  goes_on (QueueEvent e) l on = queues_on (lacks_room e l.reader.queue) e l
+  goes_on WithdrawEvent l on = (as_before l.account (link.withdraws_event l).account refl refl, refl)
+  goes_on (Tick now) l on = (told_keeps (ticks now l.controller.session l.controller.waiting).step.report l.account, refl)
+  goes_on (ToReader how) l on = to_reader_on how l.to_reader l
+  goes_on (ToController how now) l on = to_controller_on how now l.to_controller l
   goes_on Withdraw l on = (as_before l.account (link.withdraws l).account refl refl, refl)
   goes_on (Retarget address) l on = retargets_on (controllers.retarget_refusal address l.controller) address l
+  goes_on (RestartReader config handler room) l on = (as_before l.account (link.reader_restarted l.account) refl refl, refl)
   goes_on (RestartController config room) l on = (as_before l.account (link.controller_restarted l.controller l.account) refl refl, refl)
   goes_on (Reopen now) l on = absurd on
-  goes_on move l on = inside move l tt
+  goes_on _ l on = (as_before l.account l.account refl refl, refl)

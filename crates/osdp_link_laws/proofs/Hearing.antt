@@ -1,6 +1,5 @@
 -- What a packet does to the controller, by how far the session has come.
-use Rattle.std.proofs.Common.{◌≡◌, ◌≢◌, ◌⊎◌, ℕ, zero, suc, ◌+◌, Bool, true, false, cond, eqb, ltb, List, [], ◌∷◌, ◌++◌, Option, Some, None, refl, sym, subst, ap, ◌∙◌, inl, inr}
-use Rattle.std.proofs.lemmas.List.{append-nil}
+use Rattle.std.proofs.Common.{◌≡◌, ◌≢◌, ◌⊎◌, ℕ, zero, suc, ◌+◌, Bool, true, false, cond, eqb, ltb, List, [], ◌∷◌, Option, Some, None, refl, sym, subst, ap, ◌∙◌, inl, inr}
 use Rattle.std.specs.Prelude.{◌&&◌, ◌||◌, option_to_list}
 use Rattle.osdp_frame.specs.Packet.{Packet}
 use Rattle.osdp_msg.specs.declared.command.Command.{Command}
@@ -24,10 +23,10 @@ use Rattle.osdp_controller.specs.Answers.{meaning_of}
 use Rattle.osdp_msg.specs.Events.{event_in}
 use Rattle.osdp_controller.specs.Hearing.{Heard, answered, com_of, command_answered, comset_of, hears, hears_busy, hears_in, ignores, is_ack, is_from_reader, is_numbered, loses, moved_by, pausing_hears, poll_told, rests, waiting_hears}
 use Rattle.osdp_controller.specs.Sessions.{later, seen}
-use Rattle.osdp_link_laws.specs.Link.{Account, after_report}
+use Rattle.osdp_link_laws.proofs.Coming.{Announces, lost_in}
 use Rattle.osdp_link_laws.proofs.Lines.{both}
 use Rattle.osdp_link_laws.proofs.Numbers.{is_false}
-use Rattle.osdp_link_laws.proofs.Stages.{Asks, IsAnswerTo, IsOpen, Rests, given_up}
+use Rattle.osdp_link_laws.proofs.Stages.{Asks, IsAnswerTo, IsOpen, Rests, given_up, owed, shown}
 use Rattle.osdp_link_laws.proofs.Ticks.{LeavesUnsettled, asks_seen, ended, nothing_told, rests_seen}
 
 and_false : (b : Bool) → (b && false) ≡ false
@@ -37,12 +36,13 @@ and_false false = refl
 module _ (fixed : ControllerConfig) where
   -- the exchange stays outstanding, or the session ends; nothing is settled or reported
   abbrev pub Ignored : ℕ → Exchange → List Command → Heard → Type 0
-  Ignored n x before h = LeavesUnsettled before x h.report h.session.state × Asks fixed h.session.state n x h.session
+  Ignored n x before h =
+      (LeavesUnsettled before x h.report h.session.state × Announces h.report [] []) × Asks fixed h.session.state n x h.session
 
   ignored : (state : State) (n : ℕ) (x : Exchange) (s : Session) → s.state ≡ state → Asks fixed state n x s
       → Ignored n x (given_up state x) (ignores s)
   ignored state n x s e asks =
-      (nothing_told (given_up state x) x s.state (ap (λ st. given_up st x) e), subst (λ st. Asks fixed st n x s) (sym e) asks)
+      ((nothing_told (given_up state x) x s.state (ap (λ st. given_up st x) e), (refl, refl)), subst (λ st. Asks fixed st n x s) (sym e) asks)
 
   busy_heard : (n : ℕ) (x : Exchange) (o : Outstanding) (s : Session) → IsOpen fixed n s → o.exchange ≡ x
       → Ignored n x [] (hears_busy o s)
@@ -52,10 +52,10 @@ module _ (fixed : ControllerConfig) where
         session = record s { state = Pausing (later s.config.busy_wait s) (record o { busies = o.busies + 1 }) };
         report = None;
       })
-      (ended cause.TooBusy o.exchange x is, tt)
-      (nothing_told [] x (Pausing (later s.config.busy_wait s) (record o { busies = o.busies + 1 })) refl, (at, is))
+      ((ended cause.TooBusy o.exchange x is, (refl, refl)), tt)
+      ((nothing_told [] x (Pausing (later s.config.busy_wait s) (record o { busies = o.busies + 1 })) refl, (refl, refl)), (at, is))
 
-  -- BUSY changes no account
+  -- BUSY settles nothing
   busy_in : (state : State) (number n : ℕ) (x : Exchange) (s : Session) → s.state ≡ state → Asks fixed state n x s
       → Ignored n x (given_up state x) (hears_in state number NotTaken s)
   busy_in Closed number n x s e asks = ignored Closed n x s e asks
@@ -73,10 +73,10 @@ module _ (fixed : ControllerConfig) where
   refused_in Closed number n x s e asks = ignored Closed n x s e asks
   refused_in (Waiting until k o) number n x s e asks =
       both (Ignored n x []) (is_numbered number NumberRefused s) (loses cause.NumberRefused o s) (ignores s)
-      (ended cause.NumberRefused o.exchange x asks.1, tt) (ignored (Waiting until k o) n x s e asks)
+      ((ended cause.NumberRefused o.exchange x asks.1, (refl, refl)), tt) (ignored (Waiting until k o) n x s e asks)
   refused_in (Pausing until o) number n x s e asks =
       both (Ignored n x []) (is_numbered number NumberRefused s) (loses cause.NumberRefused o s) (ignores s)
-      (ended cause.NumberRefused o.exchange x asks.1, tt) (ignored (Pausing until o) n x s e asks)
+      ((ended cause.NumberRefused o.exchange x asks.1, (refl, refl)), tt) (ignored (Pausing until o) n x s e asks)
   refused_in _ number n x s e asks = absurd asks
 
   pub hears_refused : (p : Packet) (now n : ℕ) (x : Exchange) (s : Session) → meaning_of p ≡ NumberRefused → Asks fixed s.state n x s
@@ -142,19 +142,13 @@ module _ (fixed : ControllerConfig) where
       (refl, there)
 
   -- what an answer settles or reports
-  abbrev pub settled_by : Exchange → Reply → Account → Account
-  settled_by Opening r t = t
-  settled_by Polling r t = record t { reported = t.reported ++ option_to_list (event_in r) }
-  settled_by (Asking c) r t = record t { settled = t.settled ++ (c, r) ∷ [] }
-
   abbrev pub Settles : ℕ → Exchange → Reply → Heard → Type 0
-  Settles n x r h = ((a : Account) → after_report h.report a ≡ settled_by x r a) × Rests fixed h.session.state n h.session
+  Settles n x r h = (Announces h.report (owed x r) (shown x r) × (lost_in h.report ≡ [])) × Rests fixed h.session.state n h.session
 
-poll_tells : (event : Option Event) (r : Reply) (a : Account) → after_report (poll_told r event) a ≡ record a { reported = a.reported ++ option_to_list event }
-poll_tells (Some event) r a = refl
-poll_tells None r a =
-    both (λ o. after_report o a ≡ a) (is_ack r) None (Some (report.PollAnswered r)) refl refl
-    ∙ sym (ap (λ l. record a { reported = l }) (append-nil a.reported))
+poll_tells : (event : Option Event) (r : Reply) → Announces (poll_told r event) [] (option_to_list event) × (lost_in (poll_told r event) ≡ [])
+poll_tells (Some event) r = ((refl, refl), refl)
+poll_tells None r =
+    both (λ o. Announces o [] [] × (lost_in o ≡ [])) (is_ack r) None (Some (report.PollAnswered r)) ((refl, refl), refl) ((refl, refl), refl)
 
 com_is : (r : Reply) (c : Communication) → com_of r ≡ Some c → reply.Com c ≡ r
 com_is (reply.Com d) c e = cc
@@ -173,20 +167,19 @@ module _ (fixed : ControllerConfig) where
   command_settles : (moved : Option Communication) (n : ℕ) (c : Command) (r : Reply) (s : Session)
       → ((to : Communication) → moved ≡ Some to → reply.Com to ≡ r) → IsOpen fixed n s
       → Settles fixed n (Asking c) r (command_answered moved c r s)
-  command_settles None n c r s is at = ((λ a. refl), at)
-  command_settles (Some to) n c r s is at =
-      ((λ a. ap (λ q. record a { settled = a.settled ++ (c, q) ∷ [] }) (is to refl)), tt)
+  command_settles None n c r s is at = (((refl, refl), refl), at)
+  command_settles (Some to) n c r s is at = (((ap (λ q. (c, q) ∷ []) (is to refl), refl), refl), tt)
 
   opening_settles : (pd : PdId) (n : ℕ) (r : Reply) (s : Session) → r ≡ reply.PdId pd → IsOpen fixed n s
       → Settles fixed n Opening r (answered Opening r s)
   opening_settles pd n r s is at =
-      subst (λ q. Settles fixed n Opening q (answered Opening q s)) (sym is) ((λ a. refl), at)
+      subst (λ q. Settles fixed n Opening q (answered Opening q s)) (sym is) (((refl, refl), refl), at)
 
   answer_settles : (x : Exchange) (n : ℕ) (r : Reply) (s : Session) → IsAnswerTo x n r → IsOpen fixed n s
       → Settles fixed n x r (answered x r s)
   answer_settles Opening zero r s (pd, is) at = opening_settles pd 0 r s is at
   answer_settles Opening (suc n) r s is at = absurd is
-  answer_settles Polling n r s is at = ((λ a. poll_tells (event_in r) r a), at)
+  answer_settles Polling n r s is at = (poll_tells (event_in r) r, at)
   answer_settles (Asking c) n r s is at =
       command_settles (moved_by (comset_of c) (com_of r)) n c r s
       (λ to e. com_is r to (moved_is (comset_of c) (com_of r) to e)) at
@@ -218,3 +211,9 @@ module _ (fixed : ControllerConfig) where
       (subst (λ a. MaySettle n x (given_up s.state x) r (hears_in s.state p.sequence a (seen now s))) (sym says)
       (answer_in s.state p.sequence n x r (seen now s) is refl there))
       (inl (ignored fixed s.state n x (seen now s) refl there))
+
+-- a session that has ended stays so, and nothing is told
+pub closed_hears : (p : Packet) (now : ℕ) (s : Session) → s.state ≡ Closed → hears p now s ≡ ignores (seen now s)
+closed_hears p now s closed =
+    both (λ heard. heard ≡ ignores (seen now s)) (is_from_reader p s) (hears_in s.state p.sequence (meaning_of p) (seen now s)) (ignores (seen now s))
+    (ap (λ state. hears_in state p.sequence (meaning_of p) (seen now s)) closed) refl

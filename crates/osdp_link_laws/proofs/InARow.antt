@@ -17,18 +17,17 @@ use Rattle.osdp_link_laws.specs.Link as link
 use Rattle.osdp_link_laws.specs.Link.{Account, Link, Move, Reopen, after_move, run, unoffered_in}
 use Rattle.osdp_link_laws.specs.Peers.{ReadEachOther}
 use Rattle.osdp_link_laws.specs.Sessions.{CommandsHavePlaces, LastOneLasts, SessionsInARow, all_submitted, ended_commands, ended_in, queued, submitted}
+use Rattle.osdp_link_laws.proofs.Coming.{MovesTo, ReopensTo}
 use Rattle.osdp_link_laws.proofs.Devices.{IsDevice, move_there}
 use Rattle.osdp_link_laws.proofs.Growing.{GoesOn, Grows, goes_on}
-use Rattle.osdp_link_laws.proofs.Lines.{each_of, each_rest}
+use Rattle.osdp_link_laws.proofs.Lines.{each_of}
 use Rattle.osdp_link_laws.proofs.Moves.{Premises}
-use Rattle.osdp_link_laws.proofs.Once.{Goes, fresh, is_once, moving}
-use Rattle.osdp_link_laws.proofs.Removed.{gone}
-use Rattle.osdp_link_laws.proofs.Offered.{queue_is}
+use Rattle.osdp_link_laws.proofs.Once.{Goes, fresh_so, is_once, moving_so}
 use Rattle.osdp_link_laws.proofs.Staying.{events_go}
-use Rattle.osdp_link_laws.proofs.Withdrawing.{IsApart, apart_goes, apart_whole, ever_in_front}
+use Rattle.osdp_link_laws.proofs.Withdrawing.{IsApart, apart_goes, apart_whole, ever_in_front, queue_is}
 use Rattle.osdp_link_laws.proofs.Without.{without_none}
 use Rattle.osdp_link_laws.proofs.Sessions.{lasts_or_leaves, leaves}
-use Rattle.osdp_link_laws.proofs.Stages.{Waits, frame}
+use Rattle.osdp_link_laws.proofs.Stages.{Fresh, Restarted, Stage, Waits, frame}
 
 -- more comes after what begins it
 pub begins_more : {A : Type 0} (xs ys zs more : List A) → IsBeginning xs ys → zs ≡ ys ++ more → IsBeginning xs zs
@@ -104,50 +103,70 @@ module _ {H : Type 0} (answer_of : H → Command → Answer) (after : H → Comm
       (apart_goes (queued move l) go.took l.account.stayed new.account.stayed (unoffered_in l.reader.queue) (unoffered_in new.reader.queue)
       l.account.withdrawn [] l.account.queued go.stayed apart))
 
+  -- .. at a stage that comes so from the one before
+  abbrev pub StandsThen : (Restarted → Stage → Type 0) → Link H → Type 0
+  StandsThen Comes l = (n : Stands l) × Comes n.goes.holds.0 n.goes.holds.1
+
   -- a move within the session
-  keeps_on : Assumed → (move : Move H) (l : Link H) → GoesOn move → MoveFits answer_of after move l → Stands l → Stands (after_move answer_of after move l)
+  keeps_on : Assumed → (move : Move H) (l : Link H) → GoesOn move → MoveFits answer_of after move l → (h : Stands l)
+      → StandsThen (MovesTo answer_of after move l h.goes.holds.0 h.goes.holds.1) (after_move answer_of after move l)
   keeps_on given move l on fits h =
-      let new = after_move answer_of after move l in
       let grows = goes_on answer_of after move l on in
-      record {
-        fixed = h.fixed;
-        device = h.device;
-        current = move_there answer_of after move l fits h.current;
-        goes = moving h.fixed answer_of after (given h.fixed h.device) move l on fits h.goes;
-        apart = apart_on move l on h.apart;
-        once = subst EachIsOnce (sym grows.1) h.once;
-      }
+      let m = moving_so h.fixed answer_of after (given h.fixed h.device) move l on fits h.goes in (
+        record {
+          fixed = h.fixed;
+          device = h.device;
+          current = move_there answer_of after move l fits h.current;
+          goes = m.0;
+          apart = apart_on move l on h.apart;
+          once = subst EachIsOnce (sym grows.1) h.once;
+        },
+        m.1,
+      )
 
   -- a session begins again
-  pub begun_again : (fixed : ControllerConfig) (now : ℕ) (l : Link H) → Goes fixed answer_of after l → l.to_reader ≡ [] → l.to_controller ≡ []
-      → Goes l.controller.session.config answer_of after (link.reopens None [] [] now l)
-  begun_again fixed now l h here there =
-      fresh l.controller.session.config answer_of after (link.reopens None [] [] now l) (record {
+  begun_so : (fixed : ControllerConfig) (now : ℕ) (l : Link H) → Goes fixed answer_of after l → l.to_reader ≡ [] → l.to_controller ≡ []
+      → (n : Goes l.controller.session.config answer_of after (link.reopens None [] [] now l)) × (n.holds.1 ≡ Fresh)
+  begun_so fixed now l h here there =
+      fresh_so l.controller.session.config answer_of after (link.reopens None [] [] now l) (record {
         controller = refl;
-        waiting = each_rest MaySubmit (gone l.account) l.controller.waiting h.holds.2.waiting;
+        waiting = h.holds.2.waiting;
         to_reader = here;
         to_controller = there;
         account = refl;
       })
 
+  pub begun_again : (fixed : ControllerConfig) (now : ℕ) (l : Link H) → Goes fixed answer_of after l → l.to_reader ≡ [] → l.to_controller ≡ []
+      → Goes l.controller.session.config answer_of after (link.reopens None [] [] now l)
+  begun_again fixed now l h here there = (begun_so fixed now l h here there).0
+
   reopening : (refusal : Option ControllerFault) (ps qs : List Packet) (now : ℕ) (l : Link H) → controllers.begin_refusal l.controller ≡ refusal
-      → l.to_reader ≡ ps → l.to_controller ≡ qs → Stands l → Stands (link.reopens refusal ps qs now l)
-  reopening (Some fault) ps qs now l may here there h = h
-  reopening None (p ∷ ps) qs now l may here there h = h
-  reopening None [] (q ∷ qs) now l may here there h = h
-  reopening None [] [] now l may here there h = record {
-    fixed = l.controller.session.config;
-    device = h.current;
-    current = h.current;
-    goes = begun_again h.fixed now l h.goes here there;
-    apart = begins_apart l.reader.queue;
-    once = (is_once h.fixed answer_of after l (stays_whole l h.apart) h.goes, h.once);
-  }
+      → l.to_reader ≡ ps → l.to_controller ≡ qs → (h : Stands l)
+      → StandsThen (ReopensTo answer_of after refusal ps qs h.goes.holds.0 h.goes.holds.1) (link.reopens refusal ps qs now l)
+  reopening (Some fault) ps qs now l may here there h = (h, (refl, refl))
+  reopening None (p ∷ ps) qs now l may here there h = (h, (refl, refl))
+  reopening None [] (q ∷ qs) now l may here there h = (h, (refl, refl))
+  reopening None [] [] now l may here there h =
+      let b = begun_so h.fixed now l h.goes here there in (
+        record {
+          fixed = l.controller.session.config;
+          device = h.current;
+          current = h.current;
+          goes = b.0;
+          apart = begins_apart l.reader.queue;
+          once = (is_once h.fixed answer_of after l (stays_whole l h.apart) h.goes, h.once);
+        },
+        b.1,
+      )
+
+  pub standing_so : Assumed → (move : Move H) (l : Link H) → MoveFits answer_of after move l → (h : Stands l)
+      → StandsThen (MovesTo answer_of after move l h.goes.holds.0 h.goes.holds.1) (after_move answer_of after move l)
+  standing_so given (Reopen now) l fits h =
+      reopening (controllers.begin_refusal l.controller) l.to_reader l.to_controller now l refl refl refl h
+  standing_so given move l fits h = keeps_on given move l tt fits h
 
   pub standing : Assumed → (move : Move H) (l : Link H) → MoveFits answer_of after move l → Stands l → Stands (after_move answer_of after move l)
-  standing given (Reopen now) l fits h =
-      reopening (controllers.begin_refusal l.controller) l.to_reader l.to_controller now l refl refl refl h
-  standing given move l fits h = keeps_on given move l tt fits h
+  standing given move l fits h = (standing_so given move l fits h).0
 
   -- one move more: what it submits comes last
   placing : (move : Move H) (l : Link H) (cs : List Command) → Stands l → Placed cs l → Placed (cs ++ submitted move l) (after_move answer_of after move l)
@@ -192,23 +211,29 @@ module _ {H : Type 0} (answer_of : H → Command → Answer) (after : H → Comm
 
 -- all of it, from a first session that has begun
 module _ {H : Type 0} (answer_of : H → Command → Answer) (after : H → Command → H) where
-  pub begins : (l : Link H) → Begins l → Stands answer_of after l
-  begins l b =
+  pub begins_so : (l : Link H) → Begins l → (s : Stands answer_of after l) × (s.goes.holds.1 ≡ Fresh)
+  begins_so l b =
       let fixed = l.controller.session.config in
-      record {
-        fixed = fixed;
-        device = b.address;
-        current = b.address;
-        goes = fresh fixed answer_of after l (record {
-          controller = subst (λ state. Waits fixed state l.controller.session) (sym b.quiet.1) refl;
-          waiting = each_of MaySubmit l.controller.waiting b.waiting;
-          to_reader = b.to_reader;
-          to_controller = b.to_controller;
-          account = b.account;
-        });
-        apart = subst (λ t. IsApart t.withdrawn [] t.queued t.stayed (unoffered_in l.reader.queue)) (sym b.account) (begins_apart l.reader.queue);
-        once = subst EachIsOnce (sym b.earlier) tt;
-      }
+      let new = fresh_so fixed answer_of after l (record {
+        controller = subst (λ state. Waits fixed state l.controller.session) (sym b.quiet.1) refl;
+        waiting = each_of MaySubmit l.controller.waiting b.waiting;
+        to_reader = b.to_reader;
+        to_controller = b.to_controller;
+        account = b.account;
+      }) in (
+        record {
+          fixed = fixed;
+          device = b.address;
+          current = b.address;
+          goes = new.0;
+          apart = subst (λ t. IsApart t.withdrawn [] t.queued t.stayed (unoffered_in l.reader.queue)) (sym b.account) (begins_apart l.reader.queue);
+          once = subst EachIsOnce (sym b.earlier) tt;
+        },
+        new.1,
+      )
+
+  pub begins : (l : Link H) → Begins l → Stands answer_of after l
+  begins l b = (begins_so l b).0
 
   pub stands : ReadEachOther answer_of after → (l : Link H) (moves : List (Move H)) → Begins l → MovesFit answer_of after moves l
       → Stands answer_of after (run answer_of after moves l)

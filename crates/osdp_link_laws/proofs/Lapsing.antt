@@ -20,9 +20,8 @@ use Rattle.osdp_link_laws.specs.Link.{Delivered, Delivery, Link, Lost, Move, Que
 use Rattle.osdp_link_laws.specs.Headline.{Begins, MaySubmit}
 use Rattle.osdp_link_laws.specs.Peers.{ReadEachOther}
 use Rattle.osdp_link_laws.proofs.InARow.{stands}
-use Rattle.osdp_link_laws.proofs.Lines.{each_all, each_rest}
+use Rattle.osdp_link_laws.proofs.Lines.{each_all}
 use Rattle.osdp_link_laws.proofs.PastOpening.{IsNoReopen, IsNumbered, NoneOfferedOrPast, OpeningIsPast, numbered_goes_on, opening_is_past, past_on}
-use Rattle.osdp_link_laws.proofs.Removed.{gone}
 use Rattle.osdp_link_laws.proofs.Stages.{Each}
 
 -- a queue whose front is offered
@@ -256,7 +255,7 @@ module _ {H : Type 0} where
         subst (λ (m : Link H). let next = after_move answer_of after (Reopen now) (lapses m) in
         Begins (record next { earlier = [] }) × (next.account.queued ≡ rest) × (next.earlier ≡ l.account ∷ l.earlier)) (is_off event rest l is)
         (next_with (controllers.begin_refusal l.controller) l.to_reader l.to_controller now event rest room l s.current
-        (each_rest MaySubmit (gone l.account) l.controller.waiting s.goes.holds.2.waiting) may there here there here)
+        s.goes.holds.2.waiting may there here there here)
 
     -- ---- a session in which an event was offered
 

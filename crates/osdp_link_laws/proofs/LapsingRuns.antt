@@ -17,7 +17,7 @@ use Rattle.osdp_reader.specs.Table.{command_in, kind_of, outcome}
 use Rattle.osdp_reader.specs.declared.handler.Answer.{Answer}
 use Rattle.osdp_reader.specs.declared.kind.Kind.{Kind}
 use Rattle.osdp_reader.specs.declared.kind.Kind.TheVariants.{Zero, Taken}
-use Rattle.osdp_link_laws.specs.Headline.{EachIsOnce, MaySubmit, MoveFits, SaysWhatFitsIf}
+use Rattle.osdp_link_laws.specs.Headline.{EachIsOnce, MoveFits, SaysWhatFitsIf}
 use Rattle.osdp_link_laws.specs.Lapses.{Offers, StaysInSession, lapses}
 use Rattle.osdp_link_laws.specs.LapsingRuns.{AllFit, AreInARowButLapsed, Doubtful, Lapse, LapsingFits, LapsingHoldsOnce, LapsingMove, LeavesRoom, Moves, after_lapsing, after_reopen, run_lapsing}
 use Rattle.osdp_link_laws.specs.Link as link
@@ -28,10 +28,8 @@ use Rattle.osdp_link_laws.proofs.Devices.{IsDevice, move_there}
 use Rattle.osdp_link_laws.proofs.Growing.{GoesOn, Grows, goes_on}
 use Rattle.osdp_link_laws.proofs.InARow.{Assumed, StaysApart, apart_on, assumed, begins as begins_so, begins_apart, begins_more, begins_on, begun_again, stays_whole}
 use Rattle.osdp_link_laws.proofs.Lapsing.{DifferFor, is_off, move_for, not_zero_if, off, room_of}
-use Rattle.osdp_link_laws.proofs.Lines.{each_rest}
 use Rattle.osdp_link_laws.proofs.Once.{Goes, fresh, is_once, moving}
 use Rattle.osdp_link_laws.proofs.PastOpening.{IsNoReopen, IsNumbered, NoneOfferedOrPast, OpeningIsPast, numbered_goes_on, one_past, past_on}
-use Rattle.osdp_link_laws.proofs.Removed.{gone}
 use Rattle.osdp_link_laws.proofs.Sessions.{leaves}
 use Rattle.osdp_link_laws.proofs.Stages.{Each}
 
@@ -207,7 +205,7 @@ module _ {H : Type 0} (answer_of : H → Command → Answer) (after : H → Comm
             current = h.current;
             goes = fresh v.controller.session.config answer_of after next (record {
               controller = refl;
-              waiting = each_rest MaySubmit (gone v.account) v.controller.waiting h.goes.holds.2.waiting;
+              waiting = h.goes.holds.2.waiting;
               to_reader = here;
               to_controller = there;
               account = refl;

@@ -1,8 +1,8 @@
 -- What holds of a session holds after each move.
-use Rattle.std.proofs.Common.{◌≡◌, ◌≢◌, ◌⊎◌, ◌<◌, ℕ, Bool, true, false, List, [], ◌∷◌, ◌++◌, Option, Some, None, Ok, refl, sym, subst, ap, ◌∙◌, inl, inr, arith, append_assoc}
+use Rattle.std.proofs.Common.{◌≡◌, ◌≢◌, ◌<◌, ℕ, Bool, true, false, List, [], ◌∷◌, ◌++◌, Option, Some, None, Ok, refl, sym, subst, ap, ◌∙◌, inl, inr, arith}
 use Rattle.std.proofs.lemmas.List.{append-nil}
 use Rattle.std.specs.Prelude.{drop, if◌then◌else◌, option_to_list, take}
-use Rattle.osdp_frame.specs.Packet.{Packet, next_sequence}
+use Rattle.osdp_frame.specs.Packet.{Packet}
 use Rattle.osdp_msg.specs.CommandTable.{CommandFits}
 use Rattle.osdp_msg.specs.ReplyTable.{ReplyFits}
 use Rattle.osdp_msg.specs.declared.command.Command.{Command}
@@ -17,6 +17,8 @@ use Rattle.osdp_msg.specs.Events.{event_in}
 use Rattle.osdp_controller.specs.Ticking.{Ticked, ticks}
 use Rattle.osdp_controller.specs.declared.meaning.ReplyMeaning.TheVariants.{Plain}
 use Rattle.osdp_controller.specs.declared.config.ControllerConfig.{ControllerConfig}
+use Rattle.osdp_controller.specs.declared.session.Session.{Session}
+use Rattle.osdp_controller.specs.declared.state.State.{State}
 use Rattle.osdp_controller.specs.declared.exchange.Exchange.{Exchange}
 use Rattle.osdp_controller.specs.declared.exchange.Exchange.TheVariants.{Opening, Polling, Asking}
 use Rattle.osdp_controller.specs.declared.fault.ControllerFault.{ControllerFault}
@@ -27,14 +29,13 @@ use Rattle.osdp_reader.specs.Table.{command_in}
 use Rattle.osdp_reader_laws.specs.Laws.{AnswersPlainly, IsPlain}
 use Rattle.osdp_link_laws.specs.Headline.{MaySubmit}
 use Rattle.osdp_link_laws.specs.Link as link
-use Rattle.osdp_link_laws.specs.Link.{Link, after_report, event_withdrawn}
+use Rattle.osdp_link_laws.specs.Link.{Link}
 use Rattle.osdp_link_laws.specs.Peers.{TellsItsEvent}
-use Rattle.osdp_link_laws.proofs.Since.{events_same, past_same}
+use Rattle.osdp_link_laws.proofs.Coming.{BeginsFrom, Controls, TicksTo, lost_in}
 use Rattle.osdp_link_laws.proofs.Lines.{each_append, each_rest, runs_append, runs_first}
-use Rattle.osdp_link_laws.proofs.Stages.{Accounts, After, Asks, Before, Behind, ControllerAt, Each, Fresh, HasActed, IsAsked, IsFrame, IsOldFrame, Knows, Level, Never, Now, Offers, OffersEvent, Past, ReaderAt, Rest, Restarted, Runs, SaysOld, Stage, Start, ToReaderAt, answer, frame, given_up, given_up_at, number_after, pending, pending_at, shown, shown_at}
-use Rattle.osdp_link_laws.proofs.Parts.{At, with_reader, with_session, with_to_reader}
-use Rattle.osdp_link_laws.proofs.Withdrawing.{but_oldest_after, splits}
-use Rattle.osdp_link_laws.proofs.Ticks.{Begun, RestsOn, Unchanged, ticks_asking, ticks_resting, ticks_waiting}
+use Rattle.osdp_link_laws.proofs.Stages.{After, Before, Behind, ControllerAt, Each, Fresh, HasActed, IsAsked, IsFrame, IsOldFrame, IsPast, Knows, Level, Never, Now, Offers, OffersEvent, Past, ReaderAt, ReaderBehind, Rest, Restarted, Runs, SaysOld, Stage, Start, ToReaderAt, answer, frame, given_up_at, number_after, pending, pending_at}
+use Rattle.osdp_link_laws.proofs.Parts.{At, with_reader}
+use Rattle.osdp_link_laws.proofs.Ticks.{Begun, RestsOn, Unchanged, WaitsOn, closed_tick, ticks_asking, ticks_resting, ticks_waiting}
 
 pub runs_last : (P Q : Packet → Type 0) (ps : List Packet) → Each Q ps → Runs P Q ps
 runs_last P Q [] all = tt
@@ -139,17 +140,10 @@ module _ (fixed : ControllerConfig) {H : Type 0} (answer_of : H → Command → 
   abbrev AtStage : Stage → Link H → Type 0
   AtStage at l = At fixed answer_of after since at l
 
-  abbrev Stays : Link H → Type 0
-  Stays l = (at : Stage) × AtStage at l
-
-  fresh_begins : {l : Link H} → (x : Exchange) × AtStage (Behind Start x) l → Stays l
-  fresh_begins (x, h) = (Behind Start x, h)
-
   pub submitting : (refusal : Option ControllerFault) (c : Command) (at : Stage) (l : Link H) → (refusal ≡ None → MaySubmit c) → AtStage at l
       → AtStage at (link.submits refusal c l)
   submitting (Some fault) c at l may h = h
   submitting None c at l may h =
-      let t = record l.account { issued = l.account.issued ++ c ∷ [] } in
       record {
         stage = h.stage;
         controller = h.controller;
@@ -157,182 +151,122 @@ module _ (fixed : ControllerConfig) {H : Type 0} (answer_of : H → Command → 
         reader = h.reader;
         to_reader = h.to_reader;
         to_controller = h.to_controller;
-        account = record {
-          issued = ap (λ all. all ++ c ∷ []) h.account.issued
-              ∙ append_assoc l.account.taken (pending_at at ++ l.controller.waiting) (c ∷ [])
-              ∙ ap (λ all. l.account.taken ++ all) (append_assoc (pending_at at) l.controller.waiting (c ∷ []));
-          answered = h.account.answered;
-          settled = h.account.settled;
-          unsettled = h.account.unsettled;
-          told = events_same since (shown_at at) l.reader.queue.events l.account t refl refl refl
-              (λ past. past_same since (shown_at at) past l.account t refl refl) h.account.told;
-          offered = h.account.offered;
-          restarts = h.account.restarts;
-        };
       }
 
   pub queueing : (full : Bool) (e : Event) (at : Stage) (l : Link H) → AtStage at l → AtStage at (link.queues full e l)
   queueing true e at l h = h
   queueing false e at l h =
-      let t = record l.account {
-        queued = l.account.queued ++ e ∷ [];
-        stayed = l.account.stayed ++ e ∷ [];
-        kept = l.account.kept ++ e ∷ [];
-      } in
-      let told = h.account.told in
-      with_reader fixed answer_of after since at l (after_submit e l.reader) t.queued t.withdrawn t.stayed t.kept h
+      with_reader fixed answer_of after since at l (after_submit e l.reader) h
       (reader_changes fixed since l.reader (after_submit e l.reader) (λ n x a. knows_queues fixed since n x a e l.reader) at h.reader)
-      (record {
-        left = told.left;
-        past = told.past;
-        stayed = ap (λ all. all ++ e ∷ []) told.stayed ∙ append_assoc told.left l.reader.queue.events (e ∷ []);
-        kept = ap (λ all. all ++ e ∷ []) told.kept ∙ append_assoc told.past l.reader.queue.events (e ∷ []);
-        without = told.without;
-        reported = past_same since (shown_at at) told.past l.account t refl refl told.reported;
-      })
 
   -- the oldest event that was never offered is taken back
   pub withdrawing : (at : Stage) (l : Link H) → AtStage at l → AtStage at (link.withdraws_event l)
   withdrawing at l h =
-      let t = event_withdrawn l.reader.queue l.account in
-      let told = h.account.told in
-      let split = splits l.reader.queue in
-      with_reader fixed answer_of after since at l (after_withdraw_event l.reader) t.queued t.withdrawn t.stayed t.kept h
+      with_reader fixed answer_of after since at l (after_withdraw_event l.reader) h
       (reader_changes fixed since l.reader (after_withdraw_event l.reader) (λ n x a. knows_withdraws fixed since n x a l.reader) at h.reader)
-      (record {
-        left = told.left;
-        past = told.past;
-        stayed = but_oldest_after l.reader.queue split told.left l.account.stayed told.stayed;
-        kept = but_oldest_after l.reader.queue split told.past l.account.kept told.kept;
-        without = told.without;
-        reported = past_same since (shown_at at) told.past l.account t refl refl told.reported;
-      })
 
   -- BUSY on or off, or another handler
   pub being_otherwise : (busy : Bool) (handler : H) (at : Stage) (l : Link H) → AtStage at l
       → AtStage at (record l { reader = record l.reader { busy = busy; handler = handler } })
   being_otherwise busy handler at l h =
-      with_reader fixed answer_of after since at l (otherwise fixed busy handler l.reader) l.account.queued l.account.withdrawn l.account.stayed l.account.kept h
+      with_reader fixed answer_of after since at l (otherwise fixed busy handler l.reader) h
       (reader_changes fixed since l.reader (otherwise fixed busy handler l.reader) (λ n x a. knows_otherwise fixed since n x a busy handler l.reader) at h.reader)
-      h.account.told
+
+  -- ---- a tick
+
+  -- how far the session has come then, and what it makes of the commands
+  abbrev TicksFrom : ℕ → Stage → Link H → Type 0
+  TicksFrom now at l =
+      let t = ticks now l.controller.session l.controller.waiting in
+      (to : Stage)
+      × (TicksTo t at to × Controls at to l.controller.session.state t.session.state l.controller.waiting t.waiting t.step.report) × AtStage to (link.ticked t l)
 
   -- a tick that begins no exchange
-  ticked_at : (at : Stage) (t : Ticked) (l : Link H) → t.waiting ≡ l.controller.waiting
-      → after_report t.step.report l.account ≡ record l.account { unsettled = given_up_at at t.session.state } → ControllerAt fixed at t.session
-      → ToReaderAt fixed at (l.to_reader ++ option_to_list t.step.frame) → AtStage at l → AtStage at (link.ticked t l)
-  ticked_at at t l waits says stands line h =
-      let ps = l.to_reader ++ option_to_list t.step.frame in
-      subst (λ w. AtStage at (record l {
-        controller = record l.controller { session = t.session; waiting = w };
-        to_reader = ps;
-        account = after_report t.step.report l.account;
-      })) (sym waits)
-      (subst (λ a. AtStage at (record l { controller = record l.controller { session = t.session }; to_reader = ps; account = a })) (sym says)
-      (with_session fixed answer_of after since at (record l { to_reader = ps }) t.session
-      (with_to_reader fixed answer_of after since at l ps h line) stands))
-
-  -- an exchange begins after another
-  begins : (past : Past) (n : ℕ) (t : Ticked) (l : Link H) → n ≡ number_after past → Begun fixed past n l.controller.waiting t
-      → ((x : Exchange) (ws : List Command) → IsAsked past x → l.controller.waiting ≡ pending x ++ ws
-      → given_up t.session.state x ≡ [] → Asks fixed t.session.state (number_after past) x t.session
-      → AtStage (Behind past x) (record l {
-        controller = record l.controller { session = t.session; waiting = ws };
-        to_reader = l.to_reader ++ frame fixed x (number_after past) ∷ [];
-      }))
-      → (x : Exchange) × AtStage (Behind past x) (link.ticked t l)
-  begins past n t l number (x, asked, waits, sent, quiet, none, asks) put = (
-    x,
-    subst (λ o. AtStage (Behind past x) (record l {
-      controller = record l.controller { session = t.session; waiting = t.waiting };
-      to_reader = l.to_reader ++ option_to_list o;
-      account = after_report t.step.report l.account;
-    })) (sym (sent ∙ ap (λ k. Some (frame fixed x k)) number))
-        (subst (λ o. AtStage (Behind past x) (record l {
-          controller = record l.controller { session = t.session; waiting = t.waiting };
-          to_reader = l.to_reader ++ frame fixed x (number_after past) ∷ [];
-          account = after_report o l.account;
-        })) (sym quiet) (put x t.waiting asked waits none (subst (λ k. Asks fixed t.session.state k x t.session) number asks))),
-  )
+  same_exchange : (at : Stage) (now : ℕ) (l : Link H) → let t = ticks now l.controller.session l.controller.waiting in
+      t.waiting ≡ l.controller.waiting → given_up_at at l.controller.session.state ++ lost_in t.step.report ≡ given_up_at at t.session.state
+      → ControllerAt fixed at t.session → ToReaderAt fixed at (l.to_reader ++ option_to_list t.step.frame) → AtStage at l → TicksFrom now at l
+  same_exchange at now l waits lost stands line h =
+      let s = l.controller.session in
+      let ws = l.controller.waiting in (
+        at,
+        (
+          inl refl,
+          record {
+            waits = ap (λ vs. pending_at at ++ vs) waits;
+            lost = lost;
+            over = λ closed.
+                let is = closed_tick now s ws closed in
+                (ap (λ (t : Ticked). t.session.state) is ∙ closed, refl, waits, ap (λ (t : Ticked). lost_in t.step.report) is);
+          },
+        ),
+        record {
+          stage = h.stage;
+          controller = stands;
+          waiting = subst (Each MaySubmit) (sym waits) h.waiting;
+          reader = h.reader;
+          to_reader = line;
+          to_controller = h.to_controller;
+        },
+      )
 
   -- .. and says nothing
-  stays : (at : Stage) (t : Ticked) (l : Link H) → t.waiting ≡ l.controller.waiting → t.step.frame ≡ None → t.step.report ≡ None
-      → l.account.unsettled ≡ given_up_at at t.session.state → ControllerAt fixed at t.session → AtStage at l → AtStage at (link.ticked t l)
-  stays at t l waits silent quiet kept stands h =
-      ticked_at at t l waits
-      (ap (λ o. after_report o l.account) quiet ∙ ap (λ (cs : List Command). record l.account { unsettled = cs }) kept) stands
-      (subst (λ o. ToReaderAt fixed at (l.to_reader ++ option_to_list o)) (sym silent)
-      (subst (ToReaderAt fixed at) (sym (append-nil l.to_reader)) h.to_reader)) h
-
-  -- an exchange that begins: the account has its command as pending
-  begun_account : (x : Exchange) (ws : List Command) (lost : List Command) (front : List Event) (l : Link H) → l.controller.waiting ≡ pending x ++ ws
-      → lost ≡ [] → Accounts fixed answer_of after since [] [] [] front [] l.controller.waiting l.reader.queue.events l.account
-      → Accounts fixed answer_of after since (pending x) [] lost front [] ws l.reader.queue.events l.account
-  begun_account x ws lost front l waits none a = record {
-    issued = a.issued ∙ ap (λ w. l.account.taken ++ w) waits;
-    answered = a.answered;
-    settled = a.settled;
-    unsettled = a.unsettled ∙ sym none;
-    told = a.told;
-    offered = a.offered;
-    restarts = a.restarts;
-  }
-
-  -- where no exchange is outstanding one begins, or nothing happens
-  pub ticking_rest : (n : ℕ) (x : Exchange) (a : Reply) (now : ℕ) (l : Link H) → AtStage (Rest n x a) l
-      → let t = ticks now l.controller.session l.controller.waiting in
-      ((y : Exchange) × AtStage (Behind (After n x a) y) (link.ticked t l)) ⊎ Unchanged fixed (RestsOn fixed n) l.controller.waiting t
-  ticking_rest n x a now l h =
+  quiet : (at : Stage) (now : ℕ) (l : Link H) (P : Session → Type 0) → ((s : Session) → P s → ControllerAt fixed at s) → ((state : State) → given_up_at at state ≡ [])
+      → Unchanged fixed P l.controller.waiting (ticks now l.controller.session l.controller.waiting) → AtStage at l → TicksFrom now at l
+  quiet at now l P stands none (waits, silent, told, on) h =
       let t = ticks now l.controller.session l.controller.waiting in
-      elim (ticks_resting fixed n x a l.controller.session l.controller.waiting now h.controller h.waiting) [
-        | inl begun ↦ inl (begins (After n x a) (next_sequence n) t l refl begun (λ y ws asked waits none asks. record {
-          stage = (h.stage, asked);
-          controller = asks;
-          waiting = each_rest MaySubmit (pending y) ws (subst (Each MaySubmit) waits h.waiting);
-          reader = h.reader;
-          to_reader = runs_first (IsOldFrame fixed (After n x a)) (IsFrame fixed y (next_sequence n)) l.to_reader (frame fixed y (next_sequence n) ∷ [])
-              h.to_reader (refl, tt);
-          to_controller = h.to_controller;
-          account = begun_account y ws (given_up t.session.state y) (shown x a) l waits none h.account;
-        }))
-        | inr unchanged ↦ inr unchanged
-      ]
+      same_exchange at now l waits (ap (λ r. given_up_at at l.controller.session.state ++ lost_in r) told ∙ append-nil (given_up_at at l.controller.session.state)
+      ∙ none l.controller.session.state ∙ sym (none t.session.state)) (stands t.session on)
+      (subst (λ o. ToReaderAt fixed at (l.to_reader ++ option_to_list o)) (sym silent) (subst (ToReaderAt fixed at) (sym (append-nil l.to_reader)) h.to_reader)) h
 
-  pub ticking : (at : Stage) (now : ℕ) (l : Link H) → AtStage at l → Stays (link.ticked (ticks now l.controller.session l.controller.waiting) l)
+  -- an exchange begins after another
+  begins : (at : Stage) (past : Past) (now : ℕ) (l : Link H) → ((x : Exchange) → BeginsFrom at (Behind past x)) → pending_at at ≡ []
+      → given_up_at at l.controller.session.state ≡ [] → IsPast past → ReaderBehind fixed since past l.reader
+      → Each (IsOldFrame fixed past) l.to_reader → Each (SaysOld fixed since past) l.to_controller → AtStage at l
+      → Begun fixed past (number_after past) l.controller.waiting (ticks now l.controller.session l.controller.waiting) → TicksFrom now at l
+  begins at past now l from none given acted knows frames said h (x, asked, waits, sent, told, lost, asks) =
+      let s = l.controller.session in
+      let ws = l.controller.waiting in
+      let t = ticks now s ws in
+      let n = number_after past in (
+        Behind past x,
+        (
+          inr (from x, record { frame = frame fixed x n; sent = sent; told = told }),
+          record {
+            waits = sym waits ∙ ap (λ cs. cs ++ ws) (sym none);
+            lost = (λ i. given i ++ lost_in (told i)) ∙ sym lost;
+            over = λ closed. absurd (let e : None ≡ Some (frame fixed x n) = sym (ap (λ (t : Ticked). t.step.frame) (closed_tick now s ws closed)) ∙ sent in cc);
+          },
+        ),
+        record {
+          stage = (acted, asked);
+          controller = asks;
+          waiting = each_rest MaySubmit (pending x) t.waiting (subst (Each MaySubmit) waits h.waiting);
+          reader = knows;
+          to_reader = subst (λ o. Runs (IsOldFrame fixed past) (IsFrame fixed x n) (l.to_reader ++ option_to_list o)) (sym sent)
+              (runs_first (IsOldFrame fixed past) (IsFrame fixed x n) l.to_reader (frame fixed x n ∷ []) frames (refl, tt));
+          to_controller = said;
+        },
+      )
+
+  pub ticking : (at : Stage) (now : ℕ) (l : Link H) → AtStage at l → TicksFrom now at l
   ticking Fresh now l h =
-      let t = ticks now l.controller.session l.controller.waiting in
       elim (ticks_waiting fixed l.controller.session l.controller.waiting now h.controller) [
-        | inl begun ↦ fresh_begins (begins Start 0 t l refl begun (λ x ws asked waits none asks. record {
-          stage = (tt, asked);
-          controller = asks;
-          waiting = each_rest MaySubmit (pending x) ws (subst (Each MaySubmit) waits h.waiting);
-          reader = tt;
-          to_reader = runs_first (IsOldFrame fixed Start) (IsFrame fixed x 0) l.to_reader (frame fixed x 0 ∷ [])
-              (subst (Each (IsOldFrame fixed Start)) (sym h.to_reader) tt) (refl, tt);
-          to_controller = subst (Each (SaysOld fixed since Start)) (sym h.to_controller) tt;
-          account = begun_account x ws (given_up t.session.state x) [] l waits none h.account;
-        }))
-        | inr (waits, silent, quiet, on) ↦ (
-          Fresh,
-          stays Fresh t l waits silent quiet h.account.unsettled on h,
-        )
+        | inl begun ↦ begins Fresh Start now l (λ x. (x, refl)) refl refl tt tt (subst (Each (IsOldFrame fixed Start)) (sym h.to_reader) tt)
+            (subst (Each (SaysOld fixed since Start)) (sym h.to_controller) tt) h begun
+        | inr unchanged ↦ quiet Fresh now l (WaitsOn fixed) (λ s on. on) (λ state. refl) unchanged h
       ]
   ticking (Behind past x) now l h =
       let t = ticks now l.controller.session l.controller.waiting in
-      let w = ticks_asking fixed (number_after past) x l.controller.session l.controller.waiting now h.controller in (
-        Behind past x,
-        ticked_at (Behind past x) t l w.0 (w.2 l.account h.account.unsettled) w.3
-            (runs_append (IsOldFrame fixed past) (IsFrame fixed x (number_after past)) l.to_reader (option_to_list t.step.frame) h.to_reader w.1) h,
-      )
+      let w = ticks_asking fixed (number_after past) x l.controller.session l.controller.waiting now h.controller in
+      same_exchange (Behind past x) now l w.0 w.2 w.3
+      (runs_append (IsOldFrame fixed past) (IsFrame fixed x (number_after past)) l.to_reader (option_to_list t.step.frame) h.to_reader w.1) h
   ticking (Level past x a) now l h =
       let t = ticks now l.controller.session l.controller.waiting in
-      let w = ticks_asking fixed (number_after past) x l.controller.session l.controller.waiting now h.controller in (
-        Level past x a,
-        ticked_at (Level past x a) t l w.0 (w.2 l.account h.account.unsettled) w.3
-            (each_append (IsFrame fixed x (number_after past)) l.to_reader (option_to_list t.step.frame) h.to_reader w.1) h,
-      )
+      let w = ticks_asking fixed (number_after past) x l.controller.session l.controller.waiting now h.controller in
+      same_exchange (Level past x a) now l w.0 w.2 w.3
+      (each_append (IsFrame fixed x (number_after past)) l.to_reader (option_to_list t.step.frame) h.to_reader w.1) h
   ticking (Rest n x a) now l h =
-      let t = ticks now l.controller.session l.controller.waiting in
-      elim (ticking_rest n x a now l h) [
-        | inl (y, begun) ↦ (Behind (After n x a) y, begun)
-        | inr (waits, silent, quiet, on) ↦ (Rest n x a, stays (Rest n x a) t l waits silent quiet h.account.unsettled on h)
+      elim (ticks_resting fixed n x a l.controller.session l.controller.waiting now h.controller h.waiting) [
+        | inl begun ↦ begins (Rest n x a) (After n x a) now l (λ y. (y, refl)) refl refl h.stage h.reader h.to_reader h.to_controller h begun
+        | inr unchanged ↦ quiet (Rest n x a) now l (RestsOn fixed n) (λ s on. on) (λ state. refl) unchanged h
       ]

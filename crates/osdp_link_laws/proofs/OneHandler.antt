@@ -34,7 +34,6 @@ use Rattle.osdp_link_laws.specs.Peers.{ReadEachOther}
 use Rattle.osdp_link_laws.proofs.Acting.{no_event, polled, same_answer, taken_is}
 use Rattle.osdp_link_laws.proofs.GivenAnswers.{poll_or_not}
 use Rattle.osdp_link_laws.proofs.InARow.{Assumed, Stands, assumed, begins, standing}
-use Rattle.osdp_link_laws.proofs.Removed.{as_waiting}
 use Rattle.osdp_link_laws.proofs.Lines.{both}
 use Rattle.osdp_link_laws.proofs.Moves.{Premises}
 use Rattle.osdp_link_laws.proofs.Numbers.{next_above_zero}
@@ -346,7 +345,7 @@ module _ {H : Type 0} (answer_of : H → Command → Answer) (after : H → Comm
   move_answered given start (ToReader how) l keeps s facts is =
       let held = s.goes.holds in
       front_answered s.fixed (given s.fixed s.device) start how l.to_reader l
-      (λ p rest line. front_exchange s.fixed held.0 held.1 (as_waiting l) p rest held.2 (subst (ToReaderAt s.fixed held.1) line held.2.to_reader)) facts is
+      (λ p rest line. front_exchange s.fixed held.0 held.1 l p rest held.2 (subst (ToReaderAt s.fixed held.1) line held.2.to_reader)) facts is
   move_answered given start (ToController how now) l keeps s facts is = to_controller_answered start how now l.to_controller l is
   move_answered given start (Reopen now) l keeps s facts is =
       reopens_answered start (controllers.begin_refusal l.controller) l.to_reader l.to_controller now l is

@@ -1,17 +1,12 @@
 -- Where neither end restarts and nothing is withdrawn: no list of such moves grows.
-use Rattle.std.proofs.Common.{◌≡◌, ◌⊎◌, ◌≤◌, List, [], ◌∷◌, ◌++◌, length, refl, sym, subst, ap, ◌∙◌, inl, inr, arith}
-use Rattle.std.proofs.lemmas.List.{append-nil}
+use Rattle.std.proofs.Common.{List, [], ◌∷◌, ◌++◌, refl, sym, subst, ap}
 use Rattle.osdp_msg.specs.declared.command.Command.{Command}
-use Rattle.osdp_msg.specs.declared.event.Event.{Event}
 use Rattle.osdp_reader.specs.declared.handler.Answer.{Answer}
-use Rattle.osdp_link_laws.specs.Headline.{IsWithout}
 use Rattle.osdp_link_laws.specs.Link.{Account, Link, Move, after_move, run}
-use Rattle.osdp_link_laws.specs.Ordinary.{AreUndisturbed, IsOrdinary, IsUndisturbed, LeavesUnreported, OrdinaryIsUndisturbed}
-use Rattle.osdp_link_laws.specs.Sessions.{Leaves, LeavesEvents}
+use Rattle.osdp_link_laws.specs.Ordinary.{AreUndisturbed, IsOrdinary, IsUndisturbed, OrdinaryIsUndisturbed}
 use Rattle.osdp_link_laws.proofs.EachAccount.{IsKept, each_kept}
 use Rattle.osdp_link_laws.proofs.Lines.{each_of}
 use Rattle.osdp_link_laws.proofs.Stages.{Each}
-use Rattle.osdp_link_laws.proofs.Without.{without_nothing}
 
 undisturbed_kept : IsKept IsUndisturbed
 undisturbed_kept = record {
@@ -64,27 +59,3 @@ module _ {H : Type 0} (answer_of : H → Command → Answer) (after : H → Comm
         subst IsUndisturbed (sym b.account) (undisturbed_kept.new l.controller.waiting l.reader.queue.events),
         subst AreUndisturbed (sym b.earlier) tt,
       )
-
--- ---- what such a session leaves
-
-none_unheard : (t : Account) (unheard : List Event) → t.restarts ≡ 0 → (unheard ≡ []) ⊎ ((1 ≤ t.restarts) × (t.offered ≡ t.reported ++ unheard)) → unheard ≡ []
-none_unheard t unheard never (inl none) = none
-none_unheard t unheard never (inr some) = absurd (omega (arith, never, some.0))
-
-all_reported : (t : Account) (left events : List Event) → IsUndisturbed t → (of : LeavesEvents t left events) → t.reported ≡ left ++ of.again
-all_reported t left events so of =
-    sym (append-nil t.reported) ∙ ap (λ es. t.reported ++ es) (sym (none_unheard t of.unheard so.restarts of.restart)) ∙ of.reported
-    ∙ ap (λ es. es ++ of.again) (without_nothing left of.heard (subst (λ out. IsWithout out left of.heard) so.thrown_away of.without))
-
-few_again : (t : Account) (left events : List Event) → (of : LeavesEvents t left events) → length of.again ≤ 1
-few_again t left events of = omega (arith, of.one)
-
-pub leaves_so : (t : Account) (waiting : List Command) (events : List Event) → IsUndisturbed t → Leaves t waiting events → LeavesUnreported t events
-leaves_so t waiting events so leaves = record {
-  left = leaves.left;
-  again = leaves.of_events.again;
-  queued = sym so.stayed ∙ leaves.of_events.stayed;
-  reported = all_reported t leaves.left events so leaves.of_events;
-  front = leaves.of_events.front;
-  few = few_again t leaves.left events leaves.of_events;
-}

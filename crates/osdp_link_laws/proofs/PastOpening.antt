@@ -40,7 +40,6 @@ use Rattle.osdp_link_laws.proofs.Lines.{both, each_append, each_lost, each_map, 
 use Rattle.osdp_link_laws.proofs.Numbers.{next_above_zero}
 use Rattle.osdp_link_laws.proofs.Once.{Goes as SessionGoes}
 use Rattle.osdp_link_laws.proofs.Parts.{At}
-use Rattle.osdp_link_laws.proofs.Removed.{as_waiting}
 use Rattle.osdp_link_laws.proofs.Stages.{After, Asks, Behind, Each, Fresh, IsAsked, IsFrame, IsOldFrame, Level, Past, Rest, Restarted, Rests, Runs, Stage, Start, number_after}
 
 -- a packet whose number isn't 0
@@ -368,9 +367,7 @@ module _ {H : Type 0} where
       IsHeld l = (fixed : ControllerConfig) × SessionGoes fixed answer_of after l
 
       past_now : (l : Link H) (p : Packet) (ps : List Packet) → IsHeld l → l.to_reader ≡ p ∷ ps → IsNumbered p → OpeningIsPast l
-      past_now l p ps h is above =
-          let past = past_by h.0 answer_of after h.1.holds.0 h.1.holds.1 (as_waiting l) p ps is above h.1.holds.2 in
-          record { frames = past.frames; controller = past.controller }
+      past_now l p ps h is above = past_by h.0 answer_of after h.1.holds.0 h.1.holds.1 l p ps is above h.1.holds.2
 
       gets_past : (p : Packet) (ps : List Packet) (l m : Link H) → IsHeld l → l.to_reader ≡ p ∷ ps
           → m.account ≡ (link.reader_gets answer_of after p l).account → (OpeningIsPast l → OpeningIsPast m) → NoneOfferedOrPast l → NoneOfferedOrPast m

@@ -14,7 +14,6 @@ use Rattle.osdp_link_laws.proofs.Deliveries.{all_said}
 use Rattle.osdp_link_laws.proofs.InARow.{Assumed, Stands, assumed, begins, standing, stands}
 use Rattle.osdp_link_laws.proofs.Kept.{AllKept, first_kept, move_kept}
 use Rattle.osdp_link_laws.proofs.Lines.{each_all, each_append, each_of}
-use Rattle.osdp_link_laws.proofs.Removed.{as_waiting}
 use Rattle.osdp_link_laws.proofs.Reports.{MayBring, front_so, tick_so}
 use Rattle.osdp_link_laws.proofs.Stages.{Before, Each, HasRestarted, MayRefuse, Never, Now, Restarted}
 
@@ -38,8 +37,7 @@ module _ {H : Type 0} (answer_of : H → Command → Answer) (after : H → Comm
   pub says_plainly : Assumed answer_of after → (l : Link H) → Stands answer_of after l → l.account.restarts ≡ 0 → Each IsPlainlySaid l.to_controller
   says_plainly given l s never =
       let held = s.goes.holds in
-      all_said s.fixed answer_of after held.0 (given s.fixed s.device) (never_refuses held.0 l.account.restarts held.2.account.restarts never) held.1
-      (as_waiting l) held.2
+      all_said s.fixed answer_of after held.0 (given s.fixed s.device) (never_refuses held.0 l.account.restarts s.goes.accounts.restarts never) held.1 l held.2
 
   told_so : Assumed answer_of after → (move : Move H) (l : Link H) → Stands answer_of after l → l.account.restarts ≡ 0 → NoRefusal (told_by move l)
   told_so given (Tick now) l s never = tick_so NoRefusal tt (λ o. tt) l.controller.session.state (seen now l.controller.session) l.controller.waiting

@@ -13,11 +13,10 @@ use Rattle.osdp_link_laws.specs.Progress.{ComesThroughFromRest, ComesToRest, Set
 use Rattle.osdp_link_laws.proofs.Due.{closed_rests}
 use Rattle.osdp_link_laws.proofs.InARow.{assumed, stands}
 use Rattle.osdp_link_laws.proofs.Lines.{each_all}
-use Rattle.osdp_link_laws.proofs.Once.{going_bare}
 use Rattle.osdp_link_laws.proofs.Parts.{At}
 use Rattle.osdp_link_laws.proofs.Round.{IsIdle}
 use Rattle.osdp_link_laws.proofs.Rounds.{all_of, counted}
-use Rattle.osdp_link_laws.proofs.Stages.{Asks, Before, Behind, Fresh, Level, Never, Now, Rest, Restarted, Stage, Waits, number_after}
+use Rattle.osdp_link_laws.proofs.Stages.{Asks, Before, Behind, Fresh, HasRestarted, Level, Never, Now, Rest, Restarted, Stage, Waits, number_after}
 use Rattle.osdp_link_laws.proofs.Through.{clear_still, config_is, first_round, held_after, through}
 
 idle_lasts : (state : State) → (due : ℕ) × (state ≡ Idle due) → state ≡ Closed → ⊥
@@ -31,19 +30,19 @@ module _ {H : Type 0} (answer_of : H → Command → Answer) (after : H → Comm
       let s = stands answer_of after peers l moves b fits in
       let session = afterwards.controller.session in
       let lasts : session.state ≡ Closed → ⊥ = λ closed. closed_rests session.state (seen now session) afterwards.controller.waiting closed due in
-      let holds = going_bare s.fixed answer_of after afterwards s.goes lasts in
+      let holds = s.goes.holds in
       let same = config_is s.fixed answer_of after holds.0 holds.1 afterwards holds.2 lasts in
       let still = clear_still s.fixed answer_of after afterwards clear same in
       let all = assumed answer_of after peers s.fixed s.device in
-      let held = held_after s.fixed answer_of after all now afterwards more.1.0 holds in
-      elim (first_round s.fixed answer_of after all now afterwards holds still due more.1.0) [
+      let held = held_after s.fixed answer_of after all now afterwards more.1.0 s.goes in
+      elim (first_round s.fixed answer_of after all now afterwards s.goes still due more.1.0) [
         | inl closed ↦ inl closed
         | inr idle ↦ inr (
           record {
             to_reader = idle.still.to_reader;
             to_controller = idle.still.to_controller;
             address = idle.still.ready.here
-                ∙ sym (ap (λ c. c.address) (config_is s.fixed answer_of after held.0 held.1 next held.2 (idle_lasts next.controller.session.state idle.idle)));
+                ∙ sym (ap (λ c. c.address) (config_is s.fixed answer_of after held.holds.0 held.holds.1 next held.holds.2 (idle_lasts next.controller.session.state idle.idle)));
             ready = idle.still.ready.ready;
             issued = each_all SetsNoAddress next.account.issued idle.still.issued;
           },
@@ -54,13 +53,13 @@ module _ {H : Type 0} (answer_of : H → Command → Answer) (after : H → Comm
 module _ (fixed : ControllerConfig) {H : Type 0} (answer_of : H → Command → Answer) (after : H → Command → H) where
   -- at rest a reader that hasn't restarted knows its last number
   known : (since : Restarted) (at : Stage) (l : Link H) → At fixed answer_of after since at l → (due : ℕ) → l.controller.session.state ≡ Idle due
-      → l.reader.config.address ≡ fixed.address → l.account.restarts ≡ 0 → (n : ℕ) × (l.reader.last ≡ Some n)
-  known since Fresh l h due idle here none = absurd (subst (λ st. Waits fixed st l.controller.session) idle h.controller)
-  known since (Behind past x) l h due idle here none = absurd (subst (λ st. Asks fixed st (number_after past) x l.controller.session) idle h.controller)
-  known since (Level past x a) l h due idle here none = absurd (subst (λ st. Asks fixed st (number_after past) x l.controller.session) idle h.controller)
-  known Never (Rest n x a) l h due idle here none = (n, (h.reader.here here).0)
-  known Before (Rest n x a) l h due idle here none = absurd (let some = h.account.restarts in omega (arith, none, some))
-  known Now (Rest n x a) l h due idle here none = absurd (let some = h.account.restarts in omega (arith, none, some))
+      → l.reader.config.address ≡ fixed.address → HasRestarted since l.account.restarts → l.account.restarts ≡ 0 → (n : ℕ) × (l.reader.last ≡ Some n)
+  known since Fresh l h due idle here some none = absurd (subst (λ st. Waits fixed st l.controller.session) idle h.controller)
+  known since (Behind past x) l h due idle here some none = absurd (subst (λ st. Asks fixed st (number_after past) x l.controller.session) idle h.controller)
+  known since (Level past x a) l h due idle here some none = absurd (subst (λ st. Asks fixed st (number_after past) x l.controller.session) idle h.controller)
+  known Never (Rest n x a) l h due idle here some none = (n, (h.reader.here here).0)
+  known Before (Rest n x a) l h due idle here some none = absurd (omega (arith, none, some))
+  known Now (Rest n x a) l h due idle here some none = absurd (omega (arith, none, some))
 
 module _ {H : Type 0} (answer_of : H → Command → Answer) (after : H → Command → H) where
   pub comes_through_from_rest : ReadEachOther answer_of after → ComesThroughFromRest answer_of after
@@ -69,19 +68,19 @@ module _ {H : Type 0} (answer_of : H → Command → Answer) (after : H → Comm
       let last = run answer_of after (rounds moments) afterwards in
       let s = stands answer_of after peers l moves b fits in
       let lasts = idle_lasts afterwards.controller.session.state rest in
-      let holds = going_bare s.fixed answer_of after afterwards s.goes lasts in
+      let holds = s.goes.holds in
       let same = config_is s.fixed answer_of after holds.0 holds.1 afterwards holds.2 lasts in
       let still = clear_still s.fixed answer_of after afterwards clear same in
       let idle : IsIdle s.fixed answer_of after afterwards = record {
         idle = rest;
         still = still;
         known = elim hears [
-          | inl none ↦ known s.fixed answer_of after holds.0 holds.1 afterwards holds.2 rest.0 rest.1 still.ready.here none
+          | inl none ↦ known s.fixed answer_of after holds.0 holds.1 afterwards holds.2 rest.0 rest.1 still.ready.here s.goes.accounts.restarts none
           | inr knows ↦ knows
         ];
       } in
       let all = assumed answer_of after peers s.fixed s.device in
-      let come = through s.fixed answer_of after all moments afterwards holds idle due more in
+      let come = through s.fixed answer_of after all moments afterwards s.goes idle due more in
       let few = min-le_left (counted afterwards.account + length moments) (all_of last.account) in
       let every = min-le_right (counted afterwards.account + length moments) (all_of last.account) in
       let whole = come.1 in

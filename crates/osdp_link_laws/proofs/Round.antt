@@ -35,6 +35,8 @@ use Rattle.osdp_link_laws.proofs.Sessions.{taken_commands}
 use Rattle.osdp_link_laws.proofs.Settling.{MovesNone, refusal_ends, report_of, settles_now}
 use Rattle.osdp_link_laws.proofs.Stages.{Asks, Behind, Each, Fresh, IsOpen, IsOut, Level, Rest, Restarted, Rests, Stage, Waits, answer, exchange_at, frame, number_at, number_after, owed}
 use Rattle.osdp_link_laws.proofs.Ticks.{frame_is}
+use Rattle.osdp_link_laws.proofs.Accounts.{Accounts, gone}
+use Rattle.osdp_link_laws.proofs.Once.{Goes}
 
 -- the link after a tick
 abbrev pub at_tick : {H : Type 0} → ℕ → Link H → Link H
@@ -69,17 +71,17 @@ module _ (fixed : ControllerConfig) {H : Type 0} (answer_of : H → Command → 
   awaited since (Rest n y a) l x h (until, k, o, state, is) = absurd (subst (λ st. Rests fixed st n l.controller.session) state h.controller)
 
   -- no COMSET to a device's address was issued, so the exchange asks none
-  pub moves_none : (since : Restarted) (at : Stage) (l : Link H) → At fixed answer_of after since at l → IsOut at → Each SetsNoAddress l.account.issued → MovesNone (exchange_at at)
+  pub moves_none : (since : Restarted) (at : Stage) (l : Link H) → Accounts since at l → IsOut at → Each SetsNoAddress l.account.issued → MovesNone (exchange_at at)
   moves_none since Fresh l h out all = absurd out
   moves_none since (Behind past Opening) l h out all = tt
   moves_none since (Behind past Polling) l h out all = tt
   moves_none since (Behind past (Asking c)) l h out all =
-      (each_rest SetsNoAddress l.account.taken (c ∷ l.controller.waiting) (subst (Each SetsNoAddress) h.account.issued all)).0
+      (each_rest SetsNoAddress l.account.taken (c ∷ (gone l.account ++ l.controller.waiting)) (subst (Each SetsNoAddress) h.orders.issued all)).0
   moves_none since (Level past Opening a) l h out all = tt
   moves_none since (Level past Polling a) l h out all = tt
   moves_none since (Level past (Asking c) a) l h out all =
-      let taken = each_front SetsNoAddress l.account.taken l.controller.waiting (subst (Each SetsNoAddress) h.account.issued all) in
-      let is = taken_commands l.account (owed (Asking c) a) h.account.answered h.account.settled in
+      let taken = each_front SetsNoAddress l.account.taken (gone l.account ++ l.controller.waiting) (subst (Each SetsNoAddress) h.orders.issued all) in
+      let is = taken_commands l.account (owed (Asking c) a) h.orders.answered h.orders.settled in
       (each_rest SetsNoAddress (settled_commands l.account) (c ∷ []) (subst (Each SetsNoAddress) (sym is) taken)).0
   moves_none since (Rest n y a) l h out all = absurd out
 
@@ -177,16 +179,19 @@ module _ (fixed : ControllerConfig) {H : Type 0} (answer_of : H → Command → 
       ∙ ap (λ p. p ∷ []) (frame_is fixed (number_at at) x x t.session is.session refl)
 
   -- a round from a tick that sends: the exchange has ended, or the session has
-  pub has_come : Premises fixed answer_of after → (now : ℕ) (x : Exchange) (since : Restarted) (at : Stage) (l : Link H) → IsStill l
-      → Sends x (ticks now l.controller.session l.controller.waiting) → At fixed answer_of after since at (at_tick now l)
+  pub has_come : Premises fixed answer_of after → (now : ℕ) (x : Exchange) (l : Link H) → IsStill l
+      → Sends x (ticks now l.controller.session l.controller.waiting) → Goes fixed answer_of after (at_tick now l)
       → SaysWhatFits answer_of after (at_tick now l).to_reader l.reader
       → ((goes answer_of after now l).controller.session.state ≡ Closed) ⊎ IsIdle (goes answer_of after now l)
-  has_come given now x since at l still sends h fits =
+  has_come given now x l still sends held fits =
       let m = at_tick now l in
+      let since = held.holds.0 in
+      let at = held.holds.1 in
+      let h = held.holds.2 in
       let is = awaited since at m x h sends.awaits in
       let line = sent_line now l x at still.to_reader sends is in
       let issued : m.account.issued ≡ l.account.issued = ap (λ o. (after_report o l.account).issued) sends.report in
-      let none = moves_none since at m h is.out (subst (Each SetsNoAddress) (sym issued) still.issued) in
+      let none = moves_none since at m held.accounts is.out (subst (Each SetsNoAddress) (sym issued) still.issued) in
       let stays = subst MovesNone is.exchange none in
       let fit = subst (λ ps. SaysWhatFits answer_of after ps l.reader) line fits in
       let p = frame fixed x (number_at at) in

@@ -1,12 +1,12 @@
 -- Rounds that lose nothing: each but the first settles a command or reports an event, until all are.
-use Rattle.std.proofs.Common.{◌≡◌, ◌⊎◌, ◌≤◌, ◌+◌, ℕ, suc, List, [], ◌∷◌, ◌++◌, length, drop, refl, sym, subst, ap, ◌∙◌, inl, inr, arith}
+use Rattle.std.proofs.Common.{◌≡◌, ◌⊎◌, ◌≤◌, ◌+◌, ℕ, suc, List, [], ◌∷◌, ◌++◌, length, map, drop, refl, sym, subst, ap, ◌∙◌, inl, inr, arith}
 use Rattle.std.proofs.lemmas.List.{append-nil, length-append, length-map}
 use Rattle.osdp_msg.specs.declared.command.Command.{Command}
 use Rattle.osdp_msg.specs.declared.event.Event.{Event}
 use Rattle.osdp_controller.specs.Sessions.{later, seen}
 use Rattle.osdp_controller.specs.Ticking.{ticks}
 use Rattle.osdp_controller.specs.declared.config.ControllerConfig.{ControllerConfig}
-use Rattle.osdp_controller.specs.declared.state.State.TheVariants.{Idle}
+use Rattle.osdp_controller.specs.declared.state.State.TheVariants.{Closed, Idle}
 use Rattle.osdp_frame.specs.Packet.{next_sequence}
 use Rattle.osdp_reader.specs.declared.handler.Answer.{Answer}
 use Rattle.osdp_reader.specs.Queue.{released}
@@ -15,15 +15,19 @@ use Rattle.osdp_reader.specs.Table.{answer_to}
 use Rattle.osdp_link_laws.specs.Headline.{SaysWhatFits, asked}
 use Rattle.osdp_link_laws.specs.Link.{Account, Link}
 use Rattle.osdp_link_laws.specs.Progress.{SetsNoAddress}
-use Rattle.osdp_link_laws.specs.Sessions.{settled_commands}
+use Rattle.osdp_link_laws.specs.Sessions.{removed_command, settled_commands}
 use Rattle.osdp_link_laws.proofs.Due.{Acts}
 use Rattle.osdp_link_laws.proofs.Exchanges.{accounted, exchange_from_rest, rested_link}
+use Rattle.osdp_link_laws.proofs.Lines.{each_rest}
 use Rattle.osdp_link_laws.proofs.Moves.{Premises}
-use Rattle.osdp_link_laws.proofs.Parts.{At, HoldsAtSomeStage}
+use Rattle.osdp_link_laws.proofs.Parts.{At}
 use Rattle.osdp_link_laws.proofs.Round.{IsIdle, at_tick, goes}
-use Rattle.osdp_link_laws.proofs.Sessions.{taken_commands}
-use Rattle.osdp_link_laws.proofs.Since.{Hears, events_of}
-use Rattle.osdp_link_laws.proofs.Stages.{Asks, Before, Behind, Each, Fresh, Level, Never, Now, Rest, Restarted, Rests, Stage, Waits, number_after, shown}
+use Rattle.osdp_link_laws.proofs.Sessions.{lasts, taken_commands}
+use Rattle.osdp_link_laws.proofs.Since.{Hears}
+use Rattle.osdp_link_laws.proofs.Stages.{Asks, Before, Behind, Each, Fresh, Level, Never, Now, Rest, Restarted, Rests, Stage, Waits, number_after, pending_at}
+use Rattle.osdp_link_laws.proofs.Accounts.{Accounts, gone}
+use Rattle.osdp_link_laws.proofs.Coming.{standing_at}
+use Rattle.osdp_link_laws.proofs.Once.{Goes}
 
 abbrev pub counted : Account → ℕ
 counted t = length t.settled + length t.reported
@@ -36,24 +40,28 @@ module _ (fixed : ControllerConfig) {H : Type 0} (answer_of : H → Command → 
   Idles l = IsIdle fixed answer_of after l
 
   -- where no exchange is outstanding, and no command and no event waits, all is settled and reported
-  done_all : (since : Restarted) (at : Stage) (l : Link H) → Hears since → At fixed answer_of after since at l → (due : ℕ) → l.controller.session.state ≡ Idle due → l.controller.waiting ≡ []
+  done_all : (l : Link H) → Goes fixed answer_of after l → (due : ℕ) → l.controller.session.state ≡ Idle due → l.controller.waiting ≡ []
       → l.reader.queue.events ≡ [] → all_of l.account ≤ counted l.account
-  done_all since Fresh l hears h due idle none empty = absurd (subst (λ st. Waits fixed st l.controller.session) idle h.controller)
-  done_all since (Behind past x) l hears h due idle none empty =
-      absurd (subst (λ st. Asks fixed st (number_after past) x l.controller.session) idle h.controller)
-  done_all since (Level past x a) l hears h due idle none empty =
-      absurd (subst (λ st. Asks fixed st (number_after past) x l.controller.session) idle h.controller)
-  done_all since (Rest n x a) l hears h due idle none empty =
-      let t = l.account in
-      let commands = taken_commands t [] h.account.answered h.account.settled in
-      let settled : length t.settled ≡ length t.taken =
-      sym (length-map t.settled asked) ∙ ap length (sym (append-nil (settled_commands t)) ∙ commands) in
-      let issued : length t.issued ≡ length t.taken = ap length (h.account.issued ∙ ap (λ ws. t.taken ++ ws) none ∙ append-nil t.taken) in
-      let told = events_of since Before (shown x a) l.reader.queue.events t hears tt h.account.told in
-      let past = told.past in
-      let queued : length t.kept ≡ length past = ap length (told.kept ∙ ap (λ es. past ++ es) empty ∙ append-nil past) in
-      let reported : length t.reported ≡ length past + length (shown x a) = ap length told.reported ∙ length-append past (shown x a) in
-      omega (arith, settled, issued, queued, reported)
+  done_all l held due idle none empty =
+      let removed = (lasts fixed answer_of after l held (λ closed. let same : Idle due ≡ Closed = sym idle ∙ closed in absurd cc)).2 in
+      by_stage held.holds.0 held.holds.1 held.holds.2 held.accounts (λ i. map removed_command (removed i) ++ none i)
+    where
+      by_stage : (since : Restarted) (at : Stage) → At fixed answer_of after since at l → Accounts since at l → gone l.account ++ l.controller.waiting ≡ []
+          → all_of l.account ≤ counted l.account
+      by_stage since Fresh h a rest = absurd (subst (λ st. Waits fixed st l.controller.session) idle h.controller)
+      by_stage since (Behind past x) h a rest = absurd (subst (λ st. Asks fixed st (number_after past) x l.controller.session) idle h.controller)
+      by_stage since (Level past x a) h b rest = absurd (subst (λ st. Asks fixed st (number_after past) x l.controller.session) idle h.controller)
+      by_stage since (Rest n x a) h b rest =
+          let t = l.account in
+          let commands = taken_commands t [] b.orders.answered b.orders.settled in
+          let settled : length t.settled ≡ length t.taken =
+          sym (length-map t.settled asked) ∙ ap length (sym (append-nil (settled_commands t)) ∙ commands) in
+          let issued : length t.issued ≡ length t.taken = ap length (b.orders.issued ∙ ap (λ ws. t.taken ++ ws) rest ∙ append-nil t.taken) in
+          let past = b.events.past in
+          let queued : length t.kept ≡ length past = ap length (b.events.kept ∙ ap (λ es. past ++ es) empty ∙ append-nil past) in
+          let reported : length t.reported ≡ length past + length (standing_at since (Rest n x a)) =
+          ap length (sym (append-nil t.reported) ∙ sym b.events.reported ∙ b.events.offered) ∙ length-append past (standing_at since (Rest n x a)) in
+          omega (arith, settled, issued, queued, reported)
 
   -- one more is settled or reported, or all is
   abbrev OneMore : Account → Account → Type 0
@@ -100,11 +108,20 @@ module _ (fixed : ControllerConfig) {H : Type 0} (answer_of : H → Command → 
   hears_known Now (Rest n x a) l h idle = absurd (let e = sym idle.known.1 ∙ h.reader in cc)
 
   -- a round from a controller that waits for nothing is an exchange from rest
-  pub idle_exchange : Given → (now : ℕ) (l : Link H) → HoldsAtSomeStage fixed answer_of after l → Idles l
+  pub idle_exchange : Given → (now : ℕ) (l : Link H) → Goes fixed answer_of after l → Idles l
       → Acts (ticks now l.controller.session l.controller.waiting) → SaysWhatFits answer_of after (at_tick now l).to_reader l.reader
       → goes answer_of after now l ≡ rested_link fixed answer_of after now l
-  idle_exchange given now l (since, at, h) idle does fits = by_stage at h
+  idle_exchange given now l held idle does fits = by_stage held.holds.1 held.holds.2
     where
+      since : Restarted
+      since = held.holds.0
+
+      set : Each SetsNoAddress l.controller.waiting
+      set =
+          each_rest SetsNoAddress (gone l.account) l.controller.waiting (each_rest SetsNoAddress (pending_at held.holds.1) (gone l.account ++ l.controller.waiting)
+          (each_rest SetsNoAddress l.account.taken (pending_at held.holds.1 ++ (gone l.account ++ l.controller.waiting))
+          (subst (Each SetsNoAddress) held.accounts.orders.issued idle.still.issued)))
+
       by_stage : (at : Stage) → At fixed answer_of after since at l → goes answer_of after now l ≡ rested_link fixed answer_of after now l
       by_stage Fresh h = absurd (subst (λ st. Waits fixed st l.controller.session) idle.idle.1 h.controller)
       by_stage (Behind past x) h =
@@ -112,13 +129,13 @@ module _ (fixed : ControllerConfig) {H : Type 0} (answer_of : H → Command → 
       by_stage (Level past x a) h =
           absurd (subst (λ st. Asks fixed st (number_after past) x l.controller.session) idle.idle.1 h.controller)
       by_stage (Rest n y b) h =
-          exchange_from_rest fixed answer_of after given now idle.idle.0 since n y b l (hears_known since (Rest n y b) l h idle) h idle.idle.1
+          exchange_from_rest fixed answer_of after given now idle.idle.0 since n y b l (hears_known since (Rest n y b) l h idle) h set idle.idle.1
           (subst (λ st. Rests fixed st n l.controller.session) idle.idle.1 h.controller) idle.still does fits
 
   -- .. which settles or reports one more, unless all is
-  pub idle_round : Given → (now : ℕ) (l : Link H) → HoldsAtSomeStage fixed answer_of after l → Idles l
+  pub idle_round : Given → (now : ℕ) (l : Link H) → Goes fixed answer_of after l → Idles l
       → Acts (ticks now l.controller.session l.controller.waiting) → SaysWhatFits answer_of after (at_tick now l).to_reader l.reader
-      → HoldsAtSomeStage fixed answer_of after (goes answer_of after now l) → Idles (goes answer_of after now l) × OneMore l.account (goes answer_of after now l).account
+      → Goes fixed answer_of after (goes answer_of after now l) → Idles (goes answer_of after now l) × OneMore l.account (goes answer_of after now l).account
   idle_round given now l held idle does fits afterwards =
       let is = idle_exchange given now l held idle does fits in
       let m = goes answer_of after now l in
@@ -129,7 +146,7 @@ module _ (fixed : ControllerConfig) {H : Type 0} (answer_of : H → Command → 
         subst (λ k. OneMore l.account k.account) (sym is)
             (counts w events l.reader l.account (λ none empty.
             subst (λ k. all_of k.account ≤ counted k.account) is
-            (done_all afterwards.0 afterwards.1 m (hears_known afterwards.0 afterwards.1 m afterwards.2 (subst Idles (sym is) rested)) afterwards.2
+            (done_all m afterwards
             (later l.controller.session.config.poll_interval (seen now (record (seen now l.controller.session) { number = next_sequence l.controller.session.number })))
             (ap (λ k. k.controller.session.state) is)
             (ap (λ k. k.controller.waiting) is ∙ ap (drop 1) none) (ap (λ k. k.reader.queue.events) is ∙ empty)))),

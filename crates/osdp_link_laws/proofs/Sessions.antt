@@ -1,6 +1,6 @@
 -- A session that has ended leaves what the next one begins with.
 use Rattle.std.proofs.Common.{◌≡◌, ◌≤◌, ◌⊎◌, ◌+◌, ℕ, List, [], ◌++◌, length, map, Option, Some, None, refl, sym, subst, ap, ◌∙◌, inl, inr, arith, append_assoc}
-use Rattle.std.proofs.lemmas.List.{append-nil, map-append}
+use Rattle.std.proofs.lemmas.List.{append-nil, append_cancel_right, map-append}
 use Rattle.std.specs.Prelude.{option_to_list}
 use Rattle.osdp_msg.specs.declared.command.Command.{Command}
 use Rattle.osdp_msg.specs.declared.event.Event.{Event}
@@ -12,16 +12,14 @@ use Rattle.osdp_controller.specs.declared.exchange.Exchange.TheVariants.{Opening
 use Rattle.osdp_controller.specs.declared.state.State.{State}
 use Rattle.osdp_controller.specs.declared.state.State.TheVariants.{Closed}
 use Rattle.osdp_reader.specs.declared.handler.Answer.{Answer}
-use Rattle.osdp_reader.specs.State.{ReaderState}
-use Rattle.osdp_link_laws.specs.Headline.{IsBeginning, asked}
+use Rattle.osdp_link_laws.specs.Headline.{asked}
 use Rattle.osdp_link_laws.specs.Link.{Account, Link}
 use Rattle.osdp_link_laws.specs.Sessions.{LastsOrLeaves, Leaves, LeavesCommands, LeavesEvents, settled_commands}
 use Rattle.osdp_link_laws.proofs.Once.{Goes}
-use Rattle.osdp_link_laws.proofs.Removed.{IsQuiet, as_waiting, given_up_in, gone}
+use Rattle.osdp_link_laws.proofs.Accounts.{EventsAre, OrdersAre, gone}
+use Rattle.osdp_link_laws.proofs.Coming.{standing_at}
 use Rattle.osdp_link_laws.proofs.Restarts.{front_at}
-use Rattle.osdp_link_laws.proofs.Since.{Hears, events_same, past_same}
-use Rattle.osdp_link_laws.proofs.Parts.{At}
-use Rattle.osdp_link_laws.proofs.Stages.{After, Before, Behind, EventsAre, Fresh, HasRestarted, Level, Never, Now, ReaderAt, Rest, Restarted, Stage, Start, given_up, given_up_at, owed, pending, shown, shown_at, unreported_at}
+use Rattle.osdp_link_laws.proofs.Stages.{After, Before, Behind, Fresh, HasRestarted, Level, Never, Now, Rest, Restarted, Stage, Start, given_up, given_up_at, owed, owed_at, pending, pending_at, shown, shown_at, unreported_at}
 
 one_pending : (x : Exchange) → length (pending x) ≤ 1
 one_pending Opening = omega arith
@@ -38,7 +36,7 @@ one_shown Polling a = one_event (event_in a)
 one_shown (Asking c) a = omega arith
 
 -- the command of an answer on its way is the pending one
-owed_command : (x : Exchange) (a : Reply) → map asked (owed x a) ≡ pending x
+pub owed_command : (x : Exchange) (a : Reply) → map asked (owed x a) ≡ pending x
 owed_command Opening a = refl
 owed_command Polling a = refl
 owed_command (Asking c) a = refl
@@ -97,100 +95,91 @@ one_told (Rest n x a) = omega (arith, one_shown x a)
 no_more_than : (k n m : ℕ) → k + n ≤ m → k + 0 ≤ m
 no_more_than k n m few = omega (arith, few)
 
-pub begins_with : {A : Type 0} (xs ys zs rest : List A) → zs ≡ (xs ++ ys) ++ rest → IsBeginning xs zs
-begins_with xs ys zs rest is = (ys ++ rest, is ∙ append_assoc xs ys rest)
+-- the commands told unsettled or forgotten, and those that wait or were removed
+abbrev LeftOf : Account → List Command → Type 0
+LeftOf t waiting = Left t (t.unsettled ++ t.forgotten) (gone t ++ waiting)
+
+left : (at : Stage) (t : Account) (waiting : List Command)
+    → OrdersAre (pending_at at) (owed_at at) (gone t ++ waiting) t.issued t.taken t.given t.settled → t.unsettled ++ t.forgotten ≡ given_up_at at Closed
+    → LeftOf t waiting
+left Fresh t waiting o lost =
+    left_untaken t (t.unsettled ++ t.forgotten) (gone t ++ waiting) [] (taken_commands t [] o.answered o.settled) lost (omega arith) o.issued
+left (Behind past x) t waiting o lost =
+    left_untaken t (t.unsettled ++ t.forgotten) (gone t ++ waiting) (pending x) (taken_commands t [] o.answered o.settled) lost (one_pending x) o.issued
+left (Level past x a) t waiting o lost =
+    left_taken t (t.unsettled ++ t.forgotten) (gone t ++ waiting) (pending x)
+    (ap (λ cs. settled_commands t ++ cs) (sym (owed_command x a)) ∙ taken_commands t (owed x a) o.answered o.settled) lost (one_pending x) o.issued
+left (Rest n x a) t waiting o lost =
+    left_untaken t (t.unsettled ++ t.forgotten) (gone t ++ waiting) [] (taken_commands t [] o.answered o.settled) lost (omega arith) o.issued
+
+leaves_commands : (t : Account) (w : List Command) → LeftOf t w → LeavesCommands t w
+leaves_commands t w (issued, one, taken) = record {
+  commands = issued
+      ∙ ap (λ cs. settled_commands t ++ cs) (append_assoc t.unsettled t.forgotten (gone t ++ w))
+      ∙ ap (λ cs. settled_commands t ++ (t.unsettled ++ cs)) (sym (append_assoc t.forgotten (gone t) w))
+      ∙ ap (λ cs. settled_commands t ++ cs) (sym (append_assoc t.unsettled (t.forgotten ++ gone t) w))
+      ∙ sym (append_assoc (settled_commands t) (t.unsettled ++ (t.forgotten ++ gone t)) w);
+  one = one;
+  taken = taken;
+}
+
+-- the events: those of a reader that hears, and those of one that has restarted
+leaves_heard : (at : Stage) (events : List Event) (t : Account) → (rest : List Event) × (events ≡ (shown_at at ++ unreported_at at) ++ rest)
+    → (e : EventsAre (shown_at at ++ unreported_at at) (unreported_at at) events t.stayed t.kept t.thrown_away t.offered t.reported) → LeavesEvents t e.left events
+leaves_heard at events t (rest, front) e = record {
+  stayed = e.stayed;
+  heard = e.past;
+  without = e.without;
+  again = shown_at at;
+  unheard = [];
+  reported = append-nil t.reported ∙ append_cancel_right t.reported (e.past ++ shown_at at) (unreported_at at)
+      (sym e.reported ∙ e.offered ∙ sym (append_assoc e.past (shown_at at) (unreported_at at)));
+  front = (unreported_at at ++ rest, front ∙ append_assoc (shown_at at) (unreported_at at) rest);
+  one = no_more_than (length (shown_at at)) (length (unreported_at at)) 1 (one_told at);
+  restart = inl refl;
+}
+
+leaves_events : (since : Restarted) (at : Stage) (events : List Event) (t : Account) → HasRestarted since t.restarts
+    → (rest : List Event) × (events ≡ standing_at since at ++ rest)
+    → (e : EventsAre (standing_at since at) (unreported_at at) events t.stayed t.kept t.thrown_away t.offered t.reported) → LeavesEvents t e.left events
+leaves_events Never at events t count front e = leaves_heard at events t front e
+leaves_events Before at events t count front e = leaves_heard at events t front e
+leaves_events Now at events t count front e = record {
+  stayed = e.stayed;
+  heard = e.past;
+  without = e.without;
+  again = [];
+  unheard = unreported_at at;
+  reported = sym e.reported ∙ e.offered;
+  front = (events, refl);
+  one = omega (arith, one_told at);
+  restart = inr (count, e.reported);
+}
 
 module _ (fixed : ControllerConfig) {H : Type 0} (answer_of : H → Command → Answer) (after : H → Command → H) where
-  left : (since : Restarted) (at : Stage) (l : Link H) → At fixed answer_of after since at l → l.controller.session.state ≡ Closed
-      → Left l.account l.account.unsettled l.controller.waiting
-  left since Fresh l h closed =
-      left_untaken l.account l.account.unsettled l.controller.waiting [] (taken_commands l.account [] h.account.answered h.account.settled)
-      h.account.unsettled (omega arith) h.account.issued
-  left since (Behind past x) l h closed =
-      left_untaken l.account l.account.unsettled l.controller.waiting (pending x) (taken_commands l.account [] h.account.answered h.account.settled)
-      (h.account.unsettled ∙ ap (given_up_at (Behind past x)) closed) (one_pending x) h.account.issued
-  left since (Level past x a) l h closed =
-      left_taken l.account l.account.unsettled l.controller.waiting (pending x)
-      (ap (λ cs. settled_commands l.account ++ cs) (sym (owed_command x a)) ∙ taken_commands l.account (owed x a) h.account.answered h.account.settled)
-      (h.account.unsettled ∙ ap (given_up_at (Level past x a)) closed) (one_pending x) h.account.issued
-  left since (Rest n x a) l h closed =
-      left_untaken l.account l.account.unsettled l.controller.waiting [] (taken_commands l.account [] h.account.answered h.account.settled)
-      h.account.unsettled (omega arith) h.account.issued
-
-  -- .. with the commands removed and forgotten apart
-  leaves_commands : (l : Link H) → Left l.account (given_up_in l.account) (gone l.account ++ l.controller.waiting) → LeavesCommands l.account l.controller.waiting
-  leaves_commands l (issued, one, taken) =
-      let t = l.account in
-      let w = l.controller.waiting in
-      record {
-        commands = issued
-            ∙ ap (λ cs. settled_commands t ++ cs) (append_assoc t.unsettled t.forgotten (gone t ++ w))
-            ∙ ap (λ cs. settled_commands t ++ (t.unsettled ++ cs)) (sym (append_assoc t.forgotten (gone t) w))
-            ∙ ap (λ cs. settled_commands t ++ cs) (sym (append_assoc t.unsettled (t.forgotten ++ gone t) w))
-            ∙ sym (append_assoc (settled_commands t) (t.unsettled ++ (t.forgotten ++ gone t)) w);
-        one = one;
-        taken = taken;
-      }
-
-  -- the events: those of a reader that hears, and those of one that has restarted
-  leaves_heard : (since : Restarted) (at : Stage) (r : ReaderState H) (t : Account) → Hears since → ReaderAt fixed since at r
-      → t.offered ≡ t.reported ++ unreported_at at
-      → (are : EventsAre since (shown_at at) r.queue.events t) → t.reported ≡ are.past ++ shown_at at → LeavesEvents t are.left r.queue.events
-  leaves_heard since at r t hears is offered are reported =
-      let front = front_at fixed since at r hears is in
-      record {
-        stayed = are.stayed;
-        heard = are.past;
-        without = are.without;
-        again = shown_at at;
-        unheard = [];
-        reported = append-nil t.reported ∙ reported;
-        front = begins_with (shown_at at) (unreported_at at) r.queue.events front.0 front.1;
-        one = no_more_than (length (shown_at at)) (length (unreported_at at)) 1 (one_told at);
-        restart = inl refl;
-      }
-
-  leaves_events : (since : Restarted) (at : Stage) (r : ReaderState H) (t : Account) → ReaderAt fixed since at r
-      → t.offered ≡ t.reported ++ unreported_at at → HasRestarted since t.restarts
-      → (are : EventsAre since (shown_at at) r.queue.events t) → LeavesEvents t are.left r.queue.events
-  leaves_events Never at r t is offered count are = leaves_heard Never at r t tt is offered are are.reported
-  leaves_events Before at r t is offered count are = leaves_heard Before at r t tt is offered are are.reported
-  leaves_events Now at r t is offered count are = record {
-    stayed = are.stayed;
-    heard = are.past;
-    without = are.without;
-    again = [];
-    unheard = unreported_at at;
-    reported = sym offered ∙ are.reported ∙ sym (append-nil are.past);
-    front = (r.queue.events, refl);
-    one = omega (arith, one_told at);
-    restart = inr (count, offered);
-  }
-
   pub leaves : (l : Link H) → Goes fixed answer_of after l → l.controller.session.state ≡ Closed
       → Leaves l.account l.controller.waiting l.reader.queue.events
   leaves l h closed =
-      let s = as_waiting l in
       let since = h.holds.0 in
       let at = h.holds.1 in
-      let held = h.holds.2 in
-      let told = events_same since (shown_at at) l.reader.queue.events s.account l.account refl refl refl
-      (λ past. past_same since (shown_at at) past s.account l.account refl refl) held.account.told in
+      let a = h.accounts in
+      let t = l.account in
       record {
-        of_commands = leaves_commands l (left since at s held closed);
-        left = told.left;
-        of_events = leaves_events since at l.reader l.account held.reader held.account.offered held.account.restarts told;
+        of_commands = leaves_commands t l.controller.waiting (left at t l.controller.waiting a.orders (a.over.lost ∙ ap (given_up_at at) closed));
+        left = a.events.left;
+        of_events = leaves_events since at l.reader.queue.events t a.restarts (front_at fixed since at l.reader h.holds.2.reader) a.events;
       }
 
   -- a session that lasts has told nothing unsettled, and forgotten and removed none
-  lasts : (l : Link H) → Goes fixed answer_of after l → (l.controller.session.state ≡ Closed → ⊥)
+  pub lasts : (l : Link H) → Goes fixed answer_of after l → (l.controller.session.state ≡ Closed → ⊥)
       → (l.account.unsettled ≡ []) × (l.account.forgotten ≡ []) × (l.account.removed ≡ [])
-  lasts l h open_at = by_quiet h.quiet
+  lasts l h open_at = by_quiet h.accounts.over.quiet
     where
-      by_quiet : IsQuiet l → (l.account.unsettled ≡ []) × (l.account.forgotten ≡ []) × (l.account.removed ≡ [])
+      by_quiet : ((l.account.removed ≡ []) × (l.account.forgotten ≡ [])) ⊎ (l.controller.session.state ≡ Closed)
+          → (l.account.unsettled ≡ []) × (l.account.forgotten ≡ []) × (l.account.removed ≡ [])
       by_quiet (inl (removed, forgotten)) = (
         sym (append-nil l.account.unsettled) ∙ ap (λ f. l.account.unsettled ++ f) (sym forgotten)
-            ∙ h.holds.2.account.unsettled ∙ given_none_at h.holds.1 l.controller.session.state open_at,
+            ∙ h.accounts.over.lost ∙ given_none_at h.holds.1 l.controller.session.state open_at,
         forgotten,
         removed,
       )

@@ -1,6 +1,6 @@
 -- How far a session has come, and what holds of each part of the link then.
-use Rattle.std.proofs.Common.{◌≡◌, ◌≢◌, ◌⊎◌, ℕ, zero, suc, true, false, List, [], ◌∷◌, ◌++◌, Option, Some, None}
-use Rattle.std.specs.Prelude.{◌≤◌, map, option_to_list}
+use Rattle.std.proofs.Common.{◌≡◌, ◌≢◌, ◌⊎◌, ℕ, zero, suc, true, false, List, [], ◌∷◌, Option, Some, None}
+use Rattle.std.specs.Prelude.{◌≤◌, option_to_list}
 use Rattle.osdp_frame.specs.Packed.{packed}
 use Rattle.osdp_frame.specs.Packet.{Packet, next_sequence}
 use Rattle.osdp_msg.specs.ReplyTable.{ReplyFits, reply_code, reply_data}
@@ -17,14 +17,13 @@ use Rattle.osdp_controller.specs.declared.state.State.{State}
 use Rattle.osdp_controller.specs.declared.state.State.TheVariants.{Closed, Quiet, Idle, Waiting, Pausing}
 use Rattle.osdp_controller.specs.Exchanges.{exchange_body}
 use Rattle.osdp_msg.specs.Events.{event_in}
-use Rattle.osdp_reader.specs.declared.handler.Answer.{Answer}
 use Rattle.osdp_reader.specs.Queue.{Queue}
 use Rattle.osdp_reader.specs.State.{ReaderState}
 use Rattle.osdp_reader.specs.Replies.{refused}
 use Rattle.osdp_msg.specs.declared.nak.NakReason.TheVariants.{UnexpectedSequence}
 use Rattle.osdp_reader_laws.specs.Laws.{IsPlain}
-use Rattle.osdp_link_laws.specs.Headline.{IsWithout, MaySubmit, asked}
-use Rattle.osdp_link_laws.specs.Link.{Account, Link}
+use Rattle.osdp_link_laws.specs.Headline.{MaySubmit}
+use Rattle.osdp_link_laws.specs.Link.{Link}
 
 -- the exchange that was answered last, with its number and its answer
 pub data Past : Type 0 where
@@ -164,21 +163,6 @@ Offers Opening r q = q.offered ≡ false
 Offers Polling r q = OffersEvent (event_in r) q
 Offers (Asking command) r q = q.offered ≡ false
 
--- of the events that have left and weren't withdrawn, those that no restart threw away were all reported, and the one in front too; or, after a restart, they are
--- those that were offered
-abbrev pub PastIs : Restarted → List Event → List Event → Account → Type 0
-PastIs Never past front t = t.reported ≡ past ++ front
-PastIs Before past front t = t.reported ≡ past ++ front
-PastIs Now past front t = t.offered ≡ past
-
-pub record EventsAre (restarted : Restarted) (front events : List Event) (t : Account) : Type 0 where
-  pub left : List Event
-  pub past : List Event
-  pub stayed : t.stayed ≡ left ++ events
-  pub kept : t.kept ≡ past ++ events
-  pub without : IsWithout t.thrown_away left past
-  pub reported : PastIs restarted past front t
-
 -- the answer to an exchange with this number: to the opening a device says who it is
 pub record IsAnswer (r : Reply) : Type 0 where
   pub plain : IsPlain r
@@ -302,22 +286,14 @@ module _ (fixed : ControllerConfig) where
     ReaderAt restarted (Level past x r) reader = Knows restarted (number_after past) x r reader
     ReaderAt restarted (Rest n x r) reader = Knows restarted n x r reader
 
-    module _ (answer_of : H → Command → Answer) (after : H → Command → H) where
-      pub record Accounts (restarted : Restarted) (pend : List Command) (owing : List (Command × Reply)) (lost : List Command) (front new : List Event) (waiting : List Command) (events : List Event) (t : Account) : Type 0 where
-        pub issued : t.issued ≡ t.taken ++ (pend ++ waiting)
-        pub answered : map asked t.given ≡ t.taken
-        pub settled : t.settled ++ owing ≡ t.given
-        pub unsettled : t.unsettled ≡ lost
-        pub told : EventsAre restarted front events t
-        pub offered : t.offered ≡ t.reported ++ new
-        pub restarts : HasRestarted restarted t.restarts
+    -- all of it, of the session of a controller, the commands that wait, a reader, and the two directions of the line
+    pub record HoldsOf (restarted : Restarted) (at : Stage) (s : Session) (ws : List Command) (r : ReaderState H) (ps qs : List Packet) : Type 0 where
+      pub stage : IsStage at
+      pub controller : ControllerAt at s
+      pub waiting : Each MaySubmit ws
+      pub reader : ReaderAt restarted at r
+      pub to_reader : ToReaderAt at ps
+      pub to_controller : ToControllerAt restarted at qs
 
-      -- all of it
-      pub record Holds (restarted : Restarted) (at : Stage) (l : Link H) : Type 0 where
-        pub stage : IsStage at
-        pub controller : ControllerAt at l.controller.session
-        pub waiting : Each MaySubmit l.controller.waiting
-        pub reader : ReaderAt restarted at l.reader
-        pub to_reader : ToReaderAt at l.to_reader
-        pub to_controller : ToControllerAt restarted at l.to_controller
-        pub account : Accounts restarted (pending_at at) (owed_at at) (given_up_at at l.controller.session.state) (shown_at at) (unreported_at at) l.controller.waiting l.reader.queue.events l.account
+    abbrev pub Holds : Restarted → Stage → Link H → Type 0
+    Holds restarted at l = HoldsOf restarted at l.controller.session l.controller.waiting l.reader l.to_reader l.to_controller

@@ -67,7 +67,7 @@ queued_by e [] true = (e ∷ [], refl)
 queued_by e (f ∷ events) true = ([], refl)
 
 module _ {H : Type 0} (answer_of : H → Command → Answer) (after : H → Command → H) where
-  moved_queue : (to : Option ℕ) (r : ReaderState H) → (reader.moved to r).queue ≡ r.queue
+  pub moved_queue : (to : Option ℕ) (r : ReaderState H) → (reader.moved to r).queue ≡ r.queue
   moved_queue None r = refl
   moved_queue (Some address) r =
       both (λ (s : ReaderState H). s.queue ≡ r.queue) (address == r.config.address) r

@@ -1,5 +1,5 @@
 -- A frame comes to the reader: how far the session has come then.
-use Rattle.std.proofs.Common.{◌≡◌, ◌≢◌, ◌<◌, ℕ, zero, suc, List, [], ◌∷◌, ◌++◌, Some, None, Ok, refl, sym, subst, ap, ◌∙◌, inl, inr}
+use Rattle.std.proofs.Common.{◌≡◌, ◌≢◌, ◌<◌, ℕ, zero, suc, [], ◌∷◌, ◌++◌, length, Some, None, Ok, refl, sym, subst, inl, inr}
 use Rattle.std.proofs.lemmas.List.{append-nil}
 use Rattle.std.specs.Prelude.{option_to_list, IfSome}
 use Rattle.std.proofs.lemmas.Bool.Decides.{eqb_tells}
@@ -17,16 +17,20 @@ use Rattle.osdp_reader.specs.declared.kind.Kind.{Kind}
 use Rattle.osdp_reader.specs.declared.kind.Kind.TheVariants.{Zero, Busy}
 use Rattle.osdp_reader.specs.Replies.{refused}
 use Rattle.osdp_reader.specs.State.{ReaderState}
-use Rattle.osdp_msg.specs.declared.event.Event.{Event}
 use Rattle.osdp_msg.specs.declared.nak.NakReason.TheVariants.{UnexpectedSequence}
 use Rattle.osdp_reader.specs.Table.{begun, command_in, kind_of, outcome}
 use Rattle.osdp_link_laws.specs.Link as link
 use Rattle.osdp_link_laws.specs.Link.{Account, Link}
 use Rattle.osdp_link_laws.proofs.Acting.{kind_again, kind_away, kind_unknown, kind_zero}
+use Rattle.osdp_link_laws.proofs.Coming.{KeepsDue, Reads}
 use Rattle.osdp_link_laws.proofs.Lines.{both}
 use Rattle.osdp_link_laws.proofs.Parts.{At, with_to_controller}
-use Rattle.osdp_link_laws.proofs.Since.{events_moved, line_since}
-use Rattle.osdp_link_laws.proofs.Stages.{Accounts, Acted, Before, HasActed, Knows, Never, Now, PastIs, ReaderAt, Restarted, Says, Stage, ToControllerAt, answer, frame, given_up_at, owed_at, pending_at, shown, shown_at, unreported_at}
+use Rattle.osdp_link_laws.proofs.Since.{line_since}
+use Rattle.osdp_link_laws.proofs.Stages.{Acted, Before, HasActed, HoldsOf, Knows, Never, Now, ReaderAt, Restarted, Says, Stage, ToControllerAt, answer, frame, owed_at, pending_at, shown, shown_at, unreported_at}
+
+-- as much is due as before where nothing changes
+as_due : (since : Restarted) (at : Stage) → KeepsDue since at since at
+as_due since at = record { due = refl; stands = refl; given_up = λ state. refl; restarts = λ count is. is }
 
 module _ {H : Type 0} (answer_of : H → Command → Answer) (after : H → Command → H) where
   -- what is said anew is of the table of replies
@@ -58,10 +62,14 @@ module _ (fixed : ControllerConfig) {H : Type 0} (answer_of : H → Command → 
       with_to_controller fixed answer_of after since at l (l.to_controller ++ []) h
       (subst (ToControllerAt fixed since at) (sym (append-nil l.to_controller)) h.to_controller)
 
+  -- as far as before
+  abbrev pub StaysBy : Stage → Kind → Packet → Link H → Type 0
+  StaysBy at k p l = Reads answer_of after k p l.reader since at since at × AtStage at (gets_by k p l)
+
   pub away : (at : Stage) (x : Exchange) (n : ℕ) (l : Link H) → fixed.address < 127 → l.reader.config.address ≢ fixed.address
-      → AtStage at l → AtStage at (gets_by (kind_of l.reader (frame fixed x n)) (frame fixed x n) l)
+      → AtStage at l → StaysBy at (kind_of l.reader (frame fixed x n)) (frame fixed x n) l
   away at x n l device differ h =
-      subst (λ k. AtStage at (gets_by k (frame fixed x n) l)) (sym (kind_away fixed l.reader x n differ device)) (says_nothing at l h)
+      subst (λ k. StaysBy at k (frame fixed x n) l) (sym (kind_away fixed l.reader x n differ device)) ((refl, refl), says_nothing at l h)
 
   -- the line takes a packet that answers with this number; the reader is where the stage has it
   abbrev pub Grows : Stage → ℕ → Reply → Link H → Type 0
@@ -70,27 +78,21 @@ module _ (fixed : ControllerConfig) {H : Type 0} (answer_of : H → Command → 
   abbrev pub Puts : Stage → ℕ → Exchange → Reply → Type 0
   Puts at n x a = (r : ReaderState H) → HasActed fixed n x a r → ReaderAt fixed since at r
 
-  -- the command at number 0: what holds of the reader then, of what it says and of the account may be of another restart
+  -- the command at number 0: what holds of the reader then, and of what it says, may be of another restart
   pub zero_heard : (new : Restarted) (at : Stage) (a : Reply) (l : Link H) → command_in (frame fixed Opening 0) ≡ Ok (command.Id 0) → AtStage at l
       → ((r : ReaderState H) → HasActed fixed 0 Opening a r → ReaderAt fixed new at r)
       → ToControllerAt fixed new at (l.to_controller ++ answer fixed 0 (reply.PdId l.reader.config.id) ∷ [])
-      → Accounts fixed answer_of after new (pending_at at) (owed_at at) (given_up_at at l.controller.session.state) (shown_at at) (unreported_at at)
-      l.controller.waiting l.reader.queue.events l.account
       → At fixed answer_of after new at (gets_by Zero (frame fixed Opening 0) l)
-  zero_heard new at a l reads h puts line account =
+  zero_heard new at a l reads h puts line =
       let p = frame fixed Opening 0 in
-      subst (λ c. At fixed answer_of after new at (record l {
-        reader = (begun answer_of after c l.reader p).reader;
-        to_controller = l.to_controller ++ option_to_list (begun answer_of after c l.reader p).reply;
-        account = link.taken Zero (begun answer_of after c l.reader p).command (begun answer_of after c l.reader p).said (link.front_of l.reader) l.account;
-      })) (sym reads) (record {
+      subst (λ c. HoldsOf fixed new at l.controller.session l.controller.waiting (begun answer_of after c l.reader p).reader l.to_reader
+      (l.to_controller ++ option_to_list (begun answer_of after c l.reader p).reply)) (sym reads) (record {
         stage = h.stage;
         controller = h.controller;
         waiting = h.waiting;
         reader = puts _ (record { here = λ e. (refl, tt); offer = refl });
         to_reader = h.to_reader;
         to_controller = line;
-        account = account;
       })
 
   -- it says who the device is, be it the one that was there before or another
@@ -107,14 +109,14 @@ module _ (fixed : ControllerConfig) {H : Type 0} (answer_of : H → Command → 
       → Grows at 0 a l → Puts at 0 Opening a → FitsBy answer_of after Zero (frame fixed Opening 0) l
       → AtStage at (gets_by Zero (frame fixed Opening 0) l)
   zero_again at a l reads h grows puts fits =
-      zero_heard since at a l reads h puts (grows (answer fixed 0 (reply.PdId l.reader.config.id)) (introduces a l reads fits)) h.account
+      zero_heard since at a l reads h puts (grows (answer fixed 0 (reply.PdId l.reader.config.id)) (introduces a l reads fits))
 
   -- the frame of an exchange that the reader has acted on
   pub again : (at : Stage) (n : ℕ) (x : Exchange) (a : Reply) (l : Link H) → fixed.address < 127
       → command_in (frame fixed Opening 0) ≡ Ok (command.Id 0) → AtStage at l
       → HasActed fixed n x a l.reader → Acted n x a
       → Grows at n a l → Puts at n x a → FitsBy answer_of after (kind_of l.reader (frame fixed x n)) (frame fixed x n) l
-      → AtStage at (gets_by (kind_of l.reader (frame fixed x n)) (frame fixed x n) l)
+      → StaysBy at (kind_of l.reader (frame fixed x n)) (frame fixed x n) l
   again at n x a l device reads h acted is grows puts fits =
       elim (eqb_tells l.reader.config.address fixed.address) [
         | inl same ↦ by_exchange n x acted is grows puts same.1 fits
@@ -124,46 +126,28 @@ module _ (fixed : ControllerConfig) {H : Type 0} (answer_of : H → Command → 
       repeated : (n : ℕ) (x : Exchange) → n ≢ 0 → l.reader.config.address ≡ fixed.address
           → (l.reader.last ≡ Some n) × (l.reader.stored ≡ Some (answer fixed n a))
           → Grows at n a l
-          → AtStage at (gets_by (kind_of l.reader (frame fixed x n)) (frame fixed x n) l)
+          → StaysBy at (kind_of l.reader (frame fixed x n)) (frame fixed x n) l
       repeated n x above same kept grows =
-          subst (λ k. AtStage at (gets_by k (frame fixed x n) l)) (sym (kind_again fixed l.reader x n same above kept.0))
-          (subst (λ o. AtStage at (record l { to_controller = l.to_controller ++ option_to_list o })) (sym kept.1)
-          (says at l (answer fixed n a) h (grows (answer fixed n a) (inr (inl refl)))))
+          subst (λ k. StaysBy at k (frame fixed x n) l) (sym (kind_again fixed l.reader x n same above kept.0)) (
+            (refl, refl),
+            subst (λ o. AtStage at (record l { to_controller = l.to_controller ++ option_to_list o })) (sym kept.1)
+                (says at l (answer fixed n a) h (grows (answer fixed n a) (inr (inl refl)))),
+          )
 
       by_exchange : (n : ℕ) (x : Exchange) → HasActed fixed n x a l.reader → Acted n x a
           → Grows at n a l → Puts at n x a → l.reader.config.address ≡ fixed.address → FitsBy answer_of after (kind_of l.reader (frame fixed x n)) (frame fixed x n) l
-          → AtStage at (gets_by (kind_of l.reader (frame fixed x n)) (frame fixed x n) l)
+          → StaysBy at (kind_of l.reader (frame fixed x n)) (frame fixed x n) l
       by_exchange zero Opening acted is grows puts same fits =
-          subst (λ k. FitsBy answer_of after k (frame fixed Opening 0) l → AtStage at (gets_by k (frame fixed Opening 0) l)) (sym (kind_zero fixed l.reader Opening same))
-          (both (λ k. FitsBy answer_of after k (frame fixed Opening 0) l → AtStage at (gets_by k (frame fixed Opening 0) l)) l.reader.busy Busy Zero
-          (λ f. says at l (answer fixed 0 reply.Busy) h (grows (answer fixed 0 reply.Busy) (inl refl)))
-          (λ f. zero_again at a l reads h grows puts f)) fits
+          subst (λ k. FitsBy answer_of after k (frame fixed Opening 0) l → StaysBy at k (frame fixed Opening 0) l) (sym (kind_zero fixed l.reader Opening same))
+          (both (λ k. FitsBy answer_of after k (frame fixed Opening 0) l → StaysBy at k (frame fixed Opening 0) l) l.reader.busy Busy Zero
+          (λ f. ((refl, refl), says at l (answer fixed 0 reply.Busy) h (grows (answer fixed 0 reply.Busy) (inl refl))))
+          (λ f. ((reads, as_due since at), zero_again at a l reads h grows puts f))) fits
       by_exchange (suc n) Opening acted is grows puts same fits = absurd is.1
       by_exchange n Polling acted is grows puts same fits = repeated n Polling is.1 same (acted.here same) grows
       by_exchange n (Asking c) acted is grows puts same fits = repeated n (Asking c) is.1 same (acted.here same) grows
 
 -- a restarted reader that has heard number 0
 module _ (fixed : ControllerConfig) {H : Type 0} (answer_of : H → Command → Answer) (after : H → Command → H) where
-  past_revived : (front : List Event) (past : List Event) (t : Account) → t.offered ≡ t.reported ++ [] → front ≡ [] → PastIs Now past front t
-      → PastIs Before past front t
-  past_revived front past t offered none is =
-      sym (append-nil t.reported) ∙ sym offered ∙ is ∙ sym (append-nil past) ∙ ap (λ es. past ++ es) (sym none)
-
-  pub account_revived : (pend : List Command) (owing : List (Command × Reply)) (lost : List Command) (front new : List Event) (waiting : List Command) (events : List Event) (t : Account)
-      → front ≡ [] → new ≡ []
-      → Accounts fixed answer_of after Now pend owing lost front new waiting events t
-      → Accounts fixed answer_of after Before pend owing lost front new waiting events t
-  account_revived pend owing lost front new waiting events t none quiet a = record {
-    issued = a.issued;
-    answered = a.answered;
-    settled = a.settled;
-    unsettled = a.unsettled;
-    told = events_moved Now Before front front events t t refl refl refl
-        (λ past. past_revived front past t (a.offered ∙ ap (λ es. t.reported ++ es) quiet) none) a.told;
-    offered = a.offered;
-    restarts = a.restarts;
-  }
-
   -- no event counts as told at this stage
   abbrev pub TellsNone : Stage → Type 0
   TellsNone at = (shown_at at ≡ []) × (unreported_at at ≡ [])
@@ -173,6 +157,15 @@ module _ (fixed : ControllerConfig) {H : Type 0} (answer_of : H → Command → 
   shows_none Polling a is = absurd cc
   shows_none (Asking c) a is = absurd cc
 
+  -- .. so as much is due as before
+  revived_due : (at : Stage) → TellsNone at → KeepsDue Now at Before at
+  revived_due at none = record {
+    due = (λ i. record { pend = pending_at at; owing = owed_at at; untold = unreported_at at; stands = length (none.0 i ++ none.1 i) });
+    stands = (λ i. none.0 i ++ none.1 i);
+    given_up = λ state. refl;
+    restarts = λ count is. is;
+  }
+
   revived : (at : Stage) (a : Reply) (l : Link H) → command_in (frame fixed Opening 0) ≡ Ok (command.Id 0)
       → At fixed answer_of after Now at l → TellsNone at
       → Grows fixed answer_of after Now at 0 a l → Puts fixed answer_of after Before at 0 Opening a → FitsBy answer_of after Zero (frame fixed Opening 0) l
@@ -181,45 +174,45 @@ module _ (fixed : ControllerConfig) {H : Type 0} (answer_of : H → Command → 
       zero_heard fixed answer_of after Now Before at a l reads h puts
       (line_since fixed Now Before (λ may. may) at (l.to_controller ++ answer fixed 0 (reply.PdId l.reader.config.id) ∷ [])
       (grows (answer fixed 0 (reply.PdId l.reader.config.id)) (introduces fixed answer_of after Now a l reads fits)))
-      (account_revived (pending_at at) (owed_at at) (given_up_at at l.controller.session.state) (shown_at at) (unreported_at at)
-      l.controller.waiting l.reader.queue.events l.account none.0 none.1 h.account)
 
   -- the frame of an exchange that the reader has acted on: it says its answer again, refuses the number, or hears number 0
-  abbrev HeardAt : Stage → Link H → Type 0
-  HeardAt at m = (since : Restarted) × At fixed answer_of after since at m
+  abbrev pub HeardAt : Restarted → Stage → Kind → Packet → Link H → Type 0
+  HeardAt since at k p l =
+      (new : Restarted) × Reads answer_of after k p l.reader since at new at × At fixed answer_of after new at (gets_by fixed answer_of after since k p l)
 
   refuses_it : (at : Stage) (n : ℕ) (x : Exchange) (a : Reply) (l : Link H) → n ≢ 0 → l.reader.config.address ≡ fixed.address → l.reader.last ≡ None
       → At fixed answer_of after Now at l → Grows fixed answer_of after Now at n a l
-      → HeardAt at (gets_by fixed answer_of after Now (kind_of l.reader (frame fixed x n)) (frame fixed x n) l)
-  refuses_it at n x a l above here none h grows = (
-    Now,
-    subst (λ k. At fixed answer_of after Now at (gets_by fixed answer_of after Now k (frame fixed x n) l)) (sym (kind_unknown fixed l.reader x n here above none))
-        (says fixed answer_of after Now at l (answer fixed n (refused UnexpectedSequence)) h
-        (grows (answer fixed n (refused UnexpectedSequence)) (inr (inr (inl (tt, (n, refl))))))),
-  )
+      → HeardAt Now at (kind_of l.reader (frame fixed x n)) (frame fixed x n) l
+  refuses_it at n x a l above here none h grows =
+      let stays = subst (λ k. StaysBy fixed answer_of after Now at k (frame fixed x n) l) (sym (kind_unknown fixed l.reader x n here above none)) (
+        (refl, refl),
+        says fixed answer_of after Now at l (answer fixed n (refused UnexpectedSequence)) h
+            (grows (answer fixed n (refused UnexpectedSequence)) (inr (inr (inl (tt, (n, refl)))))),
+      ) in
+      (Now, stays.0, stays.1)
 
   unknown : (at : Stage) (n : ℕ) (x : Exchange) (a : Reply) (l : Link H) → fixed.address < 127
       → command_in (frame fixed Opening 0) ≡ Ok (command.Id 0) → At fixed answer_of after Now at l
       → l.reader.last ≡ None → Acted n x a → (x ≡ Opening → TellsNone at)
       → Grows fixed answer_of after Now at n a l → Puts fixed answer_of after Before at n x a
       → FitsBy answer_of after (kind_of l.reader (frame fixed x n)) (frame fixed x n) l
-      → HeardAt at (gets_by fixed answer_of after Now (kind_of l.reader (frame fixed x n)) (frame fixed x n) l)
+      → HeardAt Now at (kind_of l.reader (frame fixed x n)) (frame fixed x n) l
   unknown at n x a l device reads h none is silent grows puts fits =
       elim (eqb_tells l.reader.config.address fixed.address) [
         | inl same ↦ by_exchange n x is silent grows puts same.1 fits
-        | inr other ↦ (Now, away fixed answer_of after Now at x n l device other.1 h)
+        | inr other ↦ let stays = away fixed answer_of after Now at x n l device other.1 h in (Now, stays.0, stays.1)
       ]
     where
       by_exchange : (n : ℕ) (x : Exchange) → Acted n x a → (x ≡ Opening → TellsNone at)
           → Grows fixed answer_of after Now at n a l → Puts fixed answer_of after Before at n x a → l.reader.config.address ≡ fixed.address
           → FitsBy answer_of after (kind_of l.reader (frame fixed x n)) (frame fixed x n) l
-          → HeardAt at (gets_by fixed answer_of after Now (kind_of l.reader (frame fixed x n)) (frame fixed x n) l)
+          → HeardAt Now at (kind_of l.reader (frame fixed x n)) (frame fixed x n) l
       by_exchange zero Opening is silent grows puts same fits =
           let p = frame fixed Opening 0 in
-          subst (λ k. FitsBy answer_of after k p l → HeardAt at (gets_by fixed answer_of after Now k p l)) (sym (kind_zero fixed l.reader Opening same))
-          (both (λ k. FitsBy answer_of after k p l → HeardAt at (gets_by fixed answer_of after Now k p l)) l.reader.busy Busy Zero
-          (λ f. (Now, says fixed answer_of after Now at l (answer fixed 0 reply.Busy) h (grows (answer fixed 0 reply.Busy) (inl refl))))
-          (λ f. (Before, revived at a l reads h (silent refl) grows puts f))) fits
+          subst (λ k. FitsBy answer_of after k p l → HeardAt Now at k p l) (sym (kind_zero fixed l.reader Opening same))
+          (both (λ k. FitsBy answer_of after k p l → HeardAt Now at k p l) l.reader.busy Busy Zero
+          (λ f. (Now, (refl, refl), says fixed answer_of after Now at l (answer fixed 0 reply.Busy) h (grows (answer fixed 0 reply.Busy) (inl refl))))
+          (λ f. (Before, (reads, revived_due at (silent refl)), revived at a l reads h (silent refl) grows puts f))) fits
       by_exchange (suc n) Opening is silent grows puts same fits = absurd is.1
       by_exchange n Polling is silent grows puts same fits = refuses_it at n Polling a l is.1 same none h grows
       by_exchange n (Asking c) is silent grows puts same fits = refuses_it at n (Asking c) a l is.1 same none h grows
@@ -229,10 +222,10 @@ module _ (fixed : ControllerConfig) {H : Type 0} (answer_of : H → Command → 
       → Knows fixed since n x a l.reader → Acted n x a → (x ≡ Opening → TellsNone at)
       → Grows fixed answer_of after since at n a l → ((s : Restarted) (r : ReaderState H) → Knows fixed s n x a r → ReaderAt fixed s at r)
       → FitsBy answer_of after (kind_of l.reader (frame fixed x n)) (frame fixed x n) l
-      → HeardAt at (gets_by fixed answer_of after since (kind_of l.reader (frame fixed x n)) (frame fixed x n) l)
+      → HeardAt since at (kind_of l.reader (frame fixed x n)) (frame fixed x n) l
   heard_again Never at n x a l device reads h knows is silent grows puts fits =
-      (Never, again fixed answer_of after Never at n x a l device reads h knows is grows (puts Never) fits)
+      let stays = again fixed answer_of after Never at n x a l device reads h knows is grows (puts Never) fits in (Never, stays.0, stays.1)
   heard_again Before at n x a l device reads h knows is silent grows puts fits =
-      (Before, again fixed answer_of after Before at n x a l device reads h knows is grows (puts Before) fits)
+      let stays = again fixed answer_of after Before at n x a l device reads h knows is grows (puts Before) fits in (Before, stays.0, stays.1)
   heard_again Now at n x a l device reads h knows is silent grows puts fits =
       unknown at n x a l device reads h knows is silent grows (puts Before) fits

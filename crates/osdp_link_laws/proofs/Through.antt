@@ -29,12 +29,11 @@ use Rattle.osdp_link_laws.proofs.Growing.{taken_takes}
 use Rattle.osdp_link_laws.proofs.InARow.{assumed, stands}
 use Rattle.osdp_link_laws.proofs.Lines.{both, each_of}
 use Rattle.osdp_link_laws.proofs.Moves.{Premises}
-use Rattle.osdp_link_laws.proofs.Once.{going_bare}
-use Rattle.osdp_link_laws.proofs.Removed.{moving_inside}
-use Rattle.osdp_link_laws.proofs.Parts.{At, HoldsAtSomeStage}
+use Rattle.osdp_link_laws.proofs.Parts.{At}
 use Rattle.osdp_link_laws.proofs.Round.{IsIdle, IsStill, at_tick, goes, has_come}
 use Rattle.osdp_link_laws.proofs.Rounds.{all_of, counted, idle_round}
 use Rattle.osdp_link_laws.proofs.Stages.{Asks, Behind, Fresh, Level, Rest, Restarted, Rests, Stage, Waits, number_after}
+use Rattle.osdp_link_laws.proofs.Once.{Goes, moving}
 
 module _ (fixed : ControllerConfig) where
   waits_config : (state : State) (s : Session) → Waits fixed state s → (state ≡ Closed → ⊥) → s.config ≡ fixed
@@ -86,14 +85,13 @@ module _ (fixed : ControllerConfig) {H : Type 0} (answer_of : H → Command → 
   Given = Premises fixed answer_of after
 
   abbrev Holds : Link H → Type 0
-  Holds l = HoldsAtSomeStage fixed answer_of after l
+  Holds l = Goes fixed answer_of after l
 
   pub held_after : Given → (now : ℕ) (l : Link H) → SaysWhatFits answer_of after (at_tick now l).to_reader l.reader → Holds l → Holds (goes answer_of after now l)
   held_after given now l fits held =
       let m = link.to_reader answer_of after (at_tick now l).to_reader Delivered (at_tick now l) in
-      moving_inside fixed answer_of after given (ToController Delivered now) m tt tt
-      (moving_inside fixed answer_of after given (ToReader Delivered) (at_tick now l) tt fits
-      (moving_inside fixed answer_of after given (Tick now) l tt tt held))
+      moving fixed answer_of after given (ToController Delivered now) m tt tt
+      (moving fixed answer_of after given (ToReader Delivered) (at_tick now l) tt fits (moving fixed answer_of after given (Tick now) l tt tt held))
 
   -- a link that is clear
   pub clear_still : (l : Link H) → IsClear l → l.controller.session.config ≡ fixed → IsStill fixed answer_of after l
@@ -109,10 +107,10 @@ module _ (fixed : ControllerConfig) {H : Type 0} (answer_of : H → Command → 
       → Acts (ticks now l.controller.session l.controller.waiting) → SaysWhatFits answer_of after (at_tick now l).to_reader l.reader
       → ((goes answer_of after now l).controller.session.state ≡ Closed) ⊎ IsIdle fixed answer_of after (goes answer_of after now l)
   first_round given now l held still does fits =
-      let there = moving_inside fixed answer_of after given (Tick now) l tt tt held in
+      let there = moving fixed answer_of after given (Tick now) l tt tt held in
       elim (due_sends now l.controller.session l.controller.waiting does) [
         | inl closed ↦ inl (closed_after now l closed)
-        | inr (x, sends) ↦ has_come fixed answer_of after given now x there.0 there.1 l still sends there.2 fits
+        | inr (x, sends) ↦ has_come fixed answer_of after given now x l still sends there fits
       ]
 
   -- a round issues nothing, and keeps the events
@@ -229,14 +227,14 @@ module _ {H : Type 0} (answer_of : H → Command → Answer) (after : H → Comm
       let s = stands answer_of after peers l moves b fits in
       let session = afterwards.controller.session in
       let lasts : session.state ≡ Closed → ⊥ = λ closed. closed_rests session.state (seen now session) afterwards.controller.waiting closed due.0 in
-      let holds = going_bare s.fixed answer_of after afterwards s.goes lasts in
+      let holds = s.goes.holds in
       let same = config_is s.fixed answer_of after holds.0 holds.1 afterwards holds.2 lasts in
       let still = clear_still s.fixed answer_of after afterwards clear same in
       let all = assumed answer_of after peers s.fixed s.device in
       let first = run answer_of after (round now) afterwards in
-      let held = held_after s.fixed answer_of after all now afterwards more.1.0 holds in
+      let held = held_after s.fixed answer_of after all now afterwards more.1.0 s.goes in
       let more_first = goes_more s.fixed answer_of after now afterwards in
-      elim (first_round s.fixed answer_of after all now afterwards holds still due.0 more.1.0) [
+      elim (first_round s.fixed answer_of after all now afterwards s.goes still due.0 more.1.0) [
         | inl closed ↦ ended now later afterwards.account first closed due.1 more_first
         | inr idle ↦ at_least s.fixed answer_of after later now afterwards.account first (run answer_of after (rounds later) first) more_first
             (through s.fixed answer_of after all later first held idle due.1 more.1.1.1)

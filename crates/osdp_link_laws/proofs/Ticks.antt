@@ -1,5 +1,6 @@
 -- What a tick does to the controller, by how far the session has come.
 use Rattle.std.proofs.Common.{◌≡◌, ◌⊎◌, ℕ, ◌+◌, leb, ltb, List, [], ◌∷◌, ◌++◌, Option, Some, None, refl, sym, subst, ap, ◌∙◌, inl, inr}
+use Rattle.std.proofs.lemmas.List.{append-nil}
 use Rattle.std.specs.Prelude.{option_to_list}
 use Rattle.osdp_frame.specs.Packet.{next_sequence}
 use Rattle.osdp_msg.specs.declared.command.Command.{Command}
@@ -19,26 +20,28 @@ use Rattle.osdp_controller.specs.Exchanges.{submitted_command}
 use Rattle.osdp_controller.specs.Sessions.{after_send, frame_of, seen}
 use Rattle.osdp_controller.specs.Ticking.{Ticked, begins, gives_up, sends_frame, stays, ticks, ticks_in, tries_again}
 use Rattle.osdp_link_laws.specs.Headline.{MaySubmit}
-use Rattle.osdp_link_laws.specs.Link.{Account, after_report}
+use Rattle.osdp_link_laws.proofs.Coming.{lost_in}
 use Rattle.osdp_link_laws.proofs.Lines.{both}
 use Rattle.osdp_link_laws.proofs.Stages.{After, Asks, Each, IsAsked, IsFrame, IsOpen, Past, Rests, Start, Waits, frame, given_up, pending}
 
--- nothing is settled or reported; where the session ends, the outstanding command is unsettled
+-- where the session ends, the outstanding command is told unsettled
 abbrev pub LeavesUnsettled : List Command → Exchange → Option Report → State → Type 0
-LeavesUnsettled before x report state = (a : Account) → a.unsettled ≡ before → after_report report a ≡ record a { unsettled = given_up state x }
+LeavesUnsettled before x report state = before ++ lost_in report ≡ given_up state x
 
 pub nothing_told : (before : List Command) (x : Exchange) (state : State) → given_up state x ≡ before → LeavesUnsettled before x None state
-nothing_told before x state is a e = ap (λ (cs : List Command). record a { unsettled = cs }) (e ∙ sym is)
+nothing_told before x state is = append-nil before ∙ sym is
+
+pub submitted_is : (x : Exchange) → option_to_list (submitted_command x) ≡ pending x
+submitted_is Opening = refl
+submitted_is Polling = refl
+submitted_is (Asking c) = refl
 
 pub ended : (cause : LostCause) (o x : Exchange) → o ≡ x → LeavesUnsettled [] x (Some (report.Lost cause (submitted_command o))) Closed
-ended cause o x is a e =
-    ap (λ (cs : List Command). record a { unsettled = cs })
-    (ap (λ (cs : List Command). cs ++ option_to_list (submitted_command o)) e ∙ ap (λ y. option_to_list (submitted_command y)) is ∙ submitted x)
-  where
-    submitted : (y : Exchange) → option_to_list (submitted_command y) ≡ pending y
-    submitted Opening = refl
-    submitted Polling = refl
-    submitted (Asking c) = refl
+ended cause o x is = ap (λ y. option_to_list (submitted_command y)) is ∙ submitted_is x
+
+-- a session that has ended stays so, and nothing is told
+pub closed_tick : (now : ℕ) (s : Session) (ws : List Command) → s.state ≡ Closed → ticks now s ws ≡ stays (seen now s) ws
+closed_tick now s ws closed = ap (λ state. ticks_in state (seen now s) ws) closed
 
 module _ (fixed : ControllerConfig) where
   pub frame_is : (n : ℕ) (o x : Exchange) (s : Session) → IsOpen fixed n s → o ≡ x → frame_of o s ≡ frame fixed x n

@@ -35,7 +35,6 @@ use Rattle.osdp_link_laws.proofs.Numbers.{is_true}
 use Rattle.osdp_link_laws.proofs.Reports.{MayBring, heard_so, tick_so}
 use Rattle.osdp_link_laws.proofs.Stages.{Each}
 use Rattle.osdp_link_laws.proofs.Refusals.{one_report}
-use Rattle.osdp_link_laws.proofs.Removed.{as_waiting}
 
 abbrev pub ToldAsAsked : Option Report → Type 0
 ToldAsAsked r = IfSome r IsToldAsAsked
@@ -113,7 +112,7 @@ module _ {H : Type 0} (answer_of : H → Command → Answer) (after : H → Comm
       let next = standing answer_of after given (ToController how now) l fits h in
       let held = h.goes.holds in
       front_told answer_of after how l.to_controller now l
-      (all_read h.fixed answer_of after held.0 (given h.fixed h.device) held.1 (as_waiting l) held.2)
+      (all_read h.fixed answer_of after held.0 (given h.fixed h.device) held.1 l held.2)
       (move_given answer_of after (ToController how now) l are) (is_once_now answer_of after new next)
   move_told given _ l fits h are = tt
 

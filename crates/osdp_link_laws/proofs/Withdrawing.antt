@@ -75,6 +75,10 @@ splits_by _ capacity room offered true = record {
 pub splits : (q : Queue) → Splits q
 splits q = splits_by q.events q.capacity q.room q.offered q.ever_offered
 
+-- a queue is its front, where that was ever offered, and those that never were
+pub queue_is : (q : Queue) → q.events ≡ ever_in_front q ++ unoffered_in q
+queue_is q = let s = splits q in s.events ∙ ap (λ l. ever_in_front q ++ l) (sym s.old_tail)
+
 -- ---- lists that end with it
 
 lost_after : (front : List Event) (e : Event) (rest : List Event) → lost_at (length front) (front ++ e ∷ rest) ≡ front ++ rest

@@ -1,5 +1,5 @@
 -- Lists with some items left out, each at its own place.
-use Rattle.std.proofs.Common.{◌≡◌, List, [], ◌∷◌, ◌++◌, refl, ap, ◌∙◌, sym, subst, inl, inr}
+use Rattle.std.proofs.Common.{List, [], ◌∷◌, ◌++◌, refl, ap, sym, subst, inl, inr}
 use Rattle.osdp_link_laws.specs.Headline.{IsWithout}
 
 module _ {A : Type 0} where
@@ -7,11 +7,6 @@ module _ {A : Type 0} where
   pub without_none : (xs : List A) → IsWithout [] xs xs
   without_none [] = (refl, refl)
   without_none (x ∷ xs) = inl (xs, refl, without_none xs)
-
-  pub without_nothing : (all kept : List A) → IsWithout [] all kept → kept ≡ all
-  without_nothing [] kept (none, nothing) = nothing
-  without_nothing (x ∷ all) kept (inl (rest, is, more)) = is ∙ ap (λ l. x ∷ l) (without_nothing all rest more)
-  without_nothing (x ∷ all) kept (inr (rest, is, more)) = absurd cc
 
   -- all is left out
   pub without_all : (xs : List A) → IsWithout xs xs []

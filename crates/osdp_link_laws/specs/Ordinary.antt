@@ -1,9 +1,8 @@
 -- Runs in which neither end restarts and no command or event is withdrawn: the lists that such moves fill are empty.
-use Rattle.std.specs.Prelude.{◌≡◌, ◌≤◌, All, List, [], ◌∷◌, ◌++◌, length}
+use Rattle.std.specs.Prelude.{◌≡◌, All, List, [], ◌∷◌}
 use Rattle.osdp_msg.specs.declared.command.Command.{Command}
-use Rattle.osdp_msg.specs.declared.event.Event.{Event}
 use Rattle.osdp_reader.specs.declared.handler.Answer.{Answer}
-use Rattle.osdp_link_laws.specs.Headline.{Begins, IsBeginning}
+use Rattle.osdp_link_laws.specs.Headline.{Begins}
 use Rattle.osdp_link_laws.specs.Link.{Account, Link, LoseToController, LoseToReader, Move, RestartController, RestartReader, Retarget, SetHandler, Withdraw, WithdrawEvent, run}
 
 -- a move with which neither end restarts and no command or event is withdrawn
@@ -43,12 +42,3 @@ AreUndisturbed (t ∷ earlier) = IsUndisturbed t × AreUndisturbed earlier
 abbrev pub OrdinaryIsUndisturbed : {H : Type 0} → (H → Command → Answer) → (H → Command → H) → Type 0
 OrdinaryIsUndisturbed {H} answer_of after = (l : Link H) (moves : List (Move H)) → Begins l → All IsOrdinary moves
     → let later = run answer_of after moves l in AreUndisturbed (later.account ∷ later.earlier)
-
--- the events that wait are those of the session that were not reported, with the last that was, or without it
-pub record LeavesUnreported (t : Account) (events : List Event) : Type 0 where
-  pub left : List Event
-  pub again : List Event
-  pub queued : t.queued ≡ left ++ events
-  pub reported : t.reported ≡ left ++ again
-  pub front : IsBeginning again events
-  pub few : length again ≤ 1

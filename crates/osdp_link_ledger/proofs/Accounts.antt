@@ -1,5 +1,5 @@
 -- The steps of each move come to what its accounts say.
-use Rattle.std.proofs.Common.{◌≡◌, ◌+◌, ◌++◌, ℕ, Bool, true, false, List, [], ◌∷◌, is_some, Option, Some, None, Result, Ok, Err, refl, sym, subst, ap, ◌∙◌, append_assoc}
+use Rattle.std.proofs.Common.{◌+◌, ◌++◌, ℕ, Bool, true, false, List, [], ◌∷◌, is_some, Option, Some, None, Result, Ok, Err, refl, sym, subst, ap, ◌∙◌, append_assoc}
 use Rattle.std.proofs.lemmas.List.{append-nil}
 use Rattle.std.specs.Prelude.{option_to_list}
 use Rattle.osdp_frame.specs.Packet.{Packet}
@@ -21,18 +21,18 @@ use Rattle.osdp_ledger.specs.Ledger.{Card, Order, Step, new_ledger}
 use Rattle.osdp_ledger.proofs.Events.{at_first}
 use Rattle.osdp_ledger.proofs.InTurn.{runs_then}
 use Rattle.osdp_ledger.proofs.Waiting.{Events}
-use Rattle.osdp_link_laws.specs.Headline.{Begins, MovesFit}
+use Rattle.osdp_link_laws.specs.Headline.{Begins, MoveFits, MovesFit}
 use Rattle.osdp_link_laws.specs.Link as link
 use Rattle.osdp_link_laws.specs.Link.{Account, Delivered, Delivery, Link, Lost, Move, Queue as QueueEvent, Reopen, Repeated, RestartController, RestartReader, Retarget, Submit, Tick, ToController, ToReader, Withdraw, WithdrawEvent, after_move, front_of, outstanding_command, run}
 use Rattle.osdp_link_laws.specs.Peers.{ReadEachOther}
 use Rattle.osdp_link_laws.specs.Refusals.{told_by_front}
 use Rattle.osdp_link_laws.specs.Sessions.{accepted, all_queued, all_submitted, queued, submitted, unless_full}
-use Rattle.osdp_link_laws.proofs.InARow.{Assumed, Stands, assumed, begins, standing}
+use Rattle.osdp_link_laws.proofs.InARow.{Assumed, Stands, StandsThen, assumed, begins_so, standing_so}
+use Rattle.osdp_link_laws.proofs.Coming.{MovesTo, Reads, ReadsFront}
+use Rattle.osdp_link_laws.proofs.Stages.{Restarted, Stage}
 use Rattle.osdp_link_ledger.specs.Accounts.{LedgerTellsAccounts}
 use Rattle.osdp_link_ledger.specs.Steps.{acts, after_steps, all_steps, leaves, leaves_and_acts, leaving, opens, queued_before, queues, steps_before, steps_of, submits, submitted_before, ticked, to_reader, told}
-use Rattle.osdp_link_ledger.proofs.Facts.{Due}
 use Rattle.osdp_link_ledger.proofs.Keeping.{due_of, keeps_one}
-use Rattle.osdp_link_ledger.proofs.Reading.{IsReadAs, read}
 use Rattle.osdp_link_ledger.proofs.Running.{begins_tied, tied_at_first}
 use Rattle.osdp_link_ledger.proofs.Tallies.{Tally, Tells, begins_anew, device_tally, ends_at, leaving_tally, of_accounts, of_history, opening, panel_tally, queues_more, submits_more, taking_tally, tells, withdrawing_event_tally, withdrawing_tally}
 use Rattle.osdp_link_ledger.proofs.Ties.{IsTied, events_keep, placed, runs_after}
@@ -98,70 +98,73 @@ module _ {H : Type 0} (answer_of : H → Command → Answer) (after : H → Comm
       let left = leaves (leaving kind.Taken l.reader.queue) h.ledger in
       in_turn_tally cs es (l.account ∷ l.earlier) left [] h (leaving_tally cs es l.earlier (leaving kind.Taken l.reader.queue) l.account h h.ledger i)
 
-  by_kind : (p : Packet) (l : Link H) (d : Due) (h : History) (k : Kind) → kind_of l.reader p ≡ k → IsReadAs p l d → TallyOf cs es l h
+  by_kind : (p : Packet) (l : Link H) (since : Restarted) (at : Stage) (new : Restarted) (to : Stage) (h : History) (k : Kind)
+      → Reads answer_of after k p l.reader since at new to → TallyOf cs es l h
       → (let out = outcome answer_of after k l.reader p in
       Tells cs es (link.taken k out.command out.said (front_of l.reader) l.account ∷ l.earlier) (runs (leaves_and_acts k l.reader.queue out.command out.said h.ledger) h))
-  by_kind p l d h kind.Zero is r i =
+  by_kind p l since at new to h kind.Zero r i =
       subst (λ read. let out = begun answer_of after read l.reader p in
       Tells cs es (link.taken kind.Zero out.command out.said (front_of l.reader) l.account ∷ l.earlier) (runs (leaves_and_acts kind.Zero l.reader.queue out.command out.said h.ledger) h))
-      (sym (r.zero is)) i
-  by_kind p l d h kind.Taken is r i = by_command p l h (command_in p) i
-  by_kind p l d h _ is r i = i
+      (sym r.0) i
+  by_kind p l since at new to h kind.Taken r i = by_command p l h (command_in p) i
+  by_kind p l since at new to h _ r i = i
 
-  to_reader_tally : (how : Delivery) (ps : List Packet) (l : Link H) (d : Due) (h : History) → ((p : Packet) (rest : List Packet) → ps ≡ p ∷ rest → IsReadAs p l d) → TallyOf cs es l h
+  to_reader_tally : (how : Delivery) (ps : List Packet) (l : Link H) (since : Restarted) (at : Stage) (new : Restarted) (to : Stage) (h : History)
+      → ReadsFront answer_of after ps how l.reader since at new to → TallyOf cs es l h
       → TallyOf cs es (link.to_reader answer_of after ps how l) (runs (to_reader answer_of after ps how l.reader h.ledger) h)
-  to_reader_tally Delivered [] l d h reads i = i
-  to_reader_tally Lost [] l d h reads i = i
-  to_reader_tally Repeated [] l d h reads i = i
-  to_reader_tally Delivered (p ∷ ps) l d h reads i = by_kind p l d h (kind_of l.reader p) refl (reads p ps refl) i
-  to_reader_tally Lost (p ∷ ps) l d h reads i = i
-  to_reader_tally Repeated (p ∷ ps) l d h reads i = by_kind p l d h (kind_of l.reader p) refl (reads p ps refl) i
+  to_reader_tally Delivered [] l since at new to h reads i = i
+  to_reader_tally Lost [] l since at new to h reads i = i
+  to_reader_tally Repeated [] l since at new to h reads i = i
+  to_reader_tally Delivered (p ∷ ps) l since at new to h reads i = by_kind p l since at new to h (kind_of l.reader p) reads i
+  to_reader_tally Lost (p ∷ ps) l since at new to h reads i = i
+  to_reader_tally Repeated (p ∷ ps) l since at new to h reads i = by_kind p l since at new to h (kind_of l.reader p) reads i
 
 module _ {H : Type 0} (answer_of : H → Command → Answer) (after : H → Command → H) where
   tallies_one : Assumed answer_of after → (cs : List Command) (es : List Event) (move : Move H) (l : Link H) (h : History) → (s : Stands answer_of after l)
-      → IsTied l (due_of answer_of after l s) h.ledger → TallyOf cs es l h
+      → MoveFits answer_of after move l → IsTied l (due_of answer_of after l s) h.ledger → TallyOf cs es l h
       → TallyOf (cs ++ submitted move l) (es ++ queued move l) (after_move answer_of after move l) (runs (steps_of answer_of after move l h.ledger) h)
-  tallies_one given cs es move l h s tied i = by_move move
+  tallies_one given cs es move l h s fits tied i = by_move move (standing_so answer_of after given move l fits s)
     where
       still : (m : Link H) (steps : List Step) → TallyOf cs es m (runs steps h) → TallyOf (cs ++ []) (es ++ []) m (runs steps h)
       still m steps j = as_before cs es (m.account ∷ m.earlier) (runs steps h) j
 
-      by_move : (move : Move H) → TallyOf (cs ++ submitted move l) (es ++ queued move l) (after_move answer_of after move l) (runs (steps_of answer_of after move l h.ledger) h)
-      by_move (Submit c) = submits_tally cs es (controllers.submit_refusal c l.controller) c l h i
-      by_move (QueueEvent e) = queues_tally cs es (lacks_room e l.reader.queue) e l h i
-      by_move (Tick now) =
+      by_move : (move : Move H) → StandsThen answer_of after (MovesTo answer_of after move l s.goes.holds.0 s.goes.holds.1) (after_move answer_of after move l)
+          → TallyOf (cs ++ submitted move l) (es ++ queued move l) (after_move answer_of after move l) (runs (steps_of answer_of after move l h.ledger) h)
+      by_move (Submit c) n = submits_tally cs es (controllers.submit_refusal c l.controller) c l h i
+      by_move (QueueEvent e) n = queues_tally cs es (lacks_room e l.reader.queue) e l h i
+      by_move (Tick now) n =
           let t = ticks now l.controller.session l.controller.waiting in
           let first = opens l.controller.session.state t.step.frame in
           still (after_move answer_of after (Tick now) l) (ticked l.controller.session.state t h.ledger)
           (in_turn_tally cs es (link.after_report t.step.report l.account ∷ l.earlier) first (told t.step.report h.ledger) h
           (tells cs es l.earlier t.step.report l.account (runs first h) h.ledger (opening cs es l.earlier l.controller.session.state t.step.frame l.account h i)))
-      by_move (ToReader how) =
+      by_move (ToReader how) n =
           still (link.to_reader answer_of after l.to_reader how l) (to_reader answer_of after l.to_reader how l.reader h.ledger)
-          (to_reader_tally answer_of after cs es how l.to_reader l (due_of answer_of after l s) h (λ p rest is. read s.fixed answer_of after (given s.fixed s.device) p rest l is s.goes) i)
-      by_move (ToController how now) =
+          (to_reader_tally answer_of after cs es how l.to_reader l s.goes.holds.0 s.goes.holds.1 n.0.goes.holds.0 n.0.goes.holds.1 h n.1 i)
+      by_move (ToController how now) n =
           still (link.to_controller l.to_controller how now l) (told (told_by_front how l.to_controller now l.controller.session) h.ledger)
           (to_controller_tally cs es how l.to_controller now l h i)
-      by_move (Reopen now) =
+      by_move (Reopen now) n =
           still (after_move answer_of after (Reopen now) l) [] (reopens_tally cs es (controllers.begin_refusal l.controller) l.to_reader l.to_controller now l h i)
-      by_move Withdraw =
+      by_move Withdraw n =
           still (link.withdraws l) (steps_of answer_of after Withdraw l h.ledger)
           (withdrawing_tally cs es l.earlier (controllers.withdrawn_in l.controller.session.state l.controller.waiting) l.account h h.ledger i)
-      by_move (Retarget address) =
+      by_move (Retarget address) n =
           still (after_move answer_of after (Retarget address) l) [] (retargets_tally cs es (controllers.retarget_refusal address l.controller) address l h i)
-      by_move WithdrawEvent =
+      by_move WithdrawEvent n =
           let t = link.event_withdrawn l.reader.queue l.account in
           still (link.withdraws_event l) (steps_of answer_of after WithdrawEvent l h.ledger)
           (withdrawing_event_tally cs es l.earlier (never_offered l.reader.queue) l.reader.queue.ever_offered t.stayed t.kept l.account h h.ledger i)
-      by_move (RestartReader config handler room) =
+      by_move (RestartReader config handler room) n =
           let t = link.reader_restarted l.account in
           still (link.restarts_reader config handler room l) (steps_of answer_of after (RestartReader config handler room) l h.ledger)
           (device_tally cs es l.earlier t.kept t.thrown_away t.restarts l.account h i)
-      by_move (RestartController config room) =
+      by_move (RestartController config room) n =
           let state = l.controller.session.state in
           still (link.restarts_controller config room l) (steps_of answer_of after (RestartController config room) l h.ledger)
           (panel_tally cs es l.earlier (option_to_list (outstanding_command state)) l.controller.waiting (is_some (outstanding_command state)) l.account h
           (ends_at state l.controller.waiting h.ledger (outstanding_command state) refl tied.is_open tied.ahead) i)
-      by_move _ = still l [] i
+      by_move _ n = still l [] i
 
   tallies_all : Assumed answer_of after → (moves : List (Move H)) (cs : List Command) (es : List Event) (l : Link H) (h : History) → MovesFit answer_of after moves l
       → (s : Stands answer_of after l) → Events h → IsTied l (due_of answer_of after l s) h.ledger → TallyOf cs es l h
@@ -173,9 +176,9 @@ module _ {H : Type 0} (answer_of : H → Command → Answer) (after : H → Comm
       let next = after_move answer_of after move l in
       let last = run answer_of after moves next in
       let same = runs_after steps h in
-      let n = standing answer_of after given move l fits.0 s in
+      let n = (standing_so answer_of after given move l fits.0 s).0 in
       let rest = tallies_all given moves (cs ++ submitted move l) (es ++ queued move l) next (runs steps h) fits.1 n (events_keep steps h one.0 i)
-      (subst (IsTied next (due_of answer_of after next n)) (sym same) one.1) (tallies_one given cs es move l h s tied tally) in
+      (subst (IsTied next (due_of answer_of after next n)) (sym same) one.1) (tallies_one given cs es move l h s fits.0 tied tally) in
       ap of_history (runs_then steps (all_steps answer_of after moves next (after_steps steps h.ledger)) h)
       ∙ (λ j. of_history (runs (all_steps answer_of after moves next (sym same j)) (runs steps h)))
       ∙ rest
@@ -219,10 +222,11 @@ module _ {H : Type 0} (answer_of : H → Command → Answer) (after : H → Comm
       let last = run answer_of after moves l in
       let cs = l.controller.waiting ++ all_submitted answer_of after moves l in
       let es = l.reader.queue.events ++ all_queued answer_of after moves l in
-      let s = begins answer_of after l b in
+      let start = begins_so answer_of after l b in
+      let s = start.0 in
       let rest = tallies_all answer_of after (assumed answer_of after peers) moves l.controller.waiting l.reader.queue.events l h fits s
       (events_keep before new_history first.0 at_first)
-      (subst (IsTied l (due_of answer_of after l s)) (sym same) (tied_at_first answer_of after l s (after_steps before new_ledger) b first.1)) (begins_tally l b) in
+      (subst (IsTied l (due_of answer_of after l s)) (sym same) (tied_at_first answer_of after l s (after_steps before new_ledger) start.1 first.1)) (begins_tally l b) in
       let more = all_steps answer_of after moves l (after_steps before new_ledger) in
       let i : TallyOf cs es last (runs (before ++ more) new_history) =
       in_turn_tally cs es (last.account ∷ last.earlier) before more new_history

@@ -20,8 +20,8 @@ use Rattle.osdp_link_laws.proofs.Numbers.{is_true}
 use Rattle.osdp_link_ledger.specs.Laws.{is_under_way, unreported_in}
 use Rattle.osdp_link_ledger.specs.Steps.{card_at, leaves, order_acted, order_at}
 use Rattle.osdp_link_ledger.proofs.Events.{beyond_front}
-use Rattle.osdp_link_ledger.proofs.Dues.{Acts, Polled}
-use Rattle.osdp_link_ledger.proofs.Facts.{Due, Facts, out_of}
+use Rattle.osdp_link_laws.proofs.Coming.{Due}
+use Rattle.osdp_link_ledger.proofs.Facts.{OutIs, out_of}
 use Rattle.osdp_link_ledger.proofs.Lists.{FrontUnshown, IsOfferedFront, after_card, commands, events, front_card, front_order, not_offered}
 use Rattle.osdp_link_ledger.proofs.Reading.{TakesNext}
 use Rattle.osdp_link_ledger.proofs.Ties.{ActedIs, AllUpTo, IsTied, Leads, OffersAre, Placed, SessionIs, Ties}
@@ -152,6 +152,13 @@ module _ {H : Type 0} (p : Packet) (l : Link H) (d : Due) (g : Ledger) (placed :
 
 -- ---- an event is offered
 
+-- a POLL offers the event in front
+pub record Polled (front : List Event) (d e : Due) : Type 0 where
+  pub pend : e.pend ≡ d.pend
+  pub owing : e.owing ≡ d.owing
+  pub untold : e.untold ≡ front
+  pub stands : e.stands ≡ length front
+
 no_answer : (answer : Command × Reply) → [] ≡ answer ∷ [] → ⊥
 no_answer answer e = cc
 
@@ -220,7 +227,14 @@ module _ {H : Type 0} (p : Packet) (l : Link H) (d : Due) (g : Ledger) (n : Take
 
 -- ---- a command is acted on
 
-module _ {H : Type 0} (p : Packet) (l : Link H) (d : Due) (g : Ledger) (n : TakesNext p l d) (r : IsReady l d g) (f : Facts l d) where
+pub record Acts (c : Command) (a : Reply) (d e : Due) : Type 0 where
+  pub before : d.pend ≡ c ∷ []
+  pub pend : e.pend ≡ []
+  pub owing : e.owing ≡ (c, a) ∷ []
+  pub untold : e.untold ≡ []
+  pub stands : e.stands ≡ 0
+
+module _ {H : Type 0} (p : Packet) (l : Link H) (d : Due) (g : Ledger) (n : TakesNext p l d) (r : IsReady l d g) (f : OutIs l.controller.session.state d) where
   abbrev Acted : List Packet → List Packet → Due → Ledger → Type 0
   Acted ps qs e k = Ties l.controller.session.state l.controller.waiting (offering None (released l.reader.queue)) ps qs e k
 
@@ -238,7 +252,7 @@ module _ {H : Type 0} (p : Packet) (l : Link H) (d : Due) (g : Ledger) (n : Take
   acts_in_session c a ps qs e later s =
       let under_way : g.is_open ≡ true = r.is_open ∙ s.way in
       let out : out_of l.controller.session.state ≡ c ∷ [] =
-      f.out s.way ∙ ap (λ os. d.pend ++ map asked os) n.owing ∙ append-nil d.pend ∙ later.before in
+      f s.way ∙ ap (λ os. d.pend ++ map asked os) n.owing ∙ append-nil d.pend ∙ later.before in
       let front = front_order g.ahead c l.controller.waiting (r.ahead ∙ ap (λ cs. cs ++ l.controller.waiting) out) in
       let none = none_acted l.controller.session.state d g (inl s) n.owing in
       let order : order_acted c g ≡ order_at g.ahead c = ap (λ b. order_at (cond b g.ahead (option_to_list g.late)) c) under_way in

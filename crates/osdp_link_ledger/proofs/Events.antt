@@ -9,7 +9,7 @@ use Rattle.osdp_reader.specs.Queue.{Queue as EventQueue, never_offered, withdraw
 use Rattle.osdp_ledger.specs.Ledger.{Card, Ledger, NoOffer, Offer, Reported, Unreported}
 use Rattle.osdp_ledger.proofs.Waiting.{Beyond, Rising}
 use Rattle.osdp_link_ledger.specs.Steps.{card_at, withdraws_event}
-use Rattle.osdp_link_ledger.proofs.Facts.{Due}
+use Rattle.osdp_link_laws.proofs.Coming.{Due}
 use Rattle.osdp_link_ledger.proofs.Lists.{FrontUnshown, IsOfferedFront, StandsAt, after_card, all_unoffered, events, filter_front, filter_second, front_card, not_offered}
 use Rattle.osdp_link_ledger.proofs.Ties.{Leads, OffersAre, Placed, SessionIs, Ties}
 

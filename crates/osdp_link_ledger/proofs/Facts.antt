@@ -1,152 +1,167 @@
--- How far a session has come, and what the account of the session says of it.
-use Rattle.std.proofs.Common.{◌≡◌, ◌≤◌, ◌+◌, ℕ, true, List, [], ◌++◌, length, map, refl, sym, ap, ◌∙◌, arith}
-use Rattle.std.proofs.lemmas.List.{append-nil, append_cancel_right, length-append}
+-- What is outstanding at a stage of a session, and how what is due changes with the stage.
+use Rattle.std.proofs.Common.{◌≡◌, ℕ, true, false, ◌⊎◌, List, [], ◌∷◌, ◌++◌, length, map, Option, Some, None, refl, sym, subst, ap, ◌∙◌, inl, inr}
+use Rattle.std.proofs.lemmas.List.{append-nil}
 use Rattle.std.specs.Prelude.{option_to_list}
+use Rattle.osdp_frame.specs.Packet.{Packet}
 use Rattle.osdp_msg.specs.declared.command.Command.{Command}
 use Rattle.osdp_msg.specs.declared.event.Event.{Event}
 use Rattle.osdp_msg.specs.declared.reply.Reply.{Reply}
 use Rattle.osdp_controller.specs.Exchanges.{submitted_command}
+use Rattle.osdp_controller.specs.Ticking.{Ticked}
 use Rattle.osdp_controller.specs.declared.config.ControllerConfig.{ControllerConfig}
 use Rattle.osdp_controller.specs.declared.exchange.Exchange.{Exchange}
-use Rattle.osdp_controller.specs.declared.exchange.Exchange.TheVariants.{Opening, Polling, Asking}
+use Rattle.osdp_controller.specs.declared.fault.ControllerFault.{ControllerFault}
+use Rattle.osdp_controller.specs.declared.report.Report.{Report}
 use Rattle.osdp_controller.specs.declared.session.Session.{Session}
 use Rattle.osdp_controller.specs.declared.state.State.{State}
 use Rattle.osdp_controller.specs.declared.state.State.TheVariants.{Closed, Quiet, Idle, Waiting, Pausing}
 use Rattle.osdp_reader.specs.declared.handler.Answer.{Answer}
 use Rattle.osdp_link_laws.specs.Headline.{asked}
-use Rattle.osdp_link_laws.specs.Link.{Account, Link, outstanding_command}
-use Rattle.osdp_link_laws.proofs.Once.{Goes}
-use Rattle.osdp_link_laws.proofs.Removed.{as_waiting, gone}
-use Rattle.osdp_link_laws.proofs.Stages.{Asks, Before, Behind, ControllerAt, EventsAre, Fresh, Level, Never, Now, Rest, Restarted, Rests, Stage, Waits, number_after, owed, owed_at, pending, pending_at, shown_at, unreported_at}
-use Rattle.osdp_link_ledger.specs.Laws.{is_under_way}
-use Rattle.osdp_link_ledger.proofs.Lists.{same_ends}
+use Rattle.osdp_link_laws.specs.Link.{outstanding_command}
+use Rattle.osdp_link_laws.proofs.Accounts.{begins_tells, hears_tell}
+use Rattle.osdp_link_laws.proofs.Coming.{BeginsFrom, Due, HearsTo, IsSent, ReopensTo, Stays, TicksTo, due_at, reported_in, settled_in}
+use Rattle.osdp_link_laws.proofs.Sessions.{owed_command}
+use Rattle.osdp_link_laws.proofs.Ticks.{submitted_is}
+use Rattle.osdp_link_laws.proofs.Stages.{Asks, Before, Behind, ControllerAt, Fresh, IsOpen, Level, Never, Now, Rest, Restarted, Rests, Stage, Waits, number_after, owed_at, pending, pending_at}
+use Rattle.osdp_link_ledger.specs.Laws.{is_poll, is_polling, is_under_way}
 
 abbrev pub out_of : State → List Command
 out_of state = option_to_list (outstanding_command state)
 
--- the command that is outstanding and that the device has not acted on, the answer that is on its way, the event that was offered and isn't reported
--- yet, and how many of the queue's events were offered in this session
-pub record Due : Type 0 where
-  pub pend : List Command
-  pub owing : List (Command × Reply)
-  pub untold : List Event
-  pub stands : ℕ
-
 abbrev pub none_due : Due
 none_due = record { pend = []; owing = []; untold = []; stands = 0 }
 
--- a device that has lost power has no event that it offered
-abbrev pub front_at : Restarted → Stage → List Event
-front_at Now at = []
-front_at _ at = shown_at at ++ unreported_at at
-
-abbrev pub due_at : Restarted → Stage → Due
-due_at since at = record { pend = pending_at at; owing = owed_at at; untold = unreported_at at; stands = length (front_at since at) }
-
--- the account of a session says so, with these commands that wait and these events in the queue
-pub record Says (t : Account) (waiting : List Command) (events : List Event) (d : Due) : Type 0 where
-  pub issued : t.issued ≡ t.taken ++ (d.pend ++ (gone t ++ waiting))
-  pub given : t.given ≡ t.settled ++ d.owing
-  pub offered : t.offered ≡ t.reported ++ d.untold
-  pub past : List Event
-  pub kept : t.kept ≡ past ++ events
-  pub stood : length past + d.stands ≡ length t.offered
-
-abbrev pub SaysOf : {H : Type 0} → Link H → Due → Type 0
-SaysOf {H} l d = Says l.account l.controller.waiting l.reader.queue.events d
-
-pub record Facts {H : Type 0} (l : Link H) (d : Due) : Type 0 where
-  pub says : SaysOf l d
-  pub few : length d.pend ≤ 1
-  pub out : is_under_way l.controller.session.state ≡ true → out_of l.controller.session.state ≡ d.pend ++ map asked d.owing
-
--- .. of one session alone
-same_stands : (t : Account) (waiting : List Command) (events : List Event) (d e : Due) → Says t waiting events d → Says t waiting events e → d.stands ≡ e.stands
-same_stands t waiting events d e one other =
-    let first : length t.kept ≡ length (one.past ++ events) = ap length one.kept in
-    let second : length t.kept ≡ length (other.past ++ events) = ap length other.kept in
-    omega (arith, first, second, one.stood, other.stood, length-append one.past events, length-append other.past events)
-
-pub determined : (t : Account) (waiting : List Command) (events : List Event) (d e : Due) → Says t waiting events d → Says t waiting events e → d ≡ e
-determined t waiting events d e one other =
-    let rest = gone t ++ waiting in
-    let pend = append_cancel_right d.pend e.pend rest (same_ends t.taken t.issued (d.pend ++ rest) (e.pend ++ rest) one.issued other.issued) in
-    let owing = same_ends t.settled t.given d.owing e.owing one.given other.given in
-    let untold = same_ends t.reported t.offered d.untold e.untold one.offered other.offered in
-    let stands = same_stands t waiting events d e one other in
-    (λ i. record { pend = pend i; owing = owing i; untold = untold i; stands = stands i })
-
-one_pending : (x : Exchange) → length (pending x) ≤ 1
-one_pending Opening = omega arith
-one_pending Polling = omega arith
-one_pending (Asking c) = omega arith
-
-one_pending_at : (at : Stage) → length (pending_at at) ≤ 1
-one_pending_at (Behind past x) = one_pending x
-one_pending_at _ = omega arith
-
-submitted_is : (x : Exchange) → option_to_list (submitted_command x) ≡ pending x
-submitted_is Opening = refl
-submitted_is Polling = refl
-submitted_is (Asking c) = refl
-
-owed_is : (x : Exchange) (a : Reply) → map asked (owed x a) ≡ pending x
-owed_is Opening a = refl
-owed_is Polling a = refl
-owed_is (Asking c) a = refl
-
-heard : (at : Stage) (t : Account) (past : List Event) → t.offered ≡ t.reported ++ unreported_at at → t.reported ≡ past ++ shown_at at
-    → length past + length (shown_at at ++ unreported_at at) ≡ length t.offered
-heard at t past offered reported =
-    let all : length t.offered ≡ length (t.reported ++ unreported_at at) = ap length offered in
-    let told : length t.reported ≡ length (past ++ shown_at at) = ap length reported in
-    omega (arith, all, told, length-append t.reported (unreported_at at), length-append past (shown_at at), length-append (shown_at at) (unreported_at at))
+-- in a session the outstanding command is the one that is due to be acted on, or to be answered
+abbrev pub OutIs : State → Due → Type 0
+OutIs state d = is_under_way state ≡ true → out_of state ≡ d.pend ++ map asked d.owing
 
 module _ (fixed : ControllerConfig) where
-  asks_out : (state : State) (n : ℕ) (x : Exchange) (s : Session) → Asks fixed state n x s → is_under_way state ≡ true → out_of state ≡ pending x
-  asks_out Closed n x s asks way = absurd cc
-  asks_out (Quiet until) n x s asks way = absurd asks
-  asks_out (Idle due) n x s asks way = absurd asks
-  asks_out (Waiting until k o) n x s asks way = ap (λ y. option_to_list (submitted_command y)) asks.1 ∙ submitted_is x
-  asks_out (Pausing until o) n x s asks way = ap (λ y. option_to_list (submitted_command y)) asks.1 ∙ submitted_is x
+  -- this exchange is outstanding
+  pub record IsAsking (n : ℕ) (x : Exchange) (s : Session) : Type 0 where
+    pub is_open : IsOpen fixed n s
+    pub command : outstanding_command s.state ≡ submitted_command x
+    pub polls : is_polling s.state ≡ is_poll x
 
-  rests_out : (state : State) (n : ℕ) (s : Session) → Rests fixed state n s → is_under_way state ≡ true → out_of state ≡ []
-  rests_out Closed n s rests way = absurd cc
-  rests_out (Idle due) n s rests way = refl
-  rests_out _ n s rests way = absurd rests
+  pub asking : (state : State) (n : ℕ) (x : Exchange) (s : Session) → s.state ≡ state → Asks fixed state n x s → is_under_way state ≡ true → IsAsking n x s
+  asking Closed n x s is asks way = absurd cc
+  asking (Waiting until k o) n x s is asks way =
+      record { is_open = asks.0; command = ap outstanding_command is ∙ ap submitted_command asks.1; polls = ap is_polling is ∙ ap is_poll asks.1 }
+  asking (Pausing until o) n x s is asks way =
+      record { is_open = asks.0; command = ap outstanding_command is ∙ ap submitted_command asks.1; polls = ap is_polling is ∙ ap is_poll asks.1 }
+  asking _ n x s is asks way = absurd asks
 
-  waits_out : (state : State) (s : Session) → Waits fixed state s → is_under_way state ≡ true → out_of state ≡ []
-  waits_out Closed s waits way = refl
-  waits_out (Quiet until) s waits way = refl
-  waits_out _ s waits way = absurd waits
+  -- none is
+  pub record IsResting (s : Session) : Type 0 where
+    pub config : s.config ≡ fixed
+    pub command : outstanding_command s.state ≡ None
+    pub polls : is_polling s.state ≡ false
 
-  out_at : (at : Stage) (s : Session) → ControllerAt fixed at s → is_under_way s.state ≡ true → out_of s.state ≡ pending_at at ++ map asked (owed_at at)
-  out_at Fresh s is way = waits_out s.state s is way
-  out_at (Behind past x) s is way = asks_out s.state (number_after past) x s is way ∙ sym (append-nil (pending x))
-  out_at (Level past x a) s is way = asks_out s.state (number_after past) x s is way ∙ sym (owed_is x a)
-  out_at (Rest n x a) s is way = rests_out s.state n s is way
+  pub resting : (state : State) (n : ℕ) (s : Session) → s.state ≡ state → Rests fixed state n s → is_under_way state ≡ true → IsResting s
+  resting Closed n s is rests way = absurd cc
+  resting (Idle due) n s is rests way = record { config = rests.0; command = ap outstanding_command is; polls = ap is_polling is }
+  resting _ n s is rests way = absurd rests
 
-  module _ {H : Type 0} (answer_of : H → Command → Answer) (after : H → Command → H) where
-    stood_at : (since : Restarted) (at : Stage) (t : Account) (events : List Event) → t.offered ≡ t.reported ++ unreported_at at
-        → (are : EventsAre since (shown_at at) events t) → length are.past + length (front_at since at) ≡ length t.offered
-    stood_at Now at t events offered are =
-        let all : length t.offered ≡ length are.past = ap length are.reported in omega (arith, all)
-    stood_at Never at t events offered are = heard at t are.past offered are.reported
-    stood_at Before at t events offered are = heard at t are.past offered are.reported
+  pub unopened : (state : State) (s : Session) → Waits fixed state s → is_under_way state ≡ true → ⊥
+  unopened Closed s waits way = cc
+  unopened (Quiet until) s waits way = cc
+  unopened _ s waits way = waits
 
-    pub facts : (l : Link H) → (h : Goes fixed answer_of after l) → Facts l (due_at h.holds.0 h.holds.1)
-    facts l h =
-        let at = h.holds.1 in
-        let held = h.holds.2 in
-        record {
-          says = record {
-            issued = held.account.issued;
-            given = sym held.account.settled;
-            offered = held.account.offered;
-            past = held.account.told.past;
-            kept = held.account.told.kept;
-            stood = stood_at h.holds.0 at (as_waiting l).account l.reader.queue.events held.account.offered held.account.told;
-          };
-          few = one_pending_at at;
-          out = out_at at l.controller.session held.controller;
-        }
+  pub out_at : (at : Stage) (s : Session) → ControllerAt fixed at s → is_under_way s.state ≡ true → out_of s.state ≡ pending_at at ++ map asked (owed_at at)
+  out_at Fresh s is way = absurd (unopened s.state s is way)
+  out_at (Behind past x) s is way = ap option_to_list (asking s.state (number_after past) x s refl is way).command ∙ submitted_is x ∙ sym (append-nil (pending x))
+  out_at (Level past x a) s is way = ap option_to_list (asking s.state (number_after past) x s refl is way).command ∙ submitted_is x ∙ sym (owed_command x a)
+  out_at (Rest n x a) s is way = ap option_to_list (resting s.state n s refl is way).command
+
+  -- the address of a session that is under way
+  pub goes_to : (at : Stage) (s : Session) → ControllerAt fixed at s → is_under_way s.state ≡ true → s.config.address ≡ fixed.address
+  goes_to Fresh s is way = absurd (unopened s.state s is way)
+  goes_to (Behind past x) s is way = ap (λ (c : ControllerConfig). c.address) (asking s.state (number_after past) x s refl is way).is_open.0
+  goes_to (Level past x a) s is way = ap (λ (c : ControllerConfig). c.address) (asking s.state (number_after past) x s refl is way).is_open.0
+  goes_to (Rest n x a) s is way = ap (λ (c : ControllerConfig). c.address) (resting s.state n s refl is way).config
+
+-- ---- what is due after a move
+
+pub due_stays : (since : Restarted) (at : Stage) (new : Restarted) (to : Stage) → Stays since at new to → due_at new to ≡ due_at since at
+due_stays since at new to same = (λ i. due_at (same.0 i) (same.1 i))
+
+-- nothing is due before the first packet
+pub due_fresh : (since : Restarted) → due_at since Fresh ≡ none_due
+due_fresh Never = refl
+due_fresh Before = refl
+due_fresh Now = refl
+
+-- .. nor where a session begins again
+abbrev pub reopened : Option ControllerFault → List Packet → List Packet → Due → Due
+reopened None [] [] d = none_due
+reopened _ ps qs d = d
+
+module _ {H : Type 0} (answer_of : H → Command → Answer) (after : H → Command → H) where
+  pub due_reopened : (refusal : Option ControllerFault) (ps qs : List Packet) (since : Restarted) (at : Stage) (new : Restarted) (to : Stage)
+      → ReopensTo answer_of after refusal ps qs since at new to → due_at new to ≡ reopened refusal ps qs (due_at since at)
+  due_reopened None [] [] since at new to is = ap (due_at new) is ∙ due_fresh new
+  due_reopened None [] (q ∷ qs) since at new to is = due_stays since at new to is
+  due_reopened None (p ∷ ps) qs since at new to is = due_stays since at new to is
+  due_reopened (Some fault) ps qs since at new to is = due_stays since at new to is
+
+-- a command may have begun: no answer is due that wasn't, nor an event
+pub record IsAlike (d e : Due) : Type 0 where
+  pub owing : e.owing ≡ d.owing
+  pub untold : e.untold ≡ d.untold
+  pub stands : e.stands ≡ d.stands
+
+pub alike : (d e : Due) → e ≡ d → IsAlike d e
+alike d e same = record { owing = ap (λ (x : Due). x.owing) same; untold = ap (λ (x : Due). x.untold) same; stands = ap (λ (x : Due). x.stands) same }
+
+begun : (since : Restarted) (at to : Stage) → BeginsFrom at to → IsAlike (due_at since at) (due_at since to)
+begun since at to begins =
+    let t = begins_tells since at to None (refl, refl) begins in record { owing = t.owed; untold = t.told; stands = ap length t.stands }
+
+-- as much is due after a tick, or a frame went out
+abbrev pub DueAfterTick : Ticked → Due → Due → Type 0
+DueAfterTick t d e = (e ≡ d) ⊎ (IsAlike d e × IsSent t)
+
+pub due_ticks : (t : Ticked) (since : Restarted) (at : Stage) (new : Restarted) (to : Stage) → (new ≡ since) × TicksTo t at to
+    → DueAfterTick t (due_at since at) (due_at new to)
+due_ticks t since at new to (same, ticks) = subst (λ s. DueAfterTick t (due_at since at) (due_at s to)) (sym same) (by_ticks ticks)
+  where
+    by_ticks : TicksTo t at to → DueAfterTick t (due_at since at) (due_at since to)
+    by_ticks (inl is) = inl (ap (due_at since) is)
+    by_ticks (inr (begins, sent)) = inr (begun since at to begins, sent)
+
+-- these answers and these events are told
+pub record IsTold (settled : List (Command × Reply)) (reported : List Event) (d e : Due) : Type 0 where
+  pub pend : e.pend ≡ d.pend
+  pub owing : d.owing ≡ settled ++ e.owing
+  pub untold : d.untold ≡ reported ++ e.untold
+  pub stands : e.stands ≡ d.stands
+
+abbrev pub DueAfterReport : Option Report → Due → Due → Type 0
+DueAfterReport r d e = IsTold (settled_in r) (reported_in r) d e
+
+-- .. none are
+pub none_told : (d e : Due) → IsTold [] [] d e → e ≡ d
+none_told d e told = (λ i. record { pend = told.pend i; owing = sym told.owing i; untold = sym told.untold i; stands = told.stands i })
+
+pub told_none : (d e : Due) → e ≡ d → IsTold [] [] d e
+told_none d e same = record {
+  pend = ap (λ (x : Due). x.pend) same;
+  owing = ap (λ (x : Due). x.owing) (sym same);
+  untold = ap (λ (x : Due). x.untold) (sym same);
+  stands = ap (λ (x : Due). x.stands) same;
+}
+
+same_pending : (r : Option Report) (at to : Stage) → HearsTo r at to → pending_at to ≡ pending_at at
+same_pending r Fresh to is = ap pending_at is.0
+same_pending r (Behind past x) to is = ap pending_at is.0
+same_pending r (Rest n x a) to is = ap pending_at is.0
+same_pending r (Level past x a) to (inl is) = ap pending_at is.0
+same_pending r (Level past x a) to (inr is) = ap pending_at is.0
+
+hears : (r : Option Report) (since : Restarted) (at to : Stage) → HearsTo r at to → DueAfterReport r (due_at since at) (due_at since to)
+hears r since at to is =
+    let t = hears_tell since at to r is in
+    record { pend = same_pending r at to is; owing = sym t.owed; untold = sym t.told; stands = ap length t.stands }
+
+pub due_hears : (r : Option Report) (since : Restarted) (at : Stage) (new : Restarted) (to : Stage) → (new ≡ since) × HearsTo r at to
+    → DueAfterReport r (due_at since at) (due_at new to)
+due_hears r since at new to (same, is) = subst (λ s. DueAfterReport r (due_at since at) (due_at s to)) (sym same) (hears r since at to is)

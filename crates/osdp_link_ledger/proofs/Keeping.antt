@@ -1,5 +1,5 @@
 -- Each move keeps the ledger tied to the link, and so does each list of moves.
-use Rattle.std.proofs.Common.{◌≡◌, ◌≢◌, ◌==◌, ℕ, Bool, true, false, cond, List, [], ◌∷◌, ◌++◌, length, take, Option, Some, None, Result, Ok, refl, sym, subst, ap, ◌∙◌, inl, inr, arith}
+use Rattle.std.proofs.Common.{◌≡◌, ◌≢◌, ◌==◌, ℕ, Bool, true, false, cond, List, [], ◌∷◌, ◌++◌, length, Option, Some, None, Result, Ok, refl, sym, subst, ap, ◌∙◌, inl, inr, arith}
 use Rattle.std.proofs.lemmas.List.{append-nil, length-map}
 use Rattle.std.specs.Prelude.{option_to_list}
 use Rattle.osdp_frame.specs.Packet.{Packet}
@@ -9,14 +9,15 @@ use Rattle.osdp_msg.specs.declared.command.Command.TheVariants as command
 use Rattle.osdp_msg.specs.declared.event.Event.{Event}
 use Rattle.osdp_msg.specs.declared.fault.MsgFault.{MsgFault}
 use Rattle.osdp_msg.specs.declared.reply.Reply.{Reply}
+use Rattle.osdp_msg.specs.declared.reply.Reply.TheVariants as reply
 use Rattle.osdp_controller.specs.Exchanges.{exchange_command}
 use Rattle.osdp_controller.specs.Hearing as controller
 use Rattle.osdp_controller.specs.Machine as controllers
 use Rattle.osdp_controller.specs.Ticking.{Ticked, ticks}
 use Rattle.osdp_controller.specs.declared.exchange.Exchange.{Exchange}
 use Rattle.osdp_controller.specs.declared.exchange.Exchange.TheVariants.{Opening, Polling, Asking}
-use Rattle.osdp_controller.specs.declared.state.State.{State}
-use Rattle.osdp_controller.specs.declared.state.State.TheVariants.{Waiting, Pausing}
+use Rattle.osdp_controller.specs.declared.report.Report.{Report}
+use Rattle.osdp_controller.specs.declared.report.Report.TheVariants as report
 use Rattle.osdp_reader.specs.Replies.{reply_packet}
 use Rattle.osdp_reader.specs.Queue.{Queue as EventQueue, event_for, lacks_room, offering, released, unoffered}
 use Rattle.osdp_reader.specs.State.{ReaderState}
@@ -29,24 +30,24 @@ use Rattle.osdp_ledger.specs.Ledger as ledger
 use Rattle.osdp_ledger.specs.Ledger.{Ledger, Open, Step}
 use Rattle.osdp_link_laws.specs.Headline.{MaySubmit, MoveFits}
 use Rattle.osdp_link_laws.specs.Link as link
-use Rattle.osdp_link_laws.specs.Link.{Account, Delivered, Delivery, Link, Lost, LoseToController, LoseToReader, Move, Queue as QueueEvent, Reopen, Repeated, RestartController, RestartReader, Retarget, SetBusy, SetHandler, Submit, Tick, ToController, ToReader, Withdraw, WithdrawEvent, after_move, after_report, front_of, lost_at}
+use Rattle.osdp_link_laws.specs.Link.{Delivered, Delivery, Link, Lost, LoseToController, LoseToReader, Move, Queue as QueueEvent, Reopen, Repeated, RestartController, RestartReader, Retarget, SetBusy, SetHandler, Submit, Tick, ToController, ToReader, Withdraw, WithdrawEvent, after_move, lost_at}
 use Rattle.osdp_link_laws.specs.Refusals.{told_by_front}
-use Rattle.osdp_link_laws.proofs.Acting.{no_event, taken_is}
+use Rattle.osdp_link_laws.proofs.Acting.{no_event}
 use Rattle.osdp_link_laws.proofs.Deliveries.{IsRead, all_read}
-use Rattle.osdp_link_laws.proofs.InARow.{Assumed, Stands, standing}
+use Rattle.osdp_link_laws.proofs.Coming.{Due, IsSent, MovesTo, ReadsFront, Stays, due_at}
+use Rattle.osdp_link_laws.proofs.InARow.{Assumed, Stands, standing_so}
 use Rattle.osdp_link_laws.proofs.Moves.{Premises}
-use Rattle.osdp_link_laws.proofs.Removed.{as_waiting, closed_hears}
-use Rattle.osdp_link_laws.proofs.Stages.{After, Each, IsAsked}
+use Rattle.osdp_link_laws.proofs.Hearing.{closed_hears}
+use Rattle.osdp_link_laws.proofs.Stages.{After, Each, IsAsked, Restarted, Stage, pending, shown}
 use Rattle.osdp_link_ledger.specs.Laws.{is_under_way}
 use Rattle.osdp_link_ledger.specs.Steps.{acts_on, after_steps, gets, leaves, leaves_and_acts, leaving as leaving_events, offers, opens, order_acted, steps_of, ticked, told, to_reader}
-use Rattle.osdp_link_ledger.proofs.Acting.{IsReady, OrdersAre, acts as acting, leaving, offers_front, offers_none, with_offers}
+use Rattle.osdp_link_ledger.proofs.Acting.{Acts, IsReady, OrdersAre, Polled, acts as acting, leaving, offers_front, offers_none, with_offers}
 use Rattle.osdp_link_ledger.proofs.Events.{withdrawing_event}
-use Rattle.osdp_link_ledger.proofs.Dues.{IsTold, after_act, after_poll, after_told, quiet, quiet_same, says_device_restarts, says_panel_restarts, says_queues, says_reopens, says_retargets, says_submits, says_withdraws, says_withdraws_event}
-use Rattle.osdp_link_ledger.proofs.Facts.{Due, Facts, Says, SaysOf, determined, due_at, facts, out_of}
-use Rattle.osdp_link_ledger.proofs.Programs.{losing, queueing, reopened, reopening, restarting_device, restarting_panel, retargeting, submitting, withdrawing, without_events}
-use Rattle.osdp_link_ledger.proofs.Reading.{IsReadAs, TakesNext, read}
+use Rattle.osdp_link_ledger.proofs.Facts.{DueAfterReport, DueAfterTick, IsAlike, IsTold, OutIs, alike, due_hears, due_reopened, due_stays, due_ticks, none_told, out_at, reopened, told_none}
+use Rattle.osdp_link_ledger.proofs.Programs.{losing, queueing, reopening, restarting_device, restarting_panel, retargeting, submitting, withdrawing, without_events}
+use Rattle.osdp_link_ledger.proofs.Reading.{IsAnswered, IsReadAs, TakesNext, read}
 use Rattle.osdp_link_ledger.proofs.Reports.{reports}
-use Rattle.osdp_link_ledger.proofs.Telling.{IsEnding, IsOpening, IsQuietTick, TickIs, Tells, heard_tells, tick_is}
+use Rattle.osdp_link_ledger.proofs.Telling.{IsEnding, IsOpening, IsQuietTick, TickIs, heard_tells, tick_is}
 use Rattle.osdp_link_ledger.proofs.Ties.{ActedIs, IsTied, Leads, OffersAre, Placed, SessionIs, Ties, after_append, all_may_append}
 
 -- steps, and others after them
@@ -63,59 +64,55 @@ module _ {H : Type 0} (l : Link H) (d : Due) (g : Ledger) (h : IsTied l d g) whe
   abbrev AfterTick : Ticked → Due → Ledger → Type 0
   AfterTick t e k = Ties t.session.state t.waiting l.reader.queue (l.to_reader ++ option_to_list t.step.frame) l.to_controller e k
 
-  -- what the account says then
-  abbrev SaysAfter : Ticked → Due → Type 0
-  SaysAfter t e = Says (after_report t.step.report l.account) t.waiting l.reader.queue.events e
+  same_offers : (e : Due) → IsAlike d e → OffersAre l.reader.queue d.untold d.stands g.offer g.cards → OffersAre l.reader.queue e.untold e.stands g.offer g.cards
+  same_offers e same o = record { untold = same.untold ∙ o.untold; front = o.front; counts = omega (arith, o.counts, same.stands) }
 
-  -- none is outstanding where no session is under way
-  idle_out : (state : State) → is_under_way state ≡ false → out_of state ≡ []
-  idle_out (Waiting until sends o) way = absurd cc
-  idle_out (Pausing until o) way = absurd cc
-  idle_out _ way = refl
+  same_acted : (e : Due) → IsAlike d e → ActedIs g.ahead g.acted d.owing → ActedIs g.ahead g.acted e.owing
+  same_acted e same acted = subst (ActedIs g.ahead g.acted) (sym same.owing) acted
 
-  same_offers : (e : Due) → IsTold [] [] d e → OffersAre l.reader.queue d.untold d.stands g.offer g.cards → OffersAre l.reader.queue e.untold e.stands g.offer g.cards
-  same_offers e told o = record { untold = sym told.untold ∙ o.untold; front = o.front; counts = omega (arith, o.counts, told.stands) }
+  -- whatever began
+  alike_after : (t : Ticked) (e : Due) → DueAfterTick t d e → IsAlike d e
+  alike_after t e (inl same) = alike d e same
+  alike_after t e (inr (same, sent)) = same
 
-  same_acted : (e : Due) → IsTold [] [] d e → ActedIs g.ahead g.acted d.owing → ActedIs g.ahead g.acted e.owing
-  same_acted e told acted = subst (ActedIs g.ahead g.acted) told.owing acted
+  -- nothing did where no frame went out, or something was told
+  same_after : (t : Ticked) (e : Due) → DueAfterTick t d e → (IsSent t → ⊥) → e ≡ d
+  same_after t e (inl same) none = same
+  same_after t e (inr (same, sent)) none = absurd (none sent)
 
-  quiet_tick : (t : Ticked) (e : Due) → SaysOf l d → Says l.account t.waiting l.reader.queue.events e → IsQuietTick l.controller.session.state l.controller.waiting t
+  quiet_tick : (t : Ticked) (e : Due) → DueAfterTick t d e → IsQuietTick l.controller.session.state l.controller.waiting t
       → Leads (told None g) g (AfterTick t e)
-  quiet_tick t e f k q = (
+  quiet_tick t e later q = (
     tt,
     record { ahead = h.ahead ∙ sym q.ahead; is_open = h.is_open ∙ sym q.way; cards = h.cards; front = h.front; session = by_session h.session },
   )
     where
-      same : t.waiting ≡ l.controller.waiting → e ≡ d
-      same waits = quiet_same l.account l.account.unsettled l.controller.waiting l.reader.queue.events d e f (subst (λ ws. Says l.account ws l.reader.queue.events e) waits k)
+      same : is_under_way l.controller.session.state ≡ false → e ≡ d
+      same over = same_after t e later (λ sent. let e : None ≡ Some sent.frame = sym (q.silent over) ∙ sent.sent in cc)
 
       by_session : SessionIs l.controller.session.state l.reader.queue l.to_reader l.to_controller d g
           → SessionIs t.session.state l.reader.queue (l.to_reader ++ option_to_list t.step.frame) l.to_controller e g
-      by_session (inl s) =
-          let waits : t.waiting ≡ l.controller.waiting =
-          ap (λ cs. cs ++ t.waiting) (sym (idle_out t.session.state (q.way ∙ s.way))) ∙ q.ahead ∙ ap (λ cs. cs ++ l.controller.waiting) (idle_out l.controller.session.state s.way) in
-          inl (record {
-            way = q.way ∙ s.way;
-            to_reader = ap (λ f. l.to_reader ++ option_to_list f) (q.silent s.way) ∙ append-nil l.to_reader ∙ s.to_reader;
-            to_controller = s.to_controller;
-            empty = same waits ∙ s.empty;
-            acted = s.acted;
-          })
+      by_session (inl s) = inl (record {
+        way = q.way ∙ s.way;
+        to_reader = ap (λ f. l.to_reader ++ option_to_list f) (q.silent s.way) ∙ append-nil l.to_reader ∙ s.to_reader;
+        to_controller = s.to_controller;
+        empty = same s.way ∙ s.empty;
+        acted = s.acted;
+      })
       by_session (inr (inl s)) =
-          let told = quiet l.account l.account.unsettled l.controller.waiting t.waiting l.reader.queue.events d e f k in
-          inr (inl (record { way = q.way ∙ s.way; acted = same_acted e told s.acted; late = s.late; offers = same_offers e told s.offers }))
+          let alike = alike_after t e later in
+          inr (inl (record { way = q.way ∙ s.way; acted = same_acted e alike s.acted; late = s.late; offers = same_offers e alike s.offers }))
       by_session (inr (inr s)) =
-          let shut = q.closed s.closed in
-          subst (λ x. SessionIs t.session.state l.reader.queue (l.to_reader ++ option_to_list t.step.frame) l.to_controller x g) (sym (same shut.1))
-          (inr (inr (record { closed = shut.0; acted = s.acted; late = s.late; offers = s.offers })))
+          subst (λ x. SessionIs t.session.state l.reader.queue (l.to_reader ++ option_to_list t.step.frame) l.to_controller x g) (sym (same (ap is_under_way s.closed)))
+          (inr (inr (record { closed = q.closed s.closed; acted = s.acted; late = s.late; offers = s.offers })))
 
-  opening_tick : (t : Ticked) (e : Due) → SaysOf l d → Says l.account t.waiting l.reader.queue.events e → IsOpening l.controller.session.state l.controller.waiting t
+  opening_tick : (t : Ticked) (e : Due) → DueAfterTick t d e → IsOpening l.controller.session.state l.controller.waiting t
       → Leads (Open ∷ []) g (AfterTick t e)
-  opening_tick t e f k q = by_session h.session
+  opening_tick t e later q = by_session h.session
     where
       by_session : SessionIs l.controller.session.state l.reader.queue l.to_reader l.to_controller d g → Leads (Open ∷ []) g (AfterTick t e)
       by_session (inl s) =
-          let told = quiet l.account l.account.unsettled l.controller.waiting t.waiting l.reader.queue.events d e f k in (
+          let alike = alike_after t e later in (
             (h.is_open ∙ s.way, tt),
             record {
               ahead = h.ahead ∙ sym q.ahead;
@@ -124,15 +121,15 @@ module _ {H : Type 0} (l : Link H) (d : Due) (g : Ledger) (h : IsTied l d g) whe
               front = h.front;
               session = inr (inl (record {
                 way = q.way;
-                acted = inl (record { acted = refl; owing = sym told.owing ∙ ap (λ (x : Due). x.owing) s.empty });
+                acted = inl (record { acted = refl; owing = alike.owing ∙ ap (λ (x : Due). x.owing) s.empty });
                 late = refl;
                 offers = record {
-                  untold = sym told.untold ∙ ap (λ (x : Due). x.untold) s.empty;
+                  untold = alike.untold ∙ ap (λ (x : Due). x.untold) s.empty;
                   front = λ on. inl refl;
                   counts =
                       let none : d.stands ≡ 0 = ap (λ (x : Due). x.stands) s.empty in
                       let all : length g.cards ≡ length l.reader.queue.events = sym (length-map g.cards (λ (c : ledger.Card). c.event)) ∙ ap length h.cards in
-                      omega (arith, told.stands, none, all);
+                      omega (arith, alike.stands, none, all);
                 };
               }));
             },
@@ -140,82 +137,75 @@ module _ {H : Type 0} (l : Link H) (d : Due) (g : Ledger) (h : IsTied l d g) whe
       by_session (inr (inl s)) = absurd (let e : false ≡ true = sym q.before ∙ s.way in cc)
       by_session (inr (inr s)) = absurd (let e : [] ≡ Open ∷ [] = ap (λ st. opens st t.step.frame) (sym s.closed) ∙ q.opening in cc)
 
-  ending_tick : Facts l d → (t : Ticked) (e : Due) → Says (after_report t.step.report l.account) l.controller.waiting l.reader.queue.events e
-      → IsEnding l.controller.session.state l.controller.waiting t
+  ending_tick : OutIs l.controller.session.state d → (t : Ticked) (e : Due) → DueAfterTick t d e → IsEnding l.controller.session.state l.controller.waiting t
       → Leads (told t.step.report g) g (Ties t.session.state l.controller.waiting l.reader.queue (l.to_reader ++ option_to_list t.step.frame) l.to_controller e)
-  ending_tick f t e k q = by_session h.session
+  ending_tick f t e later q = by_session h.session
     where
+      lost : Option Report
+      lost = Some (report.Lost q.cause q.command)
+
+      same : e ≡ d
+      same = same_after t e later (λ sent. let e : None ≡ lost = sym sent.told ∙ q.told in cc)
+
       by_session : SessionIs l.controller.session.state l.reader.queue l.to_reader l.to_controller d g
           → Leads (told t.step.report g) g (Ties t.session.state l.controller.waiting l.reader.queue (l.to_reader ++ option_to_list t.step.frame) l.to_controller e)
       by_session (inl s) = absurd (let e : false ≡ true = sym s.way ∙ q.before in cc)
       by_session (inr (inl s)) =
-          reports l d g f h s t.step.report e t.session.state (l.to_reader ++ option_to_list t.step.frame) l.to_controller
-          (subst (λ r. Tells r l.controller.session.state t.session.state) (sym q.told) (q.out, q.closed))
-          (after_told t.step.report l.account l.controller.waiting l.reader.queue.events d e f.says k)
+          subst (λ r. Leads (told r g) g (Ties t.session.state l.controller.waiting l.reader.queue (l.to_reader ++ option_to_list t.step.frame) l.to_controller e)) (sym q.told)
+          (reports l d g f h s (Some (report.Lost q.cause q.command)) e t.session.state (l.to_reader ++ option_to_list t.step.frame) l.to_controller (q.out, q.closed)
+          (told_none d e same))
       by_session (inr (inr s)) = absurd (let e : false ≡ true = ap is_under_way (sym s.closed) ∙ q.before in cc)
 
-  pub ticking : Facts l d → (t : Ticked) (e : Due) → SaysAfter t e → TickIs l.controller.session.state l.controller.waiting t
+  pub ticking : OutIs l.controller.session.state d → (t : Ticked) (e : Due) → DueAfterTick t d e → TickIs l.controller.session.state l.controller.waiting t
       → Leads (ticked l.controller.session.state t g) g (AfterTick t e)
-  ticking f t e k (inl q) =
+  ticking f t e later (inl q) =
       subst (λ os. Leads (os ++ told t.step.report g) g (AfterTick t e)) (sym q.opening)
-      (subst (λ r. Leads (told r g) g (AfterTick t e)) (sym q.told)
-      (quiet_tick t e f.says (subst (λ r. Says (after_report r l.account) t.waiting l.reader.queue.events e) q.told k) q))
-  ticking f t e k (inr (inl q)) =
+      (subst (λ r. Leads (told r g) g (AfterTick t e)) (sym q.told) (quiet_tick t e later q))
+  ticking f t e later (inr (inl q)) =
       subst (λ os. Leads (os ++ told t.step.report g) g (AfterTick t e)) (sym q.opening)
-      (subst (λ r. Leads (Open ∷ told r g) g (AfterTick t e)) (sym q.told)
-      (opening_tick t e f.says (subst (λ r. Says (after_report r l.account) t.waiting l.reader.queue.events e) q.told k) q))
-  ticking f t e k (inr (inr q)) =
+      (subst (λ r. Leads (Open ∷ told r g) g (AfterTick t e)) (sym q.told) (opening_tick t e later q))
+  ticking f t e later (inr (inr q)) =
       subst (λ os. Leads (os ++ told t.step.report g) g (AfterTick t e)) (sym q.opening)
       (subst (λ ws. Leads (told t.step.report g) g (Ties t.session.state ws l.reader.queue (l.to_reader ++ option_to_list t.step.frame) l.to_controller e)) (sym q.waits)
-      (ending_tick f t e (subst (λ ws. Says (after_report t.step.report l.account) ws l.reader.queue.events e) q.waits k) q))
+      (ending_tick f t e later q))
 
   -- ---- a packet comes to the controller
 
   not_empty : {A : Type 0} (p : A) (ps qs : List A) → qs ≡ p ∷ ps → qs ≡ [] → ⊥
   not_empty p ps qs is none = let e : p ∷ ps ≡ [] = sym is ∙ none in cc
 
-  heard : Facts l d → (p : Packet) (qs rest : List Packet) (now : ℕ) (e : Due) → l.to_controller ≡ p ∷ rest → IsRead p
+  -- nothing is heard
+  unheard : (e : Due) (ys : List Packet) → (l.to_controller ≡ [] → ys ≡ []) → IsTold [] [] d e
+      → Ties l.controller.session.state l.controller.waiting l.reader.queue l.to_reader ys e g
+  unheard e ys empty later =
+      subst (λ x. Ties l.controller.session.state l.controller.waiting l.reader.queue l.to_reader ys x g) (sym (none_told d e later))
+      (losing l.controller.session.state l.controller.waiting l.reader.queue l.to_reader l.to_controller l.to_reader ys d g (λ e. e) empty h)
+
+  heard : OutIs l.controller.session.state d → (p : Packet) (qs rest : List Packet) (now : ℕ) (e : Due) → l.to_controller ≡ p ∷ rest → IsRead p
       → (let heard = controller.hears p now l.controller.session in
-      Says (after_report heard.report l.account) l.controller.waiting l.reader.queue.events e
-      → Leads (told heard.report g) g (Ties heard.session.state l.controller.waiting l.reader.queue l.to_reader qs e))
-  heard f p qs rest now e is reads k = by_session h.session k
+      DueAfterReport heard.report d e → Leads (told heard.report g) g (Ties heard.session.state l.controller.waiting l.reader.queue l.to_reader qs e))
+  heard f p qs rest now e is reads later = by_session h.session later
     where
       by_session : SessionIs l.controller.session.state l.reader.queue l.to_reader l.to_controller d g
           → (let heard = controller.hears p now l.controller.session in
-          Says (after_report heard.report l.account) l.controller.waiting l.reader.queue.events e
-          → Leads (told heard.report g) g (Ties heard.session.state l.controller.waiting l.reader.queue l.to_reader qs e))
-      by_session (inl s) k = absurd (not_empty p rest l.to_controller is s.to_controller)
-      by_session (inr (inl s)) k =
+          DueAfterReport heard.report d e → Leads (told heard.report g) g (Ties heard.session.state l.controller.waiting l.reader.queue l.to_reader qs e))
+      by_session (inl s) later = absurd (not_empty p rest l.to_controller is s.to_controller)
+      by_session (inr (inl s)) later =
           let heard = controller.hears p now l.controller.session in
-          reports l d g f h s heard.report e heard.session.state l.to_reader qs (heard_tells p now l.controller.session reads)
-          (after_told heard.report l.account l.controller.waiting l.reader.queue.events d e f.says k)
-      by_session (inr (inr s)) k =
-          subst (λ (heard : controller.Heard). Says (after_report heard.report l.account) l.controller.waiting l.reader.queue.events e
+          reports l d g f h s heard.report e heard.session.state l.to_reader qs (heard_tells p now l.controller.session reads) later
+      by_session (inr (inr s)) later =
+          subst (λ (heard : controller.Heard). DueAfterReport heard.report d e
           → Leads (told heard.report g) g (Ties heard.session.state l.controller.waiting l.reader.queue l.to_reader qs e))
-          (sym (closed_hears p now l.controller.session s.closed))
-          (λ k. (
-            tt,
-            subst (λ x. Ties l.controller.session.state l.controller.waiting l.reader.queue l.to_reader qs x g)
-                (sym (quiet_same l.account l.account.unsettled l.controller.waiting l.reader.queue.events d e f.says k))
-                (losing l.controller.session.state l.controller.waiting l.reader.queue l.to_reader l.to_controller l.to_reader qs d g
-                (λ e. e) (λ e. absurd (not_empty p rest l.to_controller is e)) h),
-          )) k
+          (sym (closed_hears p now l.controller.session s.closed)) (λ later. (tt, unheard e qs (λ e. absurd (not_empty p rest l.to_controller is e)) later)) later
 
-  -- nothing comes
-  unheard : Facts l d → (e : Due) (ys : List Packet) → SaysOf l e → (l.to_controller ≡ [] → ys ≡ [])
-      → Ties l.controller.session.state l.controller.waiting l.reader.queue l.to_reader ys e g
-  unheard f e ys k empty =
-      subst (λ x. Ties l.controller.session.state l.controller.waiting l.reader.queue l.to_reader ys x g)
-      (determined l.account l.controller.waiting l.reader.queue.events d e f.says k)
-      (losing l.controller.session.state l.controller.waiting l.reader.queue l.to_reader l.to_controller l.to_reader ys d g (λ e. e) empty h)
-
-  pub hearing : Facts l d → (how : Delivery) (ps : List Packet) (now : ℕ) (e : Due) → l.to_controller ≡ ps → Each IsRead ps → SaysOf (link.to_controller ps how now l) e
+  pub hearing : OutIs l.controller.session.state d → (how : Delivery) (ps : List Packet) (now : ℕ) (e : Due) → l.to_controller ≡ ps → Each IsRead ps
+      → DueAfterReport (told_by_front how ps now l.controller.session) d e
       → Leads (told (told_by_front how ps now l.controller.session) g) g (IsTied (link.to_controller ps how now l) e)
-  hearing f Delivered [] now e is reads k = (tt, unheard f e l.to_controller k (λ e. e))
-  hearing f Lost [] now e is reads k = (tt, unheard f e l.to_controller k (λ e. e))
-  hearing f Repeated [] now e is reads k = (tt, unheard f e l.to_controller k (λ e. e))
+  hearing f Delivered [] now e is reads k = (tt, unheard e l.to_controller (λ e. e) k)
+  hearing f Lost [] now e is reads k = (tt, unheard e l.to_controller (λ e. e) k)
+  hearing f Repeated [] now e is reads k = (tt, unheard e l.to_controller (λ e. e) k)
   hearing f Delivered (p ∷ ps) now e is reads k = heard f p ps ps now e is reads.0 k
-  hearing f Lost (p ∷ ps) now e is reads k = (tt, unheard f e ps k (λ e. absurd (not_empty p ps l.to_controller is e)))
+  hearing f Lost (p ∷ ps) now e is reads k = (tt, unheard e ps (λ e. absurd (not_empty p ps l.to_controller is e)) k)
   hearing f Repeated (p ∷ ps) now e is reads k = heard f p l.to_controller ps now e is reads.0 k
 
 -- ---- a packet comes to the device
@@ -233,20 +223,16 @@ acts_is command.Poll a g other = absurd (other refl)
 acts_is c a g other = refl
 
 module _ {H : Type 0} (answer_of : H → Command → Answer) (after : H → Command → H) (tells : (e : Event) → event_in (event_reply e) ≡ Some e)
-    (l : Link H) (d : Due) (g : Ledger) (placed : Placed g) (h : IsTied l d g) (f : Facts l d) (p : Packet) (ps qs : List Packet) (e : Due)
+    (l : Link H) (d : Due) (g : Ledger) (placed : Placed g) (h : IsTied l d g) (f : OutIs l.controller.session.state d) (p : Packet) (ps qs : List Packet) (e : Due)
     (orders : OrdersAre l.controller.session.state d g) (o : OffersAre l.reader.queue d.untold d.stands g.offer g.cards) where
   abbrev Becomes : EventQueue → Ledger → Type 0
   Becomes q k = Ties l.controller.session.state l.controller.waiting q ps qs e k
 
-  abbrev SaysThen : Account → EventQueue → Type 0
-  SaysThen t q = Says t l.controller.waiting q.events e
-
   -- it stays as it is, but for what is offered now
   unmoved : (q : EventQueue) → q.events ≡ l.reader.queue.events → q.ever_offered ≡ l.reader.queue.ever_offered
-      → OffersAre q d.untold d.stands g.offer g.cards → SaysThen l.account q → Becomes q g
-  unmoved q same ever new k =
-      subst (λ x. Ties l.controller.session.state l.controller.waiting q ps qs x g)
-      (determined l.account l.controller.waiting l.reader.queue.events d e f.says (subst (λ es. Says l.account l.controller.waiting es e) same k)) (record {
+      → OffersAre q d.untold d.stands g.offer g.cards → e ≡ d → Becomes q g
+  unmoved q same ever new due =
+      subst (λ x. Ties l.controller.session.state l.controller.waiting q ps qs x g) (sym due) (record {
         ahead = h.ahead;
         is_open = h.is_open;
         cards = h.cards ∙ sym same;
@@ -254,22 +240,46 @@ module _ {H : Type 0} (answer_of : H → Command → Answer) (after : H → Comm
         session = with_offers l.controller.session.state q ps qs d g orders new;
       })
 
-  polls : (k : Ledger) (n : TakesNext p l d) → IsReady l d k → (waits : List Event) → (released l.reader.queue).events ≡ waits
-      → SaysThen (record l.account { offered = l.account.offered ++ take 1 waits }) (released l.reader.queue)
-      → Leads (offers (event_in (event_or_answer answer_of after (event_for command.Poll waits) l.reader.config l.reader.handler command.Poll).reply) k) k
-      (Becomes (offering (event_for command.Poll waits) (released l.reader.queue)))
-  polls k n r [] is says =
-      (tt, offers_none p l d k n r ps qs e is (after_poll l.account l.controller.waiting l.reader.queue d e [] n.untold n.counts f.says says))
-  polls k n r (event ∷ rest) is says =
-      subst (λ x. Leads (offers x k) k (Becomes (offering (event_for command.Poll (event ∷ rest)) (released l.reader.queue)))) (sym (tells event))
-      (offers_front p l d k n r event rest ps qs e is (after_poll l.account l.controller.waiting l.reader.queue d e (event ∷ []) n.untold n.counts f.says says))
+  -- what is due where this reply was said to an exchange
+  abbrev Answered : Exchange → Reply → Type 0
+  Answered x a = IsAnswered x (Some a) e
+
+  same_reply : (x : Exchange) (a : Reply) (s : Answered x a) → s.answer ≡ a
+  same_reply x a s = let is : Some a ≡ Some s.answer = s.says in cc
+
+  polled : (n : TakesNext p l d) → n.exchange ≡ Polling → (a : Reply) → Answered Polling a → Polled (option_to_list (event_in a)) d e
+  polled n is a s =
+      let front : shown Polling s.answer ≡ option_to_list (event_in a) = ap (λ r. option_to_list (event_in r)) (same_reply Polling a s) in
+      record {
+        pend = s.pend ∙ sym (n.pend ∙ ap pending is);
+        owing = s.owing ∙ sym n.owing;
+        untold = s.untold ∙ front;
+        stands = s.stands ∙ ap length front;
+      }
+
+  acted : (n : TakesNext p l d) (c : Command) → n.exchange ≡ Asking c → (a : Reply) → Answered (Asking c) a → Acts c a d e
+  acted n c is a s = record {
+    before = n.pend ∙ ap pending is;
+    pend = s.pend;
+    owing = s.owing ∙ ap (λ r. (c, r) ∷ []) (same_reply (Asking c) a s);
+    untold = s.untold;
+    stands = s.stands;
+  }
+
+  polls : (k : Ledger) (n : TakesNext p l d) → IsReady l d k → n.exchange ≡ Polling → (waits : List Event) → (released l.reader.queue).events ≡ waits
+      → (let a = (event_or_answer answer_of after (event_for command.Poll waits) l.reader.config l.reader.handler command.Poll).reply in
+      Answered Polling a → Leads (offers (event_in a) k) k (Becomes (offering (event_for command.Poll waits) (released l.reader.queue))))
+  polls k n r x [] is s = (tt, offers_none p l d k n r ps qs e is (polled n x reply.Ack s))
+  polls k n r x (event ∷ rest) is s =
+      subst (λ told. Leads (offers told k) k (Becomes (offering (event_for command.Poll (event ∷ rest)) (released l.reader.queue)))) (sym (tells event))
+      (offers_front p l d k n r event rest ps qs e is
+      (subst (λ told. Polled (option_to_list told) d e) (tells event) (polled n x (event_reply event) s)))
 
   -- what follows where this command was read
-  abbrev Takes : Result Command MsgFault → Type 0
-  Takes read =
+  abbrev Takes : Exchange → Result Command MsgFault → Type 0
+  Takes x read =
       let out = reader.taken answer_of after read l.reader p in
-      SaysThen (link.taken kind.Taken out.command out.said (front_of l.reader) l.account) out.reader.queue
-      → Leads (leaves_and_acts kind.Taken l.reader.queue out.command out.said g) g (Becomes out.reader.queue)
+      IsAnswered x out.said e → Leads (leaves_and_acts kind.Taken l.reader.queue out.command out.said g) g (Becomes out.reader.queue)
 
   ready : TakesNext p l d → Leads (leaves (leaving_events kind.Taken l.reader.queue) g) g (IsReady l d)
   ready n = leaving p l d g placed h orders o n
@@ -281,88 +291,79 @@ module _ {H : Type 0} (answer_of : H → Command → Answer) (after : H → Comm
       let a = event_or_answer answer_of after event l.reader.config l.reader.handler c in
       let back = reply_packet p p.sequence a.reply in
       let next = moved (new_address c) (record l.reader { last = Some p.sequence; stored = Some back; queue = offering event queue; handler = a.handler }) in
-      SaysThen (link.taken_command c (Some a.reply) (front_of l.reader) l.account) next.queue
+      Answered (Asking c) a.reply
       → Leads (leaves (leaving_events kind.Taken l.reader.queue) g ++ acts_on c a.reply (after_steps (leaves (leaving_events kind.Taken l.reader.queue) g) g)) g
       (Becomes next.queue)
 
-  asked_none : (n : TakesNext p l d) (c : Command) → MaySubmit c → Asked c None
-  asked_none n c may =
+  asked_none : (n : TakesNext p l d) (c : Command) → n.exchange ≡ Asking c → MaySubmit c → Asked c None
+  asked_none n c x may s =
       let a = event_or_answer answer_of after None l.reader.config l.reader.handler c in
       let next = record l.reader { last = Some p.sequence; stored = Some (reply_packet p p.sequence a.reply); queue = offering None (released l.reader.queue); handler = a.handler } in
       let left = leaves (leaving_events kind.Taken l.reader.queue) g in
-      subst (λ u. SaysThen u (moved (new_address c) next).queue → Leads (left ++ acts_on c a.reply (after_steps left g)) g (Becomes (moved (new_address c) next).queue))
-      (sym (taken_is c (Some a.reply) (front_of l.reader) l.account may.no_poll))
-      (subst (λ q. SaysThen (record l.account { taken = l.account.taken ++ c ∷ []; given = l.account.given ++ (c, a.reply) ∷ [] }) q
-      → Leads (left ++ acts_on c a.reply (after_steps left g)) g (Becomes q))
-      (sym (moved_queue (new_address c) next))
-      (λ says. in_turn left (λ k. acts_on c a.reply k) g (IsReady l d) (Becomes (offering None (released l.reader.queue))) (ready n)
+      subst (λ q. Leads (left ++ acts_on c a.reply (after_steps left g)) g (Becomes q)) (sym (moved_queue (new_address c) next))
+      (in_turn left (λ k. acts_on c a.reply k) g (IsReady l d) (Becomes (offering None (released l.reader.queue))) (ready n)
       (λ k r. subst (λ os. Leads os k (Becomes (offering None (released l.reader.queue)))) (sym (acts_is c a.reply k may.no_poll))
-      (acting p l d k n r f c a.reply ps qs e
-      (after_act l.account l.controller.waiting l.reader.queue d e c a.reply f.few n.owing n.untold n.counts f.says says)))))
+      (acting p l d k n r f c a.reply ps qs e (acted n c x a.reply s))))
 
-  takes : (n : TakesNext p l d) (x : Exchange) → IsAsked (After n.before n.last n.said) x → Takes (Ok (exchange_command x))
-  takes n Opening is says = absurd is
-  takes n Polling is says =
+  takes : (n : TakesNext p l d) (x : Exchange) → n.exchange ≡ x → IsAsked (After n.past.0 n.past.1 n.past.2) x → Takes x (Ok (exchange_command x))
+  takes n Opening x is s = absurd is
+  takes n Polling x is s =
       in_turn (leaves (leaving_events kind.Taken l.reader.queue) g)
       (λ k. offers (event_in (event_or_answer answer_of after (event_for command.Poll (released l.reader.queue).events) l.reader.config l.reader.handler command.Poll).reply) k) g
       (IsReady l d) (Becomes (offering (event_for command.Poll (released l.reader.queue).events) (released l.reader.queue)))
-      (ready n) (λ k r. polls k n r (released l.reader.queue).events refl says)
-  takes n (Asking c) is says = subst (Asked c) (sym (no_event c (released l.reader.queue).events is.no_poll)) (asked_none n c is) says
+      (ready n) (λ k r. polls k n r x (released l.reader.queue).events refl s)
+  takes n (Asking c) x is s = subst (Asked c) (sym (no_event c (released l.reader.queue).events is.no_poll)) (asked_none n c x is) s
 
   -- by the kind of the packet
-  by_kind : (k : Kind) → kind_of l.reader p ≡ k → IsReadAs p l d
-      → (let out = outcome answer_of after k l.reader p in
-      SaysThen (link.taken k out.command out.said (front_of l.reader) l.account) out.reader.queue
-      → Leads (leaves_and_acts k l.reader.queue out.command out.said g) g (Becomes out.reader.queue))
-  by_kind kind.Zero is r says =
+  by_kind : (k : Kind) → (let out = outcome answer_of after k l.reader p in
+      IsReadAs k p l out.said d e → Leads (leaves_and_acts k l.reader.queue out.command out.said g) g (Becomes out.reader.queue))
+  by_kind kind.Zero (reads, due) =
       subst (λ read. let out = begun answer_of after read l.reader p in
-      SaysThen l.account out.reader.queue → Leads (leaves_and_acts kind.Zero l.reader.queue out.command out.said g) g (Becomes out.reader.queue))
-      (sym (r.zero is))
-      (λ says. (tt, unmoved (unoffered l.reader.queue) refl refl (record { untold = o.untold; front = λ on. absurd cc; counts = o.counts }) says)) says
-  by_kind kind.Taken is r says =
-      let n = r.taken is in
-      subst Takes (sym n.reads) (takes n n.exchange n.asked) says
-  by_kind _ is r says = (tt, unmoved l.reader.queue refl refl o says)
-
-  pub got : IsReadAs p l d → (let out = reader.hears answer_of after l.reader p in
-      SaysThen (link.taken (kind_of l.reader p) out.command out.said (front_of l.reader) l.account) out.reader.queue
-      → Leads (gets answer_of after p l.reader g) g (Becomes out.reader.queue))
-  got r says = by_kind (kind_of l.reader p) refl r says
+      Leads (leaves_and_acts kind.Zero l.reader.queue out.command out.said g) g (Becomes out.reader.queue))
+      (sym reads) (tt, unmoved (unoffered l.reader.queue) refl refl (record { untold = o.untold; front = λ on. absurd cc; counts = o.counts }) due)
+  by_kind kind.Taken (n, s) = subst (Takes n.exchange) (sym n.reads) (takes n n.exchange refl n.asked) s
+  by_kind _ due = (tt, unmoved l.reader.queue refl refl o due)
 
 module _ {H : Type 0} (answer_of : H → Command → Answer) (after : H → Command → H) (tells : (e : Event) → event_in (event_reply e) ≡ Some e)
-    (l : Link H) (d : Due) (g : Ledger) (placed : Placed g) (h : IsTied l d g) (f : Facts l d) (e : Due) where
-  came : (p : Packet) (rest ps qs : List Packet) → l.to_reader ≡ p ∷ rest → IsReadAs p l d
+    (l : Link H) (d : Due) (g : Ledger) (placed : Placed g) (h : IsTied l d g) (f : OutIs l.controller.session.state d) (e : Due) where
+  -- how the device reads a packet
+  abbrev IsHeardAs : Packet → Type 0
+  IsHeardAs p = let k = kind_of l.reader p in IsReadAs k p l (outcome answer_of after k l.reader p).said d e
+
+  came : (p : Packet) (rest ps qs : List Packet) → l.to_reader ≡ p ∷ rest → IsHeardAs p
       → (let out = reader.hears answer_of after l.reader p in
-      Says (link.taken (kind_of l.reader p) out.command out.said (front_of l.reader) l.account) l.controller.waiting out.reader.queue.events e
-      → Leads (gets answer_of after p l.reader g) g (Ties l.controller.session.state l.controller.waiting out.reader.queue ps qs e))
-  came p rest ps qs is r says = by_session h.session
+      Leads (gets answer_of after p l.reader g) g (Ties l.controller.session.state l.controller.waiting out.reader.queue ps qs e))
+  came p rest ps qs is r = by_session h.session
     where
       by_session : SessionIs l.controller.session.state l.reader.queue l.to_reader l.to_controller d g
           → (let out = reader.hears answer_of after l.reader p in
           Leads (gets answer_of after p l.reader g) g (Ties l.controller.session.state l.controller.waiting out.reader.queue ps qs e))
       by_session (inl s) = absurd (not_empty l d g h p rest l.to_reader is s.to_reader)
       by_session (inr (inl s)) =
-          got answer_of after tells l d g placed h f p ps qs e (inl (record { way = s.way; acted = s.acted; late = s.late })) s.offers r says
+          by_kind answer_of after tells l d g placed h f p ps qs e (inl (record { way = s.way; acted = s.acted; late = s.late })) s.offers (kind_of l.reader p) r
       by_session (inr (inr s)) =
-          got answer_of after tells l d g placed h f p ps qs e (inr (record { closed = s.closed; acted = s.acted; late = s.late })) s.offers r says
+          by_kind answer_of after tells l d g placed h f p ps qs e (inr (record { closed = s.closed; acted = s.acted; late = s.late })) s.offers (kind_of l.reader p) r
 
   -- nothing comes
-  unread : (xs : List Packet) → (l.to_reader ≡ [] → xs ≡ []) → SaysOf l e → Ties l.controller.session.state l.controller.waiting l.reader.queue xs l.to_controller e g
-  unread xs empty k =
-      subst (λ x. Ties l.controller.session.state l.controller.waiting l.reader.queue xs l.to_controller x g)
-      (determined l.account l.controller.waiting l.reader.queue.events d e f.says k)
+  unread : (xs : List Packet) → (l.to_reader ≡ [] → xs ≡ []) → e ≡ d → Ties l.controller.session.state l.controller.waiting l.reader.queue xs l.to_controller e g
+  unread xs empty due =
+      subst (λ x. Ties l.controller.session.state l.controller.waiting l.reader.queue xs l.to_controller x g) (sym due)
       (losing l.controller.session.state l.controller.waiting l.reader.queue l.to_reader l.to_controller xs l.to_controller d g empty (λ e. e) h)
 
-  pub reading : (how : Delivery) (ps : List Packet) → l.to_reader ≡ ps → ((p : Packet) (rest : List Packet) → ps ≡ p ∷ rest → IsReadAs p l d)
-      → SaysOf (link.to_reader answer_of after ps how l) e → Leads (to_reader answer_of after ps how l.reader g) g (IsTied (link.to_reader answer_of after ps how l) e)
-  reading Delivered [] is reads k = (tt, unread l.to_reader (λ e. e) k)
-  reading Lost [] is reads k = (tt, unread l.to_reader (λ e. e) k)
-  reading Repeated [] is reads k = (tt, unread l.to_reader (λ e. e) k)
-  reading Delivered (p ∷ rest) is reads k =
-      came p rest rest (l.to_controller ++ option_to_list (reader.hears answer_of after l.reader p).reply) is (reads p rest refl) k
-  reading Lost (p ∷ rest) is reads k = (tt, unread rest (λ e. absurd (not_empty l d g h p rest l.to_reader is e)) k)
-  reading Repeated (p ∷ rest) is reads k =
-      came p rest l.to_reader (l.to_controller ++ option_to_list (reader.hears answer_of after l.reader p).reply) is (reads p rest refl) k
+  -- .. by what the line does with the packet in front
+  abbrev pub IsFrontReadAs : Delivery → List Packet → Type 0
+  IsFrontReadAs Delivered (p ∷ rest) = IsHeardAs p
+  IsFrontReadAs Repeated (p ∷ rest) = IsHeardAs p
+  IsFrontReadAs _ _ = e ≡ d
+
+  pub reading : (how : Delivery) (ps : List Packet) → l.to_reader ≡ ps → IsFrontReadAs how ps
+      → Leads (to_reader answer_of after ps how l.reader g) g (IsTied (link.to_reader answer_of after ps how l) e)
+  reading Delivered [] is due = (tt, unread l.to_reader (λ e. e) due)
+  reading Lost [] is due = (tt, unread l.to_reader (λ e. e) due)
+  reading Repeated [] is due = (tt, unread l.to_reader (λ e. e) due)
+  reading Delivered (p ∷ rest) is r = came p rest rest (l.to_controller ++ option_to_list (reader.hears answer_of after l.reader p).reply) is r
+  reading Lost (p ∷ rest) is due = (tt, unread rest (λ e. absurd (not_empty l d g h p rest l.to_reader is e)) due)
+  reading Repeated (p ∷ rest) is r = came p rest l.to_reader (l.to_controller ++ option_to_list (reader.hears answer_of after l.reader p).reply) is r
 
 -- ---- each move
 
@@ -371,75 +372,95 @@ module _ {H : Type 0} (answer_of : H → Command → Answer) (after : H → Comm
   abbrev pub due_of : (l : Link H) → Stands answer_of after l → Due
   due_of l s = due_at s.goes.holds.0 s.goes.holds.1
 
+  module _ (given : Assumed answer_of after) (l : Link H) (g : Ledger) (placed : Placed g) (s : Stands answer_of after l) (h : IsTied l (due_of l s) g)
+      (new : Restarted) (to : Stage) where
+    abbrev since : Restarted
+    since = s.goes.holds.0
+
+    abbrev at : Stage
+    at = s.goes.holds.1
+
+    out : OutIs l.controller.session.state (due_of l s)
+    out way = out_at s.fixed at l.controller.session s.goes.holds.2.controller way
+
+    premises : Premises s.fixed answer_of after
+    premises = given s.fixed s.device
+
+    all_are_read : Each IsRead l.to_controller
+    all_are_read = all_read s.fixed answer_of after since premises at l s.goes.holds.2
+
+    -- as much is due as this
+    with_due : (m : Link H) (steps : List Step) (d : Due) → due_at new to ≡ d → Leads steps g (IsTied m d) → Leads steps g (IsTied m (due_at new to))
+    with_due m steps d same leads = (leads.0, subst (λ y. IsTied m y (after_steps steps g)) (sym same) leads.1)
+
+    unchanged : (m : Link H) (steps : List Step) → Stays since at new to → Leads steps g (IsTied m (due_of l s)) → Leads steps g (IsTied m (due_at new to))
+    unchanged m steps stays leads = with_due m steps (due_of l s) (due_stays since at new to stays) leads
+
+    front_read : (how : Delivery) (ps : List Packet) → ReadsFront answer_of after ps how l.reader since at new to
+        → IsFrontReadAs answer_of after premises.tells l (due_of l s) g placed h out (due_at new to) how ps
+    front_read Delivered [] is = due_stays since at new to is
+    front_read Lost [] is = due_stays since at new to is
+    front_read Repeated [] is = due_stays since at new to is
+    front_read Lost (p ∷ rest) is = due_stays since at new to is
+    front_read Delivered (p ∷ rest) is =
+        let k = kind_of l.reader p in read s.fixed answer_of after k since at new to p (outcome answer_of after k l.reader p).said l s.goes.holds.2 is
+    front_read Repeated (p ∷ rest) is =
+        let k = kind_of l.reader p in read s.fixed answer_of after k since at new to p (outcome answer_of after k l.reader p).said l s.goes.holds.2 is
+
+    by_move : (move : Move H) → MovesTo answer_of after move l since at new to → Leads (steps_of answer_of after move l g) g (IsTied (after_move answer_of after move l) (due_at new to))
+    by_move (Submit c) comes =
+        let refusal = controllers.submit_refusal c l.controller in
+        unchanged (link.submits refusal c l) (steps_of answer_of after (Submit c) l g) comes (submitting refusal c l (due_of l s) g h)
+    by_move (QueueEvent event) comes =
+        let full = lacks_room event l.reader.queue in
+        unchanged (link.queues full event l) (steps_of answer_of after (QueueEvent event) l g) comes (queueing full event l (due_of l s) g placed h)
+    by_move (SetBusy busy) comes = unchanged (after_move answer_of after (SetBusy busy) l) [] comes (tt, h)
+    by_move (Tick now) comes =
+        let t = ticks now l.controller.session l.controller.waiting in
+        ticking l (due_of l s) g h out t (due_at new to) (due_ticks t since at new to (comes.0, comes.1)) (tick_is now l.controller.session l.controller.waiting)
+    by_move (ToReader how) comes =
+        reading answer_of after premises.tells l (due_of l s) g placed h out (due_at new to) how l.to_reader refl (front_read how l.to_reader comes)
+    by_move (ToController how now) comes =
+        hearing l (due_of l s) g h out how l.to_controller now (due_at new to) refl all_are_read
+        (due_hears (told_by_front how l.to_controller now l.controller.session) since at new to (comes.0, comes.1))
+    by_move (Reopen now) comes =
+        let refusal = controllers.begin_refusal l.controller in
+        with_due (link.reopens refusal l.to_reader l.to_controller now l) [] (reopened refusal l.to_reader l.to_controller (due_of l s))
+        (due_reopened answer_of after refusal l.to_reader l.to_controller since at new to comes)
+        (tt, reopening refusal l.to_reader l.to_controller now l (due_of l s) g refl refl refl h)
+    by_move (SetHandler handler) comes = unchanged (after_move answer_of after (SetHandler handler) l) [] comes (tt, h)
+    by_move Withdraw comes =
+        unchanged (link.withdraws l) (steps_of answer_of after Withdraw l g) comes
+        (withdrawing l.controller.session.state l.controller.waiting l.reader.queue l.to_reader l.to_controller (due_of l s) g h)
+    by_move (Retarget address) comes =
+        let refusal = controllers.retarget_refusal address l.controller in
+        unchanged (link.retargets refusal address l) [] comes (tt, retargeting refusal address l (due_of l s) g h)
+    by_move WithdrawEvent comes =
+        unchanged (link.withdraws_event l) (steps_of answer_of after WithdrawEvent l g) comes
+        (withdrawing_event l.reader.queue l.controller.session.state l.controller.waiting l.to_reader l.to_controller (due_of l s) g placed h)
+    by_move (RestartReader config handler room) comes =
+        with_due (link.restarts_reader config handler room l) (steps_of answer_of after (RestartReader config handler room) l g) (without_events (due_of l s))
+        (λ i. due_at (comes.0 i) (comes.1 i))
+        (restarting_device l.controller.session.state l.controller.waiting l.reader.queue l.to_reader l.to_controller (due_of l s) g room h)
+    by_move (RestartController config room) comes =
+        unchanged (link.restarts_controller config room l) (steps_of answer_of after (RestartController config room) l g) comes
+        (restarting_panel l (due_of l s) g out h)
+    by_move (LoseToReader place) comes =
+        unchanged (after_move answer_of after (LoseToReader place) l) [] comes (
+          tt,
+          losing l.controller.session.state l.controller.waiting l.reader.queue l.to_reader l.to_controller (lost_at place l.to_reader) l.to_controller (due_of l s) g
+              (ap (lost_at place)) (λ e. e) h,
+        )
+    by_move (LoseToController place) comes =
+        unchanged (after_move answer_of after (LoseToController place) l) [] comes (
+          tt,
+          losing l.controller.session.state l.controller.waiting l.reader.queue l.to_reader l.to_controller l.to_reader (lost_at place l.to_controller) (due_of l s) g
+              (λ e. e) (ap (lost_at place)) h,
+        )
+
   pub keeps_one : (given : Assumed answer_of after) (move : Move H) (l : Link H) (g : Ledger) → Placed g → (fits : MoveFits answer_of after move l)
       → (s : Stands answer_of after l) → IsTied l (due_of l s) g
-      → Leads (steps_of answer_of after move l g) g (IsTied (after_move answer_of after move l) (due_of (after_move answer_of after move l) (standing answer_of after given move l fits s)))
+      → Leads (steps_of answer_of after move l g) g (IsTied (after_move answer_of after move l) (due_of (after_move answer_of after move l) (standing_so answer_of after given move l fits s).0))
   keeps_one given move l g placed fits s h =
-      let n = standing answer_of after given move l fits s in
-      by_move move fits (due_of (after_move answer_of after move l) n) (facts n.fixed answer_of after (after_move answer_of after move l) n.goes).says
-    where
-      d : Due
-      d = due_of l s
-
-      now : Facts l d
-      now = facts s.fixed answer_of after l s.goes
-
-      premises : Premises s.fixed answer_of after
-      premises = given s.fixed s.device
-
-      all_are_read : Each IsRead l.to_controller
-      all_are_read = all_read s.fixed answer_of after s.goes.holds.0 premises s.goes.holds.1 (as_waiting l) s.goes.holds.2
-
-      -- what the account after it says is due then
-      then_due : (m : Link H) (x e : Due) (steps : List Step) → SaysOf m x → SaysOf m e → Leads steps g (IsTied m x) → Leads steps g (IsTied m e)
-      then_due m x e steps first last leads =
-          (leads.0, subst (λ y. IsTied m y (after_steps steps g)) (determined m.account m.controller.waiting m.reader.queue.events x e first last) leads.1)
-
-      by_move : (move : Move H) → MoveFits answer_of after move l → (e : Due) → SaysOf (after_move answer_of after move l) e
-          → Leads (steps_of answer_of after move l g) g (IsTied (after_move answer_of after move l) e)
-      by_move (Submit c) fits e k =
-          let refusal = controllers.submit_refusal c l.controller in
-          then_due (link.submits refusal c l) d e (steps_of answer_of after (Submit c) l g) (says_submits d refusal c l now.says) k (submitting refusal c l d g h)
-      by_move (QueueEvent event) fits e k =
-          let full = lacks_room event l.reader.queue in
-          then_due (link.queues full event l) d e (steps_of answer_of after (QueueEvent event) l g) (says_queues d full event l now.says) k (queueing full event l d g placed h)
-      by_move (SetBusy busy) fits e k = then_due (after_move answer_of after (SetBusy busy) l) d e [] now.says k (tt, h)
-      by_move (Tick now_at) fits e k =
-          ticking l d g h now (ticks now_at l.controller.session l.controller.waiting) e k (tick_is now_at l.controller.session l.controller.waiting)
-      by_move (ToReader how) fits e k =
-          reading answer_of after premises.tells l d g placed h now e how l.to_reader refl (λ p rest is. read s.fixed answer_of after premises p rest l is s.goes) k
-      by_move (ToController how at) fits e k = hearing l d g h now how l.to_controller at e refl all_are_read k
-      by_move (Reopen at) fits e k =
-          let refusal = controllers.begin_refusal l.controller in
-          then_due (link.reopens refusal l.to_reader l.to_controller at l) (reopened refusal l.to_reader l.to_controller d) e []
-          (says_reopens d refusal l.to_reader l.to_controller at l now.says) k (tt, reopening refusal l.to_reader l.to_controller at l d g refl refl refl h)
-      by_move (SetHandler handler) fits e k = then_due (after_move answer_of after (SetHandler handler) l) d e [] now.says k (tt, h)
-      by_move Withdraw fits e k =
-          then_due (link.withdraws l) d e (steps_of answer_of after Withdraw l g) (says_withdraws d l now.says) k
-          (withdrawing l.controller.session.state l.controller.waiting l.reader.queue l.to_reader l.to_controller d g h)
-      by_move (Retarget address) fits e k =
-          let refusal = controllers.retarget_refusal address l.controller in
-          then_due (link.retargets refusal address l) d e [] (says_retargets d refusal address l now.says) k (tt, retargeting refusal address l d g h)
-      by_move WithdrawEvent fits e k =
-          then_due (link.withdraws_event l) d e (steps_of answer_of after WithdrawEvent l g) (says_withdraws_event d l now.says) k
-          (withdrawing_event l.reader.queue l.controller.session.state l.controller.waiting l.to_reader l.to_controller d g placed h)
-      by_move (RestartReader config handler room) fits e k =
-          then_due (link.restarts_reader config handler room l) (without_events d) e (steps_of answer_of after (RestartReader config handler room) l g)
-          (says_device_restarts d l.account l.controller.waiting l.reader.queue.events now.says) k
-          (restarting_device l.controller.session.state l.controller.waiting l.reader.queue l.to_reader l.to_controller d g room h)
-      by_move (RestartController config room) fits e k =
-          then_due (link.restarts_controller config room l) d e (steps_of answer_of after (RestartController config room) l g)
-          (says_panel_restarts d l.account (link.controller_restarted l.controller l.account).forgotten l.controller.waiting l.reader.queue.events now.says) k
-          (restarting_panel l d g now h)
-      by_move (LoseToReader place) fits e k =
-          then_due (after_move answer_of after (LoseToReader place) l) d e [] now.says k (
-            tt,
-            losing l.controller.session.state l.controller.waiting l.reader.queue l.to_reader l.to_controller (lost_at place l.to_reader) l.to_controller d g
-                (ap (lost_at place)) (λ e. e) h,
-          )
-      by_move (LoseToController place) fits e k =
-          then_due (after_move answer_of after (LoseToController place) l) d e [] now.says k (
-            tt,
-            losing l.controller.session.state l.controller.waiting l.reader.queue l.to_reader l.to_controller l.to_reader (lost_at place l.to_controller) d g
-                (λ e. e) (ap (lost_at place)) h,
-          )
+      let m = standing_so answer_of after given move l fits s in
+      by_move given l g placed s h m.0.goes.holds.0 m.0.goes.holds.1 move m.1

@@ -1,7 +1,7 @@
 -- Lists of orders and of cards, and how long they are.
-use Rattle.std.proofs.Common.{◌≡◌, ◌≢◌, ◌≤◌, ◌<◌, ◌+◌, ◌==◌, ℕ, suc, Bool, true, false, not, cond, List, [], ◌∷◌, ◌++◌, length, map, drop, filter, refl, sym, ap, ◌∙◌, arith}
+use Rattle.std.proofs.Common.{◌≡◌, ◌≢◌, ◌≤◌, ◌<◌, ◌+◌, ◌==◌, ℕ, Bool, true, false, not, cond, List, [], ◌∷◌, ◌++◌, length, map, drop, filter, refl, ap, ◌∙◌, arith}
 use Rattle.std.proofs.lemmas.Bool.{ne_eqb}
-use Rattle.std.proofs.lemmas.List.{append_cancel_left, length-append}
+use Rattle.std.proofs.lemmas.List.{length-append}
 use Rattle.osdp_msg.specs.declared.command.Command.{Command}
 use Rattle.osdp_msg.specs.declared.event.Event.{Event}
 use Rattle.osdp_ledger.specs.Ledger.{Card, NoOffer, Offer, Order, Reported, Unreported, is_in_front}
@@ -18,21 +18,6 @@ events = map (λ c. c.event)
 pub no_items : {A : Type 0} (xs : List A) → length xs ≡ 0 → xs ≡ []
 no_items [] none = refl
 no_items (x ∷ xs) none = absurd (omega (arith, none))
-
--- two ends of one list
-pub same_ends : {A : Type 0} (xs whole ys zs : List A) → whole ≡ xs ++ ys → whole ≡ xs ++ zs → ys ≡ zs
-same_ends xs whole ys zs one other = append_cancel_left xs ys zs (sym one ∙ other)
-
--- what comes first of one at most, and of what follows it
-pub first_is : {A : Type 0} (front less rest : List A) (x : A) → front ++ rest ≡ x ∷ (less ++ rest) → length front ≤ 1 → (front ≡ x ∷ []) × (less ≡ [])
-first_is [] less rest x is few =
-    let long : length rest ≡ suc (length (less ++ rest)) = ap length is in
-    absurd (omega (arith, long, length-append less rest))
-first_is (y ∷ []) less rest x is few =
-    let long : suc (length rest) ≡ suc (length (less ++ rest)) = ap length is in
-    let same : y ≡ x = cc in
-    (ap (λ z. z ∷ []) same, no_items less (omega (arith, long, length-append less rest)))
-first_is (y ∷ z ∷ front) less rest x is few = absurd (omega (arith, few))
 
 -- ---- orders
 

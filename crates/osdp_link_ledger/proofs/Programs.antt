@@ -19,7 +19,8 @@ use Rattle.osdp_link_laws.specs.Link as link
 use Rattle.osdp_link_laws.specs.Link.{Link, outstanding_command}
 use Rattle.osdp_link_ledger.specs.Laws.{is_under_way}
 use Rattle.osdp_link_ledger.specs.Steps.{queues, submits, withdraws}
-use Rattle.osdp_link_ledger.proofs.Facts.{Due, Facts, none_due, out_of}
+use Rattle.osdp_link_laws.proofs.Coming.{Due}
+use Rattle.osdp_link_ledger.proofs.Facts.{OutIs, out_of, reopened}
 use Rattle.osdp_link_ledger.proofs.Lists.{IsOfferedFront, commands, front_more, front_order, no_items, not_offered, one_more_unoffered, still_front}
 use Rattle.osdp_link_ledger.proofs.Ties.{ActedIs, IsTied, IsUnderWay, Leads, OffersAre, Placed, SessionIs, Ties}
 
@@ -153,11 +154,6 @@ none_acted state q ps qs d g closed (inl s) = s.acted
 none_acted state q ps qs d g closed (inr (inl s)) = absurd (let e : false ≡ true = ap is_under_way (sym closed) ∙ s.way in cc)
 none_acted state q ps qs d g closed (inr (inr s)) = s.acted
 
--- nothing has happened in it yet
-abbrev pub reopened : Option ControllerFault → List Packet → List Packet → Due → Due
-reopened None [] [] d = none_due
-reopened _ ps qs d = d
-
 pub reopening : {H : Type 0} → (refusal : Option ControllerFault) (ps qs : List Packet) (now : ℕ) (l : Link H) (d : Due) (g : Ledger)
     → controllers.begin_refusal l.controller ≡ refusal → l.to_reader ≡ ps → l.to_controller ≡ qs → IsTied l d g
     → IsTied (link.reopens refusal ps qs now l) (reopened refusal ps qs d) g
@@ -270,7 +266,7 @@ idle_panel state waiting q ps qs d g over closed none h session = (
 )
 
 -- in a session
-busy_panel : {H : Type 0} → (l : Link H) (d : Due) (g : Ledger) (out : Option Command) → outstanding_command l.controller.session.state ≡ out → Facts l d
+busy_panel : {H : Type 0} → (l : Link H) (d : Due) (g : Ledger) (out : Option Command) → outstanding_command l.controller.session.state ≡ out → OutIs l.controller.session.state d
     → IsTied l d g → IsUnderWay l.controller.session.state l.reader.queue d g
     → Leads (RestartPanel (is_some out) ∷ []) g (Ties Closed [] l.reader.queue l.to_reader l.to_controller d)
 busy_panel {H} l d g out is f h s =
@@ -289,19 +285,19 @@ busy_panel {H} l d g out is f h s =
     may (Some c) is [] same =
         let e : commands [] ≡ option_to_list (Some c) ++ l.controller.waiting = ap commands (sym same) ∙ h.ahead ∙ ap (λ o. option_to_list o ++ l.controller.waiting) is in absurd cc
     may (Some c) is (o ∷ rest) same = (h.is_open ∙ s.way, o, (rest, same))
-    may None is ahead same = (nothing_out g.ahead g.acted d.owing d.pend s.acted (ap option_to_list (sym is) ∙ f.out s.way)).0
+    may None is ahead same = (nothing_out g.ahead g.acted d.owing d.pend s.acted (ap option_to_list (sym is) ∙ f s.way)).0
 
     late : (out : Option Command) → outstanding_command l.controller.session.state ≡ out → (ahead : List Order) → g.ahead ≡ ahead
         → commands (option_to_list (late_at_restart (is_some out) g.acted ahead)) ≡ d.pend
-    late None is ahead same = sym (nothing_out g.ahead g.acted d.owing d.pend s.acted (ap option_to_list (sym is) ∙ f.out s.way)).1
+    late None is ahead same = sym (nothing_out g.ahead g.acted d.owing d.pend s.acted (ap option_to_list (sym is) ∙ f s.way)).1
     late (Some c) is [] same =
         let e : commands [] ≡ option_to_list (Some c) ++ l.controller.waiting = ap commands (sym same) ∙ h.ahead ∙ ap (λ o. option_to_list o ++ l.controller.waiting) is in absurd cc
     late (Some c) is (o ∷ rest) same =
         let e : commands (o ∷ rest) ≡ option_to_list (Some c) ++ l.controller.waiting = ap commands (sym same) ∙ h.ahead ∙ ap (λ o. option_to_list o ++ l.controller.waiting) is in
         let command : o.command ≡ c = cc in
-        front_late g.ahead g.acted d.owing d.pend o c s.acted (ap option_to_list (sym is) ∙ f.out s.way) command
+        front_late g.ahead g.acted d.owing d.pend o c s.acted (ap option_to_list (sym is) ∙ f s.way) command
 
-pub restarting_panel : {H : Type 0} → (l : Link H) (d : Due) (g : Ledger) → Facts l d → IsTied l d g
+pub restarting_panel : {H : Type 0} → (l : Link H) (d : Due) (g : Ledger) → OutIs l.controller.session.state d → IsTied l d g
     → Leads (RestartPanel (is_some (outstanding_command l.controller.session.state)) ∷ []) g (Ties Closed [] l.reader.queue l.to_reader l.to_controller d)
 restarting_panel {H} l d g f h = by_session h.session
   where

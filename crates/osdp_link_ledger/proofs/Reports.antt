@@ -17,14 +17,14 @@ use Rattle.osdp_link_laws.specs.Headline.{asked}
 use Rattle.osdp_link_laws.specs.Link.{Link}
 use Rattle.osdp_link_ledger.specs.Laws.{is_under_way, unreported_in}
 use Rattle.osdp_link_ledger.specs.Steps.{offered_at, order_at, told}
-use Rattle.osdp_link_ledger.proofs.Facts.{Due, Facts, out_of}
-use Rattle.osdp_link_ledger.proofs.Dues.{AfterReport, Told}
+use Rattle.osdp_link_laws.proofs.Coming.{Due}
+use Rattle.osdp_link_ledger.proofs.Facts.{DueAfterReport, IsTold, OutIs, none_told, out_of}
 use Rattle.osdp_link_ledger.proofs.Lists.{IsOfferedFront, commands, front_order, no_items, not_offered}
 use Rattle.osdp_link_ledger.proofs.Programs.{front_late, nothing_out}
 use Rattle.osdp_link_ledger.proofs.Telling.{Stays, Tells}
 use Rattle.osdp_link_ledger.proofs.Ties.{ActedIs, IsTied, IsUnderWay, Leads, OffersAre, Ties}
 
-module _ {H : Type 0} (l : Link H) (d : Due) (g : Ledger) (f : Facts l d) (h : IsTied l d g) (s : IsUnderWay l.controller.session.state l.reader.queue d g) where
+module _ {H : Type 0} (l : Link H) (d : Due) (g : Ledger) (f : OutIs l.controller.session.state d) (h : IsTied l d g) (s : IsUnderWay l.controller.session.state l.reader.queue d g) where
   abbrev state : State
   state = l.controller.session.state
 
@@ -65,11 +65,11 @@ module _ {H : Type 0} (l : Link H) (d : Due) (g : Ledger) (f : Facts l d) (h : I
   none_late : (c : Command) (a : Reply) (owing : List (Command × Reply)) → out_of state ≡ c ∷ [] → d.owing ≡ (c, a) ∷ owing → d.pend ≡ []
   none_late c a owing out is =
       let long : length d.owing ≡ suc (length owing) = ap length is in
-      let e : 1 ≡ length (d.pend ++ map asked d.owing) = ap length (sym out ∙ f.out s.way) in
+      let e : 1 ≡ length (d.pend ++ map asked d.owing) = ap length (sym out ∙ f s.way) in
       no_items d.pend (omega (arith, e, long, length-append d.pend (map asked d.owing), length-map d.owing asked))
 
   settling : (c : Command) (a : Reply) (e : Due) (new : State) (ps qs : List Packet) → out_of state ≡ c ∷ [] → is_under_way new ≡ true → out_of new ≡ []
-      → Told ((c, a) ∷ []) [] d e → Leads (Settle (order_at g.ahead c) a ∷ []) g (Becomes new ps qs e)
+      → IsTold ((c, a) ∷ []) [] d e → Leads (Settle (order_at g.ahead c) a ∷ []) g (Becomes new ps qs e)
   settling c a e new ps qs out way none later =
       let front = front_order g.ahead c l.controller.waiting (h.ahead ∙ ap (λ cs. cs ++ l.controller.waiting) out) in
       let now = settled_is c a e.owing later.owing in (
@@ -89,7 +89,7 @@ module _ {H : Type 0} (l : Link H) (d : Due) (g : Ledger) (f : Facts l d) (h : I
       )
 
   -- .. and moves the device: the session ends
-  moving : (c : Command) (a : Reply) (e : Due) (new : State) (ps qs : List Packet) → out_of state ≡ c ∷ [] → new ≡ Closed → Told ((c, a) ∷ []) [] d e
+  moving : (c : Command) (a : Reply) (e : Due) (new : State) (ps qs : List Packet) → out_of state ≡ c ∷ [] → new ≡ Closed → IsTold ((c, a) ∷ []) [] d e
       → Leads (Settle (order_at g.ahead c) a ∷ Close ∷ []) g (Becomes new ps qs e)
   moving c a e new ps qs out closed later =
       let front = front_order g.ahead c l.controller.waiting (h.ahead ∙ ap (λ cs. cs ++ l.controller.waiting) out) in
@@ -111,7 +111,7 @@ module _ {H : Type 0} (l : Link H) (d : Due) (g : Ledger) (f : Facts l d) (h : I
 
   -- ---- an event comes
 
-  reporting : (offer : Offer) (event : Event) (e : Due) (new : State) (ps qs : List Packet) → g.offer ≡ offer → Stays state new → Told [] (event ∷ []) d e
+  reporting : (offer : Offer) (event : Event) (e : Due) (new : State) (ps qs : List Packet) → g.offer ≡ offer → Stays state new → IsTold [] (event ∷ []) d e
       → Leads (ledger.Report (offered_at offer event) ∷ []) g (Becomes new ps qs e)
   reporting offer event e new ps qs is same later = by_offer offer is (ap unreported_in (sym is) ∙ sym s.offers.untold ∙ later.untold)
     where
@@ -165,7 +165,7 @@ module _ {H : Type 0} (l : Link H) (d : Due) (g : Ledger) (f : Facts l d) (h : I
           session = inr (inr (record {
             closed = closed;
             acted = refl;
-            late = front_late g.ahead g.acted d.owing d.pend (order_at g.ahead c) c s.acted (sym out ∙ f.out s.way) (command g.ahead);
+            late = front_late g.ahead g.acted d.owing d.pend (order_at g.ahead c) c s.acted (sym out ∙ f s.way) (command g.ahead);
             offers = s.offers;
           }));
         },
@@ -177,7 +177,7 @@ module _ {H : Type 0} (l : Link H) (d : Due) (g : Ledger) (f : Facts l d) (h : I
 
   closing : (e : Due) (new : State) (ps qs : List Packet) → out_of state ≡ [] → new ≡ Closed → e ≡ d → Leads (Close ∷ []) g (Becomes new ps qs e)
   closing e new ps qs out closed due =
-      let none = nothing_out g.ahead g.acted d.owing d.pend s.acted (sym out ∙ f.out s.way) in
+      let none = nothing_out g.ahead g.acted d.owing d.pend s.acted (sym out ∙ f s.way) in
       subst (λ x. Leads (Close ∷ []) g (Becomes new ps qs x)) (sym due) (
         ((under_way, none.0), tt),
         record {
@@ -194,13 +194,13 @@ module _ {H : Type 0} (l : Link H) (d : Due) (g : Ledger) (f : Facts l d) (h : I
         },
       )
 
-  pub reports : (r : Option Report) (e : Due) (new : State) (ps qs : List Packet) → Tells r state new → AfterReport r d e → Leads (told r g) g (Becomes new ps qs e)
-  reports None e new ps qs tells later = (tt, stays e new ps qs later tells)
-  reports (Some (report.Opened id)) e new ps qs tells later = (tt, stays e new ps qs later tells)
-  reports (Some (report.PollAnswered answer)) e new ps qs tells later = (tt, stays e new ps qs later tells)
+  pub reports : (r : Option Report) (e : Due) (new : State) (ps qs : List Packet) → Tells r state new → DueAfterReport r d e → Leads (told r g) g (Becomes new ps qs e)
+  reports None e new ps qs tells later = (tt, stays e new ps qs (none_told d e later) tells)
+  reports (Some (report.Opened id)) e new ps qs tells later = (tt, stays e new ps qs (none_told d e later) tells)
+  reports (Some (report.PollAnswered answer)) e new ps qs tells later = (tt, stays e new ps qs (none_told d e later) tells)
   reports (Some (report.Settled c a)) e new ps qs tells later = settling c a e new ps qs tells.0 tells.1 tells.2 later
   reports (Some (report.Moved c a)) e new ps qs tells later = moving c (reply.Com a) e new ps qs tells.0 tells.1 later
   reports (Some (report.Event event)) e new ps qs tells later = reporting g.offer event e new ps qs refl tells later
   reports (Some (report.Unread c code)) e new ps qs tells later = absurd tells
-  reports (Some (report.Lost cause (Some c))) e new ps qs tells later = doubting c e new ps qs tells.0 tells.1 later
-  reports (Some (report.Lost cause None)) e new ps qs tells later = closing e new ps qs tells.0 tells.1 later
+  reports (Some (report.Lost cause (Some c))) e new ps qs tells later = doubting c e new ps qs tells.0 tells.1 (none_told d e later)
+  reports (Some (report.Lost cause None)) e new ps qs tells later = closing e new ps qs tells.0 tells.1 (none_told d e later)

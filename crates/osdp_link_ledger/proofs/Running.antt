@@ -1,9 +1,8 @@
 -- From the beginning of a first session, over every list of moves.
-use Rattle.std.proofs.Common.{◌≡◌, ◌+◌, ℕ, true, false, List, [], ◌∷◌, ◌++◌, Option, Some, None, refl, sym, subst, ap, ◌∙◌, inl, inr, arith, append_assoc}
+use Rattle.std.proofs.Common.{◌≡◌, ◌+◌, ℕ, true, false, List, [], ◌∷◌, ◌++◌, None, refl, sym, subst, ap, ◌∙◌, inl, inr, arith, append_assoc}
 use Rattle.std.proofs.lemmas.List.{append-nil, map-append}
 use Rattle.osdp_msg.specs.declared.command.Command.{Command}
 use Rattle.osdp_msg.specs.declared.event.Event.{Event}
-use Rattle.osdp_msg.specs.declared.reply.Reply.{Reply}
 use Rattle.osdp_reader.specs.declared.handler.Answer.{Answer}
 use Rattle.osdp_ledger.specs.History.{AreAllowed, History, new_history, runs}
 use Rattle.osdp_ledger.specs.Laws.{KeepsEvents, KeepsOrders}
@@ -14,13 +13,18 @@ use Rattle.osdp_ledger.proofs.Waiting.{Events}
 use Rattle.osdp_link_laws.specs.Headline.{Begins, MovesFit}
 use Rattle.osdp_link_laws.specs.Link.{Link, Move, after_move, run}
 use Rattle.osdp_link_laws.specs.Peers.{ReadEachOther}
-use Rattle.osdp_link_laws.proofs.InARow.{Assumed, Stands, assumed, begins, standing}
-use Rattle.osdp_link_ledger.specs.Laws.{HoldsByLedger, IsLedgerOf, LinkKeepsLedger, answered_in, is_under_way, unreported_in}
+use Rattle.osdp_link_laws.proofs.InARow.{Assumed, Stands, assumed, begins_so, standing_so}
+use Rattle.osdp_link_laws.proofs.Moves.{Premises}
+use Rattle.osdp_link_laws.proofs.Parts.{At}
+use Rattle.osdp_link_laws.proofs.Stages.{Fresh, Stage, owed_at, unreported_at}
+use Rattle.osdp_link_ledger.specs.Laws.{HasNumber, HoldsByLedger, IsLedgerOf, LinkKeepsLedger, is_under_way, unreported_in}
 use Rattle.osdp_link_ledger.specs.Steps.{after_steps, all_steps, queued_before, steps_before, steps_from, steps_of, submitted_before}
-use Rattle.osdp_link_ledger.proofs.Facts.{Due, Says, SaysOf, determined, facts, none_due, out_of}
+use Rattle.osdp_link_laws.proofs.Coming.{due_at}
+use Rattle.osdp_link_ledger.proofs.Facts.{due_fresh, goes_to, none_due, out_of}
 use Rattle.osdp_link_ledger.proofs.Keeping.{due_of, keeps_one}
 use Rattle.osdp_link_ledger.proofs.Lists.{FrontUnshown, commands, events}
-use Rattle.osdp_link_ledger.proofs.Ties.{ActedIs, AllMay, IsTied, SessionIs, after_append, all_may_append, allowed, events_keep, placed, runs_after}
+use Rattle.osdp_link_ledger.proofs.Machines.{AreKept, acted_is, kept_at, owed_answer, unasked_at, unpolled_at}
+use Rattle.osdp_link_ledger.proofs.Ties.{AllMay, IsTied, IsUnderWay, SessionIs, after_append, all_may_append, allowed, events_keep, placed, runs_after}
 
 -- ---- what waits at first
 
@@ -79,11 +83,6 @@ module _ {H : Type 0} where
     });
   }
 
-  says_before : (l : Link H) → Begins l → SaysOf l none_due
-  says_before l b =
-      subst (λ t. Says t l.controller.waiting l.reader.queue.events none_due) (sym b.account)
-      (record { issued = refl; given = refl; offered = refl; past = []; kept = refl; stood = refl })
-
   pub begins_tied : (l : Link H) → Begins l → AllMay (steps_before l) new_ledger × IsTied l none_due (after_steps (steps_before l) new_ledger)
   begins_tied l b =
       let first = submits_all 0 l.controller.waiting new_ledger refl in
@@ -101,43 +100,52 @@ module _ {H : Type 0} where
       )
 
 -- the ledger that is tied is the link's
-answered : (ahead : List Order) (acted : Option Reply) (owing : List (Command × Reply)) → ActedIs ahead acted owing → owing ≡ answered_in ahead acted
-answered ahead acted owing (inr one) = one.owing ∙ ap (λ os. answered_in os (Some one.answer)) (sym one.ahead) ∙ ap (answered_in ahead) (sym one.acted)
-answered ahead acted owing (inl none) = none.owing ∙ sym (nothing ahead) ∙ ap (answered_in ahead) (sym none.acted)
-  where
-    nothing : (ahead : List Order) → answered_in ahead None ≡ []
-    nothing [] = refl
-    nothing (o ∷ os) = refl
-
-module _ {H : Type 0} where
-  pub is_links : (l : Link H) (d : Due) (g : Ledger) → SaysOf l d → IsTied l d g → IsLedgerOf l g
-  is_links l d g f h = record {
+module _ {H : Type 0} (answer_of : H → Command → Answer) (after : H → Command → H) where
+  pub is_links : (l : Link H) (g : Ledger) (s : Stands answer_of after l) → Premises s.fixed answer_of after → IsTied l (due_of answer_of after l s) g → IsLedgerOf l g
+  is_links l g s given h = record {
     ahead = h.ahead;
     is_open = h.is_open;
-    acted = λ going. f.given ∙ ap (λ os. l.account.settled ++ os) (by_session going h.session);
-    offer = λ going. f.offered ∙ ap (λ es. l.account.reported ++ es) (offered_by going h.session);
+    acted = λ going n is. acted going ∙ (kept (way going) n is).0;
+    unasked = λ going none. acted going ∙ unasked_at s.fixed at l.controller.session held.controller (way going) none;
+    offer = λ going n is. offered going ∙ (kept (way going) n is).1;
+    unpolled = λ going none. offered going ∙ unpolled_at s.fixed at l.controller.session held.controller (way going) none;
     cards = h.cards;
   }
     where
-      by_session : g.is_open ≡ true → SessionIs l.controller.session.state l.reader.queue l.to_reader l.to_controller d g → d.owing ≡ answered_in g.ahead g.acted
-      by_session going (inl s) = absurd (let e : false ≡ true = sym s.way ∙ sym h.is_open ∙ going in cc)
-      by_session going (inr (inl s)) = answered g.ahead g.acted d.owing s.acted
-      by_session going (inr (inr s)) = absurd (let e : false ≡ true = ap is_under_way (sym s.closed) ∙ sym h.is_open ∙ going in cc)
+      at : Stage
+      at = s.goes.holds.1
 
-      offered_by : g.is_open ≡ true → SessionIs l.controller.session.state l.reader.queue l.to_reader l.to_controller d g → d.untold ≡ unreported_in g.offer
-      offered_by going (inl s) = absurd (let e : false ≡ true = sym s.way ∙ sym h.is_open ∙ going in cc)
-      offered_by going (inr (inl s)) = s.offers.untold
-      offered_by going (inr (inr s)) = s.offers.untold
+      held : At s.fixed answer_of after s.goes.holds.0 s.goes.holds.1 l
+      held = s.goes.holds.2
+
+      way : g.is_open ≡ true → is_under_way l.controller.session.state ≡ true
+      way going = sym h.is_open ∙ going
+
+      by_session : g.is_open ≡ true → SessionIs l.controller.session.state l.reader.queue l.to_reader l.to_controller (due_of answer_of after l s) g
+          → IsUnderWay l.controller.session.state l.reader.queue (due_of answer_of after l s) g
+      by_session going (inl u) = absurd (let e : false ≡ true = sym u.way ∙ way going in cc)
+      by_session going (inr (inl u)) = u
+      by_session going (inr (inr u)) = absurd (let e : false ≡ true = ap is_under_way (sym u.closed) ∙ way going in cc)
+
+      acted : g.is_open ≡ true → g.acted ≡ owed_answer (owed_at at)
+      acted going = acted_is g.ahead g.acted (owed_at at) (by_session going h.session).acted
+
+      offered : g.is_open ≡ true → unreported_in g.offer ≡ unreported_at at
+      offered going = sym (by_session going h.session).offers.untold
+
+      kept : is_under_way l.controller.session.state ≡ true → (n : ℕ) → HasNumber l n
+          → AreKept s.fixed answer_of after l.controller.session l.reader n (owed_at at) (unreported_at at)
+      kept way n is =
+          kept_at s.fixed answer_of after l.controller.session l.reader given s.goes.holds.0 at n held.stage held.controller held.reader way
+          (is.0 ∙ goes_to s.fixed at l.controller.session held.controller way) is.1
 
 module _ {H : Type 0} (answer_of : H → Command → Answer) (after : H → Command → H) where
   -- the ledger is tied to the link by the stage of its session
   abbrev pub IsTiedNow : Link H → Ledger → Type 0
   IsTiedNow l g = (s : Stands answer_of after l) × IsTied l (due_of answer_of after l s) g
 
-  pub tied_at_first : (l : Link H) (s : Stands answer_of after l) (g : Ledger) → Begins l → IsTied l none_due g → IsTied l (due_of answer_of after l s) g
-  tied_at_first l s g b tied =
-      subst (λ d. IsTied l d g)
-      (determined l.account l.controller.waiting l.reader.queue.events none_due (due_of answer_of after l s) (says_before l b) (facts s.fixed answer_of after l s.goes).says) tied
+  pub tied_at_first : (l : Link H) (s : Stands answer_of after l) (g : Ledger) → s.goes.holds.1 ≡ Fresh → IsTied l none_due g → IsTied l (due_of answer_of after l s) g
+  tied_at_first l s g fresh tied = subst (λ d. IsTied l d g) (sym (ap (due_at s.goes.holds.0) fresh ∙ due_fresh s.goes.holds.0)) tied
 
   pub keeps_all : Assumed answer_of after → (moves : List (Move H)) (l : Link H) (h : History) → MovesFit answer_of after moves l
       → (s : Stands answer_of after l) → Events h → IsTied l (due_of answer_of after l s) h.ledger
@@ -148,7 +156,7 @@ module _ {H : Type 0} (answer_of : H → Command → Answer) (after : H → Comm
       let steps = steps_of answer_of after move l h.ledger in
       let next = after_move answer_of after move l in
       let same = runs_after steps h in
-      let n = standing answer_of after given move l fits.0 s in
+      let n = (standing_so answer_of after given move l fits.0 s).0 in
       let rest = keeps_all given moves next (runs steps h) fits.1 n (events_keep steps h one.0 i) (subst (IsTied next (due_of answer_of after next n)) (sym same) one.1) in
       let more = all_steps answer_of after moves next (after_steps steps h.ledger) in
       let later : AreAllowed more (runs steps h) × IsTiedNow (run answer_of after moves next) (runs more (runs steps h)).ledger =
@@ -164,17 +172,17 @@ module _ {H : Type 0} (answer_of : H → Command → Answer) (after : H → Comm
       let first = begins_tied l b in
       let h = runs before new_history in
       let same = runs_after before new_history in
-      let s = begins answer_of after l b in
+      let start = begins_so answer_of after l b in
+      let s = start.0 in
       let last = run answer_of after moves l in
       let rest = keeps_all (assumed answer_of after peers) moves l h fits s (events_keep before new_history first.0 at_first)
-      (subst (IsTied l (due_of answer_of after l s)) (sym same) (tied_at_first l s (after_steps before new_ledger) b first.1)) in
+      (subst (IsTied l (due_of answer_of after l s)) (sym same) (tied_at_first l s (after_steps before new_ledger) start.1 first.1)) in
       let more = all_steps answer_of after moves l (after_steps before new_ledger) in
       let later : AreAllowed more h × IsTiedNow last (runs more h).ledger =
       subst (λ g. AreAllowed (all_steps answer_of after moves l g) h × IsTiedNow last (runs (all_steps answer_of after moves l g) h).ledger) same rest in
       let tied = subst (λ k. IsTiedNow last k.ledger) (sym (runs_then before more new_history)) later.1 in (
         allowed_both before more new_history (allowed before new_history first.0) later.0,
-        is_links last (due_of answer_of after last tied.0) (runs (before ++ more) new_history).ledger
-            (facts tied.0.fixed answer_of after last tied.0.goes).says tied.1,
+        is_links answer_of after last (runs (before ++ more) new_history).ledger tied.0 (assumed answer_of after peers tied.0.fixed tied.0.device) tied.1,
       )
 
   pub holds_by_ledger : LinkKeepsLedger answer_of after → KeepsOrders → KeepsEvents → HoldsByLedger answer_of after

@@ -119,7 +119,7 @@ pub record IsQuietTick (state : State) (waiting : List Command) (t : Ticked) : T
   pub ahead : out_of t.session.state ++ t.waiting ≡ out_of state ++ waiting
   pub way : is_under_way t.session.state ≡ is_under_way state
   pub silent : is_under_way state ≡ false → t.step.frame ≡ None
-  pub closed : state ≡ Closed → (t.session.state ≡ Closed) × (t.waiting ≡ waiting)
+  pub closed : state ≡ Closed → t.session.state ≡ Closed
 
 -- a session's first packet goes out
 pub record IsOpening (state : State) (waiting : List Command) (t : Ticked) : Type 0 where
@@ -154,7 +154,7 @@ staying state s waiting e = inl (record {
   ahead = ap (λ st. out_of st ++ waiting) e;
   way = ap is_under_way e;
   silent = λ way. refl;
-  closed = λ closed. (e ∙ closed, refl);
+  closed = λ closed. e ∙ closed;
 })
 
 tick_in : (state : State) (s : Session) (waiting : List Command) → s.state ≡ state → TickIs state waiting (ticks_in state s waiting)

@@ -15,7 +15,8 @@ use Rattle.osdp_ledger.proofs.Waiting.{Beyond, Events, IsUpTo, OfferIs, Rising}
 use Rattle.osdp_link_laws.specs.Link.{Link}
 use Rattle.osdp_link_ledger.specs.Laws.{is_under_way, unreported_in}
 use Rattle.osdp_link_ledger.specs.Steps.{after_steps}
-use Rattle.osdp_link_ledger.proofs.Facts.{Due, none_due, out_of}
+use Rattle.osdp_link_laws.proofs.Coming.{Due}
+use Rattle.osdp_link_ledger.proofs.Facts.{none_due, out_of}
 use Rattle.osdp_link_ledger.proofs.Lists.{FrontUnshown, IsOfferedFront, StandsAt, commands, events, not_offered}
 
 -- ---- steps of a ledger alone

@@ -1,10 +1,17 @@
 -- A link keeps the ledger of its two programs.
-use Rattle.std.specs.Prelude.{◌≡◌, Bool, true, false, List, [], ◌∷◌, ◌++◌, map, Option, Some, option_to_list}
+use Rattle.std.specs.Prelude.{◌≡◌, ℕ, ◌==◌, Bool, true, false, if◌then◌else◌, take, List, [], ◌∷◌, ◌++◌, map, Option, Some, None, option_to_list}
+use Rattle.osdp_frame.specs.Packet.{Packet}
 use Rattle.osdp_msg.specs.declared.command.Command.{Command}
 use Rattle.osdp_msg.specs.declared.event.Event.{Event}
 use Rattle.osdp_msg.specs.declared.reply.Reply.{Reply}
+use Rattle.osdp_controller.specs.Answers.{meaning_of}
+use Rattle.osdp_controller.specs.declared.exchange.Exchange.{Exchange}
+use Rattle.osdp_controller.specs.declared.exchange.Exchange.TheVariants.{Polling}
+use Rattle.osdp_controller.specs.declared.meaning.ReplyMeaning.{ReplyMeaning}
+use Rattle.osdp_controller.specs.declared.meaning.ReplyMeaning.TheVariants.{Plain}
 use Rattle.osdp_controller.specs.declared.state.State.{State}
-use Rattle.osdp_controller.specs.declared.state.State.TheVariants.{Closed, Quiet}
+use Rattle.osdp_controller.specs.declared.state.State.TheVariants.{Closed, Quiet, Waiting, Pausing}
+use Rattle.osdp_reader.specs.Queue.{Queue as EventQueue}
 use Rattle.osdp_reader.specs.declared.handler.Answer.{Answer}
 use Rattle.osdp_ledger.specs.History.{AreAllowed, new_history, runs}
 use Rattle.osdp_ledger.specs.Laws.{EventsHold, OrdersHold}
@@ -19,10 +26,15 @@ is_under_way Closed = false
 is_under_way (Quiet until) = false
 is_under_way _ = true
 
--- the order in front and the device's answer to it, where it has acted on it
-abbrev pub answered_in : List Order → Option Reply → List (Command × Reply)
-answered_in (order ∷ rest) (Some answer) = (order.command, answer) ∷ []
-answered_in _ _ = []
+-- a POLL is outstanding
+abbrev pub is_poll : Exchange → Bool
+is_poll Polling = true
+is_poll _ = false
+
+abbrev pub is_polling : State → Bool
+is_polling (Waiting until sends o) = is_poll o.exchange
+is_polling (Pausing until o) = is_poll o.exchange
+is_polling _ = false
 
 -- the event that was offered and isn't reported yet
 abbrev pub unreported_in : Offer → List Event
@@ -30,14 +42,44 @@ unreported_in NoOffer = []
 unreported_in (Unreported card) = card.event ∷ []
 unreported_in (Reported card) = []
 
--- the ledger is the link's: the commands that have no end yet are the outstanding one and those that wait; a session is under way where the
--- controller has one, and then what the device gave and isn't settled is what the ledger has as acted on, and what it offered and isn't reported
--- is the ledger's; the events are those of the device's queue
+-- the reply that a panel reads in what the device stores
+abbrev pub read_as : ReplyMeaning → Option Reply
+read_as (Plain answer) = Some answer
+read_as _ = None
+
+abbrev pub stored_answer : Option Packet → Option Reply
+stored_answer None = None
+stored_answer (Some packet) = read_as (meaning_of packet)
+
+-- the device's answer to the command that is outstanding, where its last number is that command's: the one that it stores
+abbrev pub answer_to : Option Command → Bool → Option Packet → Option Reply
+answer_to (Some command) true stored = stored_answer stored
+answer_to _ _ stored = None
+
+-- the front of its queue, where a POLL is outstanding, its last number is that POLL's, and it offers the front
+abbrev pub offered_to : Bool → Bool → EventQueue → List Event
+offered_to true true q = if q.offered then take 1 q.events else []
+offered_to _ _ q = []
+
+-- the device is where the panel's packets go, and this is its last number. A device that has lost power, or has gone to another address, has none
+-- until number 0 comes.
+abbrev pub HasNumber : {H : Type 0} → Link H → ℕ → Type 0
+HasNumber {H} l n = (l.reader.config.address ≡ l.controller.session.config.address) × (l.reader.last ≡ Some n)
+
+-- the ledger is the link's. The commands that have no end yet are the outstanding one and those that wait, a session is under way where the controller
+-- has one, and the events are those of the device's queue. While a session is under way, and the device has a number: an order is acted on exactly where
+-- that is the number of the command that is outstanding, by the answer that the device stores; and an event is unreported exactly where it is the number
+-- of the POLL that is outstanding, and the device offers its front. Where no command is outstanding none is acted on, and where no POLL is no event is
+-- unreported, whatever has become of the device.
 pub record IsLedgerOf {H : Type 0} (l : Link H) (g : Ledger) : Type 0 where
   pub ahead : map (λ (o : Order). o.command) g.ahead ≡ option_to_list (outstanding_command l.controller.session.state) ++ l.controller.waiting
   pub is_open : g.is_open ≡ is_under_way l.controller.session.state
-  pub acted : g.is_open ≡ true → l.account.given ≡ l.account.settled ++ answered_in g.ahead g.acted
-  pub offer : g.is_open ≡ true → l.account.offered ≡ l.account.reported ++ unreported_in g.offer
+  pub acted : g.is_open ≡ true → (n : ℕ) → HasNumber l n
+      → g.acted ≡ answer_to (outstanding_command l.controller.session.state) (n == l.controller.session.number) l.reader.stored
+  pub unasked : g.is_open ≡ true → outstanding_command l.controller.session.state ≡ None → g.acted ≡ None
+  pub offer : g.is_open ≡ true → (n : ℕ) → HasNumber l n
+      → unreported_in g.offer ≡ offered_to (is_polling l.controller.session.state) (n == l.controller.session.number) l.reader.queue
+  pub unpolled : g.is_open ≡ true → is_polling l.controller.session.state ≡ false → unreported_in g.offer ≡ []
   pub cards : map (λ (c : Card). c.event) g.cards ≡ l.reader.queue.events
 
 module _ {H : Type 0} (answer_of : H → Command → Answer) (after : H → Command → H) where

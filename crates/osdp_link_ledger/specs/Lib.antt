@@ -3,3 +3,4 @@ pub mod Laws
 pub mod Accounts
 pub mod Answers
 pub mod Ordinary
+pub mod Instance

@@ -4,6 +4,7 @@
 
 ghost use Rattle.osdp_link_ledger.specs.Accounts.{LedgerTellsAccounts};
 ghost use Rattle.osdp_link_ledger.specs.Answers.{ActsHaveAnswersOfOneHandler};
+ghost use Rattle.osdp_link_ledger.specs.Instance.{DevicesActAndOffer};
 ghost use Rattle.osdp_link_ledger.specs.Laws.{HoldsByLedger, LinkKeepsLedger};
 ghost use Rattle.osdp_link_ledger.specs.Ordinary.{OrdinaryMovesEndTold};
 
@@ -16,6 +17,14 @@ pub fn link_keeps_ledger<H: Handler>()
     ensures { LinkKeepsLedger H.answer_of H.after }
 {
     osdp_link_laws::read_each_other::<H>();
+}
+
+/// There is a session at whose end the device has acted on the outstanding order, and one at whose end it has offered its front to the POLL. So what
+/// the ledger of a link says of them is said of something.
+pub fn devices_act_and_offer<H: Handler>()
+    ensures { DevicesActAndOffer H.answer_of H.after }
+{
+    link_keeps_ledger::<H>();
 }
 
 /// What these steps come to is what the accounts of the link's sessions say: the commands accepted, those that the device acted on, each with

@@ -1,0 +1,407 @@
+-- What each move does to the account of a session, by how its stage comes from the one before it.
+use Rattle.std.proofs.Common.{◌≡◌, ◌≢◌, ◌⊎◌, ℕ, Bool, true, false, List, [], ◌∷◌, ◌++◌, length, map, Option, Some, None, Result, Ok, refl, sym, subst, ap, ◌∙◌, inl, inr, arith, append_assoc}
+use Rattle.std.proofs.lemmas.List.{append-nil, map-append}
+use Rattle.std.specs.Prelude.{drop, option_to_list, take}
+use Rattle.osdp_frame.specs.Packet.{Packet}
+use Rattle.osdp_msg.specs.Events.{event_in}
+use Rattle.osdp_msg.specs.declared.command.Command.{Command}
+use Rattle.osdp_msg.specs.declared.command.Command.TheVariants as command
+use Rattle.osdp_msg.specs.declared.event.Event.{Event}
+use Rattle.osdp_msg.specs.declared.fault.MsgFault.{MsgFault}
+use Rattle.osdp_msg.specs.declared.reply.Reply.{Reply}
+use Rattle.osdp_controller.specs.Exchanges.{exchange_command, submitted_command}
+use Rattle.osdp_controller.specs.Machine as controllers
+use Rattle.osdp_controller.specs.Sessions.{seen}
+use Rattle.osdp_controller.specs.Ticking.{ticks}
+use Rattle.osdp_controller.specs.declared.config.ControllerConfig.{ControllerConfig}
+use Rattle.osdp_controller.specs.declared.exchange.Exchange.{Exchange}
+use Rattle.osdp_controller.specs.declared.exchange.Exchange.TheVariants.{Opening, Polling, Asking}
+use Rattle.osdp_controller.specs.declared.fault.ControllerFault.{ControllerFault}
+use Rattle.osdp_controller.specs.declared.session.Session.{Session}
+use Rattle.osdp_controller.specs.declared.state.State.{State}
+use Rattle.osdp_controller.specs.declared.state.State.TheVariants.{Closed, Quiet, Idle, Waiting, Pausing}
+use Rattle.osdp_reader.specs.Queue.{Queue as EventQueue, lacks_room, released}
+use Rattle.osdp_reader.specs.State.{ReaderState}
+use Rattle.osdp_reader.specs.Table.{begun, command_in, kind_of, new_address, outcome, taken}
+use Rattle.osdp_reader.specs.declared.handler.Answer.{Answer}
+use Rattle.osdp_reader.specs.declared.kind.Kind.{Kind}
+use Rattle.osdp_reader.specs.declared.kind.Kind.TheVariants as kind
+use Rattle.osdp_link_laws.specs.Headline.{IsWithout, asked}
+use Rattle.osdp_link_laws.specs.Link as link
+use Rattle.osdp_link_laws.specs.Link.{Account, Delivered, Delivery, Link, Lost, Move, Queue as QueueEvent, Reopen, Repeated, RestartController, RestartReader, Retarget, Submit, Tick, ToController, ToReader, ThrownAway, Withdraw, WithdrawEvent, Withdrawn, after_move, event_withdrawn, outstanding_command, reader_restarted}
+use Rattle.osdp_link_laws.specs.Refusals.{told_by_front}
+use Rattle.osdp_link_laws.specs.Sessions.{removed_command}
+use Rattle.osdp_link_laws.proofs.Accounts.{Accounted, Accounts, EndIs, EventsAre, OrdersAre, gone, hears_tell, reports, ticks_tell}
+use Rattle.osdp_link_laws.proofs.Acting.{leaves_shown, polled_front, taken_is}
+use Rattle.osdp_link_laws.proofs.Coming.{Announces, Due, KeepsDue, MovesTo, Reads, ReadsFront, ReadsTo, Stays, standing_at, stands, stood}
+use Rattle.osdp_link_laws.proofs.Growing.{GoesOn}
+use Rattle.osdp_link_laws.proofs.Reports.{tick_so}
+use Rattle.osdp_link_laws.proofs.Restarts.{front_at}
+use Rattle.osdp_link_laws.proofs.Since.{Hears, has_acted}
+use Rattle.osdp_link_laws.proofs.Stages.{After, Asks, Behind, ControllerAt, Fresh, Holds, IsAsked, IsStage, Level, Now, ReaderAt, Rest, Restarted, Rests, Stage, Start, Waits, given_up, given_up_at, number_after, pending, pending_at, shown, unreported_at}
+use Rattle.osdp_link_laws.proofs.Staying.{moved_queue}
+use Rattle.osdp_link_laws.proofs.Ticks.{submitted_is}
+use Rattle.osdp_link_laws.proofs.Withdrawing.{but_oldest_after, splits}
+use Rattle.osdp_link_laws.proofs.Without.{without_drops, without_keeps}
+
+-- all but so many of the first are those after them
+pub drop_front : {A : Type 0} (xs ys : List A) → drop (length xs) (xs ++ ys) ≡ ys
+drop_front [] ys = refl
+drop_front (x ∷ xs) ys = drop_front xs ys
+
+-- what was withdrawn, or thrown away, is what waited
+withdrawn_are : (cs : List Command) → map removed_command (map Withdrawn cs) ≡ cs
+withdrawn_are [] = refl
+withdrawn_are (c ∷ cs) = ap (λ l. c ∷ l) (withdrawn_are cs)
+
+thrown_are : (cs : List Command) → map removed_command (map ThrownAway cs) ≡ cs
+thrown_are [] = refl
+thrown_are (c ∷ cs) = ap (λ l. c ∷ l) (thrown_are cs)
+
+pub withdrawn_first : (state : State) (ws : List Command) → option_to_list (controllers.withdrawn_in state ws) ++ controllers.kept_in state ws ≡ ws
+withdrawn_first Closed [] = refl
+withdrawn_first Closed (w ∷ ws) = refl
+withdrawn_first _ ws = refl
+
+-- nothing is withdrawn while a session lasts
+withdraws_none : (state : State) (ws : List Command) → (option_to_list (controllers.withdrawn_in state ws) ≡ []) ⊎ (state ≡ Closed)
+withdraws_none Closed ws = inr refl
+withdraws_none _ ws = inl refl
+
+-- ---- the orders of a program, and a loss of power
+
+module _ (since : Restarted) (at : Stage) (state : State) (ws : List Command) (queue : List Event) (t : Account) (h : Accounted since at state ws queue t) where
+  submitted : (c : Command) → Accounted since at state (ws ++ c ∷ []) queue (record t { issued = t.issued ++ c ∷ [] })
+  submitted c = record {
+    orders = record {
+      issued = ap (λ all. all ++ c ∷ []) h.orders.issued
+          ∙ append_assoc t.taken (pending_at at ++ (gone t ++ ws)) (c ∷ [])
+          ∙ ap (λ all. t.taken ++ all) (append_assoc (pending_at at) (gone t ++ ws) (c ∷ []) ∙ ap (λ all. pending_at at ++ all) (append_assoc (gone t) ws (c ∷ [])));
+      answered = h.orders.answered;
+      settled = h.orders.settled;
+    };
+    over = h.over;
+    events = h.events;
+    restarts = h.restarts;
+  }
+
+  -- these commands are removed, of those that wait
+  removed : (vs : List Command) (more : List link.Removal) (new : State) (forgotten : List Command) → map removed_command more ++ vs ≡ ws
+      → EndIs (given_up_at at new) new t.unsettled forgotten (t.removed ++ more)
+      → Accounted since at new vs queue (record t { removed = t.removed ++ more; forgotten = forgotten })
+  removed vs more new forgotten all over = record {
+    orders = record {
+      issued = h.orders.issued ∙ ap (λ cs. t.taken ++ (pending_at at ++ cs))
+          (ap (λ cs. gone t ++ cs) (sym all) ∙ sym (append_assoc (gone t) (map removed_command more) vs)
+          ∙ ap (λ cs. cs ++ vs) (sym (map-append removed_command t.removed more)));
+      answered = h.orders.answered;
+      settled = h.orders.settled;
+    };
+    over = over;
+    events = h.events;
+    restarts = h.restarts;
+  }
+
+  withdraws : Accounted since at state (controllers.kept_in state ws) queue
+      (record t { removed = t.removed ++ map Withdrawn (option_to_list (controllers.withdrawn_in state ws)) })
+  withdraws =
+      let out = option_to_list (controllers.withdrawn_in state ws) in
+      removed (controllers.kept_in state ws) (map Withdrawn out) state t.forgotten
+      (ap (λ cs. cs ++ controllers.kept_in state ws) (withdrawn_are out) ∙ withdrawn_first state ws)
+      (record { lost = h.over.lost; quiet = by_state (withdraws_none state ws) h.over.quiet })
+    where
+      by_state : (option_to_list (controllers.withdrawn_in state ws) ≡ []) ⊎ (state ≡ Closed) → ((t.removed ≡ []) × (t.forgotten ≡ [])) ⊎ (state ≡ Closed)
+          → ((t.removed ++ map Withdrawn (option_to_list (controllers.withdrawn_in state ws)) ≡ []) × (t.forgotten ≡ [])) ⊎ (state ≡ Closed)
+      by_state (inr closed) quiet = inr closed
+      by_state (inl none) (inr closed) = inr closed
+      by_state (inl none) (inl (nothing, kept)) =
+          inl (ap (λ cs. t.removed ++ map Withdrawn cs) none ∙ append-nil t.removed ∙ nothing, kept)
+
+  -- the controller restarts: what is outstanding is forgotten
+  restarts_panel : (out : List Command) → given_up_at at state ++ out ≡ given_up_at at Closed
+      → Accounted since at Closed [] queue (record t { removed = t.removed ++ map ThrownAway ws; forgotten = t.forgotten ++ out })
+  restarts_panel out all =
+      removed [] (map ThrownAway ws) Closed (t.forgotten ++ out) (append-nil (map removed_command (map ThrownAway ws)) ∙ thrown_are ws) (record {
+        lost = sym (append_assoc t.unsettled t.forgotten out) ∙ ap (λ cs. cs ++ out) h.over.lost ∙ all;
+        quiet = inr refl;
+      })
+
+  queues : (e : Event) → Accounted since at state ws (queue ++ e ∷ [])
+      (record t { queued = t.queued ++ e ∷ []; stayed = t.stayed ++ e ∷ []; kept = t.kept ++ e ∷ [] })
+  queues e = record {
+    orders = h.orders;
+    over = h.over;
+    events = record {
+      left = h.events.left;
+      past = h.events.past;
+      stayed = ap (λ all. all ++ e ∷ []) h.events.stayed ∙ append_assoc h.events.left queue (e ∷ []);
+      kept = ap (λ all. all ++ e ∷ []) h.events.kept ∙ append_assoc h.events.past queue (e ∷ []);
+      without = h.events.without;
+      offered = h.events.offered;
+      reported = h.events.reported;
+    };
+    restarts = h.restarts;
+  }
+
+  -- the device restarts: those it had not offered in this session are gone
+  restarts_device : (rest : List Event) → queue ≡ standing_at since at ++ rest → Accounted Now at state ws [] (reader_restarted t)
+  restarts_device rest front =
+      let e = h.events in
+      let standing = standing_at since at in
+      let kept : t.kept ≡ t.offered ++ rest =
+      e.kept ∙ ap (λ es. e.past ++ es) front ∙ sym (append_assoc e.past standing rest) ∙ ap (λ es. es ++ rest) (sym e.offered) in
+      let none : drop (length t.offered) t.kept ≡ rest = ap (drop (length t.offered)) kept ∙ drop_front t.offered rest in
+      let stayed : t.stayed ≡ (e.left ++ standing) ++ rest = e.stayed ∙ ap (λ es. e.left ++ es) front ∙ sym (append_assoc e.left standing rest) in
+      record {
+        orders = h.orders;
+        over = h.over;
+        events = record {
+          left = t.stayed;
+          past = t.offered;
+          stayed = sym (append-nil t.stayed);
+          kept = sym (append-nil t.offered);
+          without = subst (λ es. IsWithout (t.thrown_away ++ drop (length t.offered) t.kept) es t.offered) (sym stayed)
+              (subst (λ es. IsWithout (t.thrown_away ++ es) ((e.left ++ standing) ++ rest) t.offered) (sym none)
+              (subst (IsWithout (t.thrown_away ++ rest) ((e.left ++ standing) ++ rest)) (sym e.offered)
+              (without_drops t.thrown_away (e.left ++ standing) (e.past ++ standing) rest (without_keeps t.thrown_away e.left e.past standing e.without))));
+          offered = sym (append-nil t.offered);
+          reported = e.reported;
+        };
+        restarts = omega arith;
+      }
+
+  -- number 0 is heard, or nothing changes
+  hears_zero : (new : Restarted) (to : Stage) → KeepsDue since at new to → Accounted new to state ws queue t
+  hears_zero new to k = record {
+    orders = subst (λ (d : Due). OrdersAre d.pend d.owing (gone t ++ ws) t.issued t.taken t.given t.settled) (sym k.due) h.orders;
+    over = record { lost = h.over.lost ∙ sym (k.given_up state); quiet = h.over.quiet };
+    events = subst (λ es. EventsAre es (unreported_at to) queue t.stayed t.kept t.thrown_away t.offered t.reported) (sym k.stands)
+        (subst (λ (d : Due). EventsAre (standing_at since at) d.untold queue t.stayed t.kept t.thrown_away t.offered t.reported) (sym k.due) h.events);
+    restarts = k.restarts t.restarts h.restarts;
+  }
+
+  stays : (new : Restarted) (to : Stage) → Stays since at new to → Accounted new to state ws queue t
+  stays new to (same, is) = subst (λ s. Accounted s to state ws queue t) (sym same) (subst (λ z. Accounted since z state ws queue t) (sym is) h)
+
+-- ---- a packet comes to the reader
+
+-- an event that was told leaves the queue, and another may be offered
+module _ (since : Restarted) (hears : Hears since) (n : ℕ) (y : Exchange) (b : Reply) (x : Exchange) (a : Reply) where
+  events_go : (q : EventQueue) (t : Account) → q.events ≡ shown y b ++ (released q).events
+      → EventsAre (standing_at since (Behind (After n y b) x)) [] q.events t.stayed t.kept t.thrown_away t.offered t.reported
+      → EventsAre (standing_at since (Level (After n y b) x a)) (shown x a) (released q).events t.stayed t.kept t.thrown_away (t.offered ++ shown x a) t.reported
+  events_go q t leaves e = record {
+    left = e.left ++ shown y b;
+    past = e.past ++ shown y b;
+    stayed = e.stayed ∙ ap (λ es. e.left ++ es) leaves ∙ sym (append_assoc e.left (shown y b) (released q).events);
+    kept = e.kept ∙ ap (λ es. e.past ++ es) leaves ∙ sym (append_assoc e.past (shown y b) (released q).events);
+    without = without_keeps t.thrown_away e.left e.past (shown y b) e.without;
+    offered = ap (λ es. es ++ shown x a) (e.offered ∙ ap (λ es. e.past ++ es) (stood since hears n y b x))
+        ∙ ap (λ es. (e.past ++ shown y b) ++ es) (sym (stands since hears (After n y b) x a));
+    reported = ap (λ es. es ++ shown x a) (e.reported ∙ append-nil t.reported);
+  }
+
+module _ (fixed : ControllerConfig) {H : Type 0} (answer_of : H → Command → Answer) (after : H → Command → H) where
+  -- the account after a command that is taken
+  abbrev Takes : Result Command MsgFault → Packet → ReaderState H → Restarted → Stage → State → List Command → Account → Type 0
+  Takes c p r since to state ws t =
+      let o = taken answer_of after c r p in
+      Accounted since to state ws o.reader.queue.events (link.taken kind.Taken o.command o.said (take 1 (released r.queue).events) t)
+
+  module _ (since : Restarted) (hears : Hears since) (n : ℕ) (y : Exchange) (b : Reply) (a : Reply) (p : Packet) (r : ReaderState H) (state : State) (ws : List Command)
+      (t : Account) (leaves : r.queue.events ≡ shown y b ++ (released r.queue).events) where
+    polls : (taken answer_of after (Ok command.Poll) r p).said ≡ Some a → Accounted since (Behind (After n y b) Polling) state ws r.queue.events t
+        → Takes (Ok command.Poll) p r since (Level (After n y b) Polling a) state ws t
+    polls says h =
+        let events = (released r.queue).events in
+        let front : take 1 events ≡ shown Polling a =
+        sym (polled_front fixed events answer_of after r.config r.handler) ∙ ap (λ o. polled_by o) says in
+        subst (λ es. Accounted since (Level (After n y b) Polling a) state ws events (record t { offered = t.offered ++ es })) (sym front) (record {
+          orders = h.orders;
+          over = h.over;
+          events = events_go since hears n y b Polling a r.queue t leaves h.events;
+          restarts = h.restarts;
+        })
+      where
+        polled_by : Option Reply → List Event
+        polled_by None = []
+        polled_by (Some reply) = option_to_list (event_in reply)
+
+    asks : (c : Command) → c ≢ command.Poll → (taken answer_of after (Ok c) r p).said ≡ Some a
+        → Accounted since (Behind (After n y b) (Asking c)) state ws r.queue.events t → Takes (Ok c) p r since (Level (After n y b) (Asking c) a) state ws t
+    asks c other says h =
+        let to = Level (After n y b) (Asking c) a in
+        let front = take 1 (released r.queue).events in
+        let o = taken answer_of after (Ok c) r p in
+        let queue : o.reader.queue.events ≡ (released r.queue).events = ap (λ (q : EventQueue). q.events) (moved_queue answer_of after (new_address c) _) in
+        subst (λ es. Accounted since to state ws es (link.taken_command c o.said front t)) (sym queue)
+        (subst (λ u. Accounted since to state ws (released r.queue).events u) (sym (taken_is c o.said front t other))
+        (subst (λ s. Accounted since to state ws (released r.queue).events (record t { taken = t.taken ++ c ∷ []; given = t.given ++ link.given_to c s })) (sym says) (record {
+          orders = record {
+            issued = h.orders.issued ∙ sym (append_assoc t.taken (c ∷ []) (gone t ++ ws));
+            answered = map-append asked t.given ((c, a) ∷ []) ∙ ap (λ cs. cs ++ c ∷ []) h.orders.answered;
+            settled = ap (λ pairs. pairs ++ (c, a) ∷ []) (sym (append-nil t.settled) ∙ h.orders.settled);
+          };
+          over = h.over;
+          events = subst (λ es. EventsAre (standing_at since to) [] (released r.queue).events t.stayed t.kept t.thrown_away es t.reported) (append-nil t.offered)
+              (events_go since hears n y b (Asking c) a r.queue t leaves h.events);
+          restarts = h.restarts;
+        })))
+
+  abbrev ReadsSo : Kind → Packet → ReaderState H → Restarted → Stage → State → List Command → Account → Type 0
+  ReadsSo k p r new to state ws t =
+      let o = outcome answer_of after k r p in
+      Accounted new to state ws o.reader.queue.events (link.taken k o.command o.said (take 1 (released r.queue).events) t)
+
+  takes : (since : Restarted) (at : Stage) (p : Packet) (r : ReaderState H) (state : State) (ws : List Command) (t : Account) (new : Restarted) (to : Stage)
+      → IsStage at → ReaderAt fixed since at r → ReadsTo kind.Taken (command_in p) (taken answer_of after (command_in p) r p).said since at new to
+      → Accounted since at state ws r.queue.events t → ReadsSo kind.Taken p r new to state ws t
+  takes since (Behind (After n y b) x) p r state ws t new to stage knows (hears, same, reads, (a, says, is)) h =
+      let leaves = leaves_shown y b r.queue (has_acted fixed since n y b r hears knows).offer in
+      subst (λ s. ReadsSo kind.Taken p r s to state ws t) (sym same)
+      (subst (λ z. ReadsSo kind.Taken p r since z state ws t) (sym is)
+      (subst (λ c. (taken answer_of after c r p).said ≡ Some a → Takes c p r since (Level (After n y b) x a) state ws t) (sym reads) (by_exchange x stage.1 h leaves) says))
+    where
+      by_exchange : (x : Exchange) → IsAsked (After n y b) x → Accounted since (Behind (After n y b) x) state ws r.queue.events t
+          → r.queue.events ≡ shown y b ++ (released r.queue).events
+          → (taken answer_of after (Ok (exchange_command x)) r p).said ≡ Some a
+          → Takes (Ok (exchange_command x)) p r since (Level (After n y b) x a) state ws t
+      by_exchange Opening asked h leaves said = absurd asked
+      by_exchange Polling asked h leaves said = polls since hears n y b a p r state ws t leaves said h
+      by_exchange (Asking c) asked h leaves said = asks since hears n y b a p r state ws t leaves c asked.no_poll said h
+  takes since (Behind Start x) p r state ws t new to stage knows is h = absurd is
+  takes since _ p r state ws t new to stage knows is h = absurd is
+
+  reads : (k : Kind) (since : Restarted) (at : Stage) (p : Packet) (r : ReaderState H) (state : State) (ws : List Command) (t : Account) (new : Restarted) (to : Stage)
+      → IsStage at → ReaderAt fixed since at r → Reads answer_of after k p r since at new to → Accounted since at state ws r.queue.events t
+      → ReadsSo k p r new to state ws t
+  reads kind.Taken since at p r state ws t new to stage knows is h = takes since at p r state ws t new to stage knows is h
+  reads kind.Zero since at p r state ws t new to stage knows is h =
+      subst (λ c. Accounted new to state ws (begun answer_of after c r p).reader.queue.events t) (sym is.0) (hears_zero since at state ws r.queue.events t h new to is.1)
+  reads _ since at p r state ws t new to stage knows is h = stays since at state ws r.queue.events t h new to is
+
+  -- ---- each move
+
+  out_waits : (state : State) (s : Session) → Waits fixed state s → option_to_list (outstanding_command state) ≡ []
+  out_waits Closed s is = refl
+  out_waits (Quiet until) s is = refl
+  out_waits _ s is = absurd is
+
+  out_rests : (state : State) (n : ℕ) (s : Session) → Rests fixed state n s → option_to_list (outstanding_command state) ≡ []
+  out_rests Closed n s is = refl
+  out_rests (Idle due) n s is = refl
+  out_rests _ n s is = absurd is
+
+  out_asks : (state : State) (n : ℕ) (x : Exchange) (s : Session) → Asks fixed state n x s → given_up state x ++ option_to_list (outstanding_command state) ≡ pending x
+  out_asks Closed n x s is = append-nil (pending x)
+  out_asks (Waiting until k o) n x s is = ap (λ y. option_to_list (submitted_command y)) is.1 ∙ submitted_is x
+  out_asks (Pausing until o) n x s is = ap (λ y. option_to_list (submitted_command y)) is.1 ∙ submitted_is x
+  out_asks _ n x s is = absurd is
+
+  -- the command that a controller forgets is the pending one
+  forgets : (at : Stage) (s : Session) → ControllerAt fixed at s
+      → given_up_at at s.state ++ option_to_list (outstanding_command s.state) ≡ given_up_at at Closed
+  forgets Fresh s is = out_waits s.state s is
+  forgets (Behind past x) s is = out_asks s.state (number_after past) x s is
+  forgets (Level past x a) s is = out_asks s.state (number_after past) x s is
+  forgets (Rest n x a) s is = out_rests s.state n s is
+
+  module _ (since : Restarted) (at : Stage) (l : Link H) (held : Holds fixed since at l) (h : Accounts since at l) (new : Restarted) (to : Stage) where
+    abbrev state : State
+    state = l.controller.session.state
+
+    stays_so : Stays since at new to → Accounted new to state l.controller.waiting l.reader.queue.events l.account
+    stays_so comes = stays since at state l.controller.waiting l.reader.queue.events l.account h new to comes
+
+    submits_so : (refusal : Option ControllerFault) (c : Command) → Stays since at new to → Accounts new to (link.submits refusal c l)
+    submits_so (Some fault) c comes = stays_so comes
+    submits_so None c comes = submitted new to state l.controller.waiting l.reader.queue.events l.account (stays_so comes) c
+
+    queues_so : (full : Bool) (e : Event) → Stays since at new to → Accounts new to (link.queues full e l)
+    queues_so true e comes = stays_so comes
+    queues_so false e comes = queues new to state l.controller.waiting l.reader.queue.events l.account (stays_so comes) e
+
+    withdraws_event_so : Stays since at new to → Accounts new to (link.withdraws_event l)
+    withdraws_event_so comes =
+        let q = l.reader.queue in
+        let s = stays_so comes in
+        let e = s.events in
+        let split = splits q in
+        record {
+          orders = s.orders;
+          over = s.over;
+          events = record {
+            left = e.left;
+            past = e.past;
+            stayed = but_oldest_after q split e.left l.account.stayed e.stayed;
+            kept = but_oldest_after q split e.past l.account.kept e.kept;
+            without = e.without;
+            offered = e.offered;
+            reported = e.reported;
+          };
+          restarts = s.restarts;
+        }
+
+    retargets_so : (refusal : Option ControllerFault) (address : ℕ) → Stays since at new to → Accounts new to (link.retargets refusal address l)
+    retargets_so (Some fault) address comes = stays_so comes
+    retargets_so None address comes = stays_so comes
+
+    gets_so : (p : Packet) → Reads answer_of after (kind_of l.reader p) p l.reader since at new to → Accounts new to (link.reader_gets answer_of after p l)
+    gets_so p comes = reads (kind_of l.reader p) since at p l.reader state l.controller.waiting l.account new to held.stage held.reader comes h
+
+    to_reader_so : (how : Delivery) (ps : List Packet) → ReadsFront answer_of after ps how l.reader since at new to → Accounts new to (link.to_reader answer_of after ps how l)
+    to_reader_so how [] comes = stays_so comes
+    to_reader_so Delivered (p ∷ ps) comes = gets_so p comes
+    to_reader_so Lost (p ∷ ps) comes = stays_so comes
+    to_reader_so Repeated (p ∷ ps) comes = gets_so p comes
+
+    ticks_so : (now : ℕ) → MovesTo answer_of after (Tick now) l since at new to → Accounts new to (after_move answer_of after (Tick now) l)
+    ticks_so now (same, ticks_to, controls) =
+        let t = ticks now l.controller.session l.controller.waiting in
+        let none : Announces t.step.report [] [] =
+        tick_so (λ r. Announces r [] []) (refl, refl) (λ o. (refl, refl)) state (seen now l.controller.session) l.controller.waiting in
+        subst (λ s. Accounted s to t.session.state t.waiting l.reader.queue.events (link.after_report t.step.report l.account)) (sym same)
+        (reports since at to state t.session.state l.controller.waiting t.waiting l.reader.queue.events t.step.report l.account
+        (ticks_tell since at to t none ticks_to) controls h)
+
+    -- what is told by the packet in front is told in the account
+    hears_so : (how : Delivery) (now : ℕ) (ps : List Packet) → let r = told_by_front how ps now l.controller.session in
+        let m = link.to_controller ps how now l in
+        Accounted new to m.controller.session.state l.controller.waiting l.reader.queue.events (link.after_report r l.account) → Accounts new to m
+    hears_so Delivered now [] is = is
+    hears_so Lost now [] is = is
+    hears_so Repeated now [] is = is
+    hears_so Delivered now (p ∷ ps) is = is
+    hears_so Lost now (p ∷ ps) is = is
+    hears_so Repeated now (p ∷ ps) is = is
+
+    to_controller_so : (how : Delivery) (now : ℕ) → MovesTo answer_of after (ToController how now) l since at new to
+        → Accounts new to (after_move answer_of after (ToController how now) l)
+    to_controller_so how now (same, hears_to, controls) =
+        let r = told_by_front how l.to_controller now l.controller.session in
+        let m = link.to_controller l.to_controller how now l in
+        hears_so how now l.to_controller
+        (subst (λ s. Accounted s to m.controller.session.state l.controller.waiting l.reader.queue.events (link.after_report r l.account)) (sym same)
+        (reports since at to state m.controller.session.state l.controller.waiting l.controller.waiting l.reader.queue.events r l.account
+        (hears_tell since at to r hears_to) controls h))
+
+    pub accounts_so : (move : Move H) → GoesOn move → MovesTo answer_of after move l since at new to → Accounts new to (after_move answer_of after move l)
+    accounts_so (Submit c) on comes = submits_so (controllers.submit_refusal c l.controller) c comes
+    accounts_so (QueueEvent e) on comes = queues_so (lacks_room e l.reader.queue) e comes
+    accounts_so (Tick now) on comes = ticks_so now comes
+    accounts_so (ToReader how) on comes = to_reader_so how l.to_reader comes
+    accounts_so (ToController how now) on comes = to_controller_so how now comes
+    accounts_so (Reopen now) on comes = absurd on
+    accounts_so Withdraw on comes = withdraws new to state l.controller.waiting l.reader.queue.events l.account (stays_so comes)
+    accounts_so (Retarget address) on comes = retargets_so (controllers.retarget_refusal address l.controller) address comes
+    accounts_so WithdrawEvent on comes = withdraws_event_so comes
+    accounts_so (RestartReader config handler room) on (same, is) =
+        let front = front_at fixed since at l.reader held.reader in
+        subst (λ s. Accounted s to state l.controller.waiting [] (reader_restarted l.account)) (sym same)
+        (subst (λ z. Accounted Now z state l.controller.waiting [] (reader_restarted l.account)) (sym is)
+        (restarts_device since at state l.controller.waiting l.reader.queue.events l.account h front.0 front.1))
+    accounts_so (RestartController config room) on comes =
+        stays since at Closed [] l.reader.queue.events (link.controller_restarted l.controller l.account)
+        (restarts_panel since at state l.controller.waiting l.reader.queue.events l.account h (option_to_list (outstanding_command state))
+        (forgets at l.controller.session held.controller)) new to comes
+    accounts_so _ on comes = stays_so comes

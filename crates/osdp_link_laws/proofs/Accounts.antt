@@ -1,0 +1,173 @@
+-- What the account of a session comes to at each stage, and what it comes to after a report.
+use Rattle.std.proofs.Common.{◌≡◌, ◌⊎◌, List, [], ◌∷◌, ◌++◌, map, Option, Some, None, refl, sym, subst, ap, ◌∙◌, inl, inr, append_assoc}
+use Rattle.std.proofs.lemmas.List.{append-nil}
+use Rattle.std.specs.Prelude.{option_to_list}
+use Rattle.osdp_msg.specs.declared.command.Command.{Command}
+use Rattle.osdp_msg.specs.declared.event.Event.{Event}
+use Rattle.osdp_msg.specs.declared.reply.Reply.{Reply}
+use Rattle.osdp_msg.specs.declared.reply.Reply.TheVariants as reply
+use Rattle.osdp_controller.specs.Ticking.{Ticked}
+use Rattle.osdp_controller.specs.declared.report.Report.{Report}
+use Rattle.osdp_controller.specs.declared.report.Report.TheVariants as report
+use Rattle.osdp_controller.specs.declared.state.State.{State}
+use Rattle.osdp_controller.specs.declared.state.State.TheVariants.{Closed}
+use Rattle.osdp_link_laws.specs.Headline.{IsWithout, asked}
+use Rattle.osdp_link_laws.specs.Link.{Account, Link, Removal, after_report}
+use Rattle.osdp_link_laws.specs.Sessions.{removed_command}
+use Rattle.osdp_link_laws.proofs.Coming.{Announces, BeginsFrom, Controls, HearsTo, TicksTo, lost_in, reported_in, settled_in, standing_at}
+use Rattle.osdp_link_laws.proofs.Stages.{After, Before, Behind, Fresh, HasRestarted, Level, Never, Now, Rest, Restarted, Stage, Start, given_up_at, number_after, owed_at, pending_at, shown, unreported_at}
+
+abbrev pub gone : Account → List Command
+gone t = map removed_command t.removed
+
+-- the commands issued are those taken, the pending one, and the rest; each that was taken has its answer; and of these answers one at most is on its way
+pub record OrdersAre (pend : List Command) (owing : List (Command × Reply)) (rest all acted : List Command) (answers done : List (Command × Reply)) : Type 0 where
+  pub issued : all ≡ acted ++ (pend ++ rest)
+  pub answered : map asked answers ≡ acted
+  pub settled : done ++ owing ≡ answers
+
+-- where the session has ended its outstanding command was told unsettled, or forgotten; and until then none is forgotten or removed
+pub record EndIs (given_up : List Command) (state : State) (told forgotten : List Command) (removed : List Removal) : Type 0 where
+  pub lost : told ++ forgotten ≡ given_up
+  pub quiet : ((removed ≡ []) × (forgotten ≡ [])) ⊎ (state ≡ Closed)
+
+-- the events that stay are those that have left the queue, and those in it; of those that have left no restart has thrown these away; they were all
+-- offered, and so were those that stand in front of the queue; and all that was offered is reported, or told on the line
+pub record EventsAre (standing untold queue stay keep thrown offer report : List Event) : Type 0 where
+  pub left : List Event
+  pub past : List Event
+  pub stayed : stay ≡ left ++ queue
+  pub kept : keep ≡ past ++ queue
+  pub without : IsWithout thrown left past
+  pub offered : offer ≡ past ++ standing
+  pub reported : offer ≡ report ++ untold
+
+pub record Accounted (since : Restarted) (at : Stage) (state : State) (ws : List Command) (queue : List Event) (t : Account) : Type 0 where
+  pub orders : OrdersAre (pending_at at) (owed_at at) (gone t ++ ws) t.issued t.taken t.given t.settled
+  pub over : EndIs (given_up_at at state) state t.unsettled t.forgotten t.removed
+  pub events : EventsAre (standing_at since at) (unreported_at at) queue t.stayed t.kept t.thrown_away t.offered t.reported
+  pub restarts : HasRestarted since t.restarts
+
+abbrev pub Accounts : {H : Type 0} → Restarted → Stage → Link H → Type 0
+Accounts {H} since at l = Accounted since at l.controller.session.state l.controller.waiting l.reader.queue.events l.account
+
+-- ---- a report
+
+untold : (t : Account) → t ≡ record t { settled = t.settled ++ []; unsettled = t.unsettled ++ []; reported = t.reported ++ [] }
+untold t = sym (λ i. record t { settled = append-nil t.settled i; unsettled = append-nil t.unsettled i; reported = append-nil t.reported i })
+
+-- it settles, tells unsettled and reports what is in it
+told_is : (r : Option Report) (t : Account)
+    → after_report r t ≡ record t { settled = t.settled ++ settled_in r; unsettled = t.unsettled ++ lost_in r; reported = t.reported ++ reported_in r }
+told_is None t = untold t
+told_is (Some (report.Opened id)) t = untold t
+told_is (Some (report.Settled c a)) t =
+    sym (λ i. record t { settled = t.settled ++ (c, a) ∷ []; unsettled = append-nil t.unsettled i; reported = append-nil t.reported i })
+told_is (Some (report.Moved c to)) t =
+    sym (λ i. record t { settled = t.settled ++ (c, reply.Com to) ∷ []; unsettled = append-nil t.unsettled i; reported = append-nil t.reported i })
+told_is (Some (report.Event e)) t =
+    sym (λ i. record t { settled = append-nil t.settled i; unsettled = append-nil t.unsettled i; reported = t.reported ++ e ∷ [] })
+told_is (Some (report.PollAnswered a)) t = untold t
+told_is (Some (report.Unread c code)) t = untold t
+told_is (Some (report.Lost cause c)) t =
+    sym (λ i. record t { settled = append-nil t.settled i; unsettled = t.unsettled ++ option_to_list c; reported = append-nil t.reported i })
+
+-- what was on its way is on its way still, or is told
+pub record Tells (since : Restarted) (at to : Stage) (r : Option Report) : Type 0 where
+  pub owed : settled_in r ++ owed_at to ≡ owed_at at
+  pub stands : standing_at since to ≡ standing_at since at
+  pub told : reported_in r ++ unreported_at to ≡ unreported_at at
+
+tells_none : (since : Restarted) (at to : Stage) (r : Option Report) → Announces r [] [] → to ≡ at → Tells since at to r
+tells_none since at to r none is = subst (λ z. Tells since at z r) (sym is) (record {
+  owed = ap (λ pairs. pairs ++ owed_at at) none.0;
+  stands = refl;
+  told = ap (λ es. es ++ unreported_at at) none.1;
+})
+
+pub begins_tells : (since : Restarted) (at to : Stage) (r : Option Report) → Announces r [] [] → BeginsFrom at to → Tells since at to r
+begins_tells since Fresh to r none (x, is) =
+    subst (λ z. Tells since Fresh z r) (sym is) (record { owed = ap (λ pairs. pairs ++ []) none.0; stands = stands since; told = ap (λ es. es ++ []) none.1 })
+  where
+    stands : (since : Restarted) → standing_at since (Behind Start x) ≡ standing_at since Fresh
+    stands Never = refl
+    stands Before = refl
+    stands Now = refl
+begins_tells since (Rest n y b) to r none (x, is) =
+    subst (λ z. Tells since (Rest n y b) z r) (sym is) (record { owed = ap (λ pairs. pairs ++ []) none.0; stands = stands since; told = ap (λ es. es ++ []) none.1 })
+  where
+    stands : (since : Restarted) → standing_at since (Behind (After n y b) x) ≡ standing_at since (Rest n y b)
+    stands Never = refl
+    stands Before = refl
+    stands Now = refl
+begins_tells since _ to r none is = absurd is
+
+pub ticks_tell : (since : Restarted) (at to : Stage) (t : Ticked) → Announces t.step.report [] [] → TicksTo t at to → Tells since at to t.step.report
+ticks_tell since at to t none (inl is) = tells_none since at to t.step.report none is
+ticks_tell since at to t none (inr (begins, sent)) = begins_tells since at to t.step.report none begins
+
+pub hears_tell : (since : Restarted) (at to : Stage) (r : Option Report) → HearsTo r at to → Tells since at to r
+hears_tell since Fresh to r is = tells_none since Fresh to r is.1 is.0
+hears_tell since (Behind past x) to r is = tells_none since (Behind past x) to r is.1 is.0
+hears_tell since (Rest n x a) to r is = tells_none since (Rest n x a) to r is.1 is.0
+hears_tell since (Level past x a) to r (inl is) = tells_none since (Level past x a) to r is.1 is.0
+hears_tell since (Level past x a) to r (inr (is, tells)) = subst (λ z. Tells since (Level past x a) z r) (sym is) (record {
+  owed = append-nil (settled_in r) ∙ tells.0;
+  stands = stands since;
+  told = append-nil (reported_in r) ∙ tells.1;
+})
+  where
+    stands : (since : Restarted) → standing_at since (Rest (number_after past) x a) ≡ standing_at since (Level past x a)
+    stands Never = append-nil (shown x a)
+    stands Before = append-nil (shown x a)
+    stands Now = refl
+
+module _ (since : Restarted) (at to : Stage) (old new : State) (ws vs : List Command) (queue : List Event) (r : Option Report) (t : Account)
+    (tells : Tells since at to r) (controls : Controls at to old new ws vs r) (h : Accounted since at old ws queue t) where
+  reports_rest : pending_at at ++ (gone t ++ ws) ≡ pending_at to ++ (gone t ++ vs)
+  reports_rest = by_quiet h.over.quiet
+    where
+      by_quiet : ((t.removed ≡ []) × (t.forgotten ≡ [])) ⊎ (old ≡ Closed) → pending_at at ++ (gone t ++ ws) ≡ pending_at to ++ (gone t ++ vs)
+      by_quiet (inl (none, nothing)) =
+          ap (λ out. pending_at at ++ (map removed_command out ++ ws)) none ∙ sym controls.waits
+          ∙ ap (λ out. pending_at to ++ (map removed_command out ++ vs)) (sym none)
+      by_quiet (inr closed) = let o = controls.over closed in (λ i. sym o.1 i ++ (gone t ++ sym o.2 i))
+
+  reports_over : EndIs (given_up_at to new) new (t.unsettled ++ lost_in r) t.forgotten t.removed
+  reports_over = by_quiet h.over.quiet
+    where
+      by_quiet : ((t.removed ≡ []) × (t.forgotten ≡ [])) ⊎ (old ≡ Closed) → EndIs (given_up_at to new) new (t.unsettled ++ lost_in r) t.forgotten t.removed
+      by_quiet (inl (none, nothing)) =
+          let lost : t.unsettled ≡ given_up_at at old =
+          sym (append-nil t.unsettled) ∙ ap (λ cs. t.unsettled ++ cs) (sym nothing) ∙ h.over.lost in
+          record {
+            lost = ap (λ cs. (t.unsettled ++ lost_in r) ++ cs) nothing ∙ append-nil (t.unsettled ++ lost_in r) ∙ ap (λ cs. cs ++ lost_in r) lost ∙ controls.lost;
+            quiet = inl (none, nothing);
+          }
+      by_quiet (inr closed) =
+          let o = controls.over closed in
+          record {
+            lost = ap (λ cs. (t.unsettled ++ cs) ++ t.forgotten) o.3 ∙ ap (λ cs. cs ++ t.forgotten) (append-nil t.unsettled) ∙ h.over.lost
+                ∙ sym (append-nil (given_up_at at old)) ∙ ap (λ cs. given_up_at at old ++ cs) (sym o.3) ∙ controls.lost;
+            quiet = inr o.0;
+          }
+
+  pub reports : Accounted since to new vs queue (after_report r t)
+  reports = subst (Accounted since to new vs queue) (sym (told_is r t)) (record {
+    orders = record {
+      issued = h.orders.issued ∙ ap (λ cs. t.taken ++ cs) reports_rest;
+      answered = h.orders.answered;
+      settled = append_assoc t.settled (settled_in r) (owed_at to) ∙ ap (λ pairs. t.settled ++ pairs) tells.owed ∙ h.orders.settled;
+    };
+    over = reports_over;
+    events = record {
+      left = h.events.left;
+      past = h.events.past;
+      stayed = h.events.stayed;
+      kept = h.events.kept;
+      without = h.events.without;
+      offered = h.events.offered ∙ ap (λ es. h.events.past ++ es) (sym tells.stands);
+      reported = h.events.reported ∙ ap (λ es. t.reported ++ es) (sym tells.told) ∙ sym (append_assoc t.reported (reported_in r) (unreported_at to));
+    };
+    restarts = h.restarts;
+  })
