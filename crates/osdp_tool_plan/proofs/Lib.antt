@@ -1,1 +1,3 @@
+mod OneLine
+mod OneSetting
 mod Ranges

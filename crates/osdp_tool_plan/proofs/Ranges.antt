@@ -1,11 +1,15 @@
 -- Settings within their ranges keep a plan within its own.
-use Rattle.std.proofs.Common.{arith}
+use Rattle.std.proofs.Common.{◌≡◌, ℕ, List, [], ◌∷◌, Some, subst, arith}
+use Rattle.std.specs.List.{AllByRecursion}
 use Rattle.osdp_plan.specs.declared.plan.Plan.{Plan}
 use Rattle.osdp_plan.specs.Plans.{IsPlan, default_plan}
-use Rattle.osdp_settings.specs.Settings.{SettingFits}
+use Rattle.osdp_settings.proofs.Reading.{some_same}
+use Rattle.osdp_settings.specs.Settings.{SettingFits, after}
+use Rattle.osdp_tool_plan.specs.Ending.{Plans}
+use Rattle.osdp_tool_plan.specs.declared.setting.Planned.{Planned}
 use Rattle.osdp_tool_plan.specs.declared.setting.PlanSetting.{PlanSetting}
 use Rattle.osdp_tool_plan.specs.declared.setting.PlanSetting.TheVariants.{Check, Readers, Rate, Longest, Answer, Hold, Late, Orders, PollBetweenOrders, ReplyWait, PollInterval, Sends, BusyWait, BusyLimit, QuietWait}
-use Rattle.osdp_tool_plan.specs.Settings.{entry, with_setting}
+use Rattle.osdp_tool_plan.specs.Settings.{AreInRange, defaults, entry, put, with_setting}
 
 pub set_in_range : (s : PlanSetting) (p : Plan) → SettingFits entry s → IsPlan p → IsPlan (with_setting s p)
 set_in_range (Check kind) p fits h = record { readers = h.readers; rate = h.rate; longest = h.longest; answer = h.answer; hold = h.hold; late = h.late; orders = h.orders; reply_wait = h.reply_wait; poll_interval = h.poll_interval; sends = h.sends; busy_wait = h.busy_wait; busy_limit = h.busy_limit; quiet_wait = h.quiet_wait }
@@ -27,3 +31,12 @@ set_in_range (QuietWait n) p fits h = record { readers = h.readers; rate = h.rat
 -- what is set without settings
 pub default_in_range : IsPlan default_plan
 default_in_range = record { readers = (omega arith, omega arith); rate = (omega arith, omega arith); longest = (omega arith, omega arith); answer = omega arith; hold = omega arith; late = omega arith; orders = omega arith; reply_wait = (omega arith, omega arith); poll_interval = (omega arith, omega arith); sends = (omega arith, omega arith); busy_wait = (omega arith, omega arith); busy_limit = omega arith; quiet_wait = (omega arith, omega arith) }
+
+-- settings within their ranges keep a plan within its own, one after the other
+kept : (settings : List PlanSetting) (config last : Planned) → AllByRecursion (SettingFits entry) settings → IsPlan config.plan
+    → after put settings config ≡ Some last → IsPlan last.plan
+kept [] config last fits h is = subst AreInRange (some_same config last is) h
+kept (s ∷ settings) config last fits h is = kept settings (record { plan = with_setting s config.plan }) last fits.1 (set_in_range s config.plan fits.0 h) is
+
+pub planned_in_range : (given : List (List ℕ)) (p : Plan) → Plans given p → IsPlan p
+planned_in_range given p h = let (settings, give, is) = h.are in kept settings defaults (record { plan = p }) give.fit default_in_range is

@@ -5,7 +5,6 @@ use Rattle.osdp_plan.specs.declared.judging.TooShort.{TooShort}
 use Rattle.osdp_plan.specs.declared.judging.TooShort.TheVariants as short
 use Rattle.osdp_plan.specs.declared.plan.Plan.{Plan}
 use Rattle.osdp_plan.specs.Judging.{IsLongEnough}
-use Rattle.osdp_plan.specs.Plans.{IsPlan}
 use Rattle.osdp_tool_plan.specs.declared.command.WrongPlan.{WrongPlan}
 use Rattle.osdp_tool_plan.specs.declared.command.WrongPlan.TheVariants.{PacketPasses, AnswerComes, LineIsQuiet}
 use Rattle.osdp_tool_plan.specs.Settings.{ArePlan}
@@ -14,7 +13,6 @@ use Rattle.osdp_tool_plan.specs.Text.{plan_text}
 -- the words plan this line, and no setting of it is too short
 pub record Plans (given : List (List ℕ)) (p : Plan) : Type 0 where
   pub are : ArePlan given p
-  pub range : IsPlan p
   pub long_enough : IsLongEnough p
 
 -- the figures of the line that the words plan are printed

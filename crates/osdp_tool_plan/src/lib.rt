@@ -2,9 +2,11 @@
 #![tactic(auto)]
 
 mod command;
+mod laws;
 mod setting;
 mod text;
 
 pub use command::{WrongPlan, plan, planned};
+pub use laws::plans_once;
 pub use setting::{PlanSetting, Planned, read_plan};
 pub use text::plan_text;
