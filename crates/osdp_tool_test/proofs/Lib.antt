@@ -7,3 +7,8 @@ pub mod Device
 pub mod Rows
 pub mod Parts
 mod FormWords
+pub mod ByLines
+pub mod InTurn
+pub mod Once
+pub mod OneLine
+mod OneReport

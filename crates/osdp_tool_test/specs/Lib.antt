@@ -13,3 +13,4 @@ pub mod Tests
 pub mod Judging
 pub mod Ending
 pub mod Running
+pub mod Laws

@@ -15,6 +15,7 @@ use Rattle.osdp_tool_test.specs.Lines.{LeftOut, Line, SaidFits, asks, device, op
 use Rattle.osdp_tool_test.specs.Saying.{IsFirstBad, LinesFind, WordsSay}
 use Rattle.osdp_tool_test.specs.Rules.{rule_in}
 use Rattle.osdp_tool_test.specs.Seen.{Seen, is_answered, seen_in}
+use Rattle.osdp_tool_test.specs.Table.{AreDeviceRules}
 use Rattle.osdp_tool_test.specs.Times.{RunTimes, new_times, times_after, times_of, times_text}
 use Rattle.osdp_tool_test.specs.declared.exchange.Exchange.{Exchange}
 use Rattle.osdp_tool_test.specs.declared.report.Form.{Form}
@@ -147,6 +148,10 @@ all_entries t = entries_with t.done t.current
 -- what the lines of a test of a device show of its rules
 abbrev pub DeviceFinds : Form → List Rule → List (List ℕ) → List Told → Type 0
 DeviceFinds form rules = LinesFind said_words SaidFits after_said (new_test form rules) all_entries
+
+-- .. by the rules of a device
+abbrev pub DeviceShows : Form → List (List ℕ) → List Told → Type 0
+DeviceShows form lines entries = (rules : List Rule) × AreDeviceRules rules × DeviceFinds form rules lines entries
 
 abbrev pub DeviceStops : List (List ℕ) → ℕ → Type 0
 DeviceStops = IsFirstBad said_words SaidFits

@@ -1,14 +1,11 @@
 //! The command.
 
-ghost use Rattle.std.specs.Prelude.{◌≡◌, List, MatchOption};
+ghost use Rattle.std.specs.Prelude.{◌≡◌, MatchOption};
 ghost use Rattle.osdp_tool_streams.specs.Watched.{inner_of, has_failed};
 ghost use Rattle.osdp_refused_words.specs.Stops.{StopsAt};
 ghost use Rattle.osdp_words.specs.Word.{texts};
-ghost use Rattle.osdp_tool_test.specs.Ending.{Ends};
-ghost use Rattle.osdp_tool_test.specs.Running.{AsksForm, AsksNone, IsRefused, RunsBy, asking_words};
-ghost use Rattle.osdp_tool_test.specs.Table.{AreDeviceRules};
-ghost use Rattle.osdp_tool_test.specs.declared.rules.Rule.{Rule as RuleOf};
-ghost use Rattle.osdp_tool_test.specs.Tests.{DeviceFinds, DeviceStops, Refuses, Takes, all_entries, model};
+ghost use Rattle.osdp_tool_test.specs.Running.{AsksForm, AsksNone, Tests, asking_words};
+ghost use Rattle.osdp_tool_test.specs.Tests.{DeviceFinds, DeviceShows, DeviceStops, Refuses, Takes, all_entries, model};
 
 use crate::entry::Entry;
 use crate::exchange::said_in;
@@ -72,10 +69,8 @@ fn test_by<R: Read, W: Write>(
     input: &mut Watched<R>,
     output: &mut Watched<W>,
 ) -> Result<u8, ToolFault>
-    ensures { RunsBy (texts words.now)
-        (λ form. Ends (DeviceFinds form rules.now) DeviceStops LIMIT (R.remaining (inner_of input.old)) (R.remaining (inner_of input.new)) form
-        (W.contents (inner_of output.old)) (W.contents (inner_of output.new)) (has_failed output.new) result)
-        (IsRefused (R.remaining (inner_of input.old)) (R.remaining (inner_of input.new)) (W.contents (inner_of output.old)) (W.contents (inner_of output.new)) result) }
+    ensures { Tests (λ form. DeviceFinds form rules.now) DeviceStops LIMIT (texts words.now) (R.remaining (inner_of input.old)) (R.remaining (inner_of input.new))
+        (W.contents (inner_of output.old)) (W.contents (inner_of output.new)) (has_failed output.new) result }
 {
     match form_of(words) {
         Some(form) => judge_lines(alloc, form, Tested::new(alloc, form, rules), input, output),
@@ -91,10 +86,8 @@ pub fn test<R: Read, W: Write>(
     input: &mut Watched<R>,
     output: &mut Watched<W>,
 ) -> Result<u8, ToolFault>
-    ensures { (rules : List RuleOf) × AreDeviceRules rules × RunsBy (texts words.now)
-        (λ form. Ends (DeviceFinds form rules) DeviceStops LIMIT (R.remaining (inner_of input.old)) (R.remaining (inner_of input.new)) form
-        (W.contents (inner_of output.old)) (W.contents (inner_of output.new)) (has_failed output.new) result)
-        (IsRefused (R.remaining (inner_of input.old)) (R.remaining (inner_of input.new)) (W.contents (inner_of output.old)) (W.contents (inner_of output.new)) result) }
+    ensures { Tests DeviceShows DeviceStops LIMIT (texts words.now) (R.remaining (inner_of input.old)) (R.remaining (inner_of input.new))
+        (W.contents (inner_of output.old)) (W.contents (inner_of output.new)) (has_failed output.new) result }
 {
     test_by(alloc, &RULES, words, input, output)
 }

@@ -12,6 +12,7 @@ use Rattle.osdp_tool_test.specs.declared.report.Form.{Form}
 use Rattle.osdp_tool_test_panel.specs.Faults.{fault_text}
 use Rattle.osdp_tool_test_panel.specs.Lines.{Line, SaidFits, device, hears, said_words, says, skips}
 use Rattle.osdp_tool_test_panel.specs.Rules.{fresh_from, rule_in}
+use Rattle.osdp_tool_test_panel.specs.Table.{ArePanelRules}
 use Rattle.osdp_tool_test_panel.specs.declared.exchange.Exchange.{Exchange}
 use Rattle.osdp_tool_test_panel.specs.declared.rules.PanelRule.{PanelRule}
 use Rattle.osdp_tool_test_panel.specs.declared.tested.Tested.{Tested}
@@ -95,6 +96,10 @@ entries_of t = t.entries
 -- what the lines of a test of a panel show of its rules
 abbrev pub PanelFinds : Form → List PanelRule → List (List ℕ) → List Told → Type 0
 PanelFinds form rules = LinesFind said_words SaidFits after_said (new_test form rules) entries_of
+
+-- .. by the rules of a panel
+abbrev pub PanelShows : Form → List (List ℕ) → List Told → Type 0
+PanelShows form lines entries = (rules : List PanelRule) × ArePanelRules rules × PanelFinds form rules lines entries
 
 abbrev pub PanelStops : List (List ℕ) → ℕ → Type 0
 PanelStops = IsFirstBad said_words SaidFits

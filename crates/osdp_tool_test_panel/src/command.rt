@@ -1,13 +1,9 @@
 //! The command.
 
-ghost use Rattle.std.specs.Prelude.{List};
 ghost use Rattle.osdp_tool_streams.specs.Watched.{inner_of, has_failed};
 ghost use Rattle.osdp_words.specs.Word.{texts};
-ghost use Rattle.osdp_tool_test.specs.Ending.{Ends};
-ghost use Rattle.osdp_tool_test.specs.Running.{IsRefused, RunsBy};
-ghost use Rattle.osdp_tool_test_panel.specs.Table.{ArePanelRules};
-ghost use Rattle.osdp_tool_test_panel.specs.declared.rules.PanelRule.{PanelRule as RuleOf};
-ghost use Rattle.osdp_tool_test_panel.specs.Tests.{PanelFinds, PanelStops, Refuses, Takes, entries_of, model};
+ghost use Rattle.osdp_tool_test.specs.Running.{Tests};
+ghost use Rattle.osdp_tool_test_panel.specs.Tests.{PanelFinds, PanelShows, PanelStops, Refuses, Takes, entries_of, model};
 
 use crate::exchange::said_in;
 use crate::rules::{PANEL_RULES, PanelRule};
@@ -50,10 +46,8 @@ fn test_by<R: Read, W: Write>(
     input: &mut Watched<R>,
     output: &mut Watched<W>,
 ) -> Result<u8, ToolFault>
-    ensures { RunsBy (texts words.now)
-        (λ form. Ends (PanelFinds form rules.now) PanelStops LIMIT (R.remaining (inner_of input.old)) (R.remaining (inner_of input.new)) form
-        (W.contents (inner_of output.old)) (W.contents (inner_of output.new)) (has_failed output.new) result)
-        (IsRefused (R.remaining (inner_of input.old)) (R.remaining (inner_of input.new)) (W.contents (inner_of output.old)) (W.contents (inner_of output.new)) result) }
+    ensures { Tests (λ form. PanelFinds form rules.now) PanelStops LIMIT (texts words.now) (R.remaining (inner_of input.old)) (R.remaining (inner_of input.new))
+        (W.contents (inner_of output.old)) (W.contents (inner_of output.new)) (has_failed output.new) result }
 {
     let Some(form) = form_of(words) else {
         return Err(ToolFault::BadWords);
@@ -72,10 +66,8 @@ pub fn test_panel<R: Read, W: Write>(
     input: &mut Watched<R>,
     output: &mut Watched<W>,
 ) -> Result<u8, ToolFault>
-    ensures { (rules : List RuleOf) × ArePanelRules rules × RunsBy (texts words.now)
-        (λ form. Ends (PanelFinds form rules) PanelStops LIMIT (R.remaining (inner_of input.old)) (R.remaining (inner_of input.new)) form
-        (W.contents (inner_of output.old)) (W.contents (inner_of output.new)) (has_failed output.new) result)
-        (IsRefused (R.remaining (inner_of input.old)) (R.remaining (inner_of input.new)) (W.contents (inner_of output.old)) (W.contents (inner_of output.new)) result) }
+    ensures { Tests PanelShows PanelStops LIMIT (texts words.now) (R.remaining (inner_of input.old)) (R.remaining (inner_of input.new))
+        (W.contents (inner_of output.old)) (W.contents (inner_of output.new)) (has_failed output.new) result }
 {
     test_by(alloc, &PANEL_RULES, words, input, output)
 }

@@ -4,8 +4,10 @@
 mod command;
 mod exchange;
 mod fault;
+mod laws;
 mod rules;
 mod tested;
 
 pub use command::test_panel;
+pub use laws::{ends_by_its_lines, ends_in_turn};
 pub use rules::{PANEL_RULES, PanelRule};
