@@ -1,6 +1,7 @@
 mod JobLemmas
 mod CaptureWords
 mod Choosing
+mod OneTopic
 pub mod Names
 pub mod Orders
 pub mod Ordered

@@ -19,3 +19,7 @@ heading Test = codes "osdp test: "
 -- the text is the help of this topic, as its beginning says
 abbrev pub IsHelpOf : Topic → List ℕ → Type 0
 IsHelpOf topic text = take (length (heading topic)) text ≡ heading topic
+
+-- a text is the help of one topic at most
+abbrev pub HasOneTopic : Type 0
+HasOneTopic = (a b : Topic) (text : List ℕ) → IsHelpOf a text → IsHelpOf b text → a ≡ b

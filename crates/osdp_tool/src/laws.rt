@@ -3,6 +3,7 @@
 
 ghost use Rattle.osdp_tool.specs.Job.{Words, ChoosesJobByWords};
 ghost use Rattle.osdp_tool.specs.Choice.{ChoosesByWords};
+ghost use Rattle.osdp_tool.specs.Help.{HasOneTopic};
 ghost use Rattle.osdp_tool.specs.Laws.{HasOneOrder, ReadsBack};
 
 /// Words choose a job exactly where they are its words: `make` and any words but a lone flag for help, or `sim` alone. They are bad exactly where
@@ -29,3 +30,8 @@ pub fn reads_back()
     osdp_frame_laws::one_spelling();
     osdp_frame_laws::reading_of_spelling();
 }
+
+/// A text is the help of one topic at most.
+pub fn one_topic()
+    ensures { HasOneTopic }
+{}

@@ -7,6 +7,7 @@ use Rattle.osdp_tool_streams.proofs.CutLemmas.{ended_after-feed, ended_after-lin
 use Rattle.osdp_tool_captures.specs.declared.fault.BadLine.{BadLine}
 use Rattle.osdp_tool_captures.specs.declared.fault.LineFault.{LineFault}
 use Rattle.osdp_tool_captures.specs.declared.format.Tool.{Tool}
+use Rattle.osdp_tool_captures.specs.Laws.{FirstLineFirst}
 use Rattle.osdp_tool_captures.specs.Lines.{line_text}
 use Rattle.osdp_tool_captures.specs.Captures.{AddsLine, bad_or, before, capture_fault, capture_text, first_bad, lines_text}
 
@@ -26,6 +27,9 @@ line_cut bytes count h =
     let one_more : take (count + 1) bytes ≡ take count bytes ++ line_feed ∷ [] =
     take_more bytes count 0 h.below ∙ ap (λ n. take count bytes ++ n ∷ []) h.feed in
     sym (take-append-drop (count + 1) bytes) ∙ ap (λ l. l ++ drop (count + 1) bytes) one_more ∙ append_assoc (take count bytes) (line_feed ∷ []) (drop (count + 1) bytes)
+
+pub first_line_first : FirstLineFirst
+first_line_first bytes count has = ap lines_of (line_cut bytes count has) ∙ lines_of-feed (take count bytes) (drop (count + 1) bytes) has.line
 
 -- what was read of a capture, and what is to come of it
 pub record Going (tool : Tool) (bytes : List ℕ) (at number : ℕ) (text : List ℕ) : Type 0 where

@@ -1,2 +1,3 @@
 pub mod Cutting
 pub mod Zeros
+pub mod AsFar

@@ -3,3 +3,4 @@ pub mod Lines
 pub mod Captures
 pub mod Hints
 pub mod Whole
+pub mod Laws

@@ -6,6 +6,7 @@ mod entry;
 mod fault;
 mod format;
 mod hint;
+pub mod laws;
 mod line;
 mod translation;
 mod whole;

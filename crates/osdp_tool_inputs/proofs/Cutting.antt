@@ -11,9 +11,6 @@ pub record AreCut (text : List ℕ) (at : ℕ) (lines : List (Bor (List ℕ))) :
   pub within : at ≤ length text
   pub whole : parts lines ++ lines_of (drop at text) ≡ lines_of text
 
-pub none_cut : (text : List ℕ) → AreCut text 0 []
-none_cut text = record { within = omega arith; whole = refl }
-
 parts_more : (lines new : List (Bor (List ℕ))) (line : Bor (List ℕ)) → new ≡ lines ++ line ∷ [] → parts new ≡ parts lines ++ line.now ∷ []
 parts_more lines new line e = ap parts e ∙ map-append (λ (part : Bor (List ℕ)). part.now) lines (line ∷ [])
 

@@ -48,9 +48,6 @@ module _ (reads : Reads) (format : Format) (words : Words) where
   abbrev pub Tried : ℕ → Type 0
   Tried count = (options files : Words) (task : Task) → AreAsked reads format words options files task → count ≤ length files
 
-  pub none_tried : Tried 0
-  none_tried options files task are = omega arith
-
   module _ (count : ℕ) (tried : Tried count) where
     lengths : (options files : Words) (task : Task) → AreAsked reads format words options files task → length words ≡ length options + length files
     lengths options files task are = ap length are.are ∙ length-append options files
@@ -81,13 +78,6 @@ module _ (reads : Reads) (format : Format) (words : Words) where
             ap (λ n. take n words) place ∙ ap (λ l. take (length options) l) are.are ∙ take-append_seam options files in
             let clash = one_task reads format options None (Some task) (subst (λ o. TaskOf reads format o None) front none) are.task_is in
             absurd cc
-
-    -- there is no front that is left
-    pub all_tried : (count ≤ length words → ⊥) → (options files : Words) (task : Task) → AreAsked reads format words options files task → ⊥
-    all_tried none options files task are =
-        let enough = tried options files task are in
-        let whole = lengths options files task are in
-        none (omega arith)
 
 -- ---- the same, of words as they are lent
 

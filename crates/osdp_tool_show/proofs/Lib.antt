@@ -25,3 +25,4 @@ pub mod NoFeed
 pub mod OneLine
 pub mod OneCount
 pub mod PassedItems
+pub mod InTurn

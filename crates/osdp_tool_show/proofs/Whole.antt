@@ -17,7 +17,7 @@ use Rattle.osdp_tool_show.specs.Shown.{shown, shown_so_far, answer_to, is_refuse
 use Rattle.osdp_tool_show.specs.Ending.{Stream, streamed, Ends, IsWhole, EndsWhole}
 
 -- what was consumed of known bytes is their front
-consumed : (bytes read : List ℕ) (after : Option (List ℕ)) → Consumes (Some bytes) after read → (rest : List ℕ) × (after ≡ Some rest) × (bytes ≡ read ++ rest)
+pub consumed : (bytes read : List ℕ) (after : Option (List ℕ)) → Consumes (Some bytes) after read → (rest : List ℕ) × (after ≡ Some rest) × (bytes ≡ read ++ rest)
 consumed bytes read None h = absurd h
 consumed bytes read (Some rest) h = (rest, refl, h)
 

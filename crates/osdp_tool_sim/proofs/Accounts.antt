@@ -7,7 +7,7 @@ use Rattle.osdp_script.specs.declared.script.Script.{Script}
 use Rattle.osdp_script.specs.Script.{steps_of}
 use Rattle.osdp_script.specs.Handler.{handler_after, handler_answer}
 use Rattle.osdp_script.specs.declared.handler.ScriptReader.{ScriptReader}
-use Rattle.osdp_session.specs.SeveralReaders.{HoldsOfBusRun, OfEach, TellsSessions}
+use Rattle.osdp_session.specs.SeveralReaders.{HoldsOfBusRun, TellsSessions}
 use Rattle.osdp_sim.specs.declared.account.Account as declared
 use Rattle.osdp_sim.specs.declared.fault.Cause.{Cause}
 use Rattle.osdp_sim.specs.declared.fault.Cause.TheVariants as cause
@@ -25,6 +25,7 @@ use Rattle.osdp_tool_streams.specs.declared.fault.ToolFault.{ToolFault}
 use Rattle.osdp_tool_sim.specs.AccountText.{account_text, texts_from}
 use Rattle.osdp_tool_sim.specs.Several.{TellsEach, line_of, readers_from}
 use Rattle.osdp_tool_sim.specs.Steps.{EndsBy}
+use Rattle.osdp_sim_bus_laws.specs.Accounts.{OfEach}
 use Rattle.osdp_tool_sim.specs.Told.{IsTextOfEach, TellsReaders}
 use Rattle.osdp_tool_sim.proofs.Stopped.{stop_is_told}
 

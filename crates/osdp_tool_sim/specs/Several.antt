@@ -6,7 +6,8 @@ use Rattle.osdp_script.specs.Script.{steps_of}
 use Rattle.osdp_script.specs.Handler.{handler_after, handler_answer, new_handler}
 use Rattle.osdp_script.specs.Identity.{script_config}
 use Rattle.osdp_script.specs.declared.handler.ScriptReader.{ScriptReader}
-use Rattle.osdp_session.specs.SeveralReaders.{OfEach, TellsSessions}
+use Rattle.osdp_session.specs.SeveralReaders.{TellsSessions}
+use Rattle.osdp_sim_bus_laws.specs.Accounts.{OfEach}
 use Rattle.osdp_sim.specs.Account.{Account}
 use Rattle.osdp_sim.specs.State.{room_for}
 use Rattle.osdp_sim_bus.specs.State.{Given, LineState, accounts, set_up}

@@ -3,11 +3,10 @@ use Rattle.std.proofs.Common.{◌≡◌, ◌⊎◌, inl, inr, ℕ, ◌+◌, ◌*
 use Rattle.std.proofs.lemmas.Bool.{cases_lt}
 use Rattle.std.proofs.lemmas.List.{get_or-set_same, get_or-set_other}
 use Rattle.std.specs.Result.{result_ok}
-use Rattle.hex.specs.Hex.{decode_of, decode_pairs, decode_sized, digit_or_error, hex_digit_value, pair_value, ◌>>=◌}
+use Rattle.hex.specs.Hex.{decode_of, decode_pairs, decode_sized, digit_or_error, hex_digit_value, ◌>>=◌}
 use Rattle.hex.specs.declared.error.FromHexError.{FromHexError}
 use Rattle.hex.proofs.HexLemmas.{decode_of-even}
 use Rattle.osdp_tool_streams.specs.Digits.{value_or_none}
-use Rattle.osdp_tool_streams.proofs.Spelled.{small}
 
 -- a digit after a zero
 decoded : (c : ℕ) → decode_sized (48 ∷ c ∷ []) 1 ≡ (digit_or_error c 1 (hex_digit_value c) >>= (λ v. Ok (v ∷ [])))
@@ -51,29 +50,6 @@ value_set values at v within h is c below =
     ]
 
 -- ---- the byte of two digits
-
-pub pair_is : (high low h l index : ℕ) → h ≡ value_or_none (hex_digit_value high) → l ≡ value_or_none (hex_digit_value low)
-    → h ≤ 15 → l ≤ 15 → Some (h * 16 + l) ≡ result_ok (pair_value high low index)
-pair_is high low h l index a b x y = go (hex_digit_value high) (hex_digit_value low) a b
-  where
-    go : (o p : Option ℕ) → h ≡ value_or_none o → l ≡ value_or_none p
-        → Some (h * 16 + l) ≡ result_ok (digit_or_error high index o >>= (λ m. digit_or_error low (index + 1) p >>= (λ n. Ok (m * 16 + n))))
-    go None p e f = absurd (omega arith)
-    go (Some m) None e f = absurd (omega arith)
-    go (Some m) (Some n) e f = ap (λ k. Some (k * 16 + l)) e ∙ ap (λ k. Some (m * 16 + k)) f
-
-pub pair_none : (high low h l index : ℕ) → h ≡ value_or_none (hex_digit_value high) → l ≡ value_or_none (hex_digit_value low)
-    → (15 < h) ⊎ (15 < l) → None ≡ result_ok (pair_value high low index)
-pair_none high low h l index a b x = go (hex_digit_value high) (hex_digit_value low) refl refl a b
-  where
-    go : (o p : Option ℕ) → hex_digit_value high ≡ o → hex_digit_value low ≡ p → h ≡ value_or_none o → l ≡ value_or_none p
-        → None ≡ result_ok (digit_or_error high index o >>= (λ m. digit_or_error low (index + 1) p >>= (λ n. Ok (m * 16 + n))))
-    go None p is also e f = refl
-    go (Some m) None is also e f = refl
-    go (Some m) (Some n) is also e f =
-        let s = small high m is in
-        let t = small low n also in
-        elim x [ inl big ↦ absurd (omega arith) | inr big ↦ absurd (omega arith) ]
 
 pub pair_ok : (r : Result ℕ FromHexError) (v : ℕ) → Some v ≡ result_ok r → r ≡ Ok v
 pair_ok (Ok w) v h = cc

@@ -12,6 +12,7 @@ use Rattle.osdp_tool_streams.proofs.FormLemmas.{kept-append}
 use Rattle.osdp_tool_times.specs.Captures.{Heard, after_line, from_start, item_after, item_told, line_told, moment_or, run_after, start_in}
 use Rattle.osdp_tool_times.specs.declared.table.Times.{Times}
 use Rattle.osdp_tool_times.specs.declared.waits.Told.TheVariants.{Nothing}
+use Rattle.osdp_tool_times.specs.MomentLaws.{TellsEachWay}
 use Rattle.osdp_tool_times.specs.Moments.{before_way, ends_so, moment_in, stamp_in, way_length}
 
 -- what the last of some characters are tells whether all of them end so
@@ -37,6 +38,16 @@ way_trace front =
     ap (λ b. cond b 2 (cond (ends_so t (codes "out")) 3 (cond (ends_so t (codes "trace")) 5 0))) (ends_last front (codes "trace") (codes "in") (omega arith))
     ∙ ap (λ b. cond b 3 (cond (ends_so t (codes "trace")) 5 0)) (ends_last front (codes "trace") (codes "out") (omega arith))
     ∙ ap (λ b. cond b 5 0) (ends_last front (codes "trace") (codes "trace") (omega arith))
+
+pub each_way : TellsEachWay
+each_way stamp = (by (codes "in") 2 (way_in stamp) refl refl, by (codes "out") 3 (way_out stamp) refl refl, by (codes "trace") 5 (way_trace stamp) refl refl, refl)
+  where
+    by : (end : List ℕ) (way : ℕ) → way_length (stamp ++ end) ≡ way → length end ≡ way → (way == 0) ≡ false → moment_in (stamp ++ end) ≡ stamp_in stamp
+    by end way is size some =
+        let place : length (stamp ++ end) - way ≡ length stamp = omega (arith, length-append stamp end) in
+        ap (λ n. before_way n (stamp ++ end)) is
+        ∙ ap (λ b. cond b None (stamp_in (take (length (stamp ++ end) - way) (stamp ++ end)))) some
+        ∙ ap (λ n. stamp_in (take n (stamp ++ end))) place ∙ ap stamp_in (take-append_seam stamp end)
 
 -- the characters that count end in the same way
 module _ (text stamp end : List ℕ) (way : ℕ) where

@@ -1,8 +1,10 @@
 pub mod Numbers
 pub mod Steps
 pub mod Exchanges
+pub mod GoingBack
 pub mod Rows
 pub mod Comments
 pub mod DayTimes
 pub mod Presences
 pub mod Plain
+pub mod Stamps

@@ -1,7 +1,8 @@
 -- Which answers are told as late, in the words of the line: a panel that sends, and a device that answers.
-use Rattle.std.specs.Prelude.{◌≡◌, ◌≢◌, ◌≤◌, ◌-◌, ℕ, List, [], ◌∷◌}
+use Rattle.std.specs.Prelude.{◌≡◌, ◌≢◌, ◌≤◌, ◌<◌, ◌-◌, ℕ, List, [], ◌∷◌, None, Some}
 use Rattle.osdp_tool_times.specs.Waits.{after_reply, after_sent, no_waits, told_reply}
-use Rattle.osdp_tool_times.specs.declared.waits.Told.TheVariants.{InTime, Late}
+use Rattle.osdp_tool_times.specs.declared.waits.Sent.{Sent}
+use Rattle.osdp_tool_times.specs.declared.waits.Told.TheVariants.{InTime, Late, Nothing}
 use Rattle.osdp_tool_times.specs.declared.waits.Waits.{Waits}
 
 -- a packet of a number, sent at a moment
@@ -46,3 +47,8 @@ TellsLateSeconds = (exchanges : List Exchange) (number next asked again answered
 abbrev pub TellsLateFurther : Type 0
 TellsLateFurther = (exchanges : List Exchange) (number next last asked later latest answered : ℕ) → next ≢ number → last ≢ number → asked ≤ latest → latest ≤ answered
     → told_reply (sent last latest (sent next later (sent number asked (after_exchanges no_waits exchanges)))) number answered ≡ Late (answered - asked) (later - asked)
+
+-- An answer that is said to come before the last packet was sent tells no time, whatever was sent before: the moments of the capture go back there.
+abbrev pub TellsNothingBefore : Type 0
+TellsNothingBefore = (w : Waits) (last : Sent) (number answered : ℕ) → w.last ≡ Some last → w.first ≡ None → answered < last.moment
+    → told_reply w number answered ≡ Nothing

@@ -8,3 +8,5 @@ pub mod DayTime
 pub mod Text
 pub mod Laws
 pub mod PresenceLaws
+pub mod MomentLaws
+pub mod TimesLaws

@@ -1,8 +1,10 @@
 //! What is told as late, in the words of the line, which devices are told offline and how often they restart, and what the day's time tells. A law has no code: it holds for all values, and its proof is the law's.
 
 ghost use Rattle.osdp_tool_times.specs.DayTime.{ComesAgain, TellsMomentsApart};
+ghost use Rattle.osdp_tool_times.specs.MomentLaws.{TellsDays, TellsEachWay, TellsSeconds};
 ghost use Rattle.osdp_tool_times.specs.PresenceLaws.{CountsARowOnce, CountsRestarts, TellsOffline, TellsOnline};
-ghost use Rattle.osdp_tool_times.specs.Laws.{NeverTellsLate, TellsLate, TellsLateCopies, TellsLateFurther, TellsLateSeconds};
+ghost use Rattle.osdp_tool_times.specs.Laws.{NeverTellsLate, TellsLate, TellsLateCopies, TellsLateFurther, TellsLateSeconds, TellsNothingBefore};
+ghost use Rattle.osdp_tool_times.specs.TimesLaws.{CountsThoseBelow, TellsTheLongest};
 
 /// A device that answers each packet before the panel sends its next one is never told late.
 pub fn never_tells_late()
@@ -27,6 +29,24 @@ pub fn tells_late_seconds()
 /// And so it is where the panel has sent two more packets.
 pub fn tells_late_further()
     ensures { TellsLateFurther }
+{}
+
+/// An answer whose moment is before that of the last packet tells no time, in time or late.
+pub fn tells_nothing_before()
+    ensures { TellsNothingBefore }
+{}
+
+/// Of late answers the longest is told, and as many answers as a rank says took less than is told of it.
+pub fn tells_answer_times()
+    ensures longest { TellsTheLongest }
+    ensures below { CountsThoseBelow }
+{}
+
+/// A comment tells the moment of its stamp, whichever way its burst went: seconds with their thousandths, or a day and a time of it.
+pub fn tells_moments()
+    ensures ways { TellsEachWay }
+    ensures seconds { TellsSeconds }
+    ensures days { TellsDays }
 {}
 
 /// The day's time tells two moments of one day apart.

@@ -1,0 +1,15 @@
+//! What is proved of the definitions: each function is a law.
+
+ghost use Rattle.osdp_tool_captures.specs.Laws.{FirstLineFirst, ReadsAsFarAsItGoes};
+
+/// An input that is no longer than the limit is read whole. Of a longer one as many bytes are read as the limit allows, and of one that fails a beginning.
+#[tactic(auto, using(crate::proofs::AsFar::reads_as_far))]
+pub fn reads_as_far_as_it_goes()
+    ensures { ReadsAsFarAsItGoes }
+{}
+
+/// What stands before the first line feed is the first line of an input, and the others are those of what stands after it.
+#[tactic(auto, using(crate::proofs::Cutting::first_line_first))]
+pub fn first_line_first()
+    ensures { FirstLineFirst }
+{}
