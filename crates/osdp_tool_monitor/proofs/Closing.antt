@@ -11,11 +11,11 @@ use Rattle.osdp_tool_monitor.specs.Listening.{is_wrong, listening_of}
 use Rattle.osdp_tool_monitor.proofs.OpenRuns.{events_report-append}
 use Rattle.osdp_tool_monitor.specs.declared.mode.MonitorMode.{MonitorMode}
 use Rattle.osdp_tool_monitor.specs.declared.session.Session.{Session}
-use Rattle.osdp_tool_monitor.specs.Ending.{CameIn, Ends, IsTold, IsToldInPart, IsTooLong, input_report}
+use Rattle.osdp_tool_monitor.specs.Ending.{CameIn, Ends, IsTold, IsToldInPart, IsTooLong, OnlyLastIsBad, input_report}
 use Rattle.osdp_tool_monitor.specs.Events.{Broken, End, Following, Piece, after_pieces, bad_at_end, bytes_of, end_events, input_events, last_events, nothing_cut, pieces_events}
 use Rattle.osdp_tool_monitor.specs.Reading.{HasBroken, HasRead, HasTold, ReadsAll, TellsEvents, after_failed_read}
 use Rattle.osdp_tool_monitor.specs.Session.{cut_of, weight}
-use Rattle.osdp_tool_monitor.proofs.Pieces.{part_of, told_more}
+use Rattle.osdp_tool_monitor.proofs.Pieces.{last_bad, none_bad, part_of, told_more}
 
 -- what ends an input is told after its pieces
 told_last : (mode : MonitorMode) (pieces : List Piece) (following : Following) (s next : Session) (start now after : Option (List ℕ)) (text : List ℕ)
@@ -26,37 +26,37 @@ told_last mode pieces following s next start now after text t h wrote =
 
 -- a beginning of it
 last_in_part : {M : Type 0} (tells : M → ℕ → M → Type 0) (mode : MonitorMode) (first last : M) (i0 i2 start now after : Option (List ℕ)) (pieces : List Piece)
-    (following : Following) (s : Session) (next : OpenLine) (text : List ℕ) (count : ℕ) → CameIn tells first last i0 i2 pieces
+    (following : Following) (s : Session) (next : OpenLine) (text : List ℕ) (count : ℕ) → CameIn tells first last i0 i2 pieces → OnlyLastIsBad mode pieces
     → HasTold mode (pieces_events mode nothing_cut pieces) s start now → Hears (last_events following mode (after_pieces mode nothing_cut pieces)) s.line next [] text
     → Appends now after (take count text) → IsToldInPart tells mode first last i0 i2 start after
-last_in_part tells mode first last i0 i2 start now after pieces following s next text count came t h wrote =
+last_in_part tells mode first last i0 i2 start now after pieces following s next text count came bad t h wrote =
     let events = pieces_events mode nothing_cut pieces in
     let more = last_events following mode (after_pieces mode nothing_cut pieces) in
     let told : text ≡ events_report mode.detail (after_events (nothing_yet mode.standard) events) more =
     h.text ∙ ap (λ q. events_report q (hearing_of s.line) more) t.prints ∙ ap (λ k. events_report mode.detail k more) t.heard in
     part_of tells mode first last i0 i2 start now after pieces [] following text count (omega arith) (subst (λ l. CameIn tells first last i0 i2 l) (sym (append-nil pieces)) came)
-    t.written
+    (subst (OnlyLastIsBad mode) (sym (append-nil pieces)) bad) t.written
     (ap (input_report following mode) (append-nil pieces) ∙ events_report-append mode.detail (nothing_yet mode.standard) events more
     ∙ ap (λ l. events_report mode.detail (nothing_yet mode.standard) events ++ l) (sym told)) wrote
 
 last_kept : {M : Type 0} (tells : M → ℕ → M → Type 0) (mode : MonitorMode) (first last : M) (i0 i2 start now after : Option (List ℕ)) (pieces : List Piece)
-    (following : Following) (s : Session) → CameIn tells first last i0 i2 pieces → HasTold mode (pieces_events mode nothing_cut pieces) s start now → Keeps now after
+    (following : Following) (s : Session) → CameIn tells first last i0 i2 pieces → OnlyLastIsBad mode pieces → HasTold mode (pieces_events mode nothing_cut pieces) s start now → Keeps now after
     → IsToldInPart tells mode first last i0 i2 start after
-last_kept tells mode first last i0 i2 start now after pieces following s came t kept =
+last_kept tells mode first last i0 i2 start now after pieces following s came bad t kept =
     let events = pieces_events mode nothing_cut pieces in
     let more = last_events following mode (after_pieces mode nothing_cut pieces) in
     part_of tells mode first last i0 i2 start now after pieces [] following (events_report mode.detail (after_events (nothing_yet mode.standard) events) more) 0 (omega arith)
-    (subst (λ l. CameIn tells first last i0 i2 l) (sym (append-nil pieces)) came) t.written
+    (subst (λ l. CameIn tells first last i0 i2 l) (sym (append-nil pieces)) came) (subst (OnlyLastIsBad mode) (sym (append-nil pieces)) bad) t.written
     (ap (input_report following mode) (append-nil pieces) ∙ events_report-append mode.detail (nothing_yet mode.standard) events more)
     (Appends-kept now now after [] (Appends-nil now) kept)
 
 -- because too much was counted
 long_last : {M : Type 0} (tells : M → ℕ → M → Type 0) (mode : MonitorMode) (first last : M) (i0 i2 start now after : Option (List ℕ)) (pieces : List Piece)
-    (following : Following) (s : Session) → CameIn tells first last i0 i2 pieces → HasTold mode (pieces_events mode nothing_cut pieces) s start now → Keeps now after
+    (following : Following) (s : Session) → CameIn tells first last i0 i2 pieces → OnlyLastIsBad mode pieces → HasTold mode (pieces_events mode nothing_cut pieces) s start now → Keeps now after
     → weight s ≤ 5 * length (bytes_of pieces) → 2 ^ 60 ≤ weight s + 5 → IsTooLong tells mode first last i0 i2 start after
 unfolding part_of last_kept
-long_last tells mode first last i0 i2 start now after pieces following s came t kept weighs long = record {
-  part = last_kept tells mode first last i0 i2 start now after pieces following s came t kept;
+long_last tells mode first last i0 i2 start now after pieces following s came bad t kept weighs long = record {
+  part = last_kept tells mode first last i0 i2 start now after pieces following s came bad t kept;
   long = subst (λ l. 2 ^ 57 ≤ length (bytes_of l)) (sym (append-nil pieces)) (omega arith);
 }
 
@@ -74,22 +74,23 @@ module _ {M : Type 0} (tells : M → ℕ → M → Type 0) (mode : MonitorMode) 
       → TellsEvents {T = Unit {0}} (TableDue ∷ []) s s now after failed (Err fault) → input_failed ≡ false
       → Ends tells mode first last i0 i2 input_failed start after failed (Err fault)
   broken_stops input_failed failed WriteFailed b (next, text, count, h, wrote, ill) input =
-      (last_in_part tells mode first last i0 i2 start now after (b.front ++ b.piece ∷ []) Broken s next text count b.came b.broke.told h wrote, input, ill)
+      (last_in_part tells mode first last i0 i2 start now after (b.front ++ b.piece ∷ []) Broken s next text count b.came (last_bad mode b.front b.piece b.broke.good) b.broke.told h wrote, input, ill)
   broken_stops input_failed failed NoMemory b (kept, well) input =
-      (last_kept tells mode first last i0 i2 start now after (b.front ++ b.piece ∷ []) Broken s b.came b.broke.told kept, well)
+      (last_kept tells mode first last i0 i2 start now after (b.front ++ b.piece ∷ []) Broken s b.came (last_bad mode b.front b.piece b.broke.good) b.broke.told kept, well)
   broken_stops input_failed failed TooLong b (kept, well, long) input =
-      (long_last tells mode first last i0 i2 start now after (b.front ++ b.piece ∷ []) Broken s b.came b.broke.told kept b.broke.weighs long, well)
+      (long_last tells mode first last i0 i2 start now after (b.front ++ b.piece ∷ []) Broken s b.came (last_bad mode b.front b.piece b.broke.good) b.broke.told kept b.broke.weighs long, well)
   broken_stops input_failed failed fault b told input = absurd told
 
   pub failed_well : (input_failed failed : Bool) → HasRead tells mode first last i0 i2 start now s → TellsEvents {T = Unit {0}} (TableDue ∷ []) s s now after failed (Ok tt)
       → input_failed ≡ true → Ends tells mode first last i0 i2 input_failed start after failed (Err ReadFailed)
+  unfolding failed_told
   failed_well input_failed failed r (text, h, wrote, well) input =
-      (inl (failed_told r (text, h, wrote, refl), well), input)
+      (inl (failed_told r (text, h, wrote, refl), r.follows.good, well), input)
 
   pub failed_part : (input_failed failed : Bool) → HasRead tells mode first last i0 i2 start now s → TellsEvents {T = Unit {0}} (TableDue ∷ []) s s now after failed (Err WriteFailed)
       → input_failed ≡ true → Ends tells mode first last i0 i2 input_failed start after failed (Err ReadFailed)
   failed_part input_failed failed r (next, text, count, h, wrote, ill) input =
-      (inr (last_in_part tells mode first last i0 i2 start now after r.pieces Broken s next text count r.came r.follows.told h wrote, ill), input)
+      (inr (last_in_part tells mode first last i0 i2 start now after r.pieces Broken s next text count r.came (none_bad mode r.pieces r.follows.good) r.follows.told h wrote, ill), input)
 
   pub broken_well : (input_failed failed : Bool) → HasBroken tells mode first last i0 i2 start now s → TellsEvents {T = Unit {0}} (TableDue ∷ []) s s now after failed (Ok tt)
       → input_failed ≡ false → Ends tells mode first last i0 i2 input_failed start after failed (Err (NotHex s.ended))
@@ -105,8 +106,8 @@ module _ {M : Type 0} (tells : M → ℕ → M → Type 0) (mode : MonitorMode) 
       → TellsEvents {T = Unit {0}} (TableDue ∷ []) s s now after failed (Err fault) → input_failed ≡ true
       → Ends tells mode first last i0 i2 input_failed start after failed (Err (after_failed_read fault))
   failed_by input_failed failed WriteFailed r told input = failed_part input_failed failed r told input
-  failed_by input_failed failed NoMemory r (kept, well) input = (last_kept tells mode first last i0 i2 start now after r.pieces Broken s r.came r.follows.told kept, well)
-  failed_by input_failed failed TooLong r (kept, well, long) input = (last_kept tells mode first last i0 i2 start now after r.pieces Broken s r.came r.follows.told kept, well)
+  failed_by input_failed failed NoMemory r (kept, well) input = (last_kept tells mode first last i0 i2 start now after r.pieces Broken s r.came (none_bad mode r.pieces r.follows.good) r.follows.told kept, well)
+  failed_by input_failed failed TooLong r (kept, well, long) input = (last_kept tells mode first last i0 i2 start now after r.pieces Broken s r.came (none_bad mode r.pieces r.follows.good) r.follows.told kept, well)
   failed_by input_failed failed fault r told input = absurd told
 
   -- ---- the end of the input
@@ -152,14 +153,14 @@ module _ {M : Type 0} (tells : M → ℕ → M → Type 0) (mode : MonitorMode) 
       → Ends tells mode first last i0 i2 input_failed start after failed (Err fault)
   closed_stops next input_failed failed WriteFailed r (line, text, count, h, wrote, ill) input =
       let f = r.follows in (
-        last_in_part tells mode first last i0 i2 start now after r.pieces End s line text count r.came f.told
+        last_in_part tells mode first last i0 i2 start now after r.pieces End s line text count r.came (none_bad mode r.pieces f.good) f.told
             (subst (λ l. Hears l s.line line [] text) (ends_are r r.pieces f.cut f.mode_is) h) wrote,
         input,
         ill,
       )
-  closed_stops next input_failed failed NoMemory r (kept, well) input = (last_kept tells mode first last i0 i2 start now after r.pieces End s r.came r.follows.told kept, well)
+  closed_stops next input_failed failed NoMemory r (kept, well) input = (last_kept tells mode first last i0 i2 start now after r.pieces End s r.came (none_bad mode r.pieces r.follows.good) r.follows.told kept, well)
   closed_stops next input_failed failed TooLong r (kept, well, long) input =
-      (long_last tells mode first last i0 i2 start now after r.pieces End s r.came r.follows.told kept r.follows.weighs long, well)
+      (long_last tells mode first last i0 i2 start now after r.pieces End s r.came (none_bad mode r.pieces r.follows.good) r.follows.told kept r.follows.weighs long, well)
   closed_stops next input_failed failed fault r told input = absurd told
 
 -- ---- what was read, by the answer

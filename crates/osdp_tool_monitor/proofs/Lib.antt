@@ -13,3 +13,6 @@ pub mod Pieces
 pub mod Closing
 pub mod Words
 pub mod Weights
+pub mod Alike
+pub mod Captures
+pub mod Clocks

@@ -11,7 +11,7 @@ use Rattle.osdp_tool_monitor.specs.Hearing.{Hears, LineEvent, after_events, even
 use Rattle.osdp_tool_monitor.proofs.OpenRuns.{after_events-append, events_report-append}
 use Rattle.osdp_tool_monitor.specs.declared.mode.MonitorMode.{MonitorMode}
 use Rattle.osdp_tool_monitor.specs.declared.session.Session.{Session}
-use Rattle.osdp_tool_monitor.specs.Ending.{CameIn, IsToldInPart, IsTooLong, Told, input_report}
+use Rattle.osdp_tool_monitor.specs.Ending.{CameIn, IsToldInPart, IsTooLong, OnlyLastIsBad, Told, input_report}
 use Rattle.osdp_tool_monitor.specs.Events.{Cut, Following, More, Piece, after_piece, after_pieces, are_good, bad_in, bytes_of, moments_of, nothing_cut, piece_events, pieces_events}
 use Rattle.osdp_tool_monitor.specs.Reading.{Broke, HasBroken, HasRead, HasTold, HasToldPieces, ReadsAll, TellsPiece}
 use Rattle.osdp_tool_monitor.specs.Session.{IsNew, IsReady, TakesPiece, cut_of, weight}
@@ -160,14 +160,21 @@ broke_in mode pieces piece s next start now after text f b wrote grows = record 
 pub more_report : (mode : MonitorMode) (pieces : List Piece) → input_report More mode pieces ≡ events_report mode.detail (nothing_yet mode.standard) (pieces_events mode nothing_cut pieces)
 more_report mode pieces = ap (events_report mode.detail (nothing_yet mode.standard)) (append-nil (pieces_events mode nothing_cut pieces))
 
+-- pieces in which no bad line ended, and one more
+pub none_bad : (mode : MonitorMode) (pieces : List Piece) → are_good mode nothing_cut pieces ≡ true → OnlyLastIsBad mode pieces
+none_bad mode pieces good = record { front = pieces; end = []; split = sym (append-nil pieces); one = omega arith; good = good }
+
+pub last_bad : (mode : MonitorMode) (pieces : List Piece) (piece : Piece) → are_good mode nothing_cut pieces ≡ true → OnlyLastIsBad mode (pieces ++ piece ∷ [])
+last_bad mode pieces piece good = record { front = pieces; end = piece ∷ []; split = refl; one = omega arith; good = good }
+
 -- all that was told before, and a beginning of what comes after it
 unfoldable pub part_of : {M : Type 0} (tells : M → ℕ → M → Type 0) (mode : MonitorMode) (first last : M) (i0 i2 start now after : Option (List ℕ))
     (earlier later : List Piece) (following : Following) (more : List ℕ) (count : ℕ) → length later ≤ 1
-    → CameIn tells first last i0 i2 (earlier ++ later)
+    → CameIn tells first last i0 i2 (earlier ++ later) → OnlyLastIsBad mode (earlier ++ later)
     → Appends start now (events_report mode.detail (nothing_yet mode.standard) (pieces_events mode nothing_cut earlier))
     → input_report following mode (earlier ++ later) ≡ events_report mode.detail (nothing_yet mode.standard) (pieces_events mode nothing_cut earlier) ++ more
     → Appends now after (take count more) → IsToldInPart tells mode first last i0 i2 start after
-part_of tells mode first last i0 i2 start now after earlier later following more count few came told is wrote =
+part_of tells mode first last i0 i2 start now after earlier later following more count few came bad told is wrote =
     let front = events_report mode.detail (nothing_yet mode.standard) (pieces_events mode nothing_cut earlier) in
     let sizes : length (input_report More mode earlier) ≡ length front = ap length (more_report mode earlier) in
     record {
@@ -175,6 +182,7 @@ part_of tells mode first last i0 i2 start now after earlier later following more
       later = later;
       few = few;
       came = came;
+      bad = bad;
       following = following;
       count = length front + count;
       least = omega arith;
@@ -208,7 +216,7 @@ pub part_written : {M : Type 0} (tells : M → ℕ → M → Type 0) (mode : Mon
     (s next : Session) (good : Bool) (text : List ℕ) (count : ℕ) → CameIn tells first last i0 i2 (pieces ++ piece ∷ []) → HasToldPieces mode pieces s start now
     → TakesPiece good piece s next [] text → Appends now after (take count text) → IsToldInPart tells mode first last i0 i2 start after
 part_written tells mode first last i0 i2 start now after pieces piece s next good text count came f takes wrote =
-    part_of tells mode first last i0 i2 start now after pieces (piece ∷ []) More text count (omega arith) came f.told.written
+    part_of tells mode first last i0 i2 start now after pieces (piece ∷ []) More text count (omega arith) came (last_bad mode pieces piece f.good) f.told.written
     (report_more mode pieces piece ∙ ap (λ l. events_report mode.detail (nothing_yet mode.standard) (pieces_events mode nothing_cut pieces) ++ l)
     (sym (text_is mode pieces piece s next start now text f (hears_of good piece s next text takes))))
     wrote
@@ -218,7 +226,7 @@ pub part_kept : {M : Type 0} (tells : M → ℕ → M → Type 0) (mode : Monito
     (s : Session) → CameIn tells first last i0 i2 (pieces ++ piece ∷ []) → HasToldPieces mode pieces s start now → Keeps now after
     → IsToldInPart tells mode first last i0 i2 start after
 part_kept tells mode first last i0 i2 start now after pieces piece s came f kept =
-    part_of tells mode first last i0 i2 start now after pieces (piece ∷ []) More _ 0 (omega arith) came f.told.written (report_more mode pieces piece)
+    part_of tells mode first last i0 i2 start now after pieces (piece ∷ []) More _ 0 (omega arith) came (last_bad mode pieces piece f.good) f.told.written (report_more mode pieces piece)
     (Appends-kept now now after [] (Appends-nil now) kept)
 
 -- because too much was counted
@@ -235,7 +243,8 @@ long_kept tells mode first last i0 i2 start now after pieces piece s came f kept
 unfoldable pub part_here : {M : Type 0} (tells : M → ℕ → M → Type 0) (mode : MonitorMode) (first last : M) (i0 i2 start now : Option (List ℕ)) (pieces : List Piece) (s : Session)
     → CameIn tells first last i0 i2 pieces → HasToldPieces mode pieces s start now → IsToldInPart tells mode first last i0 i2 start now
 part_here tells mode first last i0 i2 start now pieces s came f =
-    part_of tells mode first last i0 i2 start now now pieces [] More [] 0 (omega arith) (subst (λ l. CameIn tells first last i0 i2 l) (sym (append-nil pieces)) came) f.told.written
+    part_of tells mode first last i0 i2 start now now pieces [] More [] 0 (omega arith) (subst (λ l. CameIn tells first last i0 i2 l) (sym (append-nil pieces)) came)
+    (subst (OnlyLastIsBad mode) (sym (append-nil pieces)) (none_bad mode pieces f.good)) f.told.written
     (ap (input_report More mode) (append-nil pieces) ∙ more_report mode pieces ∙ sym (append-nil (events_report mode.detail (nothing_yet mode.standard) (pieces_events mode nothing_cut pieces))))
     (Appends-nil now)
 
@@ -331,6 +340,6 @@ module _ {M : Type 0} (tells : M → ℕ → M → Type 0) (mode : MonitorMode) 
 -- nothing was read and nothing written
 pub nothing_read : {M : Type 0} (tells : M → ℕ → M → Type 0) (mode : MonitorMode) (clock : M) (input output : Option (List ℕ))
     → IsToldInPart tells mode clock clock input input output output
-unfolding after_pieces pieces_events report_of_all
+unfolding after_pieces pieces_events report_of_all are_good
 nothing_read tells mode clock input output =
-    part_of tells mode clock clock input input output output output [] [] More [] 0 (omega arith) (came_none tells clock input) (Appends-nil output) refl (Appends-nil output)
+    part_of tells mode clock clock input input output output output [] [] More [] 0 (omega arith) (came_none tells clock input) (none_bad mode [] refl) (Appends-nil output) refl (Appends-nil output)

@@ -23,6 +23,14 @@ input_report following mode pieces = events_report mode.detail (nothing_yet mode
 abbrev pub is_wrong_input : Following → MonitorMode → List Piece → Bool
 is_wrong_input following mode pieces = is_wrong (after_events (nothing_yet mode.standard) (input_events following mode pieces)).heard
 
+-- no bad line has ended in these pieces, but for the last of them
+pub record OnlyLastIsBad (mode : MonitorMode) (pieces : List Piece) : Type 0 where
+  pub front : List Piece
+  pub end : List Piece
+  pub split : pieces ≡ front ++ end
+  pub one : length end ≤ 1
+  pub good : are_good mode nothing_cut front ≡ true
+
 -- the bytes that were read came in these pieces, and one moment was asked for after each
 pub record CameIn {M : Type 0} (tells : M → ℕ → M → Type 0) (clock_before clock_after : M) (input_before input_after : Option (List ℕ))
     (pieces : List Piece) : Type 0 where
@@ -43,6 +51,7 @@ module _ {M : Type 0} (tells : M → ℕ → M → Type 0) (mode : MonitorMode) 
     pub later : List Piece
     pub few : length later ≤ 1
     pub came : CameIn tells clock_before clock_after input_before input_after (earlier ++ later)
+    pub bad : OnlyLastIsBad mode (earlier ++ later)
     pub following : Following
     pub count : ℕ
     pub least : length (input_report More mode earlier) ≤ count
@@ -71,7 +80,7 @@ Ends tells mode clock_before clock_after input_before input_after input_failed b
 Ends tells mode clock_before clock_after input_before input_after input_failed before after failed (Err (NotHex number)) =
     IsBadAt tells mode clock_before clock_after input_before input_after before after number × (input_failed ≡ false) × (failed ≡ false)
 Ends tells mode clock_before clock_after input_before input_after input_failed before after failed (Err ReadFailed) =
-    ((IsTold tells mode clock_before clock_after input_before input_after before after Broken × (failed ≡ false))
+    (((all : IsTold tells mode clock_before clock_after input_before input_after before after Broken) × (are_good mode nothing_cut all.pieces ≡ true) × (failed ≡ false))
     ⊎ (IsToldInPart tells mode clock_before clock_after input_before input_after before after × (failed ≡ true)))
     × (input_failed ≡ true)
 Ends tells mode clock_before clock_after input_before input_after input_failed before after failed (Err TooLong) =

@@ -13,3 +13,4 @@ pub mod Session
 pub mod Reading
 pub mod Options
 pub mod InTurn
+pub mod Captures
