@@ -25,9 +25,5 @@ pub word_at : (words : List (Bor (List ℕ))) (i : ℕ) (r : Option (Bor (Bor (L
 word_at words i None h = sym (word_missing words i h)
 word_at words i (Some w) h = sym (word_there words i w.now h.0 (h.1 w.now))
 
-pub as_many : (words : List (Bor (List ℕ))) → length (texts words) ≡ length words
-as_many [] = refl
-as_many (x ∷ words) = ap suc (as_many words)
-
 pub within : (Says : List (List ℕ) → Type 0) (given : List (List ℕ)) (place : ℕ) → StopsAt Says given place → place ≤ length given
 within Says given place h = omega (arith, h.place_is, ap (λ (l : List (List ℕ)). length l) h.whole, length-append h.front h.back)

@@ -1,20 +1,32 @@
 -- What verdicts come to, in the words of those who read a report.
-use Rattle.std.specs.Prelude.{◌≡◌, ◌≢◌, ◌⊎◌, ◌↔◌, ℕ, ◌≤◌, List, Option, Some, None, true, false}
+use Rattle.std.specs.Prelude.{◌≡◌, ◌≢◌, ◌⊎◌, ◌↔◌, ⊤, ℕ, ◌+◌, ◌-◌, ◌^◌, ◌<◌, ◌≤◌, List, [], Option, Some, None, true, false}
 use Rattle.osdp_frame.specs.Packet.{Packet}
+use Rattle.osdp_frame.specs.Spelling.{spelling}
+use Rattle.osdp_msg.specs.ReplyTable.{reply_code}
+use Rattle.osdp_msg.specs.ReplyText.{reply_row}
+use Rattle.osdp_msg.specs.declared.reply.Reply.{Reply}
 use Rattle.osdp_msg.specs.declared.command.Command.{Command}
 use Rattle.osdp_rules.specs.Packets.{code_of, has_reason, is_busy, same_packet}
 use Rattle.osdp_test_script.specs.Answers.{IsAnswerIn}
-use Rattle.osdp_test_script.specs.Awaited.{awaited_code}
+use Rattle.osdp_test_script.specs.Awaited.{awaited_code, awaited_name}
 use Rattle.osdp_test_script.specs.Permits.{is_allowed}
-use Rattle.osdp_test_script.specs.Runs.{refuses, sends_to}
+use Rattle.osdp_test_script.specs.Runs.{counted, hears, refuses, sends_to}
 use Rattle.osdp_test_script.specs.Seen.{expected_seen}
 use Rattle.osdp_test_script.specs.declared.awaited.Awaited.{Awaited}
 use Rattle.osdp_test_script.specs.declared.awaited.Awaited.TheVariants.{Same}
 use Rattle.osdp_test_script.specs.declared.call.Term.{Term}
 use Rattle.osdp_test_script.specs.declared.call.Term.TheVariants.{Within}
 use Rattle.osdp_test_script.specs.declared.refusal.Refusal.TheVariants.{NotAllowed}
+use Rattle.osdp_test_script.specs.declared.run.Awaits.TheVariants as awaits
+use Rattle.osdp_test_script.specs.declared.run.Counts.{Counts as Tally}
+use Rattle.osdp_test_script.specs.declared.run.Exchange.{Exchange}
+use Rattle.osdp_test_script.specs.declared.run.Fault.{Fault}
+use Rattle.osdp_test_script.specs.declared.run.Fault.TheVariants.{Whole}
+use Rattle.osdp_test_script.specs.declared.run.Heard.{Heard as Answer}
 use Rattle.osdp_test_script.specs.declared.run.ScriptRun.{ScriptRun}
-use Rattle.osdp_test_script.specs.declared.seen.Seen.TheVariants.{Ok, Broken}
+use Rattle.osdp_test_script.specs.declared.seen.Seen.{Seen}
+use Rattle.osdp_test_script.specs.declared.seen.Seen.TheVariants.{Ok, Broken, Unclear}
+use Rattle.osdp_test_script.specs.Texts.{send_line}
 
 -- silence breaks no expectation: what wasn't heard may be lost
 abbrev pub SilenceBreaksNothing : Type 0
@@ -43,3 +55,32 @@ MovesNothingUnsaid = (command : Command) (address : ℕ) (s : ScriptRun) → is_
 -- of what was heard one answer alone fits, or none
 abbrev pub OneAnswer : Type 0
 OneAnswer = (heard : List ℕ) (a b : Option Packet) → IsAnswerIn heard a → IsAnswerIn heard b → a ≡ b
+
+-- what is awaited by its code has the name with which a reply of that code is printed
+abbrev pub AwaitsByName : Type 0
+AwaitsByName = (awaited : Awaited) (code : ℕ) (m : Reply) → awaited_code awaited ≡ Some code → reply_code m ≡ code → awaited_name awaited ≡ (reply_row m).0
+
+abbrev pub count_of : Seen → Tally → ℕ
+count_of Ok c = c.ok
+count_of Broken c = c.broken
+count_of Unclear c = c.unclear
+
+-- a verdict counts once among its own, as far as numbers go, and not among the others
+abbrev pub CountsEachVerdict : Type 0
+CountsEachVerdict = (v : Seen) (c : Tally) → count_of v c < 2 ^ 64 - 1
+    → (count_of v (counted v c) ≡ count_of v c + 1) × ((w : Seen) → (w ≡ v → ⊥) → count_of w (counted v c) ≡ count_of w c)
+
+-- nothing was heard, or BUSY
+abbrev pub IsUnanswered : Option Packet → Type 0
+IsUnanswered None = ⊤
+IsUnanswered (Some a) = is_busy a ≡ true
+
+-- of a packet that went out, for which so many tries are left, this was heard
+pub record IsTriedSo (f : Fault) (left : ℕ) (h : Answer) (x : Exchange) (s : ScriptRun) : Type 0 where
+  pub again : f ≡ Whole → 0 < left → IsUnanswered h.answer
+      → ((hears h s).text ≡ send_line (spelling x.sent)) × ((hears h s).run.awaits ≡ awaits.Answer f (left - 1))
+  pub done : (f ≡ Whole → ⊥) ⊎ ((left ≡ 0) ⊎ (IsUnanswered h.answer → ⊥)) → ((hears h s).text ≡ []) × ((hears h s).run.awaits ≡ awaits.Nothing)
+
+-- A packet that was whole goes out again where nothing is heard of it, or BUSY, with one try less, until none is left. Otherwise nothing goes out, and nothing more is awaited.
+abbrev pub TriesAgain : Type 0
+TriesAgain = (f : Fault) (left : ℕ) (h : Answer) (x : Exchange) (s : ScriptRun) → s.awaits ≡ awaits.Answer f left → s.exchange ≡ Some x → IsTriedSo f left h x s

@@ -2,7 +2,7 @@
 
 ghost use Rattle.osdp_refused_words.specs.Laws.{OnePlace, StaysRefused, TellsMissingWords};
 ghost use Rattle.osdp_test_script.specs.Lines.{SaysLine};
-ghost use Rattle.osdp_test_script.specs.Laws.{MovesNothingUnsaid, OneAnswer, PutsOff, SeesItsReply, SeesTheSame, SilenceBreaksNothing};
+ghost use Rattle.osdp_test_script.specs.Laws.{AwaitsByName, CountsEachVerdict, MovesNothingUnsaid, OneAnswer, PutsOff, SeesItsReply, SeesTheSame, SilenceBreaksNothing, TriesAgain};
 
 /// Silence breaks no expectation, and neither do BUSY and NAK 1 where a reply is expected.
 pub fn breaks_nothing_unheard()
@@ -43,4 +43,20 @@ pub fn stays_refused()
 /// A line that says something has no refused word. One that says nothing, and has none, lacks a word after its last.
 pub fn tells_missing_words()
     ensures { TellsMissingWords SaysLine }
+{}
+
+/// What is awaited by its code has the name with which a reply of that code is printed.
+pub fn awaits_by_name()
+    ensures { AwaitsByName }
+{}
+
+/// Each verdict counts once among its own, as far as numbers go, and not among the others.
+pub fn counts_each_verdict()
+    ensures { CountsEachVerdict }
+{}
+
+/// A packet goes out again where nothing is heard of it, or BUSY, with one try less, until none is left. After any other answer, and where it was damaged or is lost,
+/// nothing goes out, and nothing more is awaited.
+pub fn tries_again()
+    ensures { TriesAgain }
 {}

@@ -3,26 +3,13 @@ use Rattle.osdp_frame.specs.Packet.{Packet}
 use Rattle.osdp_test_script.specs.Awaited.{awaited_code}
 use Rattle.osdp_test_script.specs.Seen.{answer_seen, by_code}
 use Rattle.osdp_test_script.specs.declared.awaited.Awaited.{Awaited}
-use Rattle.osdp_test_script.specs.declared.awaited.Awaited.TheVariants.{Silence, Same, Ack, Nak, PdId, PdCap, LocalState, Inputs, Outputs, Readers, Raw, Formatted, Keypad, Com, Busy, Maker}
+use Rattle.osdp_test_script.specs.declared.awaited.Awaited.TheVariants.{Silence, Same}
 use Rattle.osdp_test_script.proofs.laws.sees_its_reply.Goals as goal
 
 seen_by_code : (awaited : Awaited) (code : ℕ) (first : Option Packet) (a : Packet) → awaited_code awaited ≡ Some code → answer_seen awaited first a ≡ by_code (Some code) a
 seen_by_code Silence code first a e = cc
 seen_by_code Same code first a e = cc
-seen_by_code Ack code first a e = ap (λ (o : Option ℕ). by_code o a) e
-seen_by_code Nak code first a e = ap (λ (o : Option ℕ). by_code o a) e
-seen_by_code PdId code first a e = ap (λ (o : Option ℕ). by_code o a) e
-seen_by_code PdCap code first a e = ap (λ (o : Option ℕ). by_code o a) e
-seen_by_code LocalState code first a e = ap (λ (o : Option ℕ). by_code o a) e
-seen_by_code Inputs code first a e = ap (λ (o : Option ℕ). by_code o a) e
-seen_by_code Outputs code first a e = ap (λ (o : Option ℕ). by_code o a) e
-seen_by_code Readers code first a e = ap (λ (o : Option ℕ). by_code o a) e
-seen_by_code Raw code first a e = ap (λ (o : Option ℕ). by_code o a) e
-seen_by_code Formatted code first a e = ap (λ (o : Option ℕ). by_code o a) e
-seen_by_code Keypad code first a e = ap (λ (o : Option ℕ). by_code o a) e
-seen_by_code Com code first a e = ap (λ (o : Option ℕ). by_code o a) e
-seen_by_code Busy code first a e = ap (λ (o : Option ℕ). by_code o a) e
-seen_by_code Maker code first a e = ap (λ (o : Option ℕ). by_code o a) e
+seen_by_code _ code first a e = ap (λ (o : Option ℕ). by_code o a) e
 
 pub returns : goal.returns
 returns c awaited time first a delay code e = rw (seen_by_code awaited code first a e) (search rules)
