@@ -1,12 +1,12 @@
 -- What is known in blocks, when one of them changes.
-use Rattle.std.proofs.Common.{◌≡◌, eqb, refl, subst, ℕ, ◌<◌, ◌≤◌, ◌+◌, List, length, get_or, slice_set, Option, None, sym, ◌∙◌, ap, arith, get_or-set_same, get_or-set_other, inl, inr}
-use Rattle.std.proofs.lemmas.List.{get_or_default, get_or_past}
-use Rattle.std.proofs.lemmas.Bool.{cases_lt, cond_both, eqb-true}
+use Rattle.std.proofs.Common.{◌≡◌, eqb, refl, subst, ℕ, ◌<◌, ◌≤◌, ◌+◌, List, length, get_or, slice_set, Option, None, sym, ◌∙◌, ap, arith, get_or-set_same, get_or-set_other}
+use Rattle.std.proofs.lemmas.List.{get_or_default}
+use Rattle.std.proofs.lemmas.Bool.{cond_both, eqb-true}
 use Rattle.std.proofs.Math.Path.{fun_ext}
 use Rattle.std.specs.Prelude.{Box}
-use Rattle.osdp_monitor.specs.Known.{Known, nothing_known}
+use Rattle.osdp_monitor.specs.Known.{Known}
 use Rattle.osdp_frame.specs.Packet.{Packet}
-use Rattle.osdp_monitor.specs.Line.{after_answered, after_reply_if, devices_after_reply, devices_after_sent, known_at, moves_to, no_knowledge}
+use Rattle.osdp_monitor.specs.Line.{after_answered, after_reply_if, devices_after_reply, devices_after_sent, known_at, moves_to}
 use Rattle.osdp_monitor.specs.Panel.{after_sent}
 use Rattle.osdp_monitor.specs.Private.{known_in, known_of}
 
@@ -18,21 +18,6 @@ known_at_place blocks address block other within = grind (arith, get_or-set_same
 pub set_block : {A : Type 0} (blocks : List (Option (Box Known A))) (address : ℕ) (block : Option (Box Known A))
     → address < length blocks → known_in (slice_set blocks address block) ≡ known_at address (known_of block) (known_in blocks)
 set_block blocks address block within = fun_ext (λ other. known_at_place blocks address block other within)
-
--- one more place in which nothing is known
-pub nothing_more_known : {A : Type 0} (blocks : List (Option (Box Known A))) (address : ℕ) (block : Option (Box Known A))
-    → address < length blocks → known_of block ≡ nothing_known → ((k : ℕ) → k < address → known_in blocks k ≡ nothing_known)
-    → (k : ℕ) → k < address + 1 → known_in (slice_set blocks address block) k ≡ nothing_known
-nothing_more_known blocks address block within empty before k below = grind (arith, get_or-set_same, get_or-set_other, before k)
-
-known_past : {A : Type 0} (blocks : List (Option (Box Known A))) (k : ℕ) → length blocks ≤ k → known_in blocks k ≡ nothing_known
-known_past blocks k past = ap known_of (get_or_past blocks k None past)
-
--- nothing is known where each block is empty
-pub nothing_in_blocks : {A : Type 0} (blocks : List (Option (Box Known A)))
-    → ((k : ℕ) → k < length blocks → known_in blocks k ≡ nothing_known) → known_in blocks ≡ no_knowledge.devices
-nothing_in_blocks blocks each =
-    fun_ext (λ k. elim (cases_lt k (length blocks)) [ inl below ↦ each k below | inr past ↦ known_past blocks k past ])
 
 -- what is known there is put in its own place
 same_place : (devices : ℕ → Known) (address other : ℕ) → known_at address (devices address) devices other ≡ devices other

@@ -7,13 +7,14 @@ use Rattle.osdp_msg.specs.declared.command.Command.TheVariants.{Comset, Poll}
 use Rattle.osdp_msg.specs.declared.fault.MsgFault.{MsgFault}
 use Rattle.osdp_msg.specs.declared.reply.Reply.TheVariants.{Ack}
 use Rattle.osdp_monitor.specs.declared.found.Found.{Found}
-use Rattle.osdp_monitor.specs.Known.{Known, same_check, same_packet}
+use Rattle.osdp_monitor.specs.Known.{Known}
 use Rattle.osdp_monitor.specs.Line.{Knowledge, after_reply_if, copies_last, devices_after, devices_after_reply, devices_after_sent, found_in, found_in_reply, found_in_sent, is_last, moves_to, nothing_wrong}
 use Rattle.osdp_monitor.specs.Panel.{after_sent}
 use Rattle.osdp_monitor.specs.Laws.{PlainIsFine}
 use Rattle.osdp_monitor.specs.Plain.{AnswersPoll, IsNext, IsPlain, IsPlainTurn, IsPollTo, is_next, number_of}
 use Rattle.osdp_monitor.specs.Reader.{after_reply, is_owed_number}
 use Rattle.osdp_monitor.specs.Saying.{asked, is_foreign, is_unknown, moved_by, reply_told}
+use Rattle.osdp_rules.specs.Packets.{same_check, same_packet}
 
 -- the number is not the one taken last
 other_number : (t n : ℕ) → (next_sequence t == n) ≡ true → (t == n) ≡ false

@@ -1,9 +1,5 @@
 -- What is known of an address.
-use Rattle.std.specs.Prelude.{ℕ, ◌==◌, Bool, false, ◌&&◌, Option, None, Some}
-use Rattle.std.specs.Bool.{beq}
-use Rattle.std.specs.Str.{bytes_eq}
-use Rattle.osdp_frame.specs.declared.check_kind.CheckKind.{CheckKind}
-use Rattle.osdp_frame.specs.Check.{check_size}
+use Rattle.std.specs.Prelude.{ℕ, ◌==◌, Bool, false, Option, None, Some}
 use Rattle.osdp_frame.specs.Packet.{Packet}
 
 pub record Known : Type 0 where
@@ -45,16 +41,6 @@ nothing_known = record {
   settled = false;
   suspected = 0;
 }
-
--- the same kind of check: each has a size of its own
-abbrev pub same_check : CheckKind → CheckKind → Bool
-same_check c d = check_size c == check_size d
-
--- two packets with the same bytes: a packet has one spelling
-abbrev pub same_packet : Packet → Packet → Bool
-same_packet p q =
-    beq p.reply q.reply && p.address == q.address && p.sequence == q.sequence && same_check p.check q.check
-    && beq p.block q.block && p.reserved == q.reserved && bytes_eq p.body q.body
 
 -- the number is known, and this is it
 abbrev pub is_number : Option ℕ → ℕ → Bool

@@ -5,14 +5,9 @@ use Rattle.osdp_msg.specs.declared.command.Command.TheVariants.{Comset}
 use Rattle.osdp_msg.specs.declared.command_fields.Communication.{Communication}
 use Rattle.osdp_msg.specs.declared.fault.MsgFault.TheVariants.{UnknownCode}
 use Rattle.osdp_msg.specs.declared.reply.Reply.TheVariants.{Com}
-use Rattle.osdp_monitor.specs.Known.{same_packet}
 use Rattle.osdp_monitor.specs.Line.{Knowledge, copies_last, found_in, moves_to}
 use Rattle.osdp_monitor.specs.Plain.{IsPlain}
 use Rattle.osdp_monitor.specs.Saying.{asked, is_foreign, reply_told}
-
--- packets are compared as a whole
-abbrev pub ComparesPackets : Type 0
-ComparesPackets = (p q : Packet) → (same_packet p q ≡ true) ↔ (p ≡ q)
 
 -- its code is none of the tables, those of replies or those of commands
 abbrev pub HasUnknownCode : Packet → Type 0

@@ -8,10 +8,11 @@ use Rattle.osdp_monitor.specs.declared.accusation.Accusation.TheVariants.{Anothe
 use Rattle.osdp_monitor.specs.declared.found.Found.{Found}
 use Rattle.osdp_monitor.specs.declared.found.Notice.{Notice}
 use Rattle.osdp_monitor.specs.declared.found.Notice.TheVariants.{Opened, Moved, Restarted, Unanswered, Late, Unsure}
-use Rattle.osdp_monitor.specs.Known.{Known, nothing_known, same_packet}
+use Rattle.osdp_monitor.specs.Known.{Known, nothing_known}
 use Rattle.osdp_monitor.specs.Panel.{after_sent, is_first_doubt, is_missed, panel_accused}
 use Rattle.osdp_monitor.specs.Reader.{after_reply, is_doubtful, is_late, is_one_more, is_opening, is_owed, is_unheard, reader_accused}
 use Rattle.osdp_monitor.specs.Saying.{asked, is_damage, is_foreign, is_refusal, moved_by, reply_told, said}
+use Rattle.osdp_rules.specs.Packets.{same_packet}
 
 -- what is known of each address, and how many bytes in a row were no packet: fewer than the smallest packet has
 pub record Knowledge : Type 0 where

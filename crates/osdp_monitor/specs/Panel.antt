@@ -3,7 +3,8 @@ use Rattle.std.specs.Prelude.{ℕ, ◌==◌, ◌-◌, Bool, true, false, ◌&&�
 use Rattle.osdp_frame.specs.Packet.{Packet, next_sequence}
 use Rattle.osdp_monitor.specs.declared.accusation.Accusation.{Accusation}
 use Rattle.osdp_monitor.specs.declared.accusation.Accusation.TheVariants.{AnotherPacket, NotAnswered, SentOutOfTurn}
-use Rattle.osdp_monitor.specs.Known.{Known, is_number, nothing_known, same_packet}
+use Rattle.osdp_monitor.specs.Known.{Known, is_number, nothing_known}
+use Rattle.osdp_rules.specs.Packets.{same_packet}
 
 -- Number 0 is in order: a new session. Else it is the last number, with the last packet byte for byte; or the next one, where the
 -- last packet was answered.

@@ -4,9 +4,10 @@ use Rattle.osdp_frame.specs.declared.check_kind.CheckKind.{CheckKind}
 use Rattle.osdp_frame.specs.Packet.{Packet, next_sequence}
 use Rattle.osdp_msg.specs.declared.command.Command.TheVariants.{Poll}
 use Rattle.osdp_msg.specs.declared.reply.Reply.TheVariants.{Ack}
-use Rattle.osdp_monitor.specs.Known.{Known, same_check}
+use Rattle.osdp_monitor.specs.Known.{Known}
 use Rattle.osdp_monitor.specs.Line.{Knowledge}
 use Rattle.osdp_monitor.specs.Saying.{asked, reply_told}
+use Rattle.osdp_rules.specs.Packets.{same_check}
 
 -- the number of a packet that is known
 abbrev pub number_of : Option Packet → Option ℕ

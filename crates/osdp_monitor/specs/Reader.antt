@@ -9,10 +9,11 @@ use Rattle.osdp_msg.specs.declared.reply.Reply.TheVariants.{Ack, Nak}
 use Rattle.osdp_msg.specs.Fitting.{reply_fits}
 use Rattle.osdp_monitor.specs.declared.accusation.Accusation.{Accusation}
 use Rattle.osdp_monitor.specs.declared.accusation.Accusation.TheVariants.{SecondReply, AnotherNumber, AnotherCheck, BusyToRepeat, RefusedZero, AnotherReply, TakenOutOfTurn, UnreadReply, UnfitReply, EventAtZero}
-use Rattle.osdp_monitor.specs.Known.{Known, is_number, nothing_known, same_check, same_packet}
+use Rattle.osdp_monitor.specs.Known.{Known, is_number, nothing_known}
 use Rattle.osdp_monitor.specs.declared.said.Said.{Said}
 use Rattle.osdp_monitor.specs.declared.said.Said.TheVariants.{Busy, Damage, Refusal, Answer}
 use Rattle.osdp_monitor.specs.Saying.{asked, is_answer, is_damage, reply_told, said}
+use Rattle.osdp_rules.specs.Packets.{same_check, same_packet}
 
 -- the reply that the packet must have, where it is known to be a repeat: it has the number taken last, which isn't 0
 abbrev pub repeat_reply : Known → Packet → Option Packet

@@ -1,7 +1,6 @@
 //! A packet that is kept in a place of its own.
 
 ghost use Rattle.std.specs.Prelude.{◌≡◌, ◌<◌, ◌≤◌, ◌↔◌, None, Ok, Some, drop, length, slice_index, true};
-ghost use Rattle.osdp_monitor.specs.Known.{same_check};
 ghost use Rattle.osdp_monitor.specs.Line.{is_last};
 ghost use Rattle.osdp_monitor.specs.Plain.{IsPollTo, number_of};
 ghost use Rattle.osdp_msg.specs.CommandTable.{command_of};
@@ -9,6 +8,7 @@ ghost use Rattle.osdp_msg.specs.declared.command.Command.TheVariants.{Poll};
 
 use arrayvec::ArrayVec;
 use osdp_frame::{Address, CheckKind, FrameView, Header, MAX_BODY, Seq};
+use osdp_rules::same_check;
 use std::marker::Model;
 
 /// A packet, or none, in a place that is used for packet after packet: only the bytes of the body are moved.
@@ -135,11 +135,4 @@ fn is_poll_body(body: &[u8]) -> bool
     ensures { (result ≡ true) ↔ (command_of (slice_index body.now 0) (drop 1 body.now) ≡ Ok Poll) }
 {
     body.len() == 1 && first_byte(body) == 0x60
-}
-
-/// Whether two packets have the same check.
-pub(crate) fn same_check(check: CheckKind, other: CheckKind) -> bool
-    ensures { result ≡ same_check check other }
-{
-    check.size() == other.size()
 }

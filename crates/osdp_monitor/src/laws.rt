@@ -1,11 +1,6 @@
 //! What the rules come to. The functions have no code: each states a law, and its proof is the law's.
 
-ghost use Rattle.osdp_monitor.specs.Laws.{ComparesPackets, MovesByCom, PassesOver, PlainIsFine};
-
-/// Packets are compared as a whole: none of their bytes is passed over.
-pub fn compares_packets()
-    ensures { ComparesPackets }
-{}
+ghost use Rattle.osdp_monitor.specs.Laws.{MovesByCom, PassesOver, PlainIsFine};
 
 /// What these rules pass over: a packet with a security block, and one whose code the tables don't have; and nothing else.
 pub fn passes_over_what_it_cannot_read()

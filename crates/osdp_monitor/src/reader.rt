@@ -6,10 +6,11 @@ ghost use Rattle.osdp_monitor.specs.Reader.{answer_accused, busy_accused, fit_ac
 ghost use Rattle.osdp_monitor.specs.Saying.{asked};
 
 use crate::accusation::Accusation;
-use crate::kept::{KeptPacket, same_check};
+use crate::kept::KeptPacket;
 use crate::said::{ReadReply, is_poll, read_command};
 use osdp_frame::{FrameView, Seq};
 use osdp_msg::{Command, MsgFault, Reply, fits};
+use osdp_rules::same_check;
 
 /// BUSY has the packet's number or 0, and its check, and answers no known repeat.
 pub(crate) fn busy_accused(

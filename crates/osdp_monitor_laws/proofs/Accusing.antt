@@ -15,7 +15,7 @@ use Rattle.osdp_monitor.specs.declared.found.Found.{Found}
 use Rattle.osdp_monitor.specs.declared.found.Notice.TheVariants.{Unanswered, Unsure}
 use Rattle.osdp_monitor.specs.declared.said.Said.{Said}
 use Rattle.osdp_monitor.specs.declared.said.Said.TheVariants.{Busy, Damage, Refusal, Answer}
-use Rattle.osdp_monitor.specs.Known.{Known, same_check, same_packet}
+use Rattle.osdp_monitor.specs.Known.{Known}
 use Rattle.osdp_monitor.specs.Line.{Knowledge, after_item, after_items, after_packet, found_in, found_in_reply, found_in_sent, is_reply_judged, is_sent_judged, nothing_found, notice_if, notice_in_sent}
 use Rattle.osdp_monitor.specs.Panel.{after_another, after_copy, after_sent, is_doubt, is_first_doubt, is_missed, keeps_number, left_waiting, panel_accused, sent_after}
 use Rattle.osdp_monitor.specs.Reader.{answer_accused, fit_accused, is_doubtful, is_event_at_zero, is_one_more, is_owed, reading_accused, repeat_reply, reply_accused, taken_accused, turn_accused}
@@ -26,9 +26,10 @@ use Rattle.osdp_monitor_laws.proofs.Missing.{IsLast, device_of, first_last, in_d
 use Rattle.osdp_monitor_laws.proofs.Naming.{misses_no_packet_out_of_turn}
 use Rattle.osdp_monitor_laws.proofs.PanelLines.{answered_by, answers, last_by}
 use Rattle.osdp_monitor_laws.proofs.Remembering.{after_one, at_remembered, item_keeps, items_keep}
-use Rattle.osdp_monitor_laws.proofs.Same.{is_packet}
+use Rattle.osdp_rules.proofs.Comparing.{is_packet}
 use Rattle.osdp_monitor_laws.specs.Misses.{Each, IsCopyOrReply, IsRemembered, LeavesUnanswered, NothingForgotten, OfAddress, suspicion}
 use Rattle.osdp_monitor_laws.specs.Panels.{AccusesTheSender, IsDoubt, NamesPanels, PanelBreaks, TellsFirstDoubts, is_readers}
+use Rattle.osdp_rules.specs.Packets.{same_check, same_packet}
 
 -- ---- once answered, a packet stays answered
 
@@ -234,10 +235,8 @@ said_of Answer k p r = answer_of (repeat_reply k p) k p r
 
 -- NAK 1 is accused of nothing
 harmless : (s : Said) (k : Known) (p r : Packet) (x : Accusation) → reply_accused s k p r ≡ Some x → is_damage s ≡ false
-harmless Busy k p r x is = refl
 harmless Damage k p r x is = absurd (none_some x is)
-harmless Refusal k p r x is = refl
-harmless Answer k p r x is = refl
+harmless _ k p r x is = refl
 
 -- .. and what is accused was judged
 abbrev Judged : Bool → Found → Type 0

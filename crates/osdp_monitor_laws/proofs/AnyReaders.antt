@@ -12,7 +12,7 @@ use Rattle.osdp_msg.specs.declared.command.Command.TheVariants as command
 use Rattle.osdp_msg.specs.declared.fault.MsgFault.{MsgFault}
 use Rattle.osdp_msg.specs.declared.reply.Reply.{Reply}
 use Rattle.osdp_monitor.specs.declared.accusation.Accusation.TheVariants.{AnotherCheck, EventAtZero, UnfitReply}
-use Rattle.osdp_monitor.specs.Known.{Known, nothing_known, same_check}
+use Rattle.osdp_monitor.specs.Known.{Known, nothing_known}
 use Rattle.osdp_monitor.specs.Line.{Knowledge, after_packet, no_knowledge}
 use Rattle.osdp_monitor.specs.Reader.{after_reply, fit_accused, is_event_at_zero, is_plain, reader_accused, reading_accused, taken_accused}
 use Rattle.osdp_monitor.specs.Saying.{asked, reply_told, said}
@@ -21,9 +21,10 @@ use Rattle.osdp_monitor_laws.proofs.Hearing.{IsSaid, Keeps, settle}
 use Rattle.osdp_monitor_laws.proofs.Knowing.{at_address}
 use Rattle.osdp_monitor_laws.proofs.ReaderLines.{Coming, coming_forgotten, coming_of, coming_unknown, zero_after}
 use Rattle.osdp_monitor_laws.proofs.Replying.{Replies, acting, busy, damaged, refusing, repeating}
-use Rattle.osdp_monitor_laws.proofs.Same.{check_same}
+use Rattle.osdp_rules.proofs.Comparing.{check_same}
 use Rattle.osdp_monitor_laws.specs.ReaderLine.{Reads, Both, ReaderAlone, ListenerAlone, accused_in, known_after}
 use Rattle.osdp_monitor_laws.specs.AnyReader.{AccusesNoReaderByTheRules, Answers, AnyLine, AnyMove, AnyReader, AreAllowed, Goes, IsAllowed, IsFromIt, MaySay, Way, Acts, Repeats, IsBusy, FindsDamage, Refuses, IsSilent, Restart, Say, AnswerComes, Skip, Forget, accusations, accused_by, after_move, after_said, new_line}
+use Rattle.osdp_rules.specs.Packets.{same_check}
 
 -- ---- an answer by the rules
 

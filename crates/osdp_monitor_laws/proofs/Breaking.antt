@@ -15,7 +15,7 @@ use Rattle.osdp_monitor.specs.declared.accusation.Accusation.{Accusation}
 use Rattle.osdp_monitor.specs.declared.accusation.Accusation.TheVariants.{AnotherNumber, AnotherCheck, BusyToRepeat, RefusedZero, TakenOutOfTurn, UnreadReply, UnfitReply, EventAtZero}
 use Rattle.osdp_monitor.specs.declared.said.Said.{Said}
 use Rattle.osdp_monitor.specs.declared.said.Said.TheVariants.{Busy, Damage, Refusal, Answer}
-use Rattle.osdp_monitor.specs.Known.{Known, same_check}
+use Rattle.osdp_monitor.specs.Known.{Known}
 use Rattle.osdp_monitor.specs.declared.found.Found.{Found}
 use Rattle.osdp_monitor.specs.Line.{Knowledge, found_in}
 use Rattle.osdp_monitor.specs.Reader.{answer_accused, fit_accused, is_event_at_zero, is_plain, reader_accused, reading_accused, repeat_reply, reply_accused, taken_accused, turn_accused}
@@ -25,6 +25,7 @@ use Rattle.osdp_monitor_laws.proofs.Missing.{device_of}
 use Rattle.osdp_monitor_laws.proofs.Naming.{IsFresh, is_fresh, judged_is, line7, named, new, whole}
 use Rattle.osdp_monitor_laws.proofs.Telling.{reply_found}
 use Rattle.osdp_monitor_laws.specs.Names.{Breaks, IsEvent, IsInTurn, IsTaken, NamesReaders}
+use Rattle.osdp_rules.specs.Packets.{same_check}
 
 pub checks_equal : (c d : CheckKind) → same_check c d ≡ true → c ≡ d
 checks_equal Sum Sum is = refl

@@ -24,7 +24,7 @@ use Rattle.osdp_monitor_laws.proofs.Agreeing.{Agrees, IsAsked, TakesZero, agrees
 use Rattle.osdp_monitor_laws.proofs.FittingReplies.{answer_suits, event_or_answer_suits, unread_answers}
 use Rattle.osdp_monitor_laws.proofs.Numbers.{next_above_zero}
 use Rattle.osdp_monitor_laws.proofs.Replying.{IsNext, Replies, acting, busy, refusing, repeating}
-use Rattle.osdp_monitor_laws.proofs.Same.{check_same}
+use Rattle.osdp_rules.proofs.Comparing.{check_same}
 use Rattle.osdp_monitor_laws.proofs.Saying.{IsActedOn, IsOwnReply, ReadsReplies, no_event_above, no_event_of, own_reply_of, said_is}
 
 abbrev ok : Command → Result Command MsgFault
@@ -221,9 +221,6 @@ module _ {H : Type 0} where
 
       sends_kind : (kind : Kind) → kind_of r p ≡ kind → IsOfKind p r.last kind → Fits (outcome answer_of after kind r p) → Sends r (outcome answer_of after kind r p)
       sends_kind Silent is of fits = record { sent = λ q none. absurd (none_some q none); stores = stores; place = inr refl }
-      sends_kind Secured is of fits = record { sent = sent_as _ (said_here _ refl refl); stores = stores; place = inr refl }
-      sends_kind Busy is of fits = record { sent = sent_as _ (said_here _ refl refl); stores = stores; place = inr refl }
-      sends_kind Wrong is of fits = record { sent = sent_as _ (said_here _ refl refl); stores = stores; place = inr refl }
       sends_kind Repeat is of fits = record {
         sent = λ q same. let kept = stores p.sequence of.1 of.0 in sent_as kept.packet kept.sent q (sym kept.stored ∙ same);
         stores = stores;
@@ -246,6 +243,7 @@ module _ {H : Type 0} where
             stores = taken_stores o.reader o.reply own (reply_packet p p.sequence acted.said) acted.sent (taken_ends (command_in p) r p);
             place = place_of r o.reader p.sequence o.reply (taken_ends (command_in p) r p);
           }
+      sends_kind _ is of fits = record { sent = sent_as _ (said_here _ refl refl); stores = stores; place = inr refl }
 
       pub sends : Fits (hears answer_of after r p) → Sends r (hears answer_of after r p)
       sends fits = sends_kind (kind_of r p) refl (of_kind r p) fits

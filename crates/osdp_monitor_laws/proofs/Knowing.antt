@@ -2,8 +2,6 @@
 use Rattle.std.proofs.Common.{◌≡◌, ◌≢◌, ℕ, true, false, cond, ◌||◌, eqb, Option, Some, None, refl, sym, subst, ap}
 use Rattle.std.proofs.lemmas.Bool.{cond-true, cond_both, eq-eqb, eqb-false, eqb-true, or_left}
 use Rattle.osdp_frame.specs.Packet.{Packet}
-use Rattle.osdp_monitor.specs.declared.accusation.Accusation.{Accusation}
-use Rattle.osdp_monitor.specs.declared.found.Found.{Found}
 use Rattle.osdp_monitor.specs.Known.{Known, nothing_known}
 use Rattle.osdp_monitor.specs.Line.{Knowledge, after_answered, after_packet, after_reply_if, devices_after_reply, devices_after_sent, found_in, found_in_reply, found_in_sent, known_at, moves_to, no_knowledge, nothing_found}
 use Rattle.osdp_monitor.specs.Panel.{after_sent, panel_accused}
@@ -55,9 +53,6 @@ module _ (Q : Known → Type 0) where
 -- a packet to or from 127 forgets everything
 pub at_all : (line : Knowledge) (p : Packet) → p.address ≡ 127 → (after_packet line p).devices ≡ no_knowledge.devices
 at_all line p all = cond-true (eqb p.address 127) _ _ (eq-eqb p.address 127 all)
-
-abbrev pub accusation_of : Found → Option Accusation
-accusation_of f = f.accusation
 
 in_reply : (last : Option Packet) (k : Known) (q : Packet) → k.last ≡ last
     → ((old : Packet) → k.last ≡ Some old → reader_accused k old q ≡ None) → (found_in_reply last k q).accusation ≡ None

@@ -6,7 +6,7 @@ use Rattle.osdp_monitor.specs.Known.{Known, is_number, nothing_known}
 use Rattle.osdp_monitor.specs.Panel.{is_in_row}
 use Rattle.osdp_monitor.specs.Reader.{after_answer, after_other, after_own, after_reply, after_reply_of, has_earlier_number, has_no_number, is_busy_of_either, is_doubtful, is_late, is_of_either, is_owed, is_owed_number, is_stray, is_unheard, tells_number}
 use Rattle.osdp_monitor.specs.declared.said.Said.{Said}
-use Rattle.osdp_monitor.specs.declared.said.Said.TheVariants.{Busy, Damage, Refusal, Answer}
+use Rattle.osdp_monitor.specs.declared.said.Said.TheVariants.{Answer}
 use Rattle.osdp_monitor.specs.Saying.{is_answer, said}
 use Rattle.osdp_monitor_laws.proofs.Numbers.{next_differs}
 
@@ -28,10 +28,8 @@ own_heard k p q number =
     (ne_eqb q.sequence (next_sequence p.sequence) (λ next. next_differs p.sequence (sym next ∙ number)))
 
 pub says_answer : (s : Said) → is_answer s ≡ true → s ≡ Answer
-says_answer Busy is = absurd (false≢true is)
-says_answer Damage is = absurd (false≢true is)
-says_answer Refusal is = absurd (false≢true is)
 says_answer Answer is = refl
+says_answer _ is = absurd (false≢true is)
 
 -- an answer is no stray BUSY
 pub no_stray : (k : Known) (q : Packet) → said q ≡ Answer → is_stray k q ≡ false

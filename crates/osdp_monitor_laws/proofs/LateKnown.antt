@@ -3,14 +3,15 @@ use Rattle.std.proofs.Common.{◌≡◌, ◌≢◌, ◌⊎◌, inl, inr, ℕ, Bo
 use Rattle.std.proofs.lemmas.Bool.{and_from, and_left, cases_Bool, cond-false, cond-true, cond_both, eq-eqb, eqb-true, false≢true, not_from_false, not_from_true, or_left, or_right}
 use Rattle.std.specs.Prelude.{is_some}
 use Rattle.osdp_frame.specs.Packet.{Packet}
-use Rattle.osdp_monitor.specs.Known.{Known, is_number, nothing_known, same_packet}
+use Rattle.osdp_monitor.specs.Known.{Known, is_number, nothing_known}
 use Rattle.osdp_monitor.specs.Panel.{after_another, after_copy, after_sent, before_row, is_in_row, is_waiting, keeps_number, left_waiting}
 use Rattle.osdp_monitor.specs.Reader.{is_owed}
 use Rattle.osdp_monitor_laws.proofs.Agreeing.{none_some, same_some, sent_asked}
 use Rattle.osdp_monitor_laws.proofs.LateReaders.{Follows, IsTakenOr, follows_untaken, sent_follows}
-use Rattle.osdp_monitor_laws.proofs.Same.{is_packet, packet_is}
-use Rattle.osdp_monitor_laws.specs.AnyReader.{AnyReader, Goes, Way, Acts, Repeats, IsBusy, FindsDamage, Refuses, IsSilent}
+use Rattle.osdp_rules.proofs.Comparing.{is_packet, packet_is}
+use Rattle.osdp_monitor_laws.specs.AnyReader.{AnyReader, Goes, Way, IsSilent}
 use Rattle.osdp_monitor_laws.specs.LateReader.{Owed, owed_of}
+use Rattle.osdp_rules.specs.Packets.{same_packet}
 
 -- ---- the answers that haven't come yet, from the reader as it was when it heard the packet of the first of them
 
@@ -31,9 +32,6 @@ abbrev pub Chain : AnyReader → List Owed → AnyReader → Type 0
 Chain u [] r = IsThen u r
 Chain u (w ∷ ws) r = (next : AnyReader) × Steps u w next × Chain next ws r
 
-then_same : (u r s : AnyReader) → IsThen u r → s ≡ r → IsThen u s
-then_same u r s t same = subst (λ x. IsThen u x) (sym same) t
-
 chain_same : (ws : List Owed) (u r s : AnyReader) → s ≡ r → Chain u ws r → Chain u ws s
 chain_same ws u r s same chain = subst (λ x. Chain u ws x) (sym same) chain
 
@@ -49,11 +47,7 @@ chain_more (w ∷ ws) u r s p q way goes stays (next, steps, chain) = (next, ste
 
 silent_same : (way : Way) (r s : AnyReader) (p : Packet) → Goes way r p None s → s ≡ r
 silent_same IsSilent r s p goes = goes
-silent_same Acts r s p goes = absurd goes
-silent_same Repeats r s p goes = absurd goes
-silent_same IsBusy r s p goes = absurd goes
-silent_same FindsDamage r s p goes = absurd goes
-silent_same Refuses r s p goes = absurd goes
+silent_same _ r s p goes = absurd goes
 
 pub chain_heard : (ws : List Owed) (u r s : AnyReader) (p : Packet) (o : Option Packet) (way : Way) → Goes way r p o s → s.address ≡ r.address → Chain u ws r
     → Chain u (ws ++ owed_of p o) s

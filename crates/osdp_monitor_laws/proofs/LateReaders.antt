@@ -6,7 +6,7 @@ use Rattle.osdp_frame.specs.Packet.{Packet, next_sequence}
 use Rattle.osdp_monitor.specs.declared.accusation.Accusation.TheVariants.{SecondReply}
 use Rattle.osdp_monitor.specs.declared.said.Said.{Said}
 use Rattle.osdp_monitor.specs.declared.said.Said.TheVariants.{Busy, Damage, Refusal, Answer}
-use Rattle.osdp_monitor.specs.Known.{Known, is_number, nothing_known, same_packet}
+use Rattle.osdp_monitor.specs.Known.{Known, is_number, nothing_known}
 use Rattle.osdp_monitor.specs.Panel.{after_another, after_copy, after_sent, keeps_number, left_waiting}
 use Rattle.osdp_monitor.specs.Reader.{after_answer, after_reply, after_reply_of, answer_accused, has_earlier_number, is_doubtful, is_late, is_one_more, is_owed, is_stray, reader_accused, repeat_reply, reply_accused}
 use Rattle.osdp_monitor.specs.Saying.{is_answer, is_damage, said}
@@ -16,6 +16,7 @@ use Rattle.osdp_monitor_laws.proofs.Late.{by_fate, by_number, either_doubtful, o
 use Rattle.osdp_monitor_laws.proofs.Numbers.{next_differs}
 use Rattle.osdp_monitor_laws.proofs.Replying.{taking_agrees}
 use Rattle.osdp_monitor_laws.specs.AnyReader.{AnyReader, Goes, Way, Acts, Repeats, IsBusy, FindsDamage, Refuses, IsSilent}
+use Rattle.osdp_rules.specs.Packets.{same_packet}
 
 -- both have the same last number, where both are known, and a repeat of it has the reply that is known
 abbrev pub Follows : Known → AnyReader → Type 0
@@ -67,10 +68,8 @@ answer_same k p q None = refl
 answer_same k p q (Some stored) = refl
 
 reply_same : (k : Known) (p q : Packet) (s : Said) → reply_accused s (unreplied k) p q ≡ reply_accused s k p q
-reply_same k p q Busy = refl
-reply_same k p q Damage = refl
-reply_same k p q Refusal = refl
 reply_same k p q Answer = answer_same k p q (repeat_reply k p)
+reply_same k p q _ = refl
 
 -- one more reply where one is owed is judged as the first one
 same_accused : (k : Known) (p q : Packet) → (k.replied ≡ true → is_owed k ≡ true) → reader_accused (unreplied k) p q ≡ None → reader_accused k p q ≡ None

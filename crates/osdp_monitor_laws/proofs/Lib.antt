@@ -1,4 +1,3 @@
-pub mod Same
 pub mod Numbers
 pub mod Late
 pub mod Knowing
@@ -28,3 +27,4 @@ pub mod Accusing
 pub mod Noticing
 pub mod FittingReplies
 pub mod Suspecting
+mod Expecting

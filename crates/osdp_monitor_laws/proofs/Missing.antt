@@ -9,7 +9,7 @@ use Rattle.osdp_monitor.specs.declared.accusation.Accusation.TheVariants.{Anothe
 use Rattle.osdp_monitor.specs.declared.found.Notice.TheVariants.{Unanswered, Unsure}
 use Rattle.osdp_monitor.specs.declared.said.Said.{Said}
 use Rattle.osdp_monitor.specs.declared.said.Said.TheVariants.{Busy, Damage, Refusal, Answer}
-use Rattle.osdp_monitor.specs.Known.{Known, is_number, same_check, same_packet}
+use Rattle.osdp_monitor.specs.Known.{Known, is_number}
 use Rattle.osdp_monitor.specs.Line.{Knowledge, after_items, after_packet, found_in, found_in_reply, found_in_sent, nothing_found, notice_if, notice_in_sent}
 use Rattle.osdp_monitor.specs.Panel.{after_another, after_copy, after_sent, is_doubt, is_first_doubt, is_missed, keeps_number, left_waiting, panel_accused, sent_after}
 use Rattle.osdp_monitor.specs.Reader.{after_answer, after_reply_of, answer_accused, has_earlier_number, is_doubtful, is_late, is_one_more, is_owed, is_owed_number, is_stray, is_unheard, reader_accused, repeat_reply, reply_accused, tells_number}
@@ -19,8 +19,9 @@ use Rattle.osdp_monitor_laws.proofs.Late.{by_fate, by_number, certain, own_count
 use Rattle.osdp_monitor_laws.proofs.Numbers.{next_above_zero, next_differs}
 use Rattle.osdp_monitor_laws.proofs.PanelLines.{last_by}
 use Rattle.osdp_monitor_laws.proofs.Remembering.{after_append, after_one, at_remembered, forgotten_append, items_keep}
-use Rattle.osdp_monitor_laws.proofs.Same.{packet_is}
+use Rattle.osdp_rules.proofs.Comparing.{packet_is}
 use Rattle.osdp_monitor_laws.specs.Misses.{IsCopyOrReply, IsFrom, IsRemembered, IsTo, LeavesUnanswered, MissesNoOtherPacket, MissesNoOtherReply, MissesNoUnanswered, RefusesNothing, SaysOther, TakesNothing}
+use Rattle.osdp_rules.specs.Packets.{same_check, same_packet}
 
 -- ---- what is found, where the packet is judged
 
@@ -136,12 +137,10 @@ first_unanswered k p (Some old) first =
 
 reply_unanswered : (s : Said) (k : Known) (p x : Packet) → k.answered ≡ false → (x.sequence ≢ p.sequence) ⊎ (s ≢ Answer)
     → (after_reply_of s k p x).answered ≡ false
-reply_unanswered Busy k p x none other = none
-reply_unanswered Damage k p x none other = none
-reply_unanswered Refusal k p x none other = none
 reply_unanswered Answer k p x none (inl other) =
     by_number (λ j. j.answered ≡ false) (is_some (repeat_reply k p)) p.sequence k x (λ own. absurd (other own)) (λ _. none)
 reply_unanswered Answer k p x none (inr other) = absurd (other refl)
+reply_unanswered _ k p x none other = none
 
 pub unanswered_step : (a : ℕ) (p : Packet) → p.reply ≡ false → (line : Knowledge) (x : Packet) → IsUnanswered p (line.devices a)
     → (x.address ≡ a → LeavesUnanswered p x) → IsRemembered a (PacketItem x) line → IsUnanswered p ((after_packet line x).devices a)

@@ -15,7 +15,7 @@ use Rattle.osdp_monitor.specs.declared.accusation.Accusation.{Accusation}
 use Rattle.osdp_monitor.specs.declared.accusation.Accusation.TheVariants.{AnotherPacket, NotAnswered, SentOutOfTurn, SecondReply, AnotherNumber, AnotherCheck, BusyToRepeat, RefusedZero, TakenOutOfTurn, UnreadReply, UnfitReply, EventAtZero}
 use Rattle.osdp_monitor.specs.declared.said.Said.{Said}
 use Rattle.osdp_monitor.specs.declared.said.Said.TheVariants.{Busy, Damage, Refusal, Answer}
-use Rattle.osdp_monitor.specs.Known.{Known, is_number, same_check, same_packet}
+use Rattle.osdp_monitor.specs.Known.{Known, is_number}
 use Rattle.osdp_monitor.specs.Line.{Knowledge, after_items, after_packet, found_in}
 use Rattle.osdp_monitor.specs.Panel.{after_another, after_copy, after_sent, before_row, is_in_row, is_waiting, keeps_number, left_waiting, panel_accused, sent_after}
 use Rattle.osdp_monitor.specs.Reader.{after_answer, after_reply, after_reply_of, answer_accused, fit_accused, has_earlier_number, has_no_number, is_doubtful, is_event_at_zero, is_late, is_one_more, is_owed, is_plain, is_stray, is_unheard, reader_accused, reading_accused, repeat_reply, reply_accused, taken_accused, turn_accused}
@@ -24,10 +24,11 @@ use Rattle.osdp_monitor_laws.proofs.Agreeing.{none_some, same_some, sent_asked}
 use Rattle.osdp_monitor_laws.proofs.Late.{by_number, certain, none_owed, own_counts}
 use Rattle.osdp_monitor_laws.proofs.Missing.{IsLast, by_rules, device_of, first_last, last_step, no_doubt, sent_found}
 use Rattle.osdp_monitor_laws.proofs.Remembering.{after_append, after_one, at_remembered, forgotten_append, items_keep}
-use Rattle.osdp_monitor_laws.proofs.Same.{packet_is}
+use Rattle.osdp_rules.proofs.Comparing.{packet_is}
 use Rattle.osdp_monitor_laws.specs.Late.{IsNone}
 use Rattle.osdp_monitor_laws.specs.Misses.{Each, IsCopyOrReply, IsFrom, IsRemembered, IsTo, NothingForgotten}
 use Rattle.osdp_monitor_laws.specs.Names.{Breaks, Exchange, FitsNumber, Happens, IsEvent, IsInTurn, IsTaken, MissesNoPacketOutOfTurn, items_of}
+use Rattle.osdp_rules.specs.Packets.{same_check, same_packet}
 
 -- ---- a packet out of turn
 

@@ -12,8 +12,8 @@ use Rattle.osdp_monitor.specs.declared.found.Found.{Found}
 use Rattle.osdp_monitor.specs.declared.found.Notice.{Notice}
 use Rattle.osdp_monitor.specs.declared.found.Notice.TheVariants.{Opened, Late, Moved, Restarted, Unanswered, Unsure}
 use Rattle.osdp_monitor.specs.declared.said.Said.{Said}
-use Rattle.osdp_monitor.specs.declared.said.Said.TheVariants.{Busy, Damage, Refusal, Answer}
-use Rattle.osdp_monitor.specs.Known.{Known, same_packet}
+use Rattle.osdp_monitor.specs.declared.said.Said.TheVariants.{Refusal}
+use Rattle.osdp_monitor.specs.Known.{Known}
 use Rattle.osdp_monitor.specs.Line.{Knowledge, after_items, after_packet, found_in, late_notice, moves_to, notice_if, reply_notice}
 use Rattle.osdp_monitor.specs.Panel.{after_another, after_copy, after_sent, is_first_doubt, is_missed, keeps_number, left_waiting}
 use Rattle.osdp_monitor.specs.Reader.{has_earlier_number, is_doubtful, is_late, is_nak, is_one_more, is_opening, is_owed, is_unheard, reader_accused}
@@ -29,6 +29,7 @@ use Rattle.osdp_monitor_laws.proofs.Telling.{late_accused, reply_found, tells}
 use Rattle.osdp_monitor_laws.specs.Misses.{IsRemembered, IsTo, NothingForgotten}
 use Rattle.osdp_monitor_laws.specs.Names.{Exchange, Happens, items_of}
 use Rattle.osdp_monitor_laws.specs.Notices.{or_doubt, IsWorth, TellsNoAnswered, TellsReplies, TellsTooLittle, TellsUnanswered, TellsUnansweredOnce, TellsUnheard}
+use Rattle.osdp_rules.specs.Packets.{same_packet}
 
 -- ---- a reply
 
@@ -43,10 +44,8 @@ all_true : (a b c d e : Bool) → a ≡ true → b ≡ true → c ≡ true → d
 all_true a b c d e pa pb pc pd pe = rw (pa, pb, pc, pd, pe) refl
 
 says_refusal : (s : Said) → is_refusal s ≡ true → s ≡ Refusal
-says_refusal Busy is = absurd (false≢true is)
-says_refusal Damage is = absurd (false≢true is)
 says_refusal Refusal is = refl
-says_refusal Answer is = absurd (false≢true is)
+says_refusal _ is = absurd (false≢true is)
 
 module _ (n : ℕ) (p : Packet) (k : Known) (known : IsFresh n p k) (r : Packet) where
   -- what is told of a reply that moves nothing, is in time, and whose packet was heard

@@ -25,11 +25,12 @@ use Rattle.osdp_msg.specs.declared.reply.Reply.{Reply}
 use Rattle.osdp_msg.specs.declared.reply_fields.PdId.{PdId}
 use Rattle.osdp_monitor.specs.declared.accusation.Accusation.TheVariants.{AnotherPacket, NotAnswered, SentOutOfTurn}
 use Rattle.osdp_monitor.specs.declared.said.Said.TheVariants.{Answer}
-use Rattle.osdp_monitor.specs.Known.{Known, same_packet}
+use Rattle.osdp_monitor.specs.Known.{Known}
 use Rattle.osdp_monitor.specs.Panel.{is_first_doubt, panel_accused, sent_after}
 use Rattle.osdp_monitor.specs.Saying.{said, said_by}
 use Rattle.osdp_monitor_laws.proofs.Numbers.{next_above_zero, next_differs}
-use Rattle.osdp_monitor_laws.proofs.Same.{is_packet}
+use Rattle.osdp_rules.proofs.Comparing.{is_packet}
+use Rattle.osdp_rules.specs.Packets.{same_packet}
 
 -- the frame of an exchange
 abbrev pub frame : ℕ → ControllerConfig → Exchange → Packet
@@ -230,9 +231,6 @@ module _ (reached : Bool) (k : Known) where
 
     hear_in : (state : State) → s.state ≡ state → ((x : Exchange) → IsOut reached k (frame s.number s.config x) → IsTaken s.number s.config p x)
         → HearFits s (hears_in state p.sequence (meaning_of p) s)
-    hear_in Closed is taken = ignored s fits
-    hear_in (Quiet until) is taken = ignored s fits
-    hear_in (Idle due) is taken = ignored s fits
     hear_in (Waiting until sends o) is taken =
         let out : IsOut reached k (frame s.number s.config o.exchange) = subst (λ state. FitsIn state s.number s.config reached k) is fits in
         cond_both (is_numbered p.sequence (meaning_of p) s) (waiting_hears (meaning_of p) sends o s) (ignores s) (HearFits s)
@@ -241,6 +239,7 @@ module _ (reached : Bool) (k : Known) where
         let out : IsOut reached k (frame s.number s.config o.exchange) = subst (λ state. FitsIn state s.number s.config reached k) is fits in
         cond_both (is_numbered p.sequence (meaning_of p) s) (pausing_hears (meaning_of p) o s) (ignores s) (HearFits s)
         (λ number. pausing_fits (meaning_of p) o refl number (taken o.exchange out)) (λ _. ignored s fits)
+    hear_in _ is taken = ignored s fits
 
   pub hear_fits : (p : Packet) (now : ℕ) (s : Session) → Fits s reached k
       → (is_from_reader p s ≡ true → (x : Exchange) → IsOut reached k (frame s.number s.config x) → IsTaken s.number s.config p x)

@@ -15,7 +15,7 @@ use Rattle.osdp_frame.specs.declared.check_kind.CheckKind.TheVariants.{Sum}
 use Rattle.osdp_frame.specs.Packet.{Packet}
 use Rattle.osdp_frame.specs.Reading.{smallest}
 use Rattle.osdp_monitor.specs.declared.said.Said.{Said}
-use Rattle.osdp_monitor.specs.declared.said.Said.TheVariants.{Busy, Damage, Refusal, Answer}
+use Rattle.osdp_monitor.specs.declared.said.Said.TheVariants.{Answer}
 use Rattle.osdp_monitor.specs.Known.{Known, nothing_known}
 use Rattle.osdp_monitor.specs.Line.{Knowledge, after_packet, no_knowledge}
 use Rattle.osdp_monitor.specs.Reader.{after_reply, after_reply_of, is_late, is_stray, repeat_reply}
@@ -29,16 +29,12 @@ use Rattle.osdp_monitor_laws.specs.PanelLine.{AccusesNoPanel, ADeviceAlone, AreA
 -- ---- what a reply leaves
 
 pub last_by : (s : Said) (k : Known) (p q : Packet) → (after_reply_of s k p q).last ≡ k.last
-last_by Busy k p q = refl
-last_by Damage k p q = refl
-last_by Refusal k p q = refl
 last_by Answer k p q = by_number (λ j. j.last ≡ k.last) (is_some (repeat_reply k p)) p.sequence k q (λ _. refl) (λ _. refl)
+last_by _ k p q = refl
 
 pub answered_by : (s : Said) (k : Known) (p q : Packet) → k.answered ≡ true → (after_reply_of s k p q).answered ≡ true
-answered_by Busy k p q is = is
-answered_by Damage k p q is = is
-answered_by Refusal k p q is = is
 answered_by Answer k p q is = by_number (λ j. j.answered ≡ true) (is_some (repeat_reply k p)) p.sequence k q (λ _. refl) (λ _. is)
+answered_by _ k p q is = is
 
 pub answers : (k : Known) (p q : Packet) → said q ≡ Answer → q.sequence ≡ p.sequence → (after_reply k p q).answered ≡ true
 answers k p q says number =
@@ -94,9 +90,7 @@ retargeted : (state : State) (address : ℕ) (number : ℕ) (config : Controller
     → or_no_device (refused_unless_closed state) address ≡ None → FitsIn state number config reached k
 retargeted Closed address number config reached k none = tt
 retargeted (Quiet until) address number config reached k none = tt
-retargeted (Idle due) address number config reached k none = absurd cc
-retargeted (Waiting until sends o) address number config reached k none = absurd cc
-retargeted (Pausing until o) address number config reached k none = absurd cc
+retargeted _ address number config reached k none = absurd cc
 
 -- ---- a packet that anybody else says
 

@@ -18,7 +18,7 @@ use Rattle.osdp_monitor_laws.proofs.Agreeing.{Agrees, IsAsked, TakesZero, agrees
 use Rattle.osdp_monitor_laws.proofs.Hearing.{IsSaid, Stores, comes, sends, stores_new}
 use Rattle.osdp_monitor_laws.proofs.Knowing.{all_in_order, at_address, at_all, reply_in_order}
 use Rattle.osdp_monitor_laws.proofs.Saying.{ReadsReplies}
-use Rattle.osdp_monitor_laws.specs.ReaderLine.{AccusesNoReader, AreAllowed, Both, IsAllowed, ListenerAlone, MaySay, ReaderAlone, ReaderLine, ReaderMove, Reads, accused_in, after_move, after_said, known_after, new_line, reader_accusations, reader_accused_by, Restart, Queue, SetBusy, SetHandler, Say, AnswerComes, Skip, Forget}
+use Rattle.osdp_monitor_laws.specs.ReaderLine.{AccusesNoReader, AreAllowed, Both, IsAllowed, ListenerAlone, MaySay, ReaderAlone, ReaderLine, ReaderMove, Reads, accused_in, after_move, after_said, known_after, new_line, reader_accusations, reader_accused_by, Restart, Say, AnswerComes, Skip, Forget}
 
 -- the answer that is on its way: it is not accused, and what is known agrees with the reader when it has come
 pub record Coming (known : Knowledge) (own : ℕ) (last : Option ℕ) (stored : Option Packet) (q : Packet) : Type 0 where
@@ -240,9 +240,6 @@ module _ {H : Type 0} where
 
     move_holds : (move : ReaderMove H) (l : ReaderLine H) → Holds l → IsAllowed answer_of after move l → Holds (after_move answer_of after move l)
     move_holds (Restart config handler room) l holds allowed = restarted l _ holds refl
-    move_holds (Queue event) l holds allowed = record { zero = holds.zero; agrees = holds.agrees; stores = holds.stores; coming = holds.coming }
-    move_holds (SetBusy busy) l holds allowed = record { zero = holds.zero; agrees = holds.agrees; stores = holds.stores; coming = holds.coming }
-    move_holds (SetHandler handler) l holds allowed = record { zero = holds.zero; agrees = holds.agrees; stores = holds.stores; coming = holds.coming }
     move_holds (Say p reads) l holds allowed = said_holds p reads l holds allowed.0 allowed.1
     move_holds (AnswerComes true) l holds allowed = answered l l.answer refl holds
     move_holds (AnswerComes false) l holds allowed =
@@ -251,6 +248,7 @@ module _ {H : Type 0} where
         cond_both (nat_lt (l.known.skipped + 1) (smallest Sum)) (record l.known { skipped = l.known.skipped + 1 }) no_knowledge
         (λ known. Holds (record l { known = known })) (λ _. skipping l (l.known.skipped + 1) holds) (λ _. forgotten l holds)
     move_holds Forget l holds allowed = forgotten l holds
+    move_holds _ l holds allowed = record { zero = holds.zero; agrees = holds.agrees; stores = holds.stores; coming = holds.coming }
 
     move_innocent : (move : ReaderMove H) (l : ReaderLine H) → Holds l → reader_accused_by move l ≡ None
     move_innocent (AnswerComes true) l holds = innocent l l.answer refl holds

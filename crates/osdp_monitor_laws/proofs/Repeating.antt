@@ -8,7 +8,7 @@ use Rattle.osdp_monitor.specs.declared.accusation.Accusation.{Accusation}
 use Rattle.osdp_monitor.specs.declared.accusation.Accusation.TheVariants.{AnotherCheck, AnotherNumber, AnotherReply, BusyToRepeat, SecondReply}
 use Rattle.osdp_monitor.specs.declared.found.Found.{Found}
 use Rattle.osdp_monitor.specs.declared.said.Said.TheVariants.{Busy, Answer}
-use Rattle.osdp_monitor.specs.Known.{Known, same_check, same_packet}
+use Rattle.osdp_monitor.specs.Known.{Known}
 use Rattle.osdp_monitor.specs.Line.{Knowledge, after_items, after_packet, found_in}
 use Rattle.osdp_monitor.specs.Reader.{answer_accused, is_doubtful, is_one_more, is_owed, reader_accused, repeat_reply, reply_accused}
 use Rattle.osdp_monitor.specs.Saying.{is_damage, said}
@@ -17,10 +17,11 @@ use Rattle.osdp_monitor_laws.proofs.Breaking.{checks_equal, checks_other}
 use Rattle.osdp_monitor_laws.proofs.Missing.{IsPending, IsStored, Keeps, device_of, first_pending, none_doubtful, old_repeat, pending_step, stored_sent, stored_step, taken_stored}
 use Rattle.osdp_monitor_laws.proofs.Naming.{checks_differ, checks_same, quiet_items}
 use Rattle.osdp_monitor_laws.proofs.Remembering.{after_append, after_one, at_remembered, forgotten_append, items_keep}
-use Rattle.osdp_monitor_laws.proofs.Same.{is_packet, packet_is}
+use Rattle.osdp_rules.proofs.Comparing.{is_packet, packet_is}
 use Rattle.osdp_monitor_laws.proofs.Telling.{reply_found}
 use Rattle.osdp_monitor_laws.specs.Misses.{IsRemembered, IsTo, RefusesNothing, SaysOther, TakesNothing}
 use Rattle.osdp_monitor_laws.specs.Repeats.{BreaksAgain, NamesAnswersToRepeats, Repeated, repeated_items}
+use Rattle.osdp_rules.specs.Packets.{same_check, same_packet}
 
 -- the repeat has come, and no reply to it
 abbrev IsAgain : Packet → ℕ → Packet → Known → Type 0

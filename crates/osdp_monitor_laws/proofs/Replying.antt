@@ -6,13 +6,14 @@ use Rattle.osdp_frame.specs.Packet.{Packet, next_sequence}
 use Rattle.osdp_monitor.specs.declared.accusation.Accusation.TheVariants.{AnotherCheck, AnotherNumber, AnotherReply, BusyToRepeat, RefusedZero, SecondReply, TakenOutOfTurn}
 use Rattle.osdp_monitor.specs.declared.said.Said.{Said}
 use Rattle.osdp_monitor.specs.declared.said.Said.TheVariants.{Busy, Damage, Refusal, Answer}
-use Rattle.osdp_monitor.specs.Known.{Known, is_number, nothing_known, same_check, same_packet}
+use Rattle.osdp_monitor.specs.Known.{Known, is_number, nothing_known}
 use Rattle.osdp_monitor.specs.Reader.{after_answer, after_other, after_own, after_reply, after_reply_of, answer_accused, is_doubtful, is_one_more, is_owed, reader_accused, repeat_reply, reply_accused, taken_accused, turn_accused}
 use Rattle.osdp_monitor.specs.Saying.{is_damage, said}
 use Rattle.osdp_monitor_laws.proofs.Agreeing.{Agrees, IsAsked, Level, TakesZero, Unheard, agrees_untaken, none_some, same_some}
 use Rattle.osdp_monitor_laws.proofs.Late.{by_fate, by_number}
 use Rattle.osdp_monitor_laws.proofs.Numbers.{next_above_zero, next_differs}
-use Rattle.osdp_monitor_laws.proofs.Same.{is_packet}
+use Rattle.osdp_rules.proofs.Comparing.{is_packet}
+use Rattle.osdp_rules.specs.Packets.{same_check, same_packet}
 
 module _ (k : Known) (p q : Packet) (asked : IsAsked k p) where
   -- one reply to one copy: it is judged by what it says

@@ -13,14 +13,14 @@ use Rattle.osdp_msg.specs.declared.reply.Reply.{Reply}
 use Rattle.osdp_msg_laws.specs.Laws.{FitsAPacket, ReadsTheTable}
 use Rattle.osdp_monitor.specs.declared.accusation.Accusation.TheVariants.{AnotherCheck, EventAtZero, UnfitReply}
 use Rattle.osdp_monitor.specs.declared.said.Said.TheVariants.{Answer}
-use Rattle.osdp_monitor.specs.Known.{same_check}
 use Rattle.osdp_monitor.specs.Reader.{fit_accused, is_event_at_zero, is_plain, reading_accused, taken_accused}
 use Rattle.osdp_monitor.specs.Saying.{reply_told, said, said_by}
 use Rattle.osdp_reader.specs.Replies.{reply_packet}
 use Rattle.osdp_reader.specs.Table.{Outcome, command_in}
 use Rattle.osdp_monitor_laws.proofs.Agreeing.{same_some}
 use Rattle.osdp_monitor_laws.proofs.FittingReplies.{IsAnswer}
-use Rattle.osdp_monitor_laws.proofs.Same.{check_same}
+use Rattle.osdp_rules.proofs.Comparing.{check_same}
+use Rattle.osdp_rules.specs.Packets.{same_check}
 
 -- a reply is read from its code and data
 abbrev pub ReadsReplies : Type 0

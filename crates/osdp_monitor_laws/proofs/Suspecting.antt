@@ -9,8 +9,8 @@ use Rattle.osdp_frame.specs.Reading.{RunItem, PacketItem, SkippedItem, RefusedIt
 use Rattle.osdp_monitor.specs.declared.accusation.Accusation.TheVariants.{NotAnswered}
 use Rattle.osdp_monitor.specs.declared.found.Notice.TheVariants.{Unanswered, Unsure}
 use Rattle.osdp_monitor.specs.declared.said.Said.{Said}
-use Rattle.osdp_monitor.specs.declared.said.Said.TheVariants.{Busy, Damage, Refusal, Answer}
-use Rattle.osdp_monitor.specs.Known.{Known, same_packet}
+use Rattle.osdp_monitor.specs.declared.said.Said.TheVariants.{Answer}
+use Rattle.osdp_monitor.specs.Known.{Known}
 use Rattle.osdp_monitor.specs.Line.{Knowledge, after_item, after_items, after_packet, found_in, no_knowledge, notice_if, notice_in_sent}
 use Rattle.osdp_monitor.specs.Panel.{after_another, after_copy, after_sent, is_doubt, is_first_doubt, is_missed, keeps_number, left_waiting, panel_accused, still_suspected, suspected_for}
 use Rattle.osdp_monitor.specs.Reader.{after_reply_of, repeat_reply}
@@ -21,9 +21,10 @@ use Rattle.osdp_monitor_laws.proofs.Missing.{IsUnanswered, by_suspicion, device_
 use Rattle.osdp_monitor_laws.proofs.Numbers.{next_differs}
 use Rattle.osdp_monitor_laws.proofs.PanelLines.{last_by}
 use Rattle.osdp_monitor_laws.proofs.Remembering.{after_append, after_one, at_remembered, forgotten_append, items_keep}
-use Rattle.osdp_monitor_laws.proofs.Same.{packet_is}
+use Rattle.osdp_rules.proofs.Comparing.{packet_is}
 use Rattle.osdp_monitor_laws.specs.Misses.{IsRemembered, IsTo, LeavesUnanswered, NothingForgotten}
 use Rattle.osdp_monitor_laws.specs.Suspicion.{AreInNoDoubt, IsInNoDoubt, SuspectsAfterDoubts, SuspectsForAWhile, is_to, sent_to}
+use Rattle.osdp_rules.specs.Packets.{same_packet}
 
 -- ---- after a doubt
 
@@ -100,10 +101,8 @@ certain_less k old p last none =
     (λ _. refl) (λ _. ap (λ o. still_suspected o k p) last ∙ cond-false (is_doubt old k.answered p) suspected_for (k.suspected - 1) none)
 
 reply_less : (s : Said) (k : Known) (p x : Packet) → (after_reply_of s k p x).suspected ≡ k.suspected
-reply_less Busy k p x = refl
-reply_less Damage k p x = refl
-reply_less Refusal k p x = refl
 reply_less Answer k p x = by_number (λ j. j.suspected ≡ k.suspected) (is_some (repeat_reply k p)) p.sequence k x (λ _. refl) (λ _. refl)
+reply_less _ k p x = refl
 
 step : (a : ℕ) (line : Knowledge) (x : Packet) → IsAsked (line.devices a) → IsRemembered a (PacketItem x) line → IsInNoDoubt a (PacketItem x) line
     → IsLess (line.devices a).suspected (cond (is_to a (PacketItem x)) 1 0) ((after_packet line x).devices a)

@@ -8,8 +8,8 @@ use Rattle.osdp_monitor.specs.declared.accusation.Accusation.TheVariants.{Second
 use Rattle.osdp_monitor.specs.declared.found.Found.{Found}
 use Rattle.osdp_monitor.specs.declared.found.Notice.TheVariants.{Late, Unsure}
 use Rattle.osdp_monitor.specs.declared.said.Said.{Said}
-use Rattle.osdp_monitor.specs.declared.said.Said.TheVariants.{Busy, Damage, Refusal, Answer}
-use Rattle.osdp_monitor.specs.Known.{Known, is_number, same_packet}
+use Rattle.osdp_monitor.specs.declared.said.Said.TheVariants.{Busy, Answer}
+use Rattle.osdp_monitor.specs.Known.{Known, is_number}
 use Rattle.osdp_monitor.specs.Line.{Knowledge, after_items, after_packet, found_in, found_in_reply, found_in_sent, late_notice, moves_to, nothing_found, reply_notice}
 use Rattle.osdp_monitor.specs.Panel.{after_another, after_copy, after_sent, is_in_row, is_waiting, keeps_number, left_waiting}
 use Rattle.osdp_monitor.specs.Reader.{after_reply, after_reply_of, has_earlier_number, has_no_number, is_doubtful, is_late, is_one_more, is_owed, is_owed_number, is_stray, reader_accused, repeat_reply, reply_accused, tells_number}
@@ -18,30 +18,25 @@ use Rattle.osdp_monitor_laws.proofs.Agreeing.{none_some, same_some, sent_asked}
 use Rattle.osdp_monitor_laws.proofs.Late.{by_fate, by_number, late_doubtful, no_row}
 use Rattle.osdp_monitor_laws.proofs.PanelLines.{last_by}
 use Rattle.osdp_monitor_laws.proofs.Remembering.{after_append, after_one, at_remembered, forgotten_append, items_keep}
-use Rattle.osdp_monitor_laws.proofs.Same.{is_packet, packet_is}
+use Rattle.osdp_rules.proofs.Comparing.{is_packet, packet_is}
 use Rattle.osdp_monitor_laws.specs.Late.{HasItsNumber, IsCopyOrOther, IsNone, LeavesStrayBusy, TellsLateAnswers}
 use Rattle.osdp_monitor_laws.specs.Misses.{Each, IsCopyOrReply, IsFrom, IsRemembered, IsTo, NothingForgotten}
+use Rattle.osdp_rules.specs.Packets.{same_packet}
 
 -- what no reply changes
 pub owing_by : (s : Said) (k : Known) (p x : Packet) → (after_reply_of s k p x).owing ≡ k.owing
-owing_by Busy k p x = refl
-owing_by Damage k p x = refl
-owing_by Refusal k p x = refl
 owing_by Answer k p x = by_number (λ j. j.owing ≡ k.owing) (is_some (repeat_reply k p)) p.sequence k x (λ _. refl) (λ _. refl)
+owing_by _ k p x = refl
 
 pub settled_by : (s : Said) (k : Known) (p x : Packet) → (after_reply_of s k p x).settled ≡ k.settled
-settled_by Busy k p x = refl
-settled_by Damage k p x = refl
-settled_by Refusal k p x = refl
 settled_by Answer k p x = by_number (λ j. j.settled ≡ k.settled) (is_some (repeat_reply k p)) p.sequence k x (λ _. refl) (λ _. refl)
+settled_by _ k p x = refl
 
 -- .. nor one with another number
 pub earlier_by : (s : Said) (k : Known) (p x : Packet) → x.sequence ≢ p.sequence → (after_reply_of s k p x).earlier ≡ k.earlier
-earlier_by Busy k p x other = refl
-earlier_by Damage k p x other = refl
-earlier_by Refusal k p x other = refl
 earlier_by Answer k p x other =
     by_number (λ j. j.earlier ≡ k.earlier) (is_some (repeat_reply k p)) p.sequence k x (λ own. absurd (other own)) (λ _. refl)
+earlier_by _ k p x other = refl
 
 -- ---- the first copy
 

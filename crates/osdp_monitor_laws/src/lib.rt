@@ -2,6 +2,9 @@
 //! their contracts are laws.
 #![tactic(auto)]
 
+ghost use Rattle.std.specs.Prelude.{◌≡◌, ℕ, List, Option};
+ghost use Rattle.osdp_frame.specs.Packet.{Packet};
+ghost use Rattle.osdp_monitor.specs.Private.{IsSpelledIf};
 ghost use Rattle.osdp_monitor_laws.specs.Laws.{AccusesNoLateReader, AccusesNoPanel, AccusesNoPanelByTheRules, AccusesNoReader, AccusesNoReaderByTheRules, AccusesTheSender, LeavesStrayBusy, MissesNoOtherPacket, MissesNoOtherReply, MissesNoPacketOutOfTurn, MissesNoUnanswered, NamesAnswersToRepeats, NamesPanels, NamesReaders, NamesSecondReplies, SuspectsAfterDoubts, SuspectsForAWhile, TellsFirstDoubts, TellsLateAnswers, TellsLateReaders, TellsNoAnswered, TellsReplies, TellsTooLittle, TellsUnanswered, TellsUnansweredOnce, TellsUnheard};
 
 use osdp_reader::Handler;
@@ -147,4 +150,10 @@ pub fn tells_too_little()
 /// accused.
 pub fn tells_unheard()
     ensures { TellsUnheard }
+{}
+
+/// What is told as expected are the bytes of one packet, or none, so what a device should have sent is told in one way.
+#[tactic(auto, using(crate::proofs::Expecting::one_burst))]
+pub fn one_burst_is_expected()
+    ensures { (expected : Option Packet) (a b : List ℕ) → IsSpelledIf expected a → IsSpelledIf expected b → a ≡ b }
 {}

@@ -1,5 +1,5 @@
 -- What packets say to somebody who tests a device.
-use Rattle.std.specs.Prelude.{ℕ, ◌==◌, Bool, true, false, ◌&&◌, ◌||◌, not, nat_lt, length, drop, slice_index, Result, Ok}
+use Rattle.std.specs.Prelude.{◌≡◌, ◌↔◌, ℕ, ◌==◌, Bool, true, false, ◌&&◌, ◌||◌, not, nat_lt, length, drop, slice_index, Result, Ok}
 use Rattle.std.specs.Bool.{beq}
 use Rattle.std.specs.Str.{bytes_eq}
 use Rattle.osdp_frame.specs.Check.{check_size}
@@ -55,3 +55,7 @@ abbrev pub same_packet : Packet → Packet → Bool
 same_packet p q =
     beq p.reply q.reply && p.address == q.address && p.sequence == q.sequence && same_check p.check q.check
     && beq p.block q.block && p.reserved == q.reserved && bytes_eq p.body q.body
+
+-- packets are compared as a whole
+abbrev pub ComparesPackets : Type 0
+ComparesPackets = (p q : Packet) → (same_packet p q ≡ true) ↔ (p ≡ q)

@@ -10,6 +10,7 @@ mod finding;
 mod findings;
 mod judging;
 mod known;
+mod laws;
 mod packets;
 mod verdict;
 
@@ -21,5 +22,6 @@ pub use finding::Finding;
 pub use findings::prompt_finding;
 pub use judging::{count_judged, judged, noise_judged};
 pub use known::{Known, Turn};
-pub use packets::{has_reason, is_busy, same_packet, takes_nothing};
+pub use laws::compares_packets;
+pub use packets::{has_reason, is_busy, same_check, same_packet, takes_nothing};
 pub use verdict::Verdict;

@@ -64,7 +64,7 @@ pub fn takes_nothing(answer: &FrameView<'_>) -> bool
 }
 
 /// Whether two packets have the same check.
-pub(crate) fn same_check(check: CheckKind, other: CheckKind) -> bool
+pub fn same_check(check: CheckKind, other: CheckKind) -> bool
     ensures { result ≡ same_check check other }
 {
     check.size() == other.size()

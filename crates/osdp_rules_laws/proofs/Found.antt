@@ -15,7 +15,7 @@ use Rattle.osdp_rules.specs.declared.known.Turn.{Turn}
 use Rattle.osdp_rules.specs.declared.known.Turn.TheVariants.{Again}
 use Rattle.osdp_rules_laws.specs.Laws.{FindsAnotherAnswer}
 use Rattle.osdp_rules_laws.proofs.Meeting.{again_last}
-use Rattle.osdp_rules_laws.proofs.Same.{is_packet, packet_is}
+use Rattle.osdp_rules.proofs.Comparing.{is_packet, packet_is}
 
 -- an answer to a packet without a block is judged by the turn of its number
 at_turn : (aspect : Aspect) (address : ℕ) (k : Known) (p a : Packet) (turn : Turn) → is_to address p ≡ true → p.block ≡ false

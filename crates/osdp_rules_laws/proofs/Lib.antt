@@ -1,5 +1,4 @@
 pub mod Fine
-pub mod Same
 pub mod Replies
 pub mod Reading
 pub mod Meeting

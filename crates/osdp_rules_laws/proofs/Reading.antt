@@ -18,7 +18,7 @@ use Rattle.osdp_rules.specs.declared.aspect.Aspect.TheVariants as rule
 use Rattle.osdp_rules.specs.declared.finding.Finding.TheVariants.{Nothing, Kept, Either, Broken}
 use Rattle.osdp_rules_laws.proofs.Fine.{IsFine, fine_both, fine_false, fine_kept}
 use Rattle.osdp_rules_laws.proofs.Replies.{IsServed, Suits, is_plain, plain_says, unread_plain}
-use Rattle.osdp_rules_laws.proofs.Same.{check_same}
+use Rattle.osdp_rules.proofs.Comparing.{check_same}
 
 -- a reply is read from its code and data
 abbrev pub ReadsReplies : Type 0

@@ -32,7 +32,7 @@ use Rattle.osdp_rules_laws.proofs.Fine.{IsFine, fine_both, fine_false, fine_true
 use Rattle.osdp_rules_laws.proofs.Meeting.{Met, again_last, met, new_at_zero, new_next, out_further, unknown_above}
 use Rattle.osdp_rules_laws.proofs.Reading.{ReadsReplies, SuitsRead, fine_busy, fine_said, suits_plainly}
 use Rattle.osdp_rules_laws.proofs.Replies.{answer_served, answer_suits, plain_says, told_served, told_suits}
-use Rattle.osdp_rules_laws.proofs.Same.{is_packet}
+use Rattle.osdp_rules.proofs.Comparing.{is_packet}
 
 quiet_fine : (aspect : Aspect) → IsFine (quiet_finding aspect false)
 quiet_fine rule.Quiet = tt

@@ -1,5 +1,0 @@
-use Rattle.osdp_monitor.proofs.Comparing.{compares_packets_lem}
-use Rattle.osdp_monitor.proofs.laws.compares_packets.Goals as goal
-
-pub returns : goal.returns
-returns c = compares_packets_lem
