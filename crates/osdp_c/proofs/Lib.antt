@@ -1,2 +1,5 @@
 pub mod Added
 pub mod Heard
+mod OneAnswer
+mod MadeAlike
+mod MonitorAnswers

@@ -1,3 +1,4 @@
 pub mod CommandTexts
 pub mod Texts
 pub mod Reads
+pub mod Outcomes

@@ -7,6 +7,7 @@
 mod events;
 mod fields;
 mod held;
+pub mod laws;
 mod messages;
 mod monitor;
 mod panel;
