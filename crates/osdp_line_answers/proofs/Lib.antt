@@ -1,3 +1,4 @@
 pub mod Speaking
 pub mod Stopping
 pub mod AnsweringLines
+pub mod EachLine

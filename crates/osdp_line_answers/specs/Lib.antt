@@ -1,3 +1,4 @@
 pub mod Answers
 pub mod Steps
 pub mod Ending
+pub mod Laws

@@ -3,6 +3,7 @@
 
 mod answerer;
 mod answering;
+pub mod laws;
 mod lines;
 
 pub use answerer::{LONGEST, LineAnswerer};

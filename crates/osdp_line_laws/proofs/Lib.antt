@@ -8,3 +8,4 @@ mod OneSession
 mod Openness
 mod Beside
 mod OldEvents
+mod Commands

@@ -5,3 +5,5 @@ pub mod PanelRuns
 pub mod ReaderRuns
 pub mod PanelListening
 pub mod OrderedLines
+pub mod Commands
+pub mod Sayings

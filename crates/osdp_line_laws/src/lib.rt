@@ -4,6 +4,7 @@
 //! called by lines, and the program writes what the machines' tables say of those calls.
 #![tactic(auto)]
 
+ghost use Rattle.osdp_line_laws.specs.Commands.{DevicesGoByWords, PanelsGoByWords};
 ghost use Rattle.osdp_line_laws.specs.OldEvents.{OldEventsAlwaysLeave};
 ghost use Rattle.osdp_line_laws.specs.OrderedLines.{ComeOfOrdersCalls, IsOrdersCallOrNone, WithoutTheSetting};
 ghost use Rattle.osdp_line_laws.specs.PanelLines.{ComesOfCalls, IsCallOrNone};
@@ -11,6 +12,20 @@ ghost use Rattle.osdp_line_laws.specs.PanelListening.{ListensAlways};
 ghost use Rattle.osdp_line_laws.specs.PanelRuns.{RunsAreCalls as PanelRunsAreCalls};
 ghost use Rattle.osdp_line_laws.specs.ReaderLines.{ComesOfSteps, IsStepsOrNone};
 ghost use Rattle.osdp_line_laws.specs.ReaderRuns.{RunsAreCalls as ReaderRunsAreCalls};
+ghost use Rattle.osdp_line_laws.specs.Sayings.{SaysACallOrNone};
+
+use std::io::{Read, Write};
+
+/// Bad words are told where the words of a command are no settings of a panel, and only there; nothing is read or written then. A run that ends well has read
+/// its whole input. To each line of it a panel of the settings that the words are has answered, in its turn, and nothing else was written.
+pub fn a_panels_words_decide<R: Read, W: Write>()
+    ensures { PanelsGoByWords R.remaining W.contents }
+{}
+
+/// The same holds of the words of a reader's device, and of its run.
+pub fn a_devices_words_decide<R: Read, W: Write>()
+    ensures { DevicesGoByWords R.remaining W.contents }
+{}
 
 /// A line to a panel is one call of its bus at most, and then the taking of the report that waits. What is written is what the bus refuses, sends and
 /// reports by that, after what it lets be heard beside the bus, and the moment of the next tick. A line that is none changes nothing.
@@ -76,4 +91,9 @@ pub fn an_ordered_panel_comes_of_calls()
 /// Where orders don't wait for POLLs, a run of lines is answered as by a panel that holds no order back. So what the laws say of such runs they say of this one.
 pub fn without_the_setting_a_panel_answers_as_before()
     ensures { WithoutTheSetting }
+{}
+
+/// A line of a run counts as no call exactly where there is no call that it says, to a panel and to a reader's device.
+pub fn a_line_says_a_call_or_none()
+    ensures { SaysACallOrNone }
 {}

@@ -11,3 +11,4 @@ pub mod OneLine
 pub mod OneScript
 pub mod PrintedLine
 pub mod ReadBack
+mod OneRest

@@ -1,9 +1,8 @@
 -- Lines, read one after the other.
-use Rattle.std.proofs.Common.{◌≡◌, ℕ, ◌+◌, ◌<◌, ◌≤◌, List, [], ◌∷◌, ◌++◌, length, refl, sym, ap, subst, ◌∙◌, arith, append_assoc, append-nil}
+use Rattle.std.proofs.Common.{◌≡◌, ℕ, ◌+◌, ◌<◌, ◌≤◌, List, [], ◌∷◌, ◌++◌, length, refl, sym, ap, subst, ◌∙◌, arith, append_assoc}
 use Rattle.std.proofs.lemmas.List.{length-append}
 use Rattle.osdp_tool_streams.specs.Cut.{lines_of}
-use Rattle.osdp_script.specs.Drafts.{EndsReading}
-use Rattle.osdp_script.specs.Reading.{AreRead, IsBad, IsFirstBad, IsRead}
+use Rattle.osdp_script.specs.Reading.{AreRead, IsRead}
 use Rattle.osdp_script.specs.Script.{Plan, no_plan}
 
 -- the lines above the rest are read, and are so many
@@ -13,9 +12,6 @@ pub record HasRead (bytes rest : List ℕ) (count : ℕ) (p : Plan) : Type 0 whe
   pub good : AreRead no_plan above p
   pub number : count ≡ length above
   pub room : count + length rest ≤ length bytes
-
-pub none_read : (bytes : List ℕ) → HasRead bytes bytes 0 no_plan
-none_read bytes = record { above = []; whole = refl; good = refl; number = refl; room = omega arith }
 
 are_read_more : (p : Plan) (lines : List (List ℕ)) (q : Plan) (line : List ℕ) (r : Plan) → AreRead p lines q → IsRead q line r
     → AreRead p (lines ++ line ∷ []) r
@@ -32,28 +28,3 @@ read_more bytes rest line below count p q so_far cut shorter more = record {
   number = omega (arith, so_far.number, length-append so_far.above (line ∷ []));
   room = omega (arith, so_far.room, shorter);
 }
-
--- the first bad line
-pub first_bad : (bytes rest line below : List ℕ) (count : ℕ) (p : Plan) → HasRead bytes rest count p
-    → lines_of rest ≡ line ∷ lines_of below → IsBad p line → IsFirstBad (lines_of bytes) (count + 1)
-first_bad bytes rest line below count p so_far cut bad = record {
-  above = so_far.above;
-  line = line;
-  below = lines_of below;
-  plan = p;
-  whole = so_far.whole ∙ ap (λ lines. so_far.above ++ lines) cut;
-  good = so_far.good;
-  bad = bad;
-  place = ap (λ n. n + 1) so_far.number;
-}
-
--- no line is left
-pub all_read : (bytes rest : List ℕ) (count : ℕ) (p : Plan) → HasRead bytes rest count p → lines_of rest ≡ [] → EndsReading bytes p count
-all_read bytes rest count p so_far done =
-    let all : lines_of bytes ≡ so_far.above =
-    so_far.whole ∙ ap (λ lines. so_far.above ++ lines) done ∙ append-nil so_far.above in
-    record {
-      good = subst (λ lines. AreRead no_plan lines p) (sym all) so_far.good;
-      number = so_far.number ∙ ap length (sym all);
-      small = omega (arith, so_far.room);
-    }

@@ -4,7 +4,7 @@ use Rattle.std.specs.List.{All}
 use Rattle.std.proofs.lemmas.List.Elements.{All-append, All-cons, All-head, All-nil, All-tail}
 use Rattle.osdp_tool_streams.specs.Cut.{lines_of}
 use Rattle.osdp_script.specs.declared.script.ScriptLine.{ScriptLine}
-use Rattle.osdp_script.specs.declared.script.ScriptLine.TheVariants.{Check, Reader, Step, Clean}
+use Rattle.osdp_script.specs.declared.script.ScriptLine.TheVariants.{Reader}
 use Rattle.osdp_script.specs.Lines.{IsSetting, LineFits}
 use Rattle.osdp_script.specs.Reading.{AreRead, IsFree, IsInPlace, IsRead}
 use Rattle.osdp_script.specs.Script.{Plan, no_plan, with_line}
@@ -30,7 +30,6 @@ apart_more (first ∷ others) r apart free =
 
 line_named : (p : Plan) (line : ScriptLine) → LineFits (length p.readers) line → IsInPlace p line → Named p.readers
     → Named (with_line line p).readers
-line_named p (Check kind) fits place named = named
 line_named p (Reader address room) fits place named = record {
   most =
       let limit = place.limit in
@@ -41,8 +40,7 @@ line_named p (Reader address room) fits place named = record {
       All-append Set p.readers ((address, room) ∷ []) named.each (one Set (address, room) fits);
   apart = apart_more p.readers (address, room) named.apart place.free;
 }
-line_named p (Step step) fits place named = named
-line_named p (Clean n) fits place named = named
+line_named p _ fits place named = named
 
 read_named : (p : Plan) (line : List ℕ) (q : Plan) → IsRead p line q → Named p.readers → Named q.readers
 read_named p line q (inl (over, is)) named = subst (λ (r : Plan). Named r.readers) (sym is) named

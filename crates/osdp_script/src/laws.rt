@@ -1,6 +1,13 @@
 //! What holds of the lines of a script, whatever they are, and of a reader's outputs. The functions do nothing: their contracts are laws.
 
+ghost use Rattle.std.specs.Prelude.{◌≡◌, ℕ, List};
 ghost use Rattle.osdp_script.specs.Laws.{HasReaders, LastRecordCounts, ReadInTurn, StaysBad};
+ghost use Rattle.osdp_script.specs.Words.{BeginsWithLine};
+
+/// After the first line of a script stands one rest: what comes after the line feed that ends it, or nothing where it is the last.
+pub fn one_rest_after_a_line()
+    ensures { (bytes line rest left : List ℕ) → BeginsWithLine bytes line rest → BeginsWithLine bytes line left → rest ≡ left }
+{}
 
 /// A line is judged by those above it and itself alone: what some lines say, and then what more of them say, is what all of them say.
 pub fn reads_in_turn()

@@ -1,2 +1,3 @@
 mod FirstWrong
 pub mod Reading
+mod Once

@@ -1,3 +1,4 @@
 pub mod Settings
 pub mod Wrong
 pub mod Values
+pub mod Laws

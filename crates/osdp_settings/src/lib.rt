@@ -2,10 +2,12 @@
 //! later value holds. `read_settings` reads them for what is `Configured`, or tells the first words that are none.
 #![tactic(auto)]
 
+mod laws;
 mod settings;
 mod values;
 mod wrong;
 
+pub use laws::tells_once;
 pub use settings::{Configured, read_settings};
 pub use values::{number_within, read_switch};
 pub use wrong::WrongSetting;
