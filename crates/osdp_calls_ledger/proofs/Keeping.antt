@@ -1,6 +1,6 @@
 -- Every list of calls that keep the premises shows what the moves of a net show, so what each of several links keeps each entry keeps.
-use Rattle.std.proofs.Common.{◌≡◌, ◌+◌, ℕ, false, List, [], ◌∷◌, ◌++◌, map, Option, None, Some, refl, sym, subst, ap, ◌∙◌}
-use Rattle.std.specs.Prelude.{flat_map, is_some}
+use Rattle.std.proofs.Common.{◌≡◌, ◌==◌, ◌+◌, ℕ, false, List, [], ◌∷◌, ◌++◌, map, Option, None, Some, refl, sym, subst, ap, ◌∙◌}
+use Rattle.std.specs.Prelude.{flat_map, is_some, option_to_list}
 use Rattle.osdp_msg.specs.declared.command.Command.{Command}
 use Rattle.osdp_msg.specs.declared.event.Event.{Event}
 use Rattle.osdp_msg.specs.declared.reply.Reply.{Reply}
@@ -8,13 +8,13 @@ use Rattle.osdp_controller.specs.Machine.{Machine}
 use Rattle.osdp_reader.specs.State.{ReaderState}
 use Rattle.osdp_reader.specs.declared.handler.Answer.{Answer}
 use Rattle.osdp_ledger.specs.Ledger as ledger
-use Rattle.osdp_ledger.specs.Ledger.{Card, Order, RestartPanel, after, new_ledger}
+use Rattle.osdp_ledger.specs.Ledger.{Card, Ledger, Order, RestartPanel, after, new_ledger}
 use Rattle.osdp_ledger.specs.History.{AreAllowed, End, History, Left, new_history, runs, steps_on}
 use Rattle.osdp_ledger.specs.Laws.{EventsHold, OrdersHold}
-use Rattle.osdp_link_laws.specs.Link.{Account}
+use Rattle.osdp_link_laws.specs.Link.{Account, Link, outstanding_command}
 use Rattle.osdp_link_laws.specs.Sessions.{in_all}
 use Rattle.osdp_link_ledger.specs.Accounts.{cut_off_as, doubted_as, removed_as, settled_as, taken_back_as}
-use Rattle.osdp_link_ledger.specs.Laws.{IsLedgerOf, answered_in, is_under_way, unreported_in}
+use Rattle.osdp_link_ledger.specs.Laws.{HasNumber, IsLedgerOf, answer_to, is_polling, is_under_way, offered_to}
 use Rattle.osdp_link_ledger.specs.Steps.{after_steps, all_steps, queued_before}
 use Rattle.osdp_link_ledger.proofs.Ties.{runs_after}
 use Rattle.osdp_line_ledger.specs.Laws as lines
@@ -94,6 +94,44 @@ module _ {H : Type 0} (answer_of : H → Command → Answer) (after_command : H 
   way_same None top m c is = ap (λ (x : Machine). is_under_way x.session.state) is.same
   way_same (Some began) top m c is = ap (λ (x : Machine). is_under_way x.session.state) is.same ∙ sym (ap is_under_way is.quiet)
 
+  polling_same : (o : Option ℕ) (top : ℕ) (m c : Machine) → Controls o top m c → is_polling c.session.state ≡ is_polling m.session.state
+  polling_same None top m c is = ap (λ (x : Machine). is_polling x.session.state) is.same
+  polling_same (Some began) top m c is = ap (λ (x : Machine). is_polling x.session.state) is.same ∙ sym (ap is_polling is.quiet)
+
+  number_same : (o : Option ℕ) (top : ℕ) (m c : Machine) → Controls o top m c → c.session.number ≡ m.session.number
+  number_same None top m c is = ap (λ (x : Machine). x.session.number) is.same
+  number_same (Some began) top m c is = ap (λ (x : Machine). x.session.number) is.same
+
+  address_same : (o : Option ℕ) (top : ℕ) (m c : Machine) → Controls o top m c → c.session.config.address ≡ m.session.config.address
+  address_same None top m c is = ap (λ (x : Machine). x.session.config.address) is.same
+  address_same (Some began) top m c is = ap (λ (x : Machine). x.session.config.address) is.same
+
+  is_of_entry : (o : Option ℕ) (top : ℕ) (l : Link H) {v : Link H} {g : Ledger} → Controls o top l.controller v.controller → v.reader ≡ l.reader → IsLedgerOf v g → IsLedgerOf l g
+  is_of_entry o top l {v} {g} is reader its = record {
+    ahead = its.ahead ∙ (λ i. option_to_list (out i) ++ waiting_too o top l.controller v.controller is i);
+    is_open = its.is_open ∙ way_same o top l.controller v.controller is;
+    acted = λ going n last. its.acted going n (there n last) ∙ (λ i. answer_to (out i) (n == number i) (reader i).stored);
+    unasked = λ going none. its.unasked going (out ∙ none);
+    offer = λ going n last. its.offer going n (there n last) ∙ (λ i. offered_to (polling i) (n == number i) (reader i).queue);
+    unpolled = λ going none. its.unpolled going (polling ∙ none);
+    cards = its.cards ∙ ap (λ (r : ReaderState H). r.queue.events) reader;
+  }
+    where
+      out : outstanding_command v.controller.session.state ≡ outstanding_command l.controller.session.state
+      out = outstanding_same o top l.controller v.controller is
+
+      number : v.controller.session.number ≡ l.controller.session.number
+      number = number_same o top l.controller v.controller is
+
+      polling : is_polling v.controller.session.state ≡ is_polling l.controller.session.state
+      polling = polling_same o top l.controller v.controller is
+
+      there : (n : ℕ) → HasNumber l n → HasNumber v n
+      there n last = (
+        ap (λ (r : ReaderState H). r.config.address) reader ∙ last.0 ∙ sym (address_same o top l.controller v.controller is),
+        ap (λ (r : ReaderState H). r.last) reader ∙ last.1,
+      )
+
   pub keeps_ledger : EachMoveIsItsOwn answer_of after_command → NobodyElseHears answer_of after_command → lines.EachKeepsLedger answer_of after_command
       → EachKeepsLedger answer_of after_command
   keeps_ledger own nobody each l steps up keep k first last d is there entry =
@@ -126,22 +164,13 @@ module _ {H : Type 0} (answer_of : H → Command → Answer) (after_command : H 
       let same : lines.steps_at answer_of after_command k f moves n0 ≡ before ++ RestartPanel false ∷ rest = ap (λ xs. before ++ xs) seen_all in
       let ends : runs (lines.steps_at answer_of after_command k f moves n0) new_history ≡ runs (before ++ rest) new_history =
       ap (λ xs. runs xs new_history) same ∙ runs_without before rest (RestartPanel false) new_history quiet in
-      let its = kept.ledger in
       let one : at.entry ≡ d = Rattle.osdp_shared_line.proofs.Sites.some_same at.entry d (sym at.is_entry ∙ entry) in
       let control : Controls last.begun ls.bus.greatest d.controller at.site.controller =
       subst (λ e. Controls last.begun ls.bus.greatest e.controller at.site.controller) one at.controller in
       record {
         allowed = allowed_without before rest (RestartPanel false) new_history quiet (subst (λ xs. AreAllowed xs new_history) same kept.allowed);
-        ledger = subst (λ (h : History). IsLedgerOf (link_of_entry d last) h.ledger) ends (record {
-          ahead = its.ahead ∙ (λ i. Rattle.std.specs.Prelude.option_to_list (outstanding_same last.begun ls.bus.greatest d.controller at.site.controller control i)
-              ++ waiting_too last.begun ls.bus.greatest d.controller at.site.controller control i);
-          is_open = its.is_open ∙ way_same last.begun ls.bus.greatest d.controller at.site.controller control;
-          acted = λ open_so. subst (λ (t : Account). t.given ≡ t.settled ++ answered_in (runs (lines.steps_at answer_of after_command k f moves n0) new_history).ledger.ahead
-              (runs (lines.steps_at answer_of after_command k f moves n0) new_history).ledger.acted) at.account (its.acted open_so);
-          offer = λ open_so. subst (λ (t : Account). t.offered ≡ t.reported ++ unreported_in (runs (lines.steps_at answer_of after_command k f moves n0) new_history).ledger.offer)
-              at.account (its.offer open_so);
-          cards = its.cards ∙ ap (λ (r : ReaderState H). r.queue.events) at.reader;
-        });
+        ledger = subst (λ (h : History). IsLedgerOf (link_of_entry d last) h.ledger) ends
+            (is_of_entry last.begun ls.bus.greatest (link_of_entry d last) control at.reader kept.ledger);
         accounts = record {
           orders = all_commands answer_of after_command k first steps l;
           cards = all_events answer_of after_command k first steps l;

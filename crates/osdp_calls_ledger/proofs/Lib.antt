@@ -14,3 +14,4 @@ pub mod Promising
 pub mod Histories
 pub mod Unbroken
 pub mod OneDevice
+pub mod Reporting

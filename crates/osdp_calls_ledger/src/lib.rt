@@ -6,6 +6,7 @@ ghost use Rattle.osdp_calls_ledger.specs.Laws.{EachKeepsLedger};
 ghost use Rattle.osdp_calls_ledger.specs.OneDevice.{OneDeviceHoldsOnce};
 ghost use Rattle.osdp_calls_ledger.specs.Promises.{LedgerHoldsOnce, RuledLedgerHoldsOnce};
 ghost use Rattle.osdp_calls_ledger.specs.Refusals.{CallsRefuseNoNumber};
+ghost use Rattle.osdp_calls_ledger.specs.Reports.{TellsReports};
 ghost use Rattle.osdp_calls_ledger.specs.Restarts.{NewDeviceCosts, NewDeviceReportsNoMore, NewPanelCosts};
 ghost use Rattle.osdp_calls_ledger.specs.Undisturbed.{OrdinaryCallsEndTold};
 
@@ -91,3 +92,9 @@ pub fn refuses_no_number<H: Handler>()
     osdp_shared_line::nobody_else_hears::<H>();
     osdp_shared_line::promises::each_refuses_no_number::<H>();
 }
+
+/// What the panel is told of an entry is what its ledger says: the commands settled, each with its answer, those told in doubt, and the events reported, in
+/// the order of the reports. So no report is forgotten, and none is made up. This asks nothing of what the ends read, and losses of power are among the calls.
+pub fn reports_are_told<H: Handler>()
+    ensures { TellsReports H.answer_of H.after }
+{}

@@ -1,0 +1,297 @@
+-- Each report is a step of the ledger, and no other step tells anything.
+use Rattle.std.proofs.Common.{◌≡◌, ◌+◌, ℕ, Bool, true, false, cond, List, [], ◌∷◌, ◌++◌, flat_map, map, Option, Some, None, refl, sym, ap, ◌∙◌}
+use Rattle.std.proofs.lemmas.Grind.{flat_map-append}
+use Rattle.std.proofs.lemmas.List.{append-nil, map-append}
+use Rattle.std.specs.Prelude.{◌==◌}
+use Rattle.osdp_frame.specs.Packet.{Packet}
+use Rattle.osdp_msg.specs.Events.{event_in}
+use Rattle.osdp_msg.specs.declared.command.Command.{Command}
+use Rattle.osdp_msg.specs.declared.command.Command.TheVariants.{Id, Poll}
+use Rattle.osdp_msg.specs.declared.event.Event.{Event}
+use Rattle.osdp_msg.specs.declared.reply.Reply.{Reply}
+use Rattle.osdp_msg.specs.declared.reply.Reply.TheVariants as reply
+use Rattle.osdp_controller.specs.declared.report.Report.{Report}
+use Rattle.osdp_controller.specs.declared.report.Report.TheVariants as report
+use Rattle.osdp_bus.specs.Buses.{BusState, device_of}
+use Rattle.osdp_bus.specs.Machine.{changed_unless, submit_refusal_at, withdrawal_at}
+use Rattle.osdp_bus.specs.Ticking.{bus_ticks}
+use Rattle.osdp_bus.specs.declared.entry.Entry.{Entry}
+use Rattle.osdp_bus.specs.declared.fault.BusFault.{BusFault}
+use Rattle.osdp_bus_laws.specs.Calls as bus
+use Rattle.osdp_bus_laws.specs.Reports.{told_in}
+use Rattle.osdp_device.specs.Telling.{items_of}
+use Rattle.osdp_reader.specs.Queue.{lacks_room, never_offered}
+use Rattle.osdp_reader.specs.State.{ReaderState}
+use Rattle.osdp_reader.specs.Table.{hears, kind_of}
+use Rattle.osdp_reader.specs.declared.handler.Answer.{Answer}
+use Rattle.osdp_reader.specs.declared.kind.Kind.{Kind}
+use Rattle.osdp_reader.specs.declared.kind.Kind.TheVariants as kind
+use Rattle.osdp_ledger.specs.History.{End, Forgotten, GivenBack, History, InDoubt, Settled, ends_at_restart, new_history, runs, steps_on}
+use Rattle.osdp_ledger.specs.Ledger as ledger
+use Rattle.osdp_ledger.specs.Ledger.{Card, Doubt, Ledger, NoOffer, Offer, Order, RestartPanel, Settle, new_ledger}
+use Rattle.osdp_link_laws.proofs.Lines.{both, each_append}
+use Rattle.osdp_link_laws.proofs.Stages.{Each}
+use Rattle.osdp_link_ledger.specs.Accounts.{doubted_as, settled_as}
+use Rattle.osdp_link_ledger.specs.Steps.{acts, acts_at_zero, acts_on, after_steps, leaves, leaving, offered_at, offers, order_at, queued_before, queues, submits, told, withdraws, withdraws_event}
+use Rattle.osdp_shared_line.specs.Line.{site_at}
+use Rattle.osdp_calls.specs.Calls as calls
+use Rattle.osdp_calls.specs.Calls.{Call, NewDevice, NewPanel, Next, OfPanel, Pending, SetHandler, Silence, Step, SubmitEvent, Take, TickDevice, WithdrawEvent, after_call, asked_at, first_answered, read_up_to}
+use Rattle.osdp_calls.specs.Handing.{heard}
+use Rattle.osdp_calls.specs.Lines.{InUse, Station}
+use Rattle.osdp_calls_ledger.specs.Reports.{Told, TellsReports, all_told, nothing_told, told_by, told_in_history, with_report, with_reports}
+use Rattle.osdp_calls_ledger.specs.Steps.{answered, device_steps, given_back, opening, panel_restarts, panel_steps, reported, steps_along, steps_at, steps_of}
+use Rattle.osdp_calls_ledger.proofs.Allowing.{opening_open}
+
+-- ---- what a step tells
+
+abbrev with_step : ledger.Step → Told → Told
+with_step (Settle order answer) y = record y { settled = y.settled ++ (order.command, answer) ∷ [] }
+with_step (Doubt order) y = record y { in_doubt = y.in_doubt ++ order.command ∷ [] }
+with_step (ledger.Report card) y = record y { reported = y.reported ++ card.event ∷ [] }
+with_step _ y = y
+
+abbrev with_steps : List ledger.Step → Told → Told
+with_steps [] y = y
+with_steps (step ∷ steps) y = with_steps steps (with_step step y)
+
+steps_more : (xs ys : List ledger.Step) (y : Told) → with_steps (xs ++ ys) y ≡ with_steps ys (with_steps xs y)
+steps_more [] ys y = refl
+steps_more (x ∷ xs) ys y = steps_more xs ys (with_step x y)
+
+abbrev by_settled : Order × End → List (Command × Reply)
+by_settled e = settled_as e.0 e.1
+
+abbrev by_doubt : Order × End → List Command
+by_doubt e = doubted_as e.0 e.1
+
+abbrev event_of : ℕ × Card → Event
+event_of r = r.1.event
+
+ends_more : (more : List (Order × End)) (h : History) → told_in_history (record h { ended = h.ended ++ more })
+    ≡ record (told_in_history h) {
+      settled = (told_in_history h).settled ++ flat_map by_settled more;
+      in_doubt = (told_in_history h).in_doubt ++ flat_map by_doubt more;
+    }
+ends_more more h =
+    (λ i. record (told_in_history h) {
+      settled = flat_map-append by_settled h.ended more i;
+      in_doubt = flat_map-append by_doubt h.ended more i;
+    })
+
+ends_none : (more : List (Order × End)) (h : History) → (flat_map by_settled more ≡ []) × (flat_map by_doubt more ≡ [])
+    → told_in_history (record h { ended = h.ended ++ more }) ≡ told_in_history h
+ends_none more h none =
+    ends_more more h
+    ∙ (λ i. record (told_in_history h) { settled = (told_in_history h).settled ++ none.0 i; in_doubt = (told_in_history h).in_doubt ++ none.1 i })
+    ∙ (λ i. record (told_in_history h) { settled = append-nil (told_in_history h).settled i; in_doubt = append-nil (told_in_history h).in_doubt i })
+
+-- a panel that loses power tells nothing of what it had
+forgets : (os : List Order) → (flat_map by_settled (map (λ o. (o, Forgotten)) os) ≡ []) × (flat_map by_doubt (map (λ o. (o, Forgotten)) os) ≡ [])
+forgets [] = (refl, refl)
+forgets (o ∷ os) = forgets os
+
+restarts : (going wire : Bool) (os : List Order) → (flat_map by_settled (ends_at_restart going wire os) ≡ []) × (flat_map by_doubt (ends_at_restart going wire os) ≡ [])
+restarts true true [] = (refl, refl)
+restarts true true (o ∷ os) = forgets os
+restarts true false os = forgets os
+restarts false true os = forgets os
+restarts false false os = forgets os
+
+step_tells : (step : ledger.Step) (h : History) → told_in_history (steps_on step h) ≡ with_step step (told_in_history h)
+step_tells (ledger.Withdraw order) h = ends_none ((order, GivenBack) ∷ []) h (refl, refl)
+step_tells (Settle order answer) h =
+    ends_more ((order, Settled answer) ∷ []) h
+    ∙ (λ i. record (with_step (Settle order answer) (told_in_history h)) { in_doubt = append-nil (told_in_history h).in_doubt i })
+step_tells (Doubt order) h =
+    ends_more ((order, InDoubt) ∷ []) h ∙ (λ i. record (with_step (Doubt order) (told_in_history h)) { settled = append-nil (told_in_history h).settled i })
+step_tells (ledger.Report card) h = (λ i. record (told_in_history h) { reported = map-append event_of h.reports ((h.sessions, card) ∷ []) i })
+step_tells (RestartPanel on_wire) h =
+    ends_none (ends_at_restart h.ledger.is_open on_wire h.ledger.ahead) h (restarts h.ledger.is_open on_wire h.ledger.ahead)
+step_tells _ h = refl
+
+runs_tell : (steps : List ledger.Step) (h : History) → told_in_history (runs steps h) ≡ with_steps steps (told_in_history h)
+runs_tell [] h = refl
+runs_tell (step ∷ steps) h = runs_tell steps (steps_on step h) ∙ ap (with_steps steps) (step_tells step h)
+
+-- ---- steps that tell nothing
+
+abbrev IsSilent : ledger.Step → Type 0
+IsSilent (Settle order answer) = ⊥
+IsSilent (Doubt order) = ⊥
+IsSilent (ledger.Report card) = ⊥
+IsSilent _ = Unit {0}
+
+silent : (steps : List ledger.Step) (y : Told) → Each IsSilent steps → with_steps steps y ≡ y
+silent [] y all = refl
+silent (Settle order answer ∷ steps) y all = absurd all.0
+silent (Doubt order ∷ steps) y all = absurd all.0
+silent (ledger.Report card ∷ steps) y all = absurd all.0
+silent (step ∷ steps) y all = silent steps y all.1
+
+queued_silent : (place : ℕ) (es : List Event) → Each IsSilent (queued_before place es)
+queued_silent place [] = tt
+queued_silent place (e ∷ es) = (tt, queued_silent (place + 1) es)
+
+queues_silent : (full : Bool) (e : Event) (g : Ledger) → Each IsSilent (queues full e g)
+queues_silent true e g = tt
+queues_silent false e g = (tt, tt)
+
+submits_silent : (f : Option BusFault) (c : Command) (g : Ledger) → Each IsSilent (changed_unless f [] (submits None c g))
+submits_silent None c g = (tt, tt)
+submits_silent (Some fault) c g = tt
+
+withdraws_silent : (o : Option Command) (g : Ledger) → Each IsSilent (withdraws o g)
+withdraws_silent None g = tt
+withdraws_silent (Some c) g = (tt, tt)
+
+withdraws_event_silent : (o : Option Event) (ever : Bool) (g : Ledger) → Each IsSilent (withdraws_event o ever g)
+withdraws_event_silent None ever g = tt
+withdraws_event_silent (Some e) ever g = (tt, tt)
+
+restarts_silent : (q : Option Entry) → Each IsSilent (panel_restarts q)
+restarts_silent None = tt
+restarts_silent (Some d) = (tt, tt)
+
+leaves_silent : (es : List Event) (g : Ledger) → Each IsSilent (leaves es g)
+leaves_silent [] g = tt
+leaves_silent (e ∷ es) g = (tt, tt)
+
+offers_silent : (e : Option Event) (g : Ledger) → Each IsSilent (offers e g)
+offers_silent None g = tt
+offers_silent (Some e) g = (tt, tt)
+
+acts_on_silent : (c : Command) (answer : Reply) (g : Ledger) → Each IsSilent (acts_on c answer g)
+acts_on_silent Poll answer g = offers_silent (event_in answer) g
+acts_on_silent c answer g = (tt, tt)
+
+acts_at_zero_silent : (c : Command) (answer : Reply) (g : Ledger) → Each IsSilent (acts_at_zero c answer g)
+acts_at_zero_silent (Id kept) answer g = tt
+acts_at_zero_silent c answer g = (tt, tt)
+
+acts_silent : (k : Kind) (c : Option Command) (said : Option Reply) (g : Ledger) → Each IsSilent (acts k c said g)
+acts_silent kind.Taken (Some c) (Some answer) g = acts_on_silent c answer g
+acts_silent kind.Taken (Some c) None g = tt
+acts_silent kind.Taken None said g = tt
+acts_silent kind.Zero (Some c) (Some answer) g = acts_at_zero_silent c answer g
+acts_silent kind.Zero (Some c) None g = tt
+acts_silent kind.Zero None said g = tt
+acts_silent _ c said g = tt
+
+-- ---- a report
+
+command_at : (os : List Order) (c : Command) → (order_at os c).command ≡ c
+command_at [] c = refl
+command_at (o ∷ os) c = refl
+
+offered_event : (offer : Offer) (e : Event) → (offered_at offer e).event ≡ e
+offered_event NoOffer e = refl
+offered_event _ e = refl
+
+report_tells : (r : Report) (g : Ledger) (y : Told) → with_steps (told (Some r) g) y ≡ with_report r y
+report_tells (report.Settled c answer) g y = (λ i. record y { settled = y.settled ++ (command_at g.ahead c i, answer) ∷ [] })
+report_tells (report.Moved c answered) g y = (λ i. record y { settled = y.settled ++ (command_at g.ahead c i, reply.Com answered) ∷ [] })
+report_tells (report.Event e) g y = (λ i. record y { reported = y.reported ++ offered_event g.offer e i ∷ [] })
+report_tells (report.Lost cause (Some c)) g y = (λ i. record y { in_doubt = y.in_doubt ++ command_at g.ahead c i ∷ [] })
+report_tells (report.Lost cause None) g y = (λ i. record y { in_doubt = sym (append-nil y.in_doubt) i })
+report_tells (report.Opened id) g y = refl
+report_tells (report.PollAnswered answer) g y = refl
+report_tells (report.Unread c code) g y = refl
+
+module _ (k : ℕ) where
+  reports_more : (xs ys : List (ℕ × Report)) (y : Told) → with_reports k (xs ++ ys) y ≡ with_reports k ys (with_reports k xs y)
+  reports_more [] ys y = refl
+  reports_more (x ∷ xs) ys y = reports_more xs ys (cond (x.0 == k) (with_report x.1 y) y)
+
+  reports_tell : (all : List (ℕ × Report)) (g : Ledger) (y : Told) → with_steps (reported k all g) y ≡ with_reports k all y
+  reports_tell [] g y = refl
+  reports_tell (said ∷ more) g y =
+      let here = cond (said.0 == k) (told (Some said.1) g) [] in
+      steps_more here (reported k more (after_steps here g)) y
+      ∙ reports_tell more (after_steps here g) (with_steps here y)
+      ∙ ap (with_reports k more) (own (said.0 == k))
+    where
+      own : (b : Bool) → with_steps (cond b (told (Some said.1) g) []) y ≡ cond b (with_report said.1 y) y
+      own true = report_tells said.1 g y
+      own false = refl
+
+  -- steps of an entry that tell nothing, of whichever entry
+  if_own : (i : ℕ) (steps : List ledger.Step) → Each IsSilent steps → Each IsSilent (cond (i == k) steps [])
+  if_own i steps all = both (Each IsSilent) (i == k) steps [] all tt
+
+  panel_tells : (call : bus.Call) (b : BusState) (g : Ledger) (y : Told) → with_steps (panel_steps k call b g) y ≡ with_reports k (told_in call b) y
+  panel_tells (bus.Submit i c) b g y =
+      let steps = changed_unless (submit_refusal_at i c b) [] (submits None c g) in
+      silent (cond (i == k) steps []) y (if_own i steps (submits_silent (submit_refusal_at i c b) c g))
+  panel_tells (bus.Withdraw i) b g y =
+      let steps = withdraws (given_back (withdrawal_at i b)) g in
+      silent (cond (i == k) steps []) y (if_own i steps (withdraws_silent (given_back (withdrawal_at i b)) g))
+  panel_tells (bus.Tick now) b g y =
+      let all = told_in (bus.Tick now) b in
+      let opens = opening k (asked_at now b) (bus_ticks now b).sent (device_of k (heard (bus.Tick now) now b)) in
+      steps_more (reported k all g) opens y
+      ∙ silent opens (with_steps (reported k all g) y)
+      (opening_open IsSilent tt k (asked_at now b) (bus_ticks now b).sent (device_of k (heard (bus.Tick now) now b)))
+      ∙ reports_tell all g y
+  panel_tells (bus.OnBytes bytes now) b g y = reports_tell (told_in (bus.OnBytes bytes now) b) g y
+  panel_tells (bus.OnSilence now) b g y = reports_tell (told_in (bus.OnSilence now) b) g y
+  panel_tells _ b g y = refl
+
+  module _ {H : Type 0} (answer_of : H → Command → Answer) (after : H → Command → H) where
+    gets_silent : (o : Option Packet) (r : ReaderState H) (g : Ledger) → Each IsSilent (answered answer_of after o r g)
+    gets_silent None r g = tt
+    gets_silent (Some p) r g =
+        let o = hears answer_of after r p in
+        let left = leaves (leaving (kind_of r p) r.queue) g in
+        each_append IsSilent left (acts (kind_of r p) o.command o.said (after_steps left g))
+        (leaves_silent (leaving (kind_of r p) r.queue) g) (acts_silent (kind_of r p) o.command o.said (after_steps left g))
+
+    device_silent : (call : Call H) (t : Station H) (g : Ledger) → Each IsSilent (device_steps answer_of after call t g)
+    device_silent (SubmitEvent i e) t g = queues_silent (lacks_room e t.reader.queue) e g
+    device_silent (WithdrawEvent i) t g = withdraws_event_silent (never_offered t.reader.queue) t.reader.queue.ever_offered g
+    device_silent (Next i) t g = gets_silent (first_answered t.reader (read_up_to t.reader (items_of t.line.held))) t.reader g
+    device_silent (NewDevice i config handler room gap) t g = (tt, tt)
+    device_silent _ t g = tt
+
+    at_silent : (call : Call H) (o : Option (Station H)) (g : Ledger) → Each IsSilent (steps_at answer_of after call o g)
+    at_silent call None g = tt
+    at_silent call (Some t) g = device_silent call t g
+
+    of_device : (i : ℕ) (call : Call H) (l : InUse H) (g : Ledger) (y : Told)
+        → with_steps (cond (i == k) (steps_at answer_of after call (site_at k l.stations) g) []) y ≡ y
+    of_device i call l g y =
+        let steps = steps_at answer_of after call (site_at k l.stations) g in
+        silent (cond (i == k) steps []) y (if_own i steps (at_silent call (site_at k l.stations) g))
+
+    call_tells : (call : Call H) (l : InUse H) (g : Ledger) (y : Told) → with_steps (steps_of answer_of after k call l g) y ≡ with_reports k (told_by call l) y
+    call_tells (OfPanel call) l g y = panel_tells call l.bus g y
+    call_tells (NewPanel config addresses) l g y = silent (panel_restarts (device_of k l.bus)) y (restarts_silent (device_of k l.bus))
+    call_tells (SubmitEvent i e) l g y = of_device i (SubmitEvent i e) l g y
+    call_tells (WithdrawEvent i) l g y = of_device i (WithdrawEvent i) l g y
+    call_tells (Next i) l g y = of_device i (Next i) l g y
+    call_tells (NewDevice i config handler room gap) l g y = of_device i (NewDevice i config handler room gap) l g y
+    call_tells (calls.SetBusy i busy) l g y = of_device i (calls.SetBusy i busy) l g y
+    call_tells (SetHandler i handler) l g y = of_device i (SetHandler i handler) l g y
+    call_tells (Take i bytes now) l g y = of_device i (Take i bytes now) l g y
+    call_tells (TickDevice i now) l g y = of_device i (TickDevice i now) l g y
+    call_tells (Silence i now) l g y = of_device i (Silence i now) l g y
+    call_tells (Pending i) l g y = of_device i (Pending i) l g y
+
+    along_tells : (steps : List (Step H)) (l : InUse H) (g : Ledger) (y : Told)
+        → with_steps (steps_along answer_of after k steps l g) y ≡ with_reports k (all_told answer_of after steps l) y
+    along_tells [] l g y = refl
+    along_tells (step ∷ steps) l g y =
+        let now = steps_of answer_of after k step.call l g in
+        let next = after_call answer_of after step.call step.places l in
+        steps_more now (steps_along answer_of after k steps next (after_steps now g)) y
+        ∙ along_tells steps next (after_steps now g) (with_steps now y)
+        ∙ ap (with_reports k (all_told answer_of after steps next)) (call_tells step.call l g y)
+        ∙ sym (reports_more (told_by step.call l) (all_told answer_of after steps next) y)
+
+module _ {H : Type 0} (answer_of : H → Command → Answer) (after : H → Command → H) where
+  pub tells_reports : TellsReports answer_of after
+  tells_reports l steps k first =
+      let before = queued_before 0 first.reader.queue.events in
+      let along = steps_along answer_of after k steps l (after_steps before new_ledger) in
+      runs_tell (before ++ along) new_history ∙ steps_more before along nothing_told
+      ∙ ap (with_steps along) (silent before nothing_told (queued_silent 0 first.reader.queue.events))
+      ∙ along_tells k answer_of after steps l (after_steps before new_ledger) nothing_told
