@@ -1,8 +1,7 @@
 -- What the laws of runs come to for their sessions.
-use Rattle.std.proofs.Common.{◌≡◌, ◌+◌, ◌++◌, ℕ, suc, List, ◌∷◌, length, Some, arith, sym, subst, ◌∙◌}
+use Rattle.std.proofs.Common.{◌≡◌, ◌++◌, ℕ, suc, List, ◌∷◌, Some, sym, subst, ◌∙◌}
 use Rattle.std.specs.Prelude.{slice_get}
 use Rattle.osdp_msg.specs.declared.command.Command.{Command}
-use Rattle.osdp_reader.specs.declared.config.ReaderConfig.{ReaderConfig}
 use Rattle.osdp_reader.specs.declared.handler.Answer.{Answer}
 use Rattle.osdp_bus.specs.declared.config.BusConfig.{BusConfig}
 use Rattle.osdp_sim.specs.Account.{Account}
@@ -11,19 +10,16 @@ use Rattle.osdp_sim.specs.declared.step.SimStep.{SimStep}
 use Rattle.osdp_sim.specs.declared.step.SimStep.TheVariants.{Reopen}
 use Rattle.osdp_sim_bus.specs.Runs as simulation
 use Rattle.osdp_sim_bus.specs.State.{Given, accounts, set_up}
-use Rattle.osdp_sim_bus_laws.specs.Accounts.{EachMeets}
+use Rattle.osdp_sim_bus_laws.specs.Accounts.{OfEach}
 use Rattle.osdp_sim_bus_laws.specs.Begun as each_begun
-use Rattle.osdp_sim_bus_laws.proofs.OneSession.{none_earlier}
-use Rattle.osdp_sim_laws.specs.Accounts.{HasSessions, IsOnce}
+use Rattle.osdp_sim_laws.specs.Accounts.{EndOnce}
 use Rattle.osdp_sim_laws.specs.Begun as begun
-use Rattle.osdp_sim_laws.specs.Begun.{AreBegun, reopens_in}
-use Rattle.osdp_sim_laws.proofs.Holding.{of_one}
+use Rattle.osdp_sim_laws.specs.Begun.{AreBegun}
 use Rattle.osdp_sim_ledger.specs.OneReader.{KeepsLedger, steps_of_run}
 use Rattle.osdp_sim_ledger.specs.SeveralReaders.{EachReaderKeepsLedger, steps_of_reader}
 use Rattle.osdp_sim_ledger.specs.Telling.{TellsByLedger}
-use Rattle.osdp_session.specs.Runs.{CameTo, EndOnce, TellsSessions}
+use Rattle.osdp_session.specs.Runs.{CameTo, TellsSessions}
 use Rattle.osdp_session.specs.SeveralReaders as several
-use Rattle.osdp_session.specs.SeveralReaders.{IsOneSession, OfEach}
 
 -- where sessions began, after what else is known of the steps before
 began : (number : ℕ) (Was Is : List SimStep → Account → Type 0) (steps : List SimStep) (a : Account)
@@ -39,25 +35,14 @@ one_account : {a b : Account} → Some a ≡ Some b → a ≡ b
 one_account is = cc
 
 module _ {H : Type 0} (answer_of : H → Command → Answer) (after : H → Command → H) where
-  -- ---- from the sessions of a link
-
-  end_once : (config : ReaderConfig) (handler : H) (a : Account) → HasSessions answer_of after config handler a → EndOnce a
-  end_once config handler a row = record { count = row.ends; causes = row.causes }
-
-  pub is_once : (config : ReaderConfig) (handler : H) (a : Account) (again : ℕ) → length a.sessions ≡ 1 + again → again ≡ 0
-      → HasSessions answer_of after config handler a → IsOnce answer_of after config handler a
-  is_once config handler a again count none row =
-      of_one answer_of after config handler a row.last row.earlier (none_earlier a row.last row.earlier row.lists (omega (arith, count, none)))
-      row.lists row.undisturbed.0 row.once.0 row.answers row.ends row.causes
-
   -- ---- one reader
 
   pub tells_sessions : (config : SimConfig) (handler : H) (steps : List SimStep) (a : Account)
       → TellsByLedger answer_of after config.reader handler a (steps_of_run answer_of after config handler steps)
       → ((before later : List SimStep) → steps ≡ before ++ later → KeepsLedger answer_of after config handler before)
-      → AreBegun 1 (begun.CameTo answer_of after config handler) steps a → HasSessions answer_of after config.reader handler a
+      → AreBegun 1 (begun.CameTo answer_of after config handler) steps a → EndOnce a
       → TellsSessions answer_of after config handler steps a
-  tells_sessions config handler steps a ledger until sessions row = record {
+  tells_sessions config handler steps a ledger until sessions ends = record {
     ledger = ledger;
     begun = began 1 (begun.CameTo answer_of after config handler) (CameTo answer_of after config handler) steps a
         (λ before later same was came. record {
@@ -66,17 +51,16 @@ module _ {H : Type 0} (answer_of : H → Command → Answer) (after : H → Comm
               (until before (Reopen 1 ∷ later) same);
         })
         sessions;
-    ends = end_once config.reader handler a row;
+    ends = ends;
   }
 
   -- ---- each of several readers
 
   module _ (config : BusConfig) (readers : List (Given H)) (steps : List SimStep) (told : List Account)
-      (sessions : each_begun.EachIsBegun answer_of after config readers steps told) (rows : EachMeets (HasSessions answer_of after) readers told) where
+      (sessions : each_begun.EachIsBegun answer_of after config readers steps told) (rows : OfEach (λ k given a. EndOnce a) readers told) where
     -- its account is one, whichever law names it
-    row_of : (k : ℕ) (given : Given H) (a : Account) → slice_get readers k ≡ Some given → slice_get told k ≡ Some a → HasSessions answer_of after given.0 given.2 a
-    row_of k given a at there =
-        let mine = rows.each k given at in subst (HasSessions answer_of after given.0 given.2) (one_account (sym mine.1 ∙ there)) mine.2
+    ends_of : (k : ℕ) (given : Given H) (a : Account) → slice_get readers k ≡ Some given → slice_get told k ≡ Some a → EndOnce a
+    ends_of k given a at there = let mine = rows.each k given at in subst EndOnce (one_account (sym mine.1 ∙ there)) mine.2
 
     begun_of : (k : ℕ) (given : Given H) (a : Account) → slice_get readers k ≡ Some given → slice_get told k ≡ Some a
         → AreBegun (suc k) (each_begun.CameTo answer_of after config readers k given) steps a
@@ -102,7 +86,7 @@ module _ {H : Type 0} (answer_of : H → Command → Answer) (after : H → Comm
                     ledger = was_kept k given before was came.run (until before (Reopen (suc k) ∷ later) same k given at);
                   })
                   (begun_of k given a at there);
-              ends = end_once given.0 given.2 a (row_of k given a at there);
+              ends = ends_of k given a at there;
             },
           );
     }
@@ -114,14 +98,3 @@ module _ {H : Type 0} (answer_of : H → Command → Answer) (after : H → Comm
         was_kept k given before was came (b, found, ledger) =
             subst (λ x. TellsByLedger answer_of after given.0 given.2 x (steps_of_reader answer_of after k given config readers before))
             (one_account (sym found ∙ came)) ledger
-
-    pub each_once : OfEach (IsOneSession answer_of after config readers steps) readers told
-    each_once = record {
-      count = rows.count;
-      each = λ k given at.
-          let mine = sessions k given at in (
-            mine.0,
-            mine.1,
-            λ none. is_once given.0 given.2 mine.0 (reopens_in (suc k) steps) mine.2.count none (row_of k given mine.0 at mine.1),
-          );
-    }

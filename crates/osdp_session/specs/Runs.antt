@@ -1,5 +1,5 @@
 -- What holds of a run over a line with one reader.
-use Rattle.std.specs.Prelude.{◌≡◌, ◌+◌, ◌⊎◌, All, List, length, Result}
+use Rattle.std.specs.Prelude.{◌≡◌, List, Result}
 use Rattle.osdp_msg.specs.declared.command.Command.{Command}
 use Rattle.osdp_reader.specs.declared.handler.Answer.{Answer}
 use Rattle.osdp_sim.specs.Account as account
@@ -9,16 +9,11 @@ use Rattle.osdp_sim.specs.declared.config.SimConfig.{SimConfig}
 use Rattle.osdp_sim.specs.declared.fault.Fault.{Fault}
 use Rattle.osdp_sim.specs.declared.step.SimStep.{SimStep}
 use Rattle.osdp_sim_laws.specs.Accepted.{IsAcceptedByRoom}
-use Rattle.osdp_sim_laws.specs.Accounts.{IsAnswer, IsNoRefusal, IsOnce, WasSetUp, account_in}
+use Rattle.osdp_sim_laws.specs.Accounts.{EndOnce, IsAnswer, IsOnce, WasSetUp, account_in, reopens_in}
 use Rattle.osdp_sim_laws.specs.Begun as begun
-use Rattle.osdp_sim_laws.specs.Begun.{AreBegun, reopens_in}
+use Rattle.osdp_sim_laws.specs.Begun.{AreBegun}
 use Rattle.osdp_sim_ledger.specs.OneReader.{steps_of_run}
 use Rattle.osdp_sim_ledger.specs.Telling.{TellsByLedger}
-
--- each session has ended, or each but the last; none because the reader refused a number
-pub record EndOnce (a : account.Account) : Type 0 where
-  pub count : (length a.ends + 1 ≡ length a.sessions) ⊎ (length a.ends ≡ length a.sessions)
-  pub causes : All IsNoRefusal a.ends
 
 module _ {H : Type 0} (answer_of : H → Command → Answer) (after : H → Command → H) where
   -- steps from the set-up came to this account, which tells what their ledger comes to

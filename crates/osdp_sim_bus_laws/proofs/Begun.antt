@@ -1,6 +1,7 @@
 -- How many sessions the account of each reader has, and how long its lists were where each of them began.
-use Rattle.std.proofs.Common.{◌≡◌, ◌-◌, ℕ, zero, suc, arith, Bool, true, false, ◌==◌, if◌then◌else◌, List, [], ◌∷◌, length, Option, Some, None, refl, sym, subst, ap, ◌∙◌}
+use Rattle.std.proofs.Common.{◌≡◌, ◌+◌, ◌-◌, ℕ, zero, suc, arith, Bool, true, false, ◌==◌, if◌then◌else◌, List, [], ◌∷◌, length, Option, Some, None, refl, sym, subst, ap, ◌∙◌}
 use Rattle.std.proofs.lemmas.Bool.{eq-eqb}
+use Rattle.std.proofs.lemmas.List.{length-append}
 use Rattle.std.proofs.lemmas.Option.{slice_get-map}
 use Rattle.std.specs.Prelude.{option_map, slice_get}
 use Rattle.osdp_frame.specs.Items.{packets_in}
@@ -22,6 +23,7 @@ use Rattle.osdp_sim.specs.declared.step.SimStep.TheVariants.{Busy, Issue, Queue,
 use Rattle.osdp_sim_bus.specs.Runs.{FitAlong, run, steps_done}
 use Rattle.osdp_sim_bus.specs.State.{Given, LineState, ReaderSite, accounts, new_site, set_up}
 use Rattle.osdp_sim_bus.specs.Steps.{StepFits, after_step, all_hear, all_hear_each, changed_site, hears_run, is_there, issued, reopened, report_told, site_begins, site_hears, site_is_busy, site_is_told, site_issues, site_queues, site_queues_unless, waited}
+use Rattle.osdp_sim_laws.specs.Accounts.{reopens_in}
 use Rattle.osdp_sim_laws.specs.Begun.{AreBegun}
 use Rattle.osdp_sim_laws.proofs.Accepting.{counts}
 use Rattle.osdp_sim_laws.proofs.Begun.{Grows, are_begun, begun_by, grows_by_command, grows_by_event, grows_by_report, grows_by_session, grows_on, has_grown, stays}
@@ -150,6 +152,16 @@ module _ {H : Type 0} (answer_of : H → Command → Answer) (after : H → Comm
   module _ (config : BusConfig) (readers : List (Given H)) (given : Given H) (at : slice_get readers k ≡ Some given) where
     first_tells : Tells (set_up config readers) (new_site given).account
     first_tells = (new_site given, slice_get-map new_site readers k ∙ ap (option_map new_site) at, refl)
+
+    -- as many sessions of it have begun
+    pub sessions_counted : (list : List SimStep) (u : ReaderSite H) → slice_get (run answer_of after list (set_up config readers)).sites k ≡ Some u
+        → length u.account.sessions ≡ 1 + reopens_in (suc k) list
+    sessions_counted list u there =
+        let s = set_up config readers in
+        let first = (new_site given).account in
+        let grown = has_grown (after_step answer_of after) Tells one_account (suc k) grow list s first first_tells in
+        let same = one_account (run answer_of after list s) grown.last u.account grown.tells (u, there, refl) in
+        omega (arith, ap (λ (a : Account). length a.sessions) same, ap length grown.grows.sessions, length-append first.sessions grown.more, grown.count)
 
     came_to : (list : List SimStep) → FitAlong answer_of after list (set_up config readers)
         → (was : Account) → Tells (run answer_of after list (set_up config readers)) was → CameTo answer_of after config readers k given list was

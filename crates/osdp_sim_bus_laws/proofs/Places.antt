@@ -21,6 +21,12 @@ within k x [] at = absurd cc
 within zero x (z ∷ xs) at = omega arith
 within (suc k) x (z ∷ xs) at = omega (arith, within k x xs at)
 
+-- what an item was made from
+pub unmapped : {A B : Type 0} (f : A → B) (k : ℕ) (b : B) (xs : List A) → slice_get (map f xs) k ≡ Some b → (a : A) × (slice_get xs k ≡ Some a) × (f a ≡ b)
+unmapped f k b [] at = absurd cc
+unmapped f zero b (x ∷ xs) at = (x, refl, (let same : f x ≡ b = cc in same))
+unmapped f (suc k) b (x ∷ xs) at = unmapped f k b xs at
+
 -- an item is changed, where it is there
 abbrev pub changed_at : {A : Type 0} → ℕ → (A → A) → List A → List A
 changed_at i change xs = option_map_or (λ x. slice_set xs i (change x)) (slice_get xs i) xs

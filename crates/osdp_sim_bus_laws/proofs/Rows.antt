@@ -1,5 +1,5 @@
 -- Each reader's account is that of sessions of its link.
-use Rattle.std.proofs.Common.{◌≡◌, ◌+◌, ◌-◌, ◌≤◌, ℕ, zero, suc, true, List, ◌∷◌, length, map, take, Some, Ok, Err, sym, subst, ap, ◌∙◌, arith}
+use Rattle.std.proofs.Common.{◌≡◌, ◌+◌, ◌-◌, ◌≤◌, ℕ, zero, suc, List, ◌∷◌, length, map, take, Some, Ok, Err, sym, subst, ap, ◌∙◌, arith}
 use Rattle.std.proofs.lemmas.Option.{slice_get-map}
 use Rattle.std.specs.Prelude.{slice_get, option_map}
 use Rattle.osdp_msg.specs.declared.command.Command.{Command}
@@ -29,9 +29,9 @@ use Rattle.osdp_sim_bus.specs.Laws.{HasAnAccountEach}
 use Rattle.osdp_sim_bus.specs.Runs as simulation
 use Rattle.osdp_sim_bus.specs.Runs.{AreSettings, FitAlong, Stops, is_well, lists_of_all, steps_done}
 use Rattle.osdp_sim_bus.specs.State.{Given, LineState, ReaderSite, accounts, set_up}
-use Rattle.osdp_sim_laws.specs.Accounts.{HasSessions, IsNoRefusal}
-use Rattle.osdp_sim_laws.proofs.Holding.{last_one}
-use Rattle.osdp_sim_bus_laws.specs.Accounts.{BusAnswer, EachMeets, IsAnswer, RunsHaveSessions, WasSetUp, accounts_in}
+use Rattle.osdp_sim_laws.specs.Accounts.{IsNoRefusal}
+use Rattle.osdp_sim_laws.proofs.Holding.{HasSessions, last_one}
+use Rattle.osdp_sim_bus_laws.specs.Accounts.{BusAnswer, IsAnswer, IsRun, OfEach, WasSetUp, accounts_in}
 use Rattle.osdp_sim_bus_laws.specs.Moves.{AreItsMoves, IsSiteOf, SchedulesAreMoves, moves_of}
 use Rattle.osdp_sim_bus_laws.proofs.Beginning.{first_net, first_site, follows_first, has_site, is_set_up, none_is_kept}
 use Rattle.osdp_sim_bus_laws.proofs.Sites.{counts_alike, get_site}
@@ -58,17 +58,10 @@ module _ {H : Type 0} where
           undisturbed = so;
           once = once;
           answers = its;
-          ends = last_one answer_of after closed a ended;
-          causes = each_all IsNoRefusal a.ends is.causes;
+          ends = record { count = last_one answer_of after closed a ended; causes = each_all IsNoRefusal a.ends is.causes };
         }
 
     -- ---- a run
-
-    -- none of these steps is refused, and what went over the line in them fits
-    pub record IsRun (config : BusConfig) (readers : List (Given H)) (steps : List SimStep) : Type 0 where
-      pub settings : AreSettings config readers
-      pub well : is_well answer_of after steps (set_up config readers) ≡ true
-      pub fits : FitAlong answer_of after steps (set_up config readers)
 
     abbrev pub told_by : BusConfig → List (Given H) → List SimStep → List Account
     told_by config readers steps = accounts (simulation.run answer_of after steps (set_up config readers))
@@ -76,7 +69,7 @@ module _ {H : Type 0} where
     -- the accounts that are answered are those of the steps that were taken
     pub answers : (P : List Account → Type 0) (config : BusConfig) (readers : List (Given H)) (steps : List SimStep) (answer : BusAnswer)
         → IsAnswer answer_of after config readers steps answer → WasSetUp answer
-        → (IsRun config readers (steps_done steps answer) → P (told_by config readers (steps_done steps answer))) → P (accounts_in answer)
+        → (IsRun answer_of after config readers (steps_done steps answer) → P (told_by config readers (steps_done steps answer))) → P (accounts_in answer)
     answers P config readers steps (Ok told) is was holds =
         subst P (sym is.ends.2) (holds (record { settings = is.ends.0; well = is.ends.1; fits = is.fits }))
     answers P config readers steps (Err fault) is was holds =
@@ -84,15 +77,15 @@ module _ {H : Type 0} where
       where
         by_step : (at : ℕ) (why : Cause) (lists : List Account) → Stops answer_of after at why lists config readers steps
             → FitAlong answer_of after (take (at - 1) steps) (set_up config readers) → 1 ≤ at
-            → (IsRun config readers (take (at - 1) steps) → P (told_by config readers (take (at - 1) steps))) → P lists
+            → (IsRun answer_of after config readers (take (at - 1) steps) → P (told_by config readers (take (at - 1) steps))) → P lists
         by_step zero why lists stops fits was holds = absurd (omega (arith, was))
         by_step (suc before) why lists stops fits was holds =
             subst P (sym stops.1.account) (holds (record { settings = stops.0; well = stops.1.well; fits = fits }))
 
     module _ (schedules : SchedulesAreMoves answer_of after) (links : EachIsALink answer_of after) (once : HoldsOnce answer_of after) (gives : GivesItsAnswers answer_of after)
         (so : OrdinaryIsUndisturbed answer_of after) (counts : HasAnAccountEach answer_of after) where
-      each_has_sessions : (config : BusConfig) (readers : List (Given H)) (steps : List SimStep) → IsRun config readers steps
-          → EachMeets (HasSessions answer_of after) readers (told_by config readers steps)
+      pub each_has_sessions : (config : BusConfig) (readers : List (Given H)) (steps : List SimStep) → IsRun answer_of after config readers steps
+          → OfEach (λ k given. HasSessions answer_of after given.0 given.2) readers (told_by config readers steps)
       each_has_sessions config readers steps is = record { count = counts config readers steps; each = each }
         where
           first : Net H
@@ -133,8 +126,3 @@ module _ {H : Type 0} where
                     (subst (λ (v : link.Link H). AreUndisturbed (v.account ∷ v.earlier)) same
                     (so l its_moves begins (each_all IsOrdinary its_moves (steady_ordinary its_moves steady)))),
               )
-
-      pub runs_have_sessions : RunsHaveSessions answer_of after
-      runs_have_sessions config readers steps answer is was =
-          answers (EachMeets (HasSessions answer_of after) readers) config readers steps answer is was
-          (each_has_sessions config readers (steps_done steps answer))

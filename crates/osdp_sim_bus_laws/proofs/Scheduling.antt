@@ -39,7 +39,6 @@ module _ {H : Type 0} (answer_of : H → Command → Answer) (after : H → Comm
     known : (n : Net H) → AreLinked answer_of after n → Each (λ (q : ℕ × Packet). IsSited n.sites q.0) n.to_panel → IsKnown n
     known n linked sited = record {
       plain = each_all (λ (q : ℕ × Packet). IsPlainlySaid q.1) n.to_panel (each_own IsPlainlySaid n.sites n.to_panel sited own_are);
-      accounts = λ k t is. (undisturbed k t n (linked k t is)).0;
       leaves = λ k t is.
           let h = linked k t is in
           subst (λ (l : link.Link H). LastsOrLeaves l.controller.session.state l) (sym h.led.leads) (lasts h.first h.moves h.led.begins h.led.fits);

@@ -19,7 +19,6 @@ use Rattle.osdp_bus.specs.Machine.{begin_refusal_of, begin_refusal_at, bus_fault
 use Rattle.osdp_bus.specs.declared.entry.Entry.{Entry}
 use Rattle.osdp_link_laws.specs.Peers.{IsPlainlySaid}
 use Rattle.osdp_link_laws.specs.Link as link
-use Rattle.osdp_link_laws.specs.Ordinary.{IsUndisturbed}
 use Rattle.osdp_link_laws.specs.Sessions.{LastsOrLeaves, Leaves}
 use Rattle.osdp_link_laws.proofs.Lines.{each_all, each_of}
 use Rattle.osdp_link_laws.proofs.Stages.{Each}
@@ -81,16 +80,16 @@ module _ {H : Type 0} (answer_of : H → Command → Answer) (after : H → Comm
   begins_by fault now t = line.left_by t (link.reopens fault [] [] now (line.link_of t [] []))
 
   site_begun : (now : ℕ) (u : ReaderSite H) (t : line.Site H) → is_closed t.controller.session.state ≡ true
-      → Leaves t.account t.controller.waiting t.reader.queue.events → IsUndisturbed t.account → IsSiteOf u t
+      → Leaves t.account t.controller.waiting t.reader.queue.events → IsSiteOf u t
       → IsSiteOf (site_begins u) (begins_by None now t)
-  site_begun now u t closed leaves so is =
+  site_begun now u t closed leaves is =
       let one : count (is_closed t.controller.session.state) ≡ 1 = ap count closed in
       let before = is.ended in
       let ended : length u.account.ends ≡ length u.account.sessions = omega (arith, before, one) in
       let more = length-append u.account.sessions (lengths_of u.account ∷ []) in
       record {
         reader = is.reader;
-        tells = tells_session u.account t.account t.controller.waiting t.reader.queue.events t.earlier leaves so ended is.tells;
+        tells = tells_session u.account t.account t.controller.waiting t.reader.queue.events t.earlier leaves.of_commands.commands is.tells;
         ended = omega (arith, ended, more);
         causes = is.causes;
       }
@@ -141,7 +140,7 @@ module _ {H : Type 0} (answer_of : H → Command → Answer) (after : H → Comm
               );
               follows = subst (FollowsSites (reopened place s)) (sym same) (unsaid answer_of after s (reopened place s) n next h
                   (subst (λ (m : Net H). IsBusOf (reopened place s).bus m.sites) same (given.calls.begins s.bus n place s.clock h.bus refusal))
-                  (one_changes place site_begins t (begins_by None g t) s.sites n.sites h.sites at (λ u is. site_begun g u t closed leaves (known.accounts place t at) is))
+                  (one_changes place site_begins t (begins_by None g t) s.sites n.sites h.sites at (λ u is. site_begun g u t closed leaves is))
                   (λ before all. same_coming place t (begins_by None g t) before n.sites at refl all) refl refl refl);
             }
 

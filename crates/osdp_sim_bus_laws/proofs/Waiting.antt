@@ -1,5 +1,5 @@
 -- What the calls of a bus leave of the commands that wait for each of its devices: none more wait.
-use Rattle.std.proofs.Common.{◌≡◌, ◌≤◌, ◌∙◌, ℕ, max, ◌||◌, true, false, List, [], ◌∷◌, ◌++◌, length, Option, Some, None, refl, arith}
+use Rattle.std.proofs.Common.{◌≡◌, ℕ, max, ◌||◌, true, false, List, [], ◌∷◌, ◌++◌, Option, Some, None, refl, arith}
 use Rattle.std.specs.Prelude.{not, slice_get, slice_set}
 use Rattle.std.specs.Option.{option_map_or}
 use Rattle.osdp_frame.specs.Items.{items}

@@ -9,7 +9,6 @@ use Rattle.osdp_controller.specs.States.{is_closed}
 use Rattle.osdp_reader.specs.declared.handler.Answer.{Answer}
 use Rattle.osdp_link_laws.specs.Link.{Delivery}
 use Rattle.osdp_link_laws.specs.Peers.{IsPlainlySaid}
-use Rattle.osdp_link_laws.specs.Ordinary.{IsUndisturbed}
 use Rattle.osdp_link_laws.specs.Sessions.{LastsOrLeaves}
 use Rattle.osdp_shared_line.specs.Addresses.{IsSetUp, NetMovesFit}
 use Rattle.osdp_shared_line.specs.Line as line
@@ -87,11 +86,9 @@ module _ {H : Type 0} where
     pub asked : AllByRecursion IsPacket (packets_on said)
     pub answered : AllByRecursion IsPacket (packets_on n.to_panel)
 
-  -- what is known of sites after any moves: all that their readers say settles, nobody restarts in their sessions, and one that is over leaves
-  -- what the next begins with
+  -- what is known of sites after any moves: all that their readers say settles, and a session that is over leaves what the next begins with
   pub record IsKnown (n : Net H) : Type 0 where
     pub plain : All (λ (q : ℕ × Packet). IsPlainlySaid q.1) n.to_panel
-    pub accounts : (k : ℕ) (t : line.Site H) → site_at k n.sites ≡ Some t → IsUndisturbed t.account
     pub leaves : (k : ℕ) (t : line.Site H) → site_at k n.sites ≡ Some t → LastsOrLeaves t.controller.session.state (view k t n)
 
   module _ (answer_of : H → Command → Answer) (after : H → Command → H) where

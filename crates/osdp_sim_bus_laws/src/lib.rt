@@ -3,7 +3,7 @@
 #![tactic(auto)]
 
 ghost use Rattle.osdp_sim_bus_laws.specs.Accepted.{EachAccepts};
-ghost use Rattle.osdp_sim_bus_laws.specs.Accounts.{EachHoldsOnce};
+ghost use Rattle.osdp_sim_bus_laws.specs.Accounts.{AccountsAreOnce, AccountsEndOnce};
 ghost use Rattle.osdp_sim_bus_laws.specs.Begun.{EachBeginsByReopens};
 ghost use Rattle.osdp_sim_bus_laws.specs.Moves.{BeginsAsSites, OneBus, SchedulesAreMoves, StepsAreMoves};
 
@@ -35,15 +35,16 @@ pub fn schedules_are_moves<H: Handler>()
     osdp_shared_line::nobody_else_hears::<H>();
 }
 
-/// Whatever a schedule over a bus says, for each reader: its account is that of sessions of its link. Each is once and in order, with this reader's own
-/// answers, and has ended, or is the last. None ends because a number was refused. That holds of the accounts with a fault too, once the line was set up.
-/// What they come to together says the ledger (law `bus_run_keeps_ledgers` of `osdp_sim_ledger`).
+/// Whatever a schedule over a bus says, once the line was set up, for each reader: each session has ended once, or each but the last, and none because this
+/// reader refused a number. What the sessions come to says the ledger (law `bus_run_keeps_ledgers` of `osdp_sim_ledger`), and law
+/// `each_sessions_begin_by_reopens` where each began.
 ///
-/// Where no session begins again: the commands that a reader has taken are a beginning of those issued to it, and hold each settled one,
-/// with the answer that this reader gave, and one more at most; the events reported are a beginning of those queued at it; its session ends
-/// at most once, and not by a refused number.
+/// Of each reader whose session no step that was taken begins again, whatever the sessions of others do: the commands that it has taken are a beginning of
+/// those issued to it, and hold each settled one, with the answer that this reader gave, and one more at most; the events reported are a beginning of those
+/// queued at it; its session ends at most once, and not by a refused number.
 pub fn each_account_holds_once<H: Handler>()
-    ensures { EachHoldsOnce H.answer_of H.after }
+    ensures ends { AccountsEndOnce H.answer_of H.after }
+    ensures once { AccountsAreOnce H.answer_of H.after }
 {
     schedules_are_moves::<H>();
     osdp_shared_line::each_is_a_link::<H>();

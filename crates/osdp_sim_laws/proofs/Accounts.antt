@@ -1,5 +1,5 @@
 -- The lists of an account, session by session.
-use Rattle.std.proofs.Common.{◌≡◌, ◌<◌, ◌+◌, List, [], ◌∷◌, ◌++◌, length, Option, Some, None, refl, sym, ap, ◌∙◌, arith, append_assoc}
+use Rattle.std.proofs.Common.{◌≡◌, ◌<◌, List, [], ◌∷◌, ◌++◌, length, Option, Some, None, refl, sym, ap, ◌∙◌, arith, append_assoc}
 use Rattle.std.proofs.lemmas.List.{append-nil, length-append}
 use Rattle.std.specs.Prelude.{option_to_list}
 use Rattle.osdp_msg.specs.declared.command.Command.{Command}
@@ -12,17 +12,14 @@ use Rattle.osdp_controller.specs.declared.report.Report.TheVariants as report
 use Rattle.osdp_reader.specs.declared.kind.Kind.{Kind}
 use Rattle.osdp_reader.specs.declared.kind.Kind.TheVariants as kind
 use Rattle.osdp_link_laws.specs.Link as link
-use Rattle.osdp_link_laws.specs.Ordinary.{IsUndisturbed}
 use Rattle.osdp_link_laws.specs.Refusals as refusals
-use Rattle.osdp_link_laws.specs.Sessions.{Leaves, ended_commands, ended_in, in_all}
+use Rattle.osdp_link_laws.specs.Sessions.{ended_commands, ended_in, in_all}
 use Rattle.osdp_link_laws.proofs.Lines.{each_append}
-use Rattle.osdp_link_laws.proofs.Ordinary.{leaves_so}
 use Rattle.osdp_link_laws.proofs.Stages.{Each}
 use Rattle.osdp_sim.specs.Account.{Account, lengths_of, taken_by, taken_command, with_report, with_session, with_taken}
 use Rattle.osdp_sim.specs.declared.account.End.{End}
 use Rattle.osdp_sim.specs.declared.account.End.TheVariants as ending
-use Rattle.osdp_sim.specs.declared.account.Lengths.{Lengths}
-use Rattle.osdp_sim_laws.specs.Accounts.{AreOver, IsNoRefusal, IsOf}
+use Rattle.osdp_sim_laws.specs.Accounts.{IsNoRefusal, IsOf}
 
 -- what comes after the list of the last session comes after them all
 later : {A : Type 0} (xs before last more : List A) → xs ≡ before ++ last → xs ++ more ≡ before ++ (last ++ more)
@@ -37,6 +34,7 @@ after_taken more given a t earlier h = record {
   reported = h.reported;
   issued = h.issued;
   queued = h.queued;
+  sessions = h.sessions;
 }
 
 told_settled : (more : List (Command × Reply)) (ends : List End) (a : Account) (t : link.Account) (earlier : List link.Account) → IsOf a t earlier
@@ -48,6 +46,7 @@ told_settled more ends a t earlier h = record {
   reported = h.reported;
   issued = h.issued;
   queued = h.queued;
+  sessions = h.sessions;
 }
 
 -- a report
@@ -65,6 +64,7 @@ tells_report (Some (report.Event event)) a t earlier h = record {
   reported = later a.reported (in_all (λ t. t.reported) earlier) t.reported (event ∷ []) h.reported;
   issued = h.issued;
   queued = h.queued;
+  sessions = h.sessions;
 }
 tells_report (Some (report.PollAnswered answer)) a t earlier h = h
 tells_report (Some (report.Unread command code)) a t earlier h = h
@@ -75,6 +75,7 @@ tells_report (Some (report.Lost cause command)) a t earlier h = record {
   reported = h.reported;
   issued = h.issued;
   queued = h.queued;
+  sessions = h.sessions;
 }
 
 -- nothing is taken
@@ -87,6 +88,7 @@ none_taken offered a t earlier h = record {
   reported = h.reported;
   issued = h.issued;
   queued = h.queued;
+  sessions = h.sessions;
 }
 
 -- a command that is taken: POLL is none of them
@@ -101,41 +103,20 @@ tells_taken kind.Taken (Some c) said front a t earlier h = taken_alike c said fr
 tells_taken kind.Taken None said front a t earlier h = none_taken t.offered a t earlier h
 tells_taken k c said front a t earlier h = none_taken t.offered a t earlier h
 
--- more events come after all of them
-over_more : (cuts : List Lengths) (next more : List Event) (earlier : List link.Account) (gone : List Event) → AreOver cuts next earlier gone
-    → AreOver cuts (next ++ more) earlier gone
-over_more cuts next more [] gone none = none
-over_more cuts next more (t ∷ earlier) gone (before, past, over, is) = (
-  before,
-  past,
-  over,
-  record {
-    at = is.at;
-    waits = is.waits;
-    begins = is.begins;
-    cut = is.cut;
-    leaves = is.leaves;
-    goes = is.goes;
-    first = (is.first.0 ++ more, later next is.waits is.first.0 more is.first.1);
-  },
-)
+pub some_begun : (a : Account) (t : link.Account) (earlier : List link.Account) → IsOf a t earlier → 0 < length a.sessions
+some_begun a t earlier h = omega (arith, h.sessions)
 
--- a session has begun for each that is over, and the one that lasts
-pub begun : (cuts : List Lengths) (next : List Event) (earlier : List link.Account) (gone : List Event) → AreOver cuts next earlier gone
-    → length cuts ≡ length earlier + 1
-begun cuts next [] gone none = ap length none.0
-begun cuts next (t ∷ earlier) gone (before, past, over, is) =
-    omega (arith, ap length is.begins, length-append before (is.at ∷ []), begun before t.queued earlier past over)
-
-pub some_begun : (cuts : List Lengths) (next : List Event) (earlier : List link.Account) (gone : List Event) → AreOver cuts next earlier gone
-    → 0 < length cuts
-some_begun cuts next earlier gone over = omega (arith, begun cuts next earlier gone over)
+-- where one session has begun, none came before it
+pub none_earlier : (a : Account) (t : link.Account) (earlier : List link.Account) → IsOf a t earlier → length a.sessions ≡ 1 → earlier ≡ []
+none_earlier a t [] h one = refl
+none_earlier a t (u ∷ earlier) h one = absurd (omega (arith, h.sessions, one))
 
 pub tells_issued : (command : Command) (a : Account) (t : link.Account) (earlier : List link.Account) → IsOf a t earlier
     → IsOf (record a { issued = a.issued ++ command ∷ [] }) (record t { issued = t.issued ++ command ∷ [] }) earlier
 tells_issued command a t earlier h = record {
   issued = later a.issued (ended_commands earlier) t.issued (command ∷ []) h.issued;
   queued = h.queued;
+  sessions = h.sessions;
   taken = h.taken;
   settled = h.settled;
   unsettled = h.unsettled;
@@ -145,60 +126,27 @@ tells_issued command a t earlier h = record {
 pub tells_queued : (event : Event) (a : Account) (t : link.Account) (earlier : List link.Account) → IsOf a t earlier
     → IsOf (record a { queued = a.queued ++ event ∷ [] }) (record t { queued = t.queued ++ event ∷ []; stayed = t.stayed ++ event ∷ []; kept = t.kept ++ event ∷ [] }) earlier
 tells_queued event a t earlier h = record {
+  sessions = h.sessions;
   issued = h.issued;
-  queued = (
-    h.queued.0,
-    over_more a.sessions t.queued (event ∷ []) earlier h.queued.0 h.queued.1,
-    later a.queued h.queued.0 t.queued (event ∷ []) h.queued.2,
-  );
+  queued = λ none. ap (λ es. es ++ event ∷ []) (h.queued none);
   taken = h.taken;
   settled = h.settled;
   unsettled = h.unsettled;
   reported = h.reported;
 }
 
--- a session begins with what the one before has left, which has ended
+-- a session begins with the commands that the one before has left
 pub tells_session : (a : Account) (t : link.Account) (waiting : List Command) (events : List Event) (earlier : List link.Account)
-    → Leaves t waiting events → IsUndisturbed t → length a.ends ≡ length a.sessions → IsOf a t earlier
-    → IsOf (with_session a) (link.new_account waiting events) (t ∷ earlier)
-tells_session a t waiting events earlier all so ended h =
-    let gone = h.queued.0 in
-    let left = leaves_so t waiting events so all in
-    record {
-      issued = h.issued
-          ∙ ap (λ cs. ended_commands earlier ++ cs) all.of_commands.commands
-          ∙ sym (append_assoc (ended_commands earlier) (ended_in t) waiting);
-      queued = (
-        gone ++ left.left,
-        (
-          a.sessions,
-          gone,
-          h.queued.1,
-          record {
-            at = lengths_of a;
-            waits = events;
-            begins = refl;
-            cut = record {
-              issued = ap length h.issued;
-              taken = ap length h.taken;
-              settled = ap length h.settled;
-              unsettled = ap length h.unsettled;
-              queued = ap length h.queued.2;
-              reported = ap length h.reported;
-              ends = omega (arith, ended, begun a.sessions t.queued earlier gone h.queued.1);
-            };
-            leaves = left;
-            goes = refl;
-            first = ([], sym (append-nil events));
-          },
-        ),
-        h.queued.2 ∙ ap (λ all. gone ++ all) left.queued ∙ sym (append_assoc gone left.left events),
-      );
-      taken = h.taken ∙ sym (append-nil (in_all (λ t. t.taken) (t ∷ earlier)));
-      settled = h.settled ∙ sym (append-nil (in_all (λ t. t.settled) (t ∷ earlier)));
-      unsettled = h.unsettled ∙ sym (append-nil (in_all (λ t. t.unsettled) (t ∷ earlier)));
-      reported = h.reported ∙ sym (append-nil (in_all (λ t. t.reported) (t ∷ earlier)));
-    }
+    → t.issued ≡ ended_in t ++ waiting → IsOf a t earlier → IsOf (with_session a) (link.new_account waiting events) (t ∷ earlier)
+tells_session a t waiting events earlier left h = record {
+  sessions = omega (arith, length-append a.sessions (lengths_of a ∷ []), h.sessions);
+  issued = h.issued ∙ ap (λ cs. ended_commands earlier ++ cs) left ∙ sym (append_assoc (ended_commands earlier) (ended_in t) waiting);
+  queued = λ none. absurd (let e = none in cc);
+  taken = h.taken ∙ sym (append-nil (in_all (λ t. t.taken) (t ∷ earlier)));
+  settled = h.settled ∙ sym (append-nil (in_all (λ t. t.settled) (t ∷ earlier)));
+  unsettled = h.unsettled ∙ sym (append-nil (in_all (λ t. t.unsettled) (t ∷ earlier)));
+  reported = h.reported ∙ sym (append-nil (in_all (λ t. t.reported) (t ∷ earlier)));
+}
 
 -- ---- how sessions end
 

@@ -8,12 +8,13 @@ use Rattle.osdp_reader.specs.declared.config.ReaderConfig.{ReaderConfig}
 use Rattle.osdp_reader.specs.declared.handler.Answer.{Answer}
 use Rattle.osdp_link_laws.specs.OneHandler.{with_answers}
 use Rattle.osdp_link_laws.specs.Progress.{SetsNoAddress}
-use Rattle.osdp_link_laws.proofs.Lines.{each_all, each_append, each_of}
+use Rattle.osdp_link_laws.proofs.Lines.{each_append, each_of}
 use Rattle.osdp_sim.specs.Account.{Account, lists_of}
 use Rattle.osdp_sim.specs.Rounds.{rounds}
 use Rattle.osdp_sim.specs.declared.step.SimStep.{SimStep}
-use Rattle.osdp_sim_laws.specs.Accounts.{AnswersHoldOnce, IsInSession, IsOnce}
+use Rattle.osdp_sim_laws.specs.Accounts.{AnswersHoldOnce, IsInSession, IsOnce, reopens_in}
 use Rattle.osdp_sim_laws.specs.Progress.{AnswerRecovers, IsDone, Recovers, clear, done}
+use Rattle.osdp_sim_laws.proofs.Begun.{none_reopen}
 use Rattle.osdp_sim_laws.proofs.Clearing.{losses_within}
 use Rattle.osdp_sim_laws.proofs.Coming.{rounds_within}
 
@@ -47,9 +48,9 @@ module _ {H : Type 0} (answer_of : H → Command → Answer) (after : H → Comm
         reported = sym (whole a.reported a.queued events.0 events.1 (omega (arith, issued, settled, queued, enough)));
       }
 
-  cleared_within : (steps : List SimStep) (m wait : ℕ) → All IsInSession steps → All IsInSession ((steps ++ clear steps) ++ rounds m wait)
+  cleared_within : (steps : List SimStep) (m wait : ℕ) → All IsInSession steps → reopens_in 1 ((steps ++ clear steps) ++ rounds m wait) ≡ 0
   cleared_within steps m wait within =
-      each_all IsInSession ((steps ++ clear steps) ++ rounds m wait)
+      none_reopen 1 ((steps ++ clear steps) ++ rounds m wait)
       (each_append IsInSession (steps ++ clear steps) (rounds m wait)
       (each_append IsInSession steps (clear steps) (each_of IsInSession steps within) (tt, losses_within steps)) (rounds_within m wait))
 

@@ -15,6 +15,7 @@ use Rattle.osdp_controller.specs.declared.report.Report.{Report}
 use Rattle.osdp_reader.specs.declared.handler.Answer.{Answer}
 use Rattle.osdp_reader.specs.Queue.{lacks_room}
 use Rattle.osdp_link_laws.specs.Headline.{IsBeginning}
+use Rattle.osdp_link_laws.proofs.Stages.{Each}
 use Rattle.osdp_sim.specs.Account.{Account, lengths_of, with_issued, with_queued, with_report, with_session}
 use Rattle.osdp_sim.specs.Line.{handed, left}
 use Rattle.osdp_sim.specs.Runs.{FitAlong, run, steps_done}
@@ -23,12 +24,13 @@ use Rattle.osdp_sim.specs.State.{SimState, set_up}
 use Rattle.osdp_sim.specs.Steps as steps
 use Rattle.osdp_sim.specs.Steps.{StepFits, after_step, controller_hears, moment_after, reader_hears}
 use Rattle.osdp_sim.specs.declared.account.Lengths.{Lengths}
+use Rattle.osdp_sim.specs.declared.config.SimConfig.{SimConfig}
 use Rattle.osdp_sim.specs.declared.step.SimStep.{SimStep}
 use Rattle.osdp_sim.specs.declared.step.SimStep.TheVariants.{Busy, Issue, Queue, Reopen, ToController, ToReader, Wait}
 use Rattle.osdp_sim.proofs.Schedules.{holds_on, runs_on}
 use Rattle.osdp_sim_laws.specs.Accepted.{IsAcceptedByRoom}
-use Rattle.osdp_sim_laws.specs.Accounts.{no_lengths}
-use Rattle.osdp_sim_laws.specs.Begun.{AreBegun, BeginsAfter, BeginsByReopens, CameTo, reopens, reopens_in}
+use Rattle.osdp_sim_laws.specs.Accounts.{IsInSession, no_lengths, reopens, reopens_in}
+use Rattle.osdp_sim_laws.specs.Begun.{AreBegun, BeginsAfter, BeginsByReopens, CameTo}
 use Rattle.osdp_sim_laws.proofs.Accepting.{from_set_up}
 use Rattle.osdp_sim_laws.proofs.Accounts.{report_leaves}
 use Rattle.osdp_sim_laws.proofs.Ends.{sessions_of_report}
@@ -169,6 +171,12 @@ module _ {S : Type 0} (taking : SimStep → S → S) (Tells : S → Account → 
       each = λ before later is. let at = session_at before later is in (at.0, came before (Reopen reader ∷ later) is at.0 at.1, at.2);
     }
 
+-- where no session begins again none of this reader does
+pub none_reopen : (reader : ℕ) (list : List SimStep) → Each IsInSession list → reopens_in reader list ≡ 0
+none_reopen reader [] inside = refl
+none_reopen reader (Reopen number ∷ list) inside = absurd inside.0
+none_reopen reader (step ∷ list) inside = omega (arith, none_reopen reader list inside.1)
+
 -- ---- one reader
 
 module _ {H : Type 0} (answer_of : H → Command → Answer) (after : H → Command → H) where
@@ -228,6 +236,14 @@ module _ {H : Type 0} (answer_of : H → Command → Answer) (after : H → Comm
   grow step s a is =
       let t = after_step answer_of after step s in
       (t.account, refl, subst (λ (b : Account). Grows (begun_by 1 step b) b t.account) (sym is) (step_grows step s))
+
+  -- as many sessions have begun
+  pub sessions_counted : (config : SimConfig) (handler : H) (list : List SimStep)
+      → length (run answer_of after list (set_up config handler)).account.sessions ≡ 1 + reopens_in 1 list
+  sessions_counted config handler list =
+      let start = set_up config handler in
+      let all = has_grown (after_step answer_of after) Tells one_account 1 grow list start start.account refl in
+      omega (arith, ap (λ (a : Account). length a.sessions) all.tells, ap length all.grows.sessions, length-append start.account.sessions all.more, all.count)
 
   pub begins_by_reopens : BeginsByReopens answer_of after
   begins_by_reopens config handler list answer is was =

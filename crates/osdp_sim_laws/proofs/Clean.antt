@@ -33,21 +33,22 @@ use Rattle.osdp_sim.specs.declared.config.SimConfig.{SimConfig}
 use Rattle.osdp_sim.specs.declared.fault.Cause.{Cause}
 use Rattle.osdp_sim.specs.declared.fault.Cause.TheVariants.{HoldsPacket, NoMemory, NotQuiet, OutOfRange}
 use Rattle.osdp_sim.specs.declared.step.SimStep.{SimStep}
-use Rattle.osdp_sim.specs.declared.step.SimStep.TheVariants.{Issue, Queue, ToReader, ToController}
+use Rattle.osdp_sim.specs.declared.step.SimStep.TheVariants.{Issue, Queue}
 use Rattle.osdp_sim_laws.specs.Accepted.{commands_of, events_of}
-use Rattle.osdp_sim_laws.specs.Accounts.{AreOver, IsInSession, IsOf}
+use Rattle.osdp_sim_laws.specs.Accounts.{IsInSession, IsOf}
 use Rattle.osdp_sim_laws.specs.Clean.{GoesInTurn, IsInTurn, IsOrder}
 use Rattle.osdp_sim_laws.specs.Moves.{clock_after, first_link, in_bytes, moves_of}
 use Rattle.osdp_sim_laws.specs.OneLink.{OneLink}
 use Rattle.osdp_sim_laws.specs.Progress.{IsRun}
 use Rattle.osdp_sim_laws.proofs.Accepting.{Accepts, among_few, accepts_commands, accepts_events, each_order_fits, none_commands, none_events, submit_is}
-use Rattle.osdp_sim_laws.proofs.Coming.{count_of, moments_of, round_in_time, rounds_are, rounds_within, steps_in_time}
+use Rattle.osdp_sim_laws.proofs.Accounts.{none_earlier}
+use Rattle.osdp_sim_laws.proofs.Coming.{count_of, moments_of, one_session, round_in_time, rounds_are, rounds_within, steps_in_time}
 use Rattle.osdp_sim_laws.proofs.Ends.{HaveEnded, run_ended}
-use Rattle.osdp_sim_laws.proofs.Holding.{IsWithin, begins, goes_from_first, no_account, run_within, steps_within}
+use Rattle.osdp_sim_laws.proofs.Holding.{begins, goes_from_first, no_account}
 use Rattle.osdp_sim_laws.proofs.Moments.{LinkInTime, clock_on, last_moment}
 use Rattle.osdp_sim.proofs.Schedules.{holds_on, runs_on, well_on}
 use Rattle.osdp_sim_laws.proofs.Room.{OrderFits, ShortCommands, ShortEvents, place_for_command, place_for_event}
-use Rattle.osdp_sim_laws.proofs.Schedules.{Follows, GoesFrom, goes_from, goes_on, run_both, schedule_follows}
+use Rattle.osdp_sim_laws.proofs.Schedules.{Follows, goes_from, goes_on, run_both, schedule_follows}
 
 -- ---- orders
 
@@ -284,26 +285,13 @@ module _ {H : Type 0} (answer_of : H → Command → Answer) (after : H → Comm
 
   -- ---- the lists of one session
 
-  record SameLists (a : Account) (t : link.Account) : Type 0 where
-    pub of : IsOf a t []
-    pub queued : a.queued ≡ t.queued
-    pub sessions : length a.sessions ≡ 1
-
   same_lists : (config : SimConfig) (handler : H) (s : SimState H) (ms : List (link.Move H)) (clock : ℕ)
-      → Follows answer_of after s ms (first_link config handler) clock no_account → Each (IsWithin answer_of after) ms
-      → SameLists s.account (link.run answer_of after ms (first_link config handler)).account
-  same_lists config handler s ms clock follows within =
-      let l = first_link config handler in
-      let later = link.run answer_of after ms l in
-      let t = later.account in
-      let none : later.earlier ≡ [] = run_within answer_of after ms l within in
+      → Follows answer_of after s ms (first_link config handler) clock no_account → length s.account.sessions ≡ 1
+      → IsOf s.account (link.run answer_of after ms (first_link config handler)).account []
+  same_lists config handler s ms clock follows one =
+      let later = link.run answer_of after ms (first_link config handler) in
       let tells = follows.carried.tells in
-      let over = subst (λ e. AreOver s.account.sessions t.queued e tells.queued.0) none tells.queued.1 in
-      record {
-        of = subst (IsOf s.account t) none tells;
-        queued = tells.queued.2 ∙ ap (λ e. e ++ t.queued) over.1;
-        sessions = ap length over.0;
-      }
+      subst (IsOf s.account later.account) (none_earlier s.account later.account later.earlier tells one) tells
 
   -- ---- the rounds
 
@@ -336,27 +324,26 @@ module _ {H : Type 0} (answer_of : H → Command → Answer) (after : H → Comm
       let fits = holds_on (after_step answer_of after) (StepFits answer_of after) orders more start is.fits in
       let device = is.settings.controller.config_in_range.address in
       let from = goes_from_first answer_of after given config handler device in
-      let first = schedule_follows answer_of after given.reads given.told orders l 0 no_account from well.0 fits.0 in
+      let first = schedule_follows answer_of after given.reads orders l 0 no_account from well.0 fits.0 in
       let ms = moves_of orders 0 in
       let are_moves = orders_are H orders 0 are in
       let later = link.run answer_of after ms l in
       let before = run answer_of after orders start in
       let there : before ≡ in_bytes later 0 before.account = first.carried.state ∙ ap (λ c. in_bytes later c before.account) are_moves.1 in
-      let goes_on_from = subst (λ c. GoesFrom answer_of after later c before.account) are_moves.1
-      (goes_from answer_of after before ms l 0 (clock_after orders 0) no_account from first (run_ended answer_of after given.told orders start well.0 refl)) in
-      let then_ = schedule_follows answer_of after given.reads given.told more later 0 before.account goes_on_from
+      let then_ = schedule_follows answer_of after given.reads more later 0 before.account (goes_from answer_of after before ms l (clock_after orders 0) no_account from first)
       (subst (λ s. is_well answer_of after more s ≡ true) there well.1) (subst (FitAlong answer_of after more) there fits.1) in
       let ns = moves_of more 0 in
       let end = run answer_of after more before in
       let next = subst (λ s. Follows answer_of after (run answer_of after more s) ns later (clock_after more 0) before.account) (sym there) then_ in
       let whole = goes_on answer_of after before end ms ns l (clock_after orders 0) (clock_after more 0) no_account first next in
       let begun = begins config handler device in
-      let kept = steps_within answer_of after orders 0 (orders_within orders are) in
-      let both = each_append (IsWithin answer_of after) ms ns kept (steps_within answer_of after more 0 (clean_within n)) in
+      let inside = orders_within orders are in
       let ended : run answer_of after (orders ++ more) start ≡ end = runs_on (after_step answer_of after) orders more start in
+      let one = subst (λ (s : SimState H). length s.account.sessions ≡ 1) ended
+      (one_session answer_of after config handler (orders ++ more) (each_append IsInSession orders more inside (clean_within n))) in
       let all_none = subst (λ s. Each SetsNoAddress s.account.issued) ended none in
-      let first_lists = same_lists config handler before ms (clock_after orders 0) first kept in
-      let none_before = subst (Each SetsNoAddress) first_lists.of.issued
+      let first_lists = same_lists config handler before ms (clock_after orders 0) first (one_session answer_of after config handler orders inside) in
+      let none_before = subst (Each SetsNoAddress) first_lists.issued
       (each_front SetsNoAddress before.account.issued (all_submitted answer_of after ns later) (subst (Each SetsNoAddress) next.carried.issued all_none)) in
       let opening = moment_after 400 0 in
       let moments = moments_of n 50 opening in
@@ -372,26 +359,26 @@ module _ {H : Type 0} (answer_of : H → Command → Answer) (after : H → Comm
       ap (λ list. link.run answer_of after list later) (sym (clean_are n)) ∙ sym (run_both answer_of after ms ns l) in
       let last = link.run answer_of after (ms ++ ns) l in
       let turn = subst (λ k. clean.IsInTurn answer_of after config.reader handler (length moments) k.account) joined found.0 in
-      let lists = same_lists config handler end (ms ++ ns) (clock_after more 0) whole both in
+      let lists = same_lists config handler end (ms ++ ns) (clock_after more 0) whole one in
       let lasts : is_closed end.controller.session.state ≡ false =
       ap (λ (s : SimState H). is_closed s.controller.session.state) whole.carried.state ∙ subst (λ k. is_closed k.controller.session.state ≡ false) joined found.1 in
       let over = subst HaveEnded ended (run_ended answer_of after given.told (orders ++ more) start is.well refl) in
       let accepted = clean_issued config handler orders n are (each_order_fits answer_of after orders start fits.0) in
       subst (λ s. IsInTurn answer_of after config handler orders n s.account) (sym ended)
-      (in_turn config handler orders n end.account last.account (length moments) (count_of n 50 opening) accepted lists turn (no_end end lasts over lists.sessions))
+      (in_turn config handler orders n end.account last.account (length moments) (count_of n 50 opening) accepted lists turn (no_end end lasts over one))
     where
-      in_turn : (config : SimConfig) (handler : H) (orders : List SimStep) (n : ℕ) (a : Account) (t : link.Account) (m : ℕ) → m ≡ n → AreIssued config orders a → SameLists a t
+      in_turn : (config : SimConfig) (handler : H) (orders : List SimStep) (n : ℕ) (a : Account) (t : link.Account) (m : ℕ) → m ≡ n → AreIssued config orders a → IsOf a t []
           → clean.IsInTurn answer_of after config.reader handler m t → a.ends ≡ [] → IsInTurn answer_of after config handler orders n a
       in_turn config handler orders n a t m many accepted lists turn none = record {
         issued = accepted.0;
         queued = accepted.1;
-        taken = lists.of.taken ∙ turn.taken ∙ ap (λ k. take k t.issued) many ∙ ap (take n) (sym lists.of.issued);
-        settled = lists.of.settled ∙ turn.settled ∙ ap (λ k. with_answers answer_of after config.reader handler (take k t.issued)) many
-            ∙ ap (λ cs. with_answers answer_of after config.reader handler (take n cs)) (sym lists.of.issued);
-        reported = lists.of.reported ∙ turn.reported ∙ ap (λ k. take (k - length t.settled) t.queued) many
-            ∙ ap (λ ps. take (n - length ps) t.queued) (sym lists.of.settled)
-            ∙ ap (take (n - length a.settled)) (sym lists.queued);
-        unsettled = lists.of.unsettled ∙ turn.unsettled;
+        taken = lists.taken ∙ turn.taken ∙ ap (λ k. take k t.issued) many ∙ ap (take n) (sym lists.issued);
+        settled = lists.settled ∙ turn.settled ∙ ap (λ k. with_answers answer_of after config.reader handler (take k t.issued)) many
+            ∙ ap (λ cs. with_answers answer_of after config.reader handler (take n cs)) (sym lists.issued);
+        reported = lists.reported ∙ turn.reported ∙ ap (λ k. take (k - length t.settled) t.queued) many
+            ∙ ap (λ ps. take (n - length ps) t.queued) (sym lists.settled)
+            ∙ ap (take (n - length a.settled)) (sym (lists.queued refl));
+        unsettled = lists.unsettled ∙ turn.unsettled;
         ends = none;
       }
 

@@ -36,10 +36,11 @@ use Rattle.osdp_sim_laws.specs.Moves.{clock_after, step_clock, delivery, first_l
 use Rattle.osdp_sim_laws.specs.OneLink.{OneLink}
 use Rattle.osdp_sim_laws.specs.Progress.{ComesOn, ComesThrough, IsClear, IsRun, Recovers, clear}
 use Rattle.osdp_sim_laws.proofs.Clearing.{AtMost, Cleared, clears, losses_within, steps_few}
-use Rattle.osdp_sim_laws.proofs.Accounts.{some_begun}
+use Rattle.osdp_sim_laws.proofs.Accounts.{none_earlier, some_begun}
+use Rattle.osdp_sim_laws.proofs.Begun.{none_reopen, sessions_counted}
 use Rattle.osdp_sim.proofs.Schedules.{holds_on, runs_on, well_on}
 use Rattle.osdp_sim_laws.proofs.Ends.{HaveEnded, run_ended}
-use Rattle.osdp_sim_laws.proofs.Holding.{IsWithin, begins, goes_from_first, no_account, run_within, steps_within}
+use Rattle.osdp_sim_laws.proofs.Holding.{begins, goes_from_first, no_account}
 use Rattle.osdp_sim_laws.proofs.Moments.{LinkInTime, begins_in_time, clock_on, controller_in_time, last_moment, queues_in_time, reader_in_time, submits_in_time, tick_in_time}
 use Rattle.osdp_sim_laws.proofs.Schedules.{Follows, goes_from, goes_on, run_both, schedule_follows}
 use Rattle.osdp_controller.specs.Machine as controllers
@@ -131,23 +132,29 @@ module _ {H : Type 0} (answer_of : H → Command → Answer) (after : H → Comm
     pub queued : length a.queued ≡ length t.queued
     pub kept : t.kept ≡ t.queued
 
-  pub as_long : (given : OneLink answer_of after) (config : SimConfig) (handler : H) (device : config.controller.address < 127) (s : SimState H) (ms : List (link.Move H)) (clock : ℕ)
-      → Follows answer_of after s ms (first_link config handler) clock no_account → Each (IsWithin answer_of after) ms
+  pub as_long : (config : SimConfig) (handler : H) (device : config.controller.address < 127) (s : SimState H) (ms : List (link.Move H)) (clock : ℕ)
+      → Follows answer_of after s ms (first_link config handler) clock no_account → length s.account.sessions ≡ 1
       → AsLong s.account (link.run answer_of after ms (first_link config handler)).account
-  as_long given config handler device s ms clock follows within =
+  as_long config handler device s ms clock follows one =
       let l = first_link config handler in
       let later = link.run answer_of after ms l in
-      let none : later.earlier ≡ [] = run_within answer_of after ms l within in
-      let begun = begins config handler device in
-      let so = moves_so answer_of after ms l (steady_ordinary ms follows.ordinary) (begins_so l begun) in
-      let tells : IsOf s.account later.account [] = subst (IsOf s.account later.account) none follows.carried.tells in
+      let tells = follows.carried.tells in
+      let none = none_earlier s.account later.account later.earlier tells one in
+      let so = moves_so answer_of after ms l (steady_ordinary ms follows.ordinary) (begins_so l (begins config handler device)) in
+      let only : IsOf s.account later.account [] = subst (IsOf s.account later.account) none tells in
       record {
-        settled = ap length tells.settled;
-        reported = ap length tells.reported;
-        issued = tells.issued;
-        queued = ap length (tells.queued.2 ∙ ap (λ e. e ++ later.account.queued) tells.queued.1.1);
+        settled = ap length only.settled;
+        reported = ap length only.reported;
+        issued = only.issued;
+        queued = ap length (only.queued refl);
         kept = so.0.kept;
       }
+
+  -- where no session begins again one has begun
+  pub one_session : (config : SimConfig) (handler : H) (steps : List SimStep) → Each IsInSession steps
+      → length (run answer_of after steps (set_up config handler)).account.sessions ≡ 1
+  one_session config handler steps within =
+      omega (arith, sessions_counted answer_of after config handler steps, none_reopen 1 steps within)
 
   -- ---- steps, and more of them, as moves of the link
 
@@ -167,15 +174,15 @@ module _ {H : Type 0} (answer_of : H → Command → Answer) (after : H → Comm
       let well = well_on (after_step answer_of after) fault_of steps more start is.well in
       let fits = holds_on (after_step answer_of after) (StepFits answer_of after) steps more start is.fits in
       let from = goes_from_first answer_of after given config handler is.settings.controller.config_in_range.address in
-      let first = schedule_follows answer_of after given.reads given.told steps l 0 no_account from well.0 fits.0 in
+      let first = schedule_follows answer_of after given.reads steps l 0 no_account from well.0 fits.0 in
       let ms = moves_of steps 0 in
       let clock = clock_after steps 0 in
       let before = run answer_of after steps start in
       let there : before ≡ in_bytes (link.run answer_of after ms l) clock before.account = first.carried.state in
       record {
         first = first;
-        next = schedule_follows answer_of after given.reads given.told more (link.run answer_of after ms l) clock before.account
-            (goes_from answer_of after before ms l 0 clock no_account from first (run_ended answer_of after given.told steps start well.0 refl))
+        next = schedule_follows answer_of after given.reads more (link.run answer_of after ms l) clock before.account
+            (goes_from answer_of after before ms l clock no_account from first)
             (subst (λ s. is_well answer_of after more s ≡ true) there well.1) (subst (FitAlong answer_of after more) there fits.1);
       }
 
@@ -189,8 +196,8 @@ module _ {H : Type 0} (answer_of : H → Command → Answer) (after : H → Comm
       let before = run answer_of after steps (set_up config handler) in
       let clock = clock_after steps 0 in
       let there : before ≡ in_bytes later clock before.account = first.carried.state in
-      let lists = as_long given config handler is.settings.controller.config_in_range.address before (moves_of steps 0) clock first
-      (steps_within answer_of after steps 0 (each_of IsInSession steps within)) in
+      let lists = as_long config handler is.settings.controller.config_in_range.address before (moves_of steps 0) clock first
+      (one_session config handler steps (each_of IsInSession steps within)) in
       record {
         to_reader = none_on later.to_reader (sym (ap (λ (s : SimState H). s.to_reader) there) ∙ clear.to_reader);
         to_controller = none_on later.to_controller (sym (ap (λ (s : SimState H). s.to_controller) there) ∙ clear.to_controller);
@@ -228,10 +235,11 @@ module _ {H : Type 0} (answer_of : H → Command → Answer) (after : H → Comm
       let whole = goes_on answer_of after before end ms ns l clock (clock_after more clock) no_account first next in
       let device = is.settings.controller.config_in_range.address in
       let begun = begins config handler device in
-      let kept = steps_within answer_of after steps 0 (each_of IsInSession steps within) in
-      let both = each_append (IsWithin answer_of after) ms ns kept (steps_within answer_of after more clock (rounds_within m wait)) in
-      let first_lists = as_long given config handler device before ms clock first kept in
-      let last_lists = as_long given config handler device end (ms ++ ns) (clock_after more clock) whole both in
+      let inside = each_of IsInSession steps within in
+      let both = one_session config handler (steps ++ more) (each_append IsInSession steps more inside (rounds_within m wait)) in
+      let ended : run answer_of after (steps ++ more) start ≡ end = runs_on (after_step answer_of after) steps more start in
+      let first_lists = as_long config handler device before ms clock first (one_session config handler steps inside) in
+      let last_lists = as_long config handler device end (ms ++ ns) (clock_after more clock) whole (subst (λ (s : SimState H). length s.account.sessions ≡ 1) ended both) in
       let timely = steps_in_time wait steps 0 l (omega arith) (omega arith, long) in
       let range : IsInRange l.controller.session = ranges.later (new_machine config.controller config.commands (room_for config.commands).bytes) (Begin 0 ∷ []) (ranges.new config.controller config.commands (room_for config.commands).bytes) in
       let quiet = clear_link given config handler steps more is within clear in
@@ -241,15 +249,13 @@ module _ {H : Type 0} (answer_of : H → Command → Answer) (after : H → Comm
       ap (λ list. link.run answer_of after list later) (sym (rounds_are m wait clock)) in
       let joined : link.run answer_of after (ms ++ ns) l ≡ last = run_both answer_of after ms ns l in
       let long_list : AsLong end.account last.account = subst (λ k. AsLong end.account k.account) joined last_lists in
-      let ended : run answer_of after (steps ++ more) start ≡ end = runs_on (after_step answer_of after) steps more start in
       let all_ended = run_ended answer_of after given.told (steps ++ more) start is.well refl in
       subst (λ s. s.account.ends ≡ [] → ComesOn m before.account s.account) (sym ended)
       (λ none. elim found [
         | inl closed ↦ absurd (
             let shut = ap (λ (s : SimState H). s.controller.session.state) next.carried.state ∙ subst (λ k. k.controller.session.state ≡ Closed) same closed in
             not_over end shut (subst HaveEnded ended all_ended)
-            (some_begun end.account.sessions (link.run answer_of after (ms ++ ns) l).account.queued (link.run answer_of after (ms ++ ns) l).earlier whole.carried.tells.queued.0
-            whole.carried.tells.queued.1) none)
+            (some_begun end.account (link.run answer_of after (ms ++ ns) l).account (link.run answer_of after (ms ++ ns) l).earlier whole.carried.tells) none)
         | inr on ↦ (
             let counted = subst (λ k. progress.ComeOn (moments_of m wait clock) later.account k.account) same on in
             omega (arith, counted, count_of m wait clock, first_lists.settled, first_lists.reported, long_list.settled, long_list.reported, ap length long_list.issued, long_list.queued, ap length long_list.kept))

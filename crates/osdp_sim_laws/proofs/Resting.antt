@@ -33,9 +33,9 @@ use Rattle.osdp_sim_laws.specs.OneLink.{OneLink}
 use Rattle.osdp_sim_laws.specs.Progress.{IsClear, IsRun, clear}
 use Rattle.osdp_sim_laws.specs.Resting.{BringsOneMore, ClearsTheLine, EachRoundBringsOneMore, EachRoundRests}
 use Rattle.osdp_sim_laws.proofs.Accounts.{some_begun}
-use Rattle.osdp_sim_laws.proofs.Coming.{are_late, as_long, clear_link, in_two, is_cleared, moments_of, moves_on, not_over, rounds_are, rounds_within, steps_in_time}
+use Rattle.osdp_sim_laws.proofs.Coming.{are_late, as_long, clear_link, in_two, is_cleared, moments_of, moves_on, not_over, one_session, rounds_are, rounds_within, steps_in_time}
 use Rattle.osdp_sim_laws.proofs.Ends.{run_ended}
-use Rattle.osdp_sim_laws.proofs.Holding.{begins, goes_from_first, no_account, steps_within}
+use Rattle.osdp_sim_laws.proofs.Holding.{begins, goes_from_first, no_account}
 use Rattle.osdp_sim_laws.proofs.Schedules.{Follows, moves_both, run_both, schedule_follows}
 
 -- one round after the others
@@ -99,7 +99,7 @@ module _ {H : Type 0} (answer_of : H → Command → Answer) (after : H → Comm
   follows_all : OneLink answer_of after → (config : SimConfig) (handler : H) (steps : List SimStep) → IsRun answer_of after config handler steps
       → Follows answer_of after (run answer_of after steps (set_up config handler)) (moves_of steps 0) (first_link config handler) (clock_after steps 0) no_account
   follows_all given config handler steps is =
-      schedule_follows answer_of after given.reads given.told steps (first_link config handler) 0 no_account
+      schedule_follows answer_of after given.reads steps (first_link config handler) 0 no_account
       (goes_from_first answer_of after given config handler is.settings.controller.config_in_range.address) is.well is.fits
 
   pub clears_the_line : OneLink answer_of after → ClearsTheLine answer_of after
@@ -162,7 +162,7 @@ module _ {H : Type 0} (answer_of : H → Command → Answer) (after : H → Comm
         let later = link_after config handler steps in
         not_over answer_of after s (ap (λ (t : SimState H). t.controller.session.state) follows.carried.state ∙ closed)
         (run_ended answer_of after given.told steps (set_up config handler) is.well refl)
-        (some_begun s.account.sessions later.account.queued later.earlier follows.carried.tells.queued.0 follows.carried.tells.queued.1) none
+        (some_begun s.account later.account later.earlier follows.carried.tells) none
 
     pub each_round_rests : EachRoundRests answer_of after
     each_round_rests config handler steps m wait is within long quiet none =
@@ -202,12 +202,12 @@ module _ {H : Type 0} (answer_of : H → Command → Answer) (after : H → Comm
               let late = are_late answer_of after 1 wait clock later timely.0 timely.1 in
               let due = comes now later.controller range (idle_lasts later.controller.session.state calm.1) late.0 in
               let so = moves_so answer_of after ms l (steady_ordinary ms two.first.ordinary) (begins_so l begun) in
-              let first = as_long answer_of after given config handler device (run answer_of after steps (set_up config handler)) ms clock two.first
-              (steps_within answer_of after steps 0 within) in
+              let first = as_long answer_of after config handler device (run answer_of after steps (set_up config handler)) ms clock two.first
+              (one_session answer_of after config handler steps within) in
               let whole = follows_all given config handler (steps ++ rounds 1 wait) is in
-              let last = as_long answer_of after given config handler device (run answer_of after (steps ++ rounds 1 wait) (set_up config handler))
+              let last = as_long answer_of after config handler device (run answer_of after (steps ++ rounds 1 wait) (set_up config handler))
               (moves_of (steps ++ rounds 1 wait) 0) (clock_after (steps ++ rounds 1 wait) 0) whole
-              (steps_within answer_of after (steps ++ rounds 1 wait) 0 (each_append IsInSession steps (rounds 1 wait) within (rounds_within 1 wait))) in
+              (one_session answer_of after config handler (steps ++ rounds 1 wait) (each_append IsInSession steps (rounds 1 wait) within (rounds_within 1 wait))) in
               let more = from_rest l ms (now ∷ []) begun two.first.moves calm.0 calm.1 (inl so.0.restarts) (due, tt) two.next.moves in
               let end = (link_after config handler (steps ++ rounds 1 wait)).account in
               let counted : min (length later.account.settled + length later.account.reported + 1) (length end.issued + length end.kept)

@@ -1,9 +1,8 @@
 -- A schedule over a line of bytes is a list of moves of the link over its packets.
-use Rattle.std.proofs.Common.{◌≡◌, ℕ, Bool, true, false, not, ◌&&◌, ◌==◌, if◌then◌else◌, List, [], ◌∷◌, ◌++◌, length, arith, ◌+◌, Some, None, refl, sym, subst, ap, ◌∙◌, append_assoc}
+use Rattle.std.proofs.Common.{◌≡◌, ℕ, Bool, true, false, not, ◌&&◌, ◌==◌, if◌then◌else◌, List, [], ◌∷◌, ◌++◌, Some, None, refl, sym, subst, ap, ◌∙◌, append_assoc}
 use Rattle.std.specs.Prelude.{option_to_list}
 use Rattle.osdp_msg.specs.declared.command.Command.{Command}
 use Rattle.osdp_controller.specs.Machine as controllers
-use Rattle.osdp_controller.specs.States.{is_closed}
 use Rattle.osdp_controller.specs.Ticking.{ticks}
 use Rattle.osdp_controller.specs.declared.state.State.{State}
 use Rattle.osdp_controller.specs.declared.state.State.TheVariants.{Closed}
@@ -12,15 +11,12 @@ use Rattle.osdp_reader.specs.Queue.{lacks_room}
 use Rattle.osdp_link_laws.specs.Headline.{MovesFit}
 use Rattle.osdp_link_laws.specs.Link as link
 use Rattle.osdp_link_laws.specs.Link.{Link, after_move}
-use Rattle.osdp_link_laws.specs.Ordinary.{AreUndisturbed, IsSteady}
+use Rattle.osdp_link_laws.specs.Ordinary.{IsSteady}
 use Rattle.osdp_link_laws.specs.Refusals as refusals
 use Rattle.osdp_link_laws.specs.Refusals.{reports, told_by}
 use Rattle.osdp_link_laws.specs.Sessions.{LastsOrLeaves, all_queued, all_submitted, queued, submitted}
 use Rattle.osdp_link_laws.proofs.Lines.{each_append, each_front, each_rest}
-use Rattle.osdp_link_laws.proofs.Ordinary.{moves_so}
-use Rattle.osdp_link_laws.proofs.OrdinaryRuns.{steady_ordinary}
 use Rattle.osdp_link_laws.proofs.Stages.{Each}
-use Rattle.osdp_link_laws.specs.Ends.{count}
 use Rattle.osdp_sim.specs.Account.{Account}
 use Rattle.osdp_sim.specs.Runs.{FitAlong, is_well, run}
 use Rattle.osdp_sim.specs.State.{SimState}
@@ -31,12 +27,11 @@ use Rattle.osdp_sim.specs.declared.fault.Cause.TheVariants.{NotQuiet}
 use Rattle.osdp_sim.specs.declared.step.SimStep.{SimStep}
 use Rattle.osdp_sim.specs.declared.step.SimStep.TheVariants.{Issue, Queue, Busy, Wait, ToReader, ToController, Reopen}
 use Rattle.osdp_sim_laws.specs.Accounts.{IsOf}
-use Rattle.osdp_sim_laws.specs.OneLink.{EndsAreTold, ReadsPackets}
+use Rattle.osdp_sim_laws.specs.OneLink.{ReadsPackets}
 use Rattle.osdp_sim_laws.specs.Moves.{clock_after, step_clock, in_bytes, move_of, moves_of}
 use Rattle.osdp_sim_laws.proofs.Carrying.{ArePackets, HasLeft, IsCarried, is_quiet, issuing, nothing, queueing, reopening, setting_busy, ticking}
 use Rattle.osdp_sim_laws.proofs.Delivering.{says_what_fits, to_controller, to_reader}
 use Rattle.osdp_sim.proofs.Schedules.{first_well}
-use Rattle.osdp_sim_laws.proofs.Ends.{HaveEnded, step_ended}
 
 module _ {H : Type 0} (answer_of : H → Command → Answer) (after : H → Command → H) where
   -- the simulation is carried on by these moves
@@ -65,29 +60,24 @@ module _ {H : Type 0} (answer_of : H → Command → Answer) (after : H → Comm
       subst (λ m. LastsOrLeaves m.controller.session.state m) (run_both ms ns l) (all (ms ++ ns) (moves_both ms ns l moves more))
 
   -- what a schedule goes on from
-  pub record GoesFrom (l : Link H) (clock : ℕ) (a : Account) : Type 0 where
+  pub record GoesFrom (l : Link H) (a : Account) : Type 0 where
     pub packets : ArePackets l
     pub tells : IsOf a l.account l.earlier
-    pub ended : HaveEnded (in_bytes l clock a)
     pub leave : AllLeave l
-    pub undisturbed : AreUndisturbed (l.account ∷ l.earlier)
 
   -- .. and where it has come to
-  pub goes_from : (s : SimState H) (ms : List (link.Move H)) (l : Link H) (clock later : ℕ) (a : Account) → GoesFrom l clock a → Follows s ms l later a
-      → HaveEnded s → GoesFrom (link.run answer_of after ms l) later s.account
-  goes_from s ms l clock later a from follows ended = record {
+  pub goes_from : (s : SimState H) (ms : List (link.Move H)) (l : Link H) (later : ℕ) (a : Account) → GoesFrom l a → Follows s ms l later a
+      → GoesFrom (link.run answer_of after ms l) s.account
+  goes_from s ms l later a from follows = record {
     packets = follows.carried.packets;
     tells = follows.carried.tells;
-    ended = subst HaveEnded follows.carried.state ended;
     leave = leave_after ms l follows.moves from.leave;
-    undisturbed = moves_so answer_of after ms l (steady_ordinary ms follows.ordinary) from.undisturbed;
   }
 
-  -- where the controller is closed its session has ended and leaves what the next one begins with
-  has_left : (state : State) (l : Link H) (a : Account) → controllers.refused_unless_closed state ≡ None → LastsOrLeaves state l → AreUndisturbed (l.account ∷ l.earlier)
-      → length a.ends + 1 ≡ length a.sessions + count (is_closed state) → HasLeft l a
-  has_left Closed l a may leaves so ended = record { leaves = leaves; undisturbed = so.0; ended = omega (arith, ended) }
-  has_left _ l a may leaves so ended = absurd cc
+  -- where the controller is closed its session leaves what the next one begins with
+  has_left : (state : State) (l : Link H) → controllers.refused_unless_closed state ≡ None → LastsOrLeaves state l → HasLeft l
+  has_left Closed l may leaves = leaves.of_commands.commands
+  has_left _ l may leaves = absurd cc
 
   -- a step with a reader that is there or isn't
   by_number : (there : Bool) (new : SimState H) (m : link.Move H) (l : Link H) (clock : ℕ) (a : Account) → ArePackets l → IsOf a l.account l.earlier
@@ -103,7 +93,7 @@ module _ {H : Type 0} (answer_of : H → Command → Answer) (after : H → Comm
   there_well false refused cause e is = absurd cc
 
   -- each step
-  step_follows : ReadsPackets → (step : SimStep) (l : Link H) (clock : ℕ) (a : Account) → GoesFrom l clock a
+  step_follows : ReadsPackets → (step : SimStep) (l : Link H) (clock : ℕ) (a : Account) → GoesFrom l a
       → fault_of step (in_bytes l clock a) ≡ None → StepFits answer_of after step (in_bytes l clock a)
       → Follows (after_step answer_of after step (in_bytes l clock a)) (move_of step clock) l (step_clock step clock) a
   step_follows reads (Issue number command) l clock a from well fits =
@@ -146,7 +136,7 @@ module _ {H : Type 0} (answer_of : H → Command → Answer) (after : H → Comm
       let quiet = is_quiet l.to_reader l.to_controller l.controller.session.state (there_well (number == 1) (not (steps.is_quiet (in_bytes l clock a))) NotQuiet well there) in
       record {
         carried = reopening l.to_reader l.to_controller (controllers.begin_refusal l.controller) l clock a quiet.0 quiet.1 quiet.2
-            (has_left l.controller.session.state l a quiet.2 (from.leave [] tt) from.undisturbed from.ended) from.packets from.tells;
+            (has_left l.controller.session.state l quiet.2 (from.leave [] tt)) from.packets from.tells;
         moves = (tt, tt);
         ordinary = (tt, tt);
       })
@@ -210,11 +200,11 @@ module _ {H : Type 0} (answer_of : H → Command → Answer) (after : H → Comm
       }
 
   -- each schedule
-  pub schedule_follows : ReadsPackets → EndsAreTold → (steps : List SimStep) (l : Link H) (clock : ℕ) (a : Account) → GoesFrom l clock a
+  pub schedule_follows : ReadsPackets → (steps : List SimStep) (l : Link H) (clock : ℕ) (a : Account) → GoesFrom l a
       → is_well answer_of after steps (in_bytes l clock a) ≡ true → FitAlong answer_of after steps (in_bytes l clock a)
       → Follows (run answer_of after steps (in_bytes l clock a)) (moves_of steps clock) l (clock_after steps clock) a
-  schedule_follows reads told [] l clock a from well fits = record { carried = nothing l clock a from.packets from.tells; moves = tt; ordinary = tt }
-  schedule_follows reads told (step ∷ steps) l clock a from well fits =
+  schedule_follows reads [] l clock a from well fits = record { carried = nothing l clock a from.packets from.tells; moves = tt; ordinary = tt }
+  schedule_follows reads (step ∷ steps) l clock a from well fits =
       let s = in_bytes l clock a in
       let both = first_well (fault_of step s) _ well in
       let first = step_follows reads step l clock a from both.0 fits.0 in
@@ -222,8 +212,7 @@ module _ {H : Type 0} (answer_of : H → Command → Answer) (after : H → Comm
       let now = step_clock step clock in
       let later = link.run answer_of after (move_of step clock) l in
       let is = first.carried.state in
-      let rest = schedule_follows reads told steps later now next.account
-      (goes_from next (move_of step clock) l clock now a from first (step_ended answer_of after told step s both.0 from.ended))
+      let rest = schedule_follows reads steps later now next.account (goes_from next (move_of step clock) l now a from first)
       (subst (λ t. is_well answer_of after steps t ≡ true) is both.1) (subst (FitAlong answer_of after steps) is fits.1) in
       goes_on next (run answer_of after steps next) (move_of step clock) (moves_of steps now) l now (clock_after steps now) a first
       (subst (λ t. Follows (run answer_of after steps t) (moves_of steps now) later (clock_after steps now) next.account) (sym is) rest)

@@ -1,5 +1,5 @@
 -- The sessions of an account: how many there are, and how long its lists were where each of them began.
-use Rattle.std.specs.Prelude.{◌≡◌, ◌+◌, ℕ, ◌==◌, if◌then◌else◌, List, [], ◌∷◌, ◌++◌, length, Option, Some, slice_get, Result}
+use Rattle.std.specs.Prelude.{◌≡◌, ◌+◌, ℕ, List, ◌∷◌, ◌++◌, length, Option, Some, slice_get, Result}
 use Rattle.osdp_msg.specs.declared.command.Command.{Command}
 use Rattle.osdp_reader.specs.declared.handler.Answer.{Answer}
 use Rattle.osdp_link_laws.specs.Headline.{IsBeginning}
@@ -13,17 +13,7 @@ use Rattle.osdp_sim.specs.declared.fault.Fault.{Fault}
 use Rattle.osdp_sim.specs.declared.step.SimStep.{SimStep}
 use Rattle.osdp_sim.specs.declared.step.SimStep.TheVariants.{Reopen}
 use Rattle.osdp_sim_laws.specs.Accepted.{IsAcceptedByRoom}
-use Rattle.osdp_sim_laws.specs.Accounts.{IsAnswer, WasSetUp, account_in, no_lengths}
-
--- one where the step begins a session of this reader again, else none
-abbrev pub reopens : ℕ → SimStep → ℕ
-reopens reader (Reopen number) = if number == reader then 1 else 0
-reopens reader _ = 0
-
--- how many of these steps do
-abbrev pub reopens_in : ℕ → List SimStep → ℕ
-reopens_in reader [] = 0
-reopens_in reader (step ∷ steps) = reopens reader step + reopens_in reader steps
+use Rattle.osdp_sim_laws.specs.Accounts.{IsAnswer, WasSetUp, account_in, no_lengths, reopens_in}
 
 -- the account keeps of this session how long all lists of an earlier account were; its commands and events begin with those of the earlier one
 pub record BeginsAfter (was a : Account) (begun : Option Lengths) : Type 0 where

@@ -2,7 +2,7 @@
 #![tactic(auto)]
 
 ghost use Rattle.osdp_sim_laws.specs.Accepted.{AcceptsByRoom};
-ghost use Rattle.osdp_sim_laws.specs.Accounts.{ScheduleHoldsOnce};
+ghost use Rattle.osdp_sim_laws.specs.Accounts.{AnswersEndOnce, AnswersHoldOnce};
 ghost use Rattle.osdp_sim_laws.specs.Begun.{BeginsByReopens};
 ghost use Rattle.osdp_sim_laws.specs.Clean.{GoesInTurn};
 ghost use Rattle.osdp_sim_laws.specs.Moves.{ScheduleIsMoves};
@@ -33,14 +33,15 @@ pub fn schedule_is_moves<H: Handler>()
     stands_on_one_link::<H>();
 }
 
-/// Whatever a schedule says: its account is that of sessions of a link. Each is once and in order, with the reader's own answers, and has ended, or is the
-/// last. What they come to together says the ledger (law `run_keeps_ledger` of `osdp_sim_ledger`).
+/// Whatever a schedule says, once both ends were set up: each session has ended once, or each but the last, and none because the reader refused a number.
+/// What the sessions come to says the ledger (law `run_keeps_ledger` of `osdp_sim_ledger`), and law `sessions_begin_by_reopens` where each began.
 ///
-/// Where it begins no session again: the commands that the reader has taken are a beginning of those issued, and hold each settled one, with
-/// the answer that the reader gave, and one more at most; the events that the controller reported are a beginning of those queued; it ends
-/// at most once, and not by a refused number.
+/// Where no step that was taken begins the reader's session again: the commands that the reader has taken are a beginning of those issued, and hold each
+/// settled one, with the answer that the reader gave, and one more at most; the events that the controller reported are a beginning of those queued; the
+/// session ends at most once, and not by a refused number.
 pub fn schedule_holds_once<H: Handler>()
-    ensures { ScheduleHoldsOnce H.answer_of H.after }
+    ensures ends { AnswersEndOnce H.answer_of H.after }
+    ensures once { AnswersHoldOnce H.answer_of H.after }
 {
     stands_on_one_link::<H>();
 }

@@ -35,7 +35,8 @@ use Rattle.osdp_sim_bus.specs.State.{Given, new_site, set_up}
 use Rattle.osdp_sim_bus.specs.Steps.{StepFits, after_step, fault_of}
 use Rattle.osdp_sim_bus_laws.specs.Moves.{SchedulesAreMoves, moves_of}
 use Rattle.osdp_sim_bus_laws.proofs.Beginning.{follows_first, has_site, is_set_up, none_is_kept}
-use Rattle.osdp_sim_bus_laws.proofs.Rows.{IsRun, account_at, answers, told_by}
+use Rattle.osdp_sim_bus_laws.proofs.Rows.{account_at, answers, told_by}
+use Rattle.osdp_sim_bus_laws.specs.Accounts.{IsRun}
 use Rattle.osdp_sim_ledger.specs.SeveralReaders.{BusRunKeepsLedgers, first_net, first_site, steps_of_reader}
 use Rattle.osdp_sim_ledger.specs.Telling.{TellsByLedger}
 use Rattle.osdp_sim_ledger.proofs.SeveralQueued.{all_queue, site_of}
