@@ -24,12 +24,7 @@ one_more ms few =
 -- nothing was told before
 never_again : (r : Report) → may_be_again r nothing_yet ≡ false
 never_again (report.Event e) = refl
-never_again (report.Opened id) = refl
-never_again (report.Settled command reply) = refl
-never_again (report.Moved command answer) = refl
-never_again (report.PollAnswered reply) = refl
-never_again (report.Unread command code) = refl
-never_again (report.Lost cause command) = refl
+never_again _ = refl
 
 nothing_at : (n k : ℕ) → memory_at k (replicate n nothing_yet) ≡ nothing_yet
 nothing_at zero zero = refl

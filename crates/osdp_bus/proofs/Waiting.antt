@@ -1,10 +1,10 @@
 -- From when on devices are due, and what a bus does then.
-use Rattle.std.proofs.Common.{◌≡◌, ℕ, zero, suc, ◌+◌, ◌-◌, ◌<◌, ◌≤◌, ◌^◌, ◌==◌, ◌||◌, ◌&&◌, not, Bool, true, false, cond, min, max, List, [], ◌∷◌, ◌++◌, length, take, drop, get_or, Option, Some, None, is_some, refl, sym, subst, ap, ◌∙◌, inr, arith, take-append-drop, ◌≢◌}
+use Rattle.std.proofs.Common.{◌≡◌, ℕ, zero, suc, ◌+◌, ◌-◌, ◌<◌, ◌≤◌, ◌^◌, ◌==◌, ◌||◌, ◌&&◌, not, Bool, true, false, cond, max, List, [], ◌∷◌, ◌++◌, length, take, drop, Option, Some, None, is_some, refl, sym, subst, ap, ◌∙◌, inr, arith, take-append-drop, ◌≢◌}
 use Rattle.std.specs.Prelude.{nat_le, slice_get}
 use Rattle.std.specs.List.{list_any}
 use Rattle.std.specs.Option.{option_map_or, option_or}
-use Rattle.std.proofs.lemmas.Bool.{leb-true, leb-false, le-leb, lt-leb, ne_eqb}
-use Rattle.std.proofs.lemmas.List.{nil_from_length, take_more}
+use Rattle.std.proofs.lemmas.Bool.{leb-true, leb-false, le-leb, ne_eqb}
+use Rattle.std.proofs.lemmas.List.{nil_from_length}
 use Rattle.osdp_frame.specs.Items.{items}
 use Rattle.osdp_frame.specs.Silence.{is_silent_for}
 use Rattle.osdp_frame_laws.proofs.LeftOver.{items_nothing}
@@ -18,7 +18,7 @@ use Rattle.osdp_bus.specs.Remembering.{Remembered}
 use Rattle.osdp_bus.specs.Entries.{first_around, first_from, holds, is_entry_due, step_of}
 use Rattle.osdp_bus.specs.Hearing.{ends_run, ends_silent, hears_items}
 use Rattle.osdp_bus.specs.Ticking.{BusTicked, is_due_at, is_held_and_due, next_due, stays, ticks_at, ticks_by, ticks_free, ticks_held, ticks_on, ticks_with}
-use Rattle.osdp_bus.specs.Waits.{IsDueFrom, IsHolderDeadline, any_due, earlier}
+use Rattle.osdp_bus.specs.Waits.{IsDueFrom, IsHolderDeadline, any_due}
 
 -- two tests by one moment each
 same_tests : (a b c d : ℕ) → (a ≤ b → c ≤ d) → (c ≤ d → a ≤ b) → nat_le a b ≡ nat_le c d
@@ -40,45 +40,11 @@ due_from m now deadline false is due =
     let above : max m.session.greatest now < deadline = leb-false deadline (max m.session.greatest now) (sym (is.1 now) ∙ due) in
     (omega arith, λ at le lt. is.1 at ∙ same_tests deadline (max m.session.greatest at) deadline at (λ h. omega arith) (λ h. omega arith))
 
-or_tests : (a b n : ℕ) → (nat_le a n || nat_le b n) ≡ nat_le (min a b) n
-or_tests a b n = by_test (nat_le a n) (nat_le b n) refl refl
-  where
-    by_test : (x y : Bool) → nat_le a n ≡ x → nat_le b n ≡ y → (nat_le a n || nat_le b n) ≡ nat_le (min a b) n
-    by_test true y p q = ap (λ t. t || nat_le b n) p ∙ sym (le-leb (min a b) n (let le = leb-true a n p in omega arith))
-    by_test false true p q = ap (λ t. t || nat_le b n) p ∙ q ∙ sym (le-leb (min a b) n (let le = leb-true b n q in omega arith))
-    by_test false false p q = ap (λ t. t || nat_le b n) p ∙ q
-        ∙ sym (lt-leb (min a b) n (let x = leb-false a n p in let y = leb-false b n q in omega arith))
-
 or_false : (a : Bool) → (a || false) ≡ a
 or_false true = refl
 or_false false = refl
 
--- of two, from the earlier one on
-pub due_earlier : (f g h : ℕ → Bool) (now : ℕ) (a b : Option ℕ) → IsDueFrom f now a → IsDueFrom g now b → ((at : ℕ) → h at ≡ (f at || g at))
-    → IsDueFrom h now (earlier a b)
-due_earlier f g h now None None x y both = λ at le lt. both at ∙ ap (λ t. t || g at) (x at le lt) ∙ y at le lt
-due_earlier f g h now None (Some b) x y both = (y.0, λ at le lt. both at ∙ ap (λ t. t || g at) (x at le lt) ∙ y.1 at le lt)
-due_earlier f g h now (Some a) None x y both = (x.0, λ at le lt. both at ∙ ap (λ t. f at || t) (y at le lt) ∙ or_false (f at) ∙ x.1 at le lt)
-due_earlier f g h now (Some a) (Some b) x y both = (
-  (let p = x.0 in let q = y.0 in omega arith),
-  λ at le lt. both at ∙ ap (λ t. t || g at) (x.1 at le lt) ∙ ap (λ t. nat_le a at || t) (y.1 at le lt) ∙ or_tests a b at,
-)
-
 -- ---- the devices in their order
-
-any_push : (test : Entry → Bool) (xs : List Entry) (d : Entry) → list_any test (xs ++ d ∷ []) ≡ (list_any test xs || test d)
-any_push test [] d = or_false (test d)
-any_push test (x ∷ xs) d = by_test (test x) (any_push test xs d)
-  where
-    by_test : (b : Bool) → list_any test (xs ++ d ∷ []) ≡ (list_any test xs || test d) → (b || list_any test (xs ++ d ∷ [])) ≡ ((b || list_any test xs) || test d)
-    by_test true others = refl
-    by_test false others = others
-
-pub due_more : (ds : List Entry) (now i : ℕ) (d : Entry) (a b : Option ℕ) → i < length ds → d ≡ get_or ds i d
-    → IsDueFrom (any_due (take i ds)) now a → IsDueFrom (λ at. is_entry_due at d) now b → IsDueFrom (any_due (take (i + 1) ds)) now (earlier a b)
-due_more ds now i d a b within is before here =
-    due_earlier (any_due (take i ds)) (λ at. is_entry_due at d) (any_due (take (i + 1) ds)) now a b before here
-    (λ at. ap (list_any (is_entry_due at)) (take_more ds i d within ∙ ap (λ x. take i ds ++ x ∷ []) (sym is)) ∙ any_push (is_entry_due at) (take i ds) d)
 
 -- ---- what is first
 
@@ -373,11 +339,3 @@ deadline_held b n moment none holder_is fits due =
         (λ now. ap (acts now) (plain b (byte ∷ bytes) (none_of b.devices.report none) is)
         ∙ held_ends b.config b.remembered b.devices.entries b.first b.last b.greatest now byte n bytes d holder_is there)
         (subst (λ t. IsHolderDeadline t b d moment) (ap (λ l. length l == 0) is ∙ ne_eqb (length (byte ∷ bytes)) 0 (λ h. omega arith)) from)
-
--- the line's own silence
-pub silent_from : (gap last greatest : ℕ) → last ≤ greatest → IsDueFrom (is_silent_for gap last) greatest (Some (max (last + gap) greatest))
-silent_from gap last greatest order =
-    (omega arith, λ at le lt. same_tests gap (at - last) (max (last + gap) greatest) at (λ h. omega arith) (λ h. omega arith))
-
-pub never_silent : (gap last greatest : ℕ) → last ≤ greatest → 2 ^ 64 ≤ last + gap → IsDueFrom (is_silent_for gap last) greatest None
-never_silent gap last greatest order late = λ at le lt. lt-leb gap (at - last) (omega arith)

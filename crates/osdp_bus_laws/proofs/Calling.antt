@@ -7,7 +7,7 @@ use Rattle.osdp_msg.specs.declared.command.Command.{Command}
 use Rattle.osdp_msg.specs.declared.command_fields.Communication.{Communication}
 use Rattle.osdp_controller.specs.declared.fault.ControllerFault.{ControllerFault}
 use Rattle.osdp_controller.specs.declared.state.State.{State}
-use Rattle.osdp_controller.specs.declared.state.State.TheVariants.{Closed, Quiet, Idle, Waiting, Pausing}
+use Rattle.osdp_controller.specs.declared.state.State.TheVariants.{Closed}
 use Rattle.osdp_controller.specs.Comsets.{has_comset}
 use Rattle.osdp_controller.specs.Hearing.{comset_of}
 use Rattle.osdp_controller.specs.Machine.{AreSettings, IsMachine, Machine, after_begin, after_retarget, after_submit, begin_refusal, kept_in, or_no_device, refused_unless_closed, retarget_refusal, submit_refusal, withdrawn_in, changed_unless as changed_machine}
@@ -88,10 +88,7 @@ withdrawn_reserves Closed [] reserved is = is
 withdrawn_reserves Closed (command ∷ waiting) reserved is =
     done_with (comset_of command) (comsets_in waiting) reserved
     (subst (λ l. Reserves (l ++ comsets_in waiting) reserved) (sym (append-nil (option_to_list (comset_of command)))) is)
-withdrawn_reserves (Quiet until) waiting reserved is = is
-withdrawn_reserves (Idle due) waiting reserved is = is
-withdrawn_reserves (Waiting until sends o) waiting reserved is = is
-withdrawn_reserves (Pausing until o) waiting reserved is = is
+withdrawn_reserves _ waiting reserved is = is
 
 -- ---- a device of an entry changes
 

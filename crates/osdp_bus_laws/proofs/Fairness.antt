@@ -172,9 +172,6 @@ who NextReport b first = inr (quiet b)
 
 -- ---- the turn after a call
 
-turn_with : (entry : ℕ) (d : Entry) (b : BusState) → (ticks_with entry (Some d) b).bus.first ≡ entry + 1
-turn_with entry d b = refl
-
 pub begun_ticked : (now k : ℕ) (b : BusState) → IsFree now b → (next : IsNext k (asking now b)) → bus_ticks now b ≡ ticks_with k (Some next.due.device) (asking now b)
 begun_ticked now k b free next =
     free_tick now b free ∙ ap (λ o. ticks_at o (asking now b)) (next_is_due k (asking now b) next) ∙ ap (λ o. ticks_with k o (asking now b)) next.due.there

@@ -9,7 +9,7 @@ use Rattle.osdp_controller.specs.declared.report.Report.{Report}
 use Rattle.osdp_controller.specs.declared.report.Report.TheVariants.{Lost}
 use Rattle.osdp_controller.specs.declared.session.Session.{Session}
 use Rattle.osdp_controller.specs.declared.state.State.{State}
-use Rattle.osdp_controller.specs.declared.state.State.TheVariants.{Closed, Quiet, Idle, Waiting, Pausing}
+use Rattle.osdp_controller.specs.declared.state.State.TheVariants.{Waiting, Pausing}
 use Rattle.osdp_controller.specs.Machine.{acts, is_outstanding}
 use Rattle.osdp_controller.specs.Sessions.{frame_of, seen as seen_by}
 use Rattle.osdp_controller.specs.States.{is_closed}
@@ -40,9 +40,6 @@ abbrev OneOf : State → Session → Ticked → Type 0
 OneOf state s t = acts t.step ≡ true → Sent state s t ⊎ GivenUp state t
 
 one_of : (state : State) (s : Session) (w : List Command) → is_outstanding state ≡ true → OneOf state s (ticks_in state s w)
-one_of Closed s w stands = absurd cc
-one_of (Quiet until) s w stands = absurd cc
-one_of (Idle due) s w stands = absurd cc
 one_of (Waiting until sends o) s w stands =
     either_way (OneOf (Waiting until sends o) s) (nat_le until s.greatest) (tries_again sends o s w) (stays_in s w)
     (λ reached. either_way (OneOf (Waiting until sends o) s) (nat_lt sends s.config.sends) (sends_frame (sends + 1) o s w) (gives_up o s w)
@@ -51,6 +48,7 @@ one_of (Waiting until sends o) s w stands =
 one_of (Pausing until o) s w stands =
     either_way (OneOf (Pausing until o) s) (nat_le until s.greatest) (sends_frame 1 o s w) (stays_in s w)
     (λ reached due. inl (frame_of o.exchange s, refl, refl, refl, refl)) (λ ahead due. absurd cc)
+one_of _ s w stands = absurd cc
 
 -- ---- the holder
 

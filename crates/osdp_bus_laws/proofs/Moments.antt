@@ -5,7 +5,7 @@ use Rattle.osdp_bus.specs.Buses.{BusState, seen}
 use Rattle.osdp_bus.specs.Hearing.{after_bytes}
 use Rattle.osdp_bus.specs.Machine.{after_begin_at, begin_refusal_at, changed_unless}
 use Rattle.osdp_bus.specs.Ticking.{bus_ticks}
-use Rattle.osdp_bus_laws.specs.Calls.{Call, Add, Begin, Submit, Withdraw, Retarget, OnBytes, OnSilence, Tick, NextReport, after_call}
+use Rattle.osdp_bus_laws.specs.Calls.{Call, Begin, OnBytes, OnSilence, Tick, after_call}
 use Rattle.osdp_bus_laws.specs.Moments.{Brings, MomentsAreSeen, RunsAreHeardAtTheirEnd}
 use Rattle.osdp_bus_laws.proofs.Silences.{bus_ends_its_runs}
 use Rattle.osdp_bus_laws.proofs.Sound.{SoundBus}
@@ -21,18 +21,14 @@ seen_by_bytes [] now b = refl
 seen_by_bytes (byte ∷ bytes) now b = (stays_silent (seen now b)).greatest
 
 brought : (b : BusState) (call : Call) (now : ℕ) → Brings call now b → (after_call call b).greatest ≡ max b.greatest now
-brought b (Add address) now is = absurd is
 brought b (Begin entry at) now is =
     ap (λ f. (changed_unless f b (after_begin_at entry at b)).greatest) is.0
     ∙ (stays_begin entry at b).greatest
     ∙ ap (max b.greatest) (sym is.1)
-brought b (Submit entry command) now is = absurd is
-brought b (Withdraw entry) now is = absurd is
-brought b (Retarget entry address) now is = absurd is
 brought b (OnBytes bytes at) now is = seen_by_bytes bytes at b ∙ ap (max b.greatest) (sym is)
 brought b (OnSilence at) now is = ap (max b.greatest) (sym is)
 brought b (Tick at) now is = seen_by_tick at b ∙ ap (max b.greatest) (sym is)
-brought b NextReport now is = absurd is
+brought b _ now is = absurd is
 
 abbrev BringsNone : Call → BusState → Type 0
 BringsNone call b = (now : ℕ) → Brings call now b → ⊥

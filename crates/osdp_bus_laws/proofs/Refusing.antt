@@ -11,7 +11,7 @@ use Rattle.osdp_msg.specs.declared.command_fields.Communication.{Communication}
 use Rattle.osdp_msg.specs.declared.limits.Room.{Room}
 use Rattle.osdp_controller.specs.declared.fault.ControllerFault.TheVariants.{Full as FullOf, NotClosed as NotClosedOf, OutOfRange as OutOfRangeOf}
 use Rattle.osdp_controller.specs.declared.state.State.{State}
-use Rattle.osdp_controller.specs.declared.state.State.TheVariants.{Closed, Quiet, Idle, Waiting, Pausing}
+use Rattle.osdp_controller.specs.declared.state.State.TheVariants.{Closed}
 use Rattle.osdp_controller.specs.Comsets.{has_comset}
 use Rattle.osdp_controller.specs.Hearing.{comset_of}
 use Rattle.osdp_controller.specs.Machine.{Machine, bytes_kept, command_size, has_room, or_no_device, refused_unless_closed, submit_refusal}
@@ -156,10 +156,7 @@ judges_add address b =
 
 begun_is_open : (state : State) → is_closed state ≡ false → refused_unless_closed state ≡ Some NotClosedOf
 begun_is_open Closed h = absurd cc
-begun_is_open (Quiet until) h = refl
-begun_is_open (Idle due) h = refl
-begun_is_open (Waiting until sends o) h = refl
-begun_is_open (Pausing until o) h = refl
+begun_is_open _ h = refl
 
 not_open : (entry : ℕ) (d : Entry) (b : BusState) → device_of entry b ≡ Some d → is_closed d.controller.session.state ≡ true → IsOpen entry b → ⊥
 not_open entry d b at closed (e, there, open_there) =
@@ -391,10 +388,7 @@ judges (Begin entry now) b rooms = judges_begin entry now b
 judges (Submit entry command) b rooms = judges_submit entry command b rooms
 judges (Withdraw entry) b rooms = judges_withdraw entry b
 judges (Retarget entry address) b rooms = judges_retarget entry address b
-judges (OnBytes bytes now) b rooms = refl
-judges (OnSilence now) b rooms = refl
-judges (Tick now) b rooms = refl
-judges NextReport b rooms = refl
+judges _ b rooms = refl
 
 unchanged : (call : Call) (fault : BusFault) (b : BusState) → refusal_of call b ≡ Some fault → after_call call b ≡ b
 unchanged (Add address) fault b h = ap (λ f. changed_unless f b (after_add address b)) h

@@ -41,21 +41,13 @@ bytes_stay : (m : Remembered) (rs : List Report) → NoEventAmong rs → (recall
 bytes_stay m [] none = refl
 bytes_stay m (report.Event e ∷ rs) none = absurd none.0
 bytes_stay m (report.Opened id ∷ rs) none = bytes_stay (record m { in_session = false }) rs none.1
-bytes_stay m (report.Settled command reply ∷ rs) none = bytes_stay m rs none.1
-bytes_stay m (report.Moved command answer ∷ rs) none = bytes_stay m rs none.1
-bytes_stay m (report.PollAnswered reply ∷ rs) none = bytes_stay m rs none.1
-bytes_stay m (report.Unread command code ∷ rs) none = bytes_stay m rs none.1
-bytes_stay m (report.Lost cause command ∷ rs) none = bytes_stay m rs none.1
+bytes_stay m (_ ∷ rs) none = bytes_stay m rs none.1
 
 stays_shut : (m : Remembered) (rs : List Report) → NoEventAmong rs → m.in_session ≡ false → (recalls m rs).in_session ≡ false
 stays_shut m [] none shut = shut
 stays_shut m (report.Event e ∷ rs) none shut = absurd none.0
 stays_shut m (report.Opened id ∷ rs) none shut = stays_shut (record m { in_session = false }) rs none.1 refl
-stays_shut m (report.Settled command reply ∷ rs) none shut = stays_shut m rs none.1 shut
-stays_shut m (report.Moved command answer ∷ rs) none shut = stays_shut m rs none.1 shut
-stays_shut m (report.PollAnswered reply ∷ rs) none shut = stays_shut m rs none.1 shut
-stays_shut m (report.Unread command code ∷ rs) none shut = stays_shut m rs none.1 shut
-stays_shut m (report.Lost cause command ∷ rs) none shut = stays_shut m rs none.1 shut
+stays_shut m (_ ∷ rs) none shut = stays_shut m rs none.1 shut
 
 opened_shuts : (m : Remembered) (rs : List Report) → NoEventAmong rs → OpeningAmong rs → (recalls m rs).in_session ≡ false
 opened_shuts m [] none some = absurd some
@@ -142,11 +134,7 @@ one_told rs (report.Event e) m was = inr (record {
   opened = λ (h : true ≡ false). absurd cc;
 })
 one_told rs (report.Opened id) m was = told_more rs (report.Opened id) m (record m { in_session = false }) tt refl (λ h. inl tt) was
-one_told rs (report.Settled command reply) m was = told_more rs (report.Settled command reply) m m tt refl (λ h. inr h) was
-one_told rs (report.Moved command answer) m was = told_more rs (report.Moved command answer) m m tt refl (λ h. inr h) was
-one_told rs (report.PollAnswered reply) m was = told_more rs (report.PollAnswered reply) m m tt refl (λ h. inr h) was
-one_told rs (report.Unread command code) m was = told_more rs (report.Unread command code) m m tt refl (λ h. inr h) was
-one_told rs (report.Lost cause command) m was = told_more rs (report.Lost cause command) m m tt refl (λ h. inr h) was
+one_told rs r m was = told_more rs r m m tt refl (λ h. inr h) was
 
 all_told : (done rs : List Report) (m : Remembered) → WasTold done m → WasTold (done ++ rs) (recalls m rs)
 all_told done [] m was = subst (λ l. WasTold l m) (sym (append-nil done)) was

@@ -9,7 +9,7 @@ use Rattle.osdp_frame.specs.Spelling.{Spells, spelling}
 use Rattle.osdp_frame.proofs.Spelled.{spelled_is}
 use Rattle.osdp_controller.specs.declared.session.Session.{Session}
 use Rattle.osdp_controller.specs.declared.state.State.{State}
-use Rattle.osdp_controller.specs.declared.state.State.TheVariants.{Closed, Quiet, Idle, Waiting, Pausing}
+use Rattle.osdp_controller.specs.declared.state.State.TheVariants.{Closed, Waiting, Pausing}
 use Rattle.osdp_controller.specs.Machine.{Machine, is_outstanding, refused_unless_closed, retarget_refusal, sent_in}
 use Rattle.osdp_controller.specs.Sessions.{frame_of}
 use Rattle.osdp_controller.proofs.Choices.{either_way}
@@ -45,32 +45,24 @@ abbrev pub framed : State → Session → Option Packet
 framed state s = option_map (λ x. frame_of x s) (exchange_in state)
 
 to_holds : (state : State) (s : Session) (q : Packet) → framed state s ≡ Some q → Holds q s.config (sent_in state) state s
-to_holds Closed s q h = tt
-to_holds (Quiet until) s q h = tt
-to_holds (Idle due) s q h = tt
 to_holds (Waiting until sends o) s q h = (cc, refl, refl)
 to_holds (Pausing until o) s q h = (cc, refl, refl)
+to_holds _ s q h = tt
 
 from_holds : (state : State) (s t : Session) (q : Packet) (n : ℕ) → is_outstanding state ≡ true → Holds q t.config n state s → framed state s ≡ Some q
-from_holds Closed s t q n h at = absurd cc
-from_holds (Quiet until) s t q n h at = absurd cc
-from_holds (Idle due) s t q n h at = absurd cc
 from_holds (Waiting until sends o) s t q n h at = ap Some at.0
 from_holds (Pausing until o) s t q n h at = ap Some at.0
+from_holds _ s t q n h at = absurd cc
 
 has_frame : (state : State) (s : Session) → is_outstanding state ≡ true → (q : Packet) × (framed state s ≡ Some q)
-has_frame Closed s h = absurd cc
-has_frame (Quiet until) s h = absurd cc
-has_frame (Idle due) s h = absurd cc
 has_frame (Waiting until sends o) s h = (frame_of o.exchange s, refl)
 has_frame (Pausing until o) s h = (frame_of o.exchange s, refl)
+has_frame _ s h = absurd cc
 
 framed_stands : (state : State) (s : Session) (q : Packet) → framed state s ≡ Some q → is_outstanding state ≡ true
-framed_stands Closed s q h = absurd cc
-framed_stands (Quiet until) s q h = absurd cc
-framed_stands (Idle due) s q h = absurd cc
 framed_stands (Waiting until sends o) s q h = refl
 framed_stands (Pausing until o) s q h = refl
+framed_stands _ s q h = absurd cc
 
 -- while its exchange stands its frame stays
 kept_frame : (call : CallOf) (m : Machine) → is_outstanding m.session.state ≡ true → is_outstanding (after_call_of call m).session.state ≡ true

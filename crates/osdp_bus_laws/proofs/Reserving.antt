@@ -34,9 +34,6 @@ record Steps (call : Call) (j : ℕ) (b : BusState) : Type 0 where
 
 -- ---- what comes from the line
 
-done_some : (b : Bool) (reserved : Option ℕ) → (if b then None else reserved) ≡ made b None reserved
-done_some b reserved = refl
-
 told_done : (report : Report) (reserved : Option ℕ) → reserved_told report reserved ≡ (if is_comset_done report then None else reserved)
 told_done (Opened id) reserved = refl
 told_done _ reserved = refl

@@ -7,7 +7,7 @@ use Rattle.osdp_frame.specs.Packet.{Packet}
 use Rattle.osdp_msg.specs.declared.command.Command.{Command}
 use Rattle.osdp_controller.specs.declared.session.Session.{Session}
 use Rattle.osdp_controller.specs.declared.state.State.{State}
-use Rattle.osdp_controller.specs.declared.state.State.TheVariants.{Closed, Quiet, Idle, Waiting, Pausing}
+use Rattle.osdp_controller.specs.declared.state.State.TheVariants.{Waiting, Pausing}
 use Rattle.osdp_controller.specs.Machine.{is_outstanding}
 use Rattle.osdp_controller.specs.Sessions.{frame_of, seen as seen_by}
 use Rattle.osdp_controller.specs.States.{moment_of}
@@ -33,9 +33,6 @@ Own p state s t = t.step.frame ≡ Some p
     → (option_map (λ x. frame_of x s) (exchange_in state) ≡ Some p) × IfSome (moment_of state) (λ moment. moment ≤ s.greatest)
 
 frame_in : (state : State) (s : Session) (w : List Command) (p : Packet) → is_outstanding state ≡ true → Own p state s (ticks_in state s w)
-frame_in Closed s w p stands = absurd cc
-frame_in (Quiet until) s w p stands = absurd cc
-frame_in (Idle due) s w p stands = absurd cc
 frame_in (Waiting until sends o) s w p stands =
     either_way (Own p (Waiting until sends o) s) (nat_le until s.greatest) (tries_again sends o s w) (stays_in s w)
     (λ reached. either_way (Own p (Waiting until sends o) s) (nat_lt sends s.config.sends) (sends_frame (sends + 1) o s w) (gives_up o s w)
@@ -44,6 +41,7 @@ frame_in (Waiting until sends o) s w p stands =
 frame_in (Pausing until o) s w p stands =
     either_way (Own p (Pausing until o) s) (nat_le until s.greatest) (sends_frame 1 o s w) (stays_in s w)
     (λ reached h. (h, leb-true until s.greatest reached)) (λ reached h. absurd cc)
+frame_in _ s w p stands = absurd cc
 
 module _ (now entry : ℕ) (b : BusState) (p : Packet) where
   abbrev Sends : BusTicked → Type 0

@@ -81,10 +81,6 @@ sound_on_bytes (byte ∷ bytes) now b is = sound_bytes (byte ∷ bytes) (ends_si
 
 -- ---- a tick
 
-some_not : {A : Type 0} (o : Option A) → is_some o ≡ false → o ≡ None
-some_not None h = refl
-some_not (Some a) h = cc
-
 comes_ticked : (now i : ℕ) (d : Entry) (ds : Devices) → Sound ds → slice_get ds.entries i ≡ Some d → is_some ds.report ≡ false → HoldsAlone i ds
     → Comes ds i (entry_ticks now d) (step_of now d).report
 comes_ticked now i d ds sound at none alone = record {

@@ -21,13 +21,14 @@ use Rattle.osdp_sim_laws.specs.Accounts.{IsInSession}
 use Rattle.osdp_sim_laws.specs.Progress.{done, losses}
 use Rattle.osdp_sim_laws.proofs.Accepting.{IsNoOrder}
 use Rattle.osdp_sim_laws.proofs.Answered.{all_done}
+use Rattle.osdp_sim_laws.proofs.Begun.{none_reopen}
 use Rattle.osdp_sim_laws.proofs.Coming.{rounds_within}
 use Rattle.osdp_sim_bus_laws.specs.Accounts.{AccountsAreOnce}
 use Rattle.osdp_sim_bus_laws.proofs.Idling.{SameIssued, idle_sites, issued_idle}
-use Rattle.osdp_sim_bus_laws.proofs.Places.{StaysAt, stays_all, stays_then}
+use Rattle.osdp_sim_bus_laws.proofs.Places.{StaysAt, stays_all, stays_then, unmapped, within as get_within}
 use Rattle.osdp_bus_progress.specs.Progress.{ComesOn, EachAnswerRecovers, EachRecovers, NoneMoves, all_ready, clear}
 use Rattle.osdp_bus_progress.proofs.Clearing.{in_session}
-use Rattle.osdp_bus_progress.proofs.Coming.{get_each, get_within, there_is, unmapped}
+use Rattle.osdp_bus_progress.proofs.Coming.{get_each, there_is}
 use Rattle.osdp_bus_progress.proofs.Ends.{rounds_idle}
 
 -- what holds at each place holds of each
@@ -97,11 +98,10 @@ module _ {H : Type 0} (answer_of : H → Command → Answer) (after : H → Comm
       let none_before = moves_before lost before (clear_idle (length readers) steps)
       (subst (λ (s : LineState H). NoneMoves (accounts s)) (runs_on (after_step answer_of after) steps lost start) none_mid) in
       let comes = recovers config readers steps m wait (record { settings = is.ends.0; well = is.ends.1; fits = is.fits }) within long none_before in
-      let session = each_all IsInSession all_steps
-      (each_append IsInSession (steps ++ lost) (rounds m wait)
+      let inside = each_append IsInSession (steps ++ lost) (rounds m wait)
       (each_append IsInSession steps lost (each_of IsInSession steps within) (each_of IsInSession lost (in_session (length readers) steps)))
-      (rounds_within m wait)) in
-      let once = holds config readers all_steps (Ok told) is tt session in
+      (rounds_within m wait) in
+      let once = holds config readers all_steps (Ok told) is tt in
       record {
         count = once.count;
         each = λ k given at.
@@ -115,6 +115,6 @@ module _ {H : Type 0} (answer_of : H → Command → Answer) (after : H → Comm
               λ lasts.
                   let on : ComesOn m (length readers) old.0 a = comes k old.0 a old.1 (ap (λ (l : List Account). slice_get l k) (sym told_is) ∙ mine.1) lasts in
                   let some : min (m / length readers - 1) (length a.issued + length a.queued) ≤ done a = omega (arith, on) in
-                  record { some = some; all = λ more. all_done answer_of after given.0 given.2 a mine.2 (omega (arith, some, more)) },
+                  record { some = some; all = λ more. all_done answer_of after given.0 given.2 a (mine.2 (none_reopen (suc k) all_steps inside)) (omega (arith, some, more)) },
             );
       }

@@ -19,7 +19,7 @@ use Rattle.osdp_link_laws.specs.Ordinary.{IsOrdinary, IsSteady}
 use Rattle.osdp_link_laws.specs.Progress as progress
 use Rattle.osdp_link_laws.specs.Progress.{SetsNoAddress}
 use Rattle.osdp_link_laws.specs.Sessions.{all_submitted, ended_commands}
-use Rattle.osdp_link_laws.proofs.Lines.{each_all, each_of, each_rest}
+use Rattle.osdp_link_laws.proofs.Lines.{each_all, each_append, each_of, each_rest}
 use Rattle.osdp_link_laws.proofs.Ordinary.{moves_so}
 use Rattle.osdp_link_laws.proofs.OrdinaryRuns.{begins_so, set_no_other, steady_ordinary}
 use Rattle.osdp_link_laws.proofs.Stages.{Each}
@@ -44,14 +44,18 @@ use Rattle.osdp_sim_bus.specs.Runs as simulation
 use Rattle.osdp_sim_bus.specs.State.{Given, LineState, ReaderSite, accounts, set_up}
 use Rattle.osdp_sim_bus.specs.Steps.{StepFits, after_step, fault_of}
 use Rattle.osdp_sim_laws.specs.Accounts.{IsInSession, IsOf}
+use Rattle.osdp_sim_laws.proofs.Accounts.{none_earlier}
+use Rattle.osdp_sim_laws.proofs.Begun.{none_reopen}
 use Rattle.osdp_sim_laws.proofs.Coming.{rounds_within}
 use Rattle.osdp_sim.proofs.Schedules.{holds_on, runs_on, well_on}
 use Rattle.osdp_sim_bus_laws.specs.Moves.{AreItsMoves, FollowsSites, moves_of}
+use Rattle.osdp_sim_bus_laws.specs.Accounts.{IsRun}
 use Rattle.osdp_sim_bus_laws.proofs.Beginning.{first_net, first_site, follows_first, has_site, is_set_up, none_is_kept}
-use Rattle.osdp_sim_bus_laws.proofs.OneSession.{HasOne, none_earlier, one_first, one_run}
+use Rattle.osdp_sim_bus_laws.proofs.Begun.{sessions_counted}
+use Rattle.osdp_sim_bus_laws.proofs.Places.{unmapped, within as get_within}
 use Rattle.osdp_sim_bus_laws.proofs.Scheduling.{moves_more}
 use Rattle.osdp_sim_bus_laws.proofs.Sites.{get_site, same_count}
-use Rattle.osdp_bus_progress.specs.Progress.{ComesOn, EachComesThrough, IsClear, IsReady, IsRun}
+use Rattle.osdp_bus_progress.specs.Progress.{ComesOn, EachComesThrough, IsClear, IsReady}
 use Rattle.osdp_bus_progress.specs.Resting.{EachRoundRests, IsAtRest}
 use Rattle.osdp_bus_progress.specs.SeveralLinks.{SeveralLinks}
 use Rattle.osdp_bus_progress.proofs.Along.{first_at, run_at_all}
@@ -67,11 +71,6 @@ none_on : (ps : List (ℕ × Packet)) → map spelling (packets_on ps) ≡ [] �
 none_on [] none = refl
 none_on (p ∷ ps) none = absurd cc
 
-pub unmapped : {A B : Type 0} (f : A → B) (k : ℕ) (b : B) (xs : List A) → slice_get (map f xs) k ≡ Some b → (a : A) × (slice_get xs k ≡ Some a) × (f a ≡ b)
-unmapped f k b [] at = absurd cc
-unmapped f zero b (x ∷ xs) at = (x, refl, some_same (f x) b at)
-unmapped f (suc k) b (x ∷ xs) at = unmapped f k b xs at
-
 pub get_each : {A : Type 0} (P : A → Type 0) (k : ℕ) (x : A) (xs : List A) → Each P xs → slice_get xs k ≡ Some x → P x
 get_each P k x [] all is = absurd cc
 get_each P zero x (y ∷ xs) all is = subst P (some_same y x is) all.0
@@ -81,11 +80,6 @@ pub there_is : {A : Type 0} (k : ℕ) (xs : List A) → k < length xs → (x : A
 there_is k [] few = absurd (omega (arith, few))
 there_is zero (x ∷ xs) few = (x, refl)
 there_is (suc k) (x ∷ xs) few = there_is k xs (omega (arith, few))
-
-pub get_within : {A : Type 0} (k : ℕ) (x : A) (xs : List A) → slice_get xs k ≡ Some x → k < length xs
-get_within k x [] at = absurd cc
-get_within zero x (y ∷ xs) at = omega arith
-get_within (suc k) x (y ∷ xs) at = omega (arith, get_within k x xs at)
 
 -- so many rounds, and the others
 pub split_rounds : (r m wait : ℕ) → r ≤ m → rounds m wait ≡ rounds r wait ++ rounds (m - r) wait
@@ -118,16 +112,11 @@ module _ {H : Type 0} (answer_of : H → Command → Answer) (after : H → Comm
     pub issued : length a.issued ≡ length t.issued
     pub queued : length a.queued ≡ length t.queued
 
-  pub as_long : (a : Account) (t : link.Account) (earlier : List link.Account) → earlier ≡ [] → IsOf a t earlier → AsLong a t
-  as_long a t (u ∷ earlier) none lists = absurd cc
-  as_long a t [] none lists =
-      let gone : lists.queued.0 ≡ [] = lists.queued.1.1 in
-      record {
-        settled = ap length lists.settled;
-        reported = ap length lists.reported;
-        issued = ap length lists.issued;
-        queued = ap length (lists.queued.2 ∙ ap (λ es. es ++ t.queued) gone);
-      }
+  pub as_long : (a : Account) (t : link.Account) (earlier : List link.Account) → IsOf a t earlier → length a.sessions ≡ 1 → AsLong a t
+  as_long a t earlier lists one =
+      let none = none_earlier a t earlier lists one in
+      let only : IsOf a t [] = subst (IsOf a t) none lists in
+      record { settled = ap length only.settled; reported = ap length only.reported; issued = ap length only.issued; queued = ap length (only.queued refl) }
 
   module _ (on : SeveralLinks answer_of after) where
     open on use {schedules, counts, links, laws, ranges, comes, laws.{in_time, places, stays}}
@@ -236,16 +225,22 @@ module _ {H : Type 0} (answer_of : H → Command → Answer) (after : H → Comm
           }
 
       -- one session each
-      pub one_at : (k : ℕ) (u : ReaderSite H) → slice_get s.sites k ≡ Some u → HasOne u.account
-      one_at k u at =
-          get_each (λ (v : ReaderSite H). HasOne v.account) k u s.sites
-          (one_run answer_of after steps start (each_of IsInSession steps within) (one_first readers)) at
+      one_in : (list : List SimStep) (k : ℕ) (u : ReaderSite H) → Each IsInSession list → k < length readers
+          → slice_get (simulation.run answer_of after list start).sites k ≡ Some u → length u.account.sessions ≡ 1
+      one_in list k u inside few at =
+          let given = there_is k readers few in
+          omega (arith, sessions_counted answer_of after k config readers given.0 given.1 list u at, none_reopen (suc k) list inside)
 
-      pub one_later : (k : ℕ) (u : ReaderSite H) → slice_get later.sites k ≡ Some u → HasOne u.account
-      one_later k u at =
-          get_each (λ (v : ReaderSite H). HasOne v.account) k u later.sites
-          (one_run answer_of after (rounds m wait) s (rounds_within m wait)
-          (one_run answer_of after steps start (each_of IsInSession steps within) (one_first readers))) at
+      pub one_at : (k : ℕ) (u : ReaderSite H) → slice_get s.sites k ≡ Some u → length u.account.sessions ≡ 1
+      one_at k u at =
+          let few = get_within k u s.sites at in
+          let same = counted in
+          one_in steps k u (each_of IsInSession steps within) (omega (arith, few, same)) at
+
+      pub one_later : (k : ℕ) (u : ReaderSite H) → k < length readers → slice_get later.sites k ≡ Some u → length u.account.sessions ≡ 1
+      one_later k u few at =
+          one_in (steps ++ rounds m wait) k u (each_append IsInSession steps (rounds m wait) (each_of IsInSession steps within) (rounds_within m wait)) few
+          (ap (λ (w : LineState H). slice_get w.sites k) (runs_on (after_step answer_of after) steps (rounds m wait) start) ∙ at)
 
       module _ (long : longest_wait (controller_config 0 config) ≤ wait)
           (clear : IsClear (simulation.run answer_of after steps (set_up config readers))) where
@@ -361,8 +356,8 @@ module _ {H : Type 0} (answer_of : H → Command → Answer) (after : H → Comm
             let v_is = get_site k last later.sites last_net.sites last_follows.sites has.seen_then.there in
             let u_same : u_is.0 ≡ u = some_same u_is.0 u (sym u_is.1 ∙ at) in
             let v_same : v_is.0 ≡ v = some_same v_is.0 v (sym v_is.1 ∙ there) in
-            let u_long = as_long u_is.0.account t.0.account t.0.earlier (none_earlier u_is.0.account t.0.account t.0.earlier u_is.2.tells (one_at k u_is.0 u_is.1)) u_is.2.tells in
-            let v_long = as_long v_is.0.account last.account last.earlier (none_earlier v_is.0.account last.account last.earlier v_is.2.tells (one_later k v_is.0 v_is.1)) v_is.2.tells in
+            let u_long = as_long u_is.0.account t.0.account t.0.earlier u_is.2.tells (one_at k u_is.0 u_is.1) in
+            let v_long = as_long v_is.0.account last.account last.earlier v_is.2.tells (one_later k v_is.0 (omega (arith, few, same)) v_is.1) in
             let so = moves_so answer_of after (progress.rounds has.moments) (link.run answer_of after ms old) (rounds_ordinary H has.moments)
             (moves_so answer_of after ms old (steady_ordinary ms l.steady) (begins_so old begun)) in
             let kept : last.account.kept ≡ last.account.queued = subst (λ (x : Link H). x.account.kept ≡ x.account.queued) (sym then_) so.0.kept in

@@ -46,7 +46,7 @@ module _ {H : Type 0} where
       let no_end : length u.0.account.ends ≡ 0 = ap (λ l. length l) (none u.0 u.1) in
       let shut : count (is_closed t.controller.session.state) ≡ 1 = ap (λ st. count (is_closed st)) closed in
       let ended = is.ended in
-      let some = some_begun u.0.account.sessions t.account.queued t.earlier is.tells.queued.0 is.tells.queued.1 in
+      let some = some_begun u.0.account t.account t.earlier is.tells in
       absurd (omega (arith, no_end, shut, ended, some))
 
   abbrev EndsStay : ReaderSite H → ReaderSite H → Type 0

@@ -33,13 +33,13 @@ use Rattle.osdp_sim_laws.specs.Resting.{BringsOneMore}
 use Rattle.osdp_sim_laws.proofs.Coming.{rounds_within}
 use Rattle.osdp_sim_bus_laws.specs.Moves.{FollowsSites, moves_of}
 use Rattle.osdp_sim_bus_laws.proofs.Beginning.{first_net, first_site}
-use Rattle.osdp_sim_bus_laws.proofs.OneSession.{none_earlier}
+use Rattle.osdp_sim_bus_laws.proofs.Places.{unmapped, within as get_within}
 use Rattle.osdp_sim_bus_laws.proofs.Sites.{get_site}
-use Rattle.osdp_bus_progress.specs.Progress.{IsRun}
+use Rattle.osdp_sim_bus_laws.specs.Accounts.{IsRun}
 use Rattle.osdp_bus_progress.specs.Resting.{AreRounds, EachHasItsRound, EachIsIdle, EachRoundBringsOneMore, HasNotEnded, IsItsRound, after_rounds}
 use Rattle.osdp_bus_progress.specs.SeveralLinks.{SeveralLinks}
 use Rattle.osdp_bus_progress.proofs.Coming as coming
-use Rattle.osdp_bus_progress.proofs.Coming.{as_long, get_within, split_rounds, unmapped}
+use Rattle.osdp_bus_progress.proofs.Coming.{as_long, split_rounds}
 use Rattle.osdp_bus_progress.proofs.Ends.{NoEnd, lasts_there, none_before_rounds}
 use Rattle.osdp_bus_progress.proofs.Round.{AtRest, after_round, entry_there, next_round, round_net, sited}
 use Rattle.osdp_bus_progress.proofs.Rounds.{Idles, idles_later, its_round, stands}
@@ -206,10 +206,10 @@ module _ {H : Type 0} (answer_of : H → Command → Answer) (after : H → Comm
             (subst (λ (x : Link H). MoreByOne (link.run answer_of after ms old).account x.account) (sym through) brought) in
             let u_is = get_site k t.0 s.sites n.sites rest.follows.sites t.1 in
             let v_is = get_site k last next_line.sites net.sites it.rest.follows.sites seen.there in
-            let u_long = as_long answer_of after u_is.0.account t.0.account t.0.earlier (none_earlier u_is.0.account t.0.account t.0.earlier u_is.2.tells
-            (coming.one_at answer_of after on config readers more 1 wait is inside k u_is.0 u_is.1)) u_is.2.tells in
-            let v_long = as_long answer_of after v_is.0.account last.account last.earlier (none_earlier v_is.0.account last.account last.earlier v_is.2.tells
-            (coming.one_later answer_of after on config readers more 1 wait is inside k v_is.0 v_is.1)) v_is.2.tells in
+            let u_long = as_long answer_of after u_is.0.account t.0.account t.0.earlier u_is.2.tells
+            (coming.one_at answer_of after on config readers more 1 wait is inside k u_is.0 u_is.1) in
+            let v_long = as_long answer_of after v_is.0.account last.account last.earlier v_is.2.tells
+            (coming.one_later answer_of after on config readers more 1 wait is inside k v_is.0 few v_is.1) in
             subst (λ (x : ReaderSite H). BringsOneMore x.account v.account) (some_same u_is.0 u (sym u_is.1 ∙ at))
             (subst (λ (y : ReaderSite H). BringsOneMore u_is.0.account y.account) (some_same v_is.0 v (sym v_is.1 ∙ there))
             (omega (arith, counted, u_long.settled, u_long.reported, v_long.settled, v_long.reported, v_long.issued, v_long.queued, ap length kept)))

@@ -112,8 +112,8 @@ six_rounds accepts recovers counts told is a b first second a_lasts b_lasts =
     let shares = recovers bus readers both_lost 6 400 told is both_sessions (omega arith) none in
     let its = shares.each 0 first_reader refl in
     let other = shares.each 1 second_reader refl in
-    let a_share = subst (HasItsShare handler_answer handler_after 3 (script_config 1 5) new_handler) (same_item (sym its.1 ∙ first)) its.2 a_lasts in
-    let b_share = subst (HasItsShare handler_answer handler_after 3 (script_config 2 6) new_handler) (same_item (sym other.1 ∙ second)) other.2 b_lasts in
+    let a_share = subst (HasItsShare handler_answer handler_after 3 0 first_reader) (same_item (sym its.1 ∙ first)) its.2 a_lasts in
+    let b_share = subst (HasItsShare handler_answer handler_after 3 1 second_reader) (same_item (sym other.1 ∙ second)) other.2 b_lasts in
     let a_all = a_share.all (omega (arith, ap length a_issued, ap length a_queued)) in
     let b_all = b_share.all (omega (arith, ap length b_issued, ap length b_queued)) in (
       record {

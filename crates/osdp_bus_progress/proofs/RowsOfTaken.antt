@@ -1,12 +1,14 @@
 -- Of two commands that were taken one was settled.
 use Rattle.std.proofs.Common.{◌≡◌, ◌∙◌, ◌≤◌, ap, sym, List, [], ◌∷◌, ◌++◌, length, Ok, arith}
+use Rattle.osdp_link_laws.proofs.Lines.{each_of}
 use Rattle.osdp_link_laws.specs.OneHandler.{with_answers}
 use Rattle.osdp_msg.specs.declared.command.Command.{Command}
 use Rattle.osdp_msg.specs.declared.reply.Reply.{Reply}
 use Rattle.osdp_msg.specs.declared.reply.Reply.TheVariants.{Ack}
 use Rattle.osdp_script.specs.Handler.{handler_after, handler_answer, new_handler}
 use Rattle.osdp_sim.specs.Account.{lists_of}
-use Rattle.osdp_sim_laws.specs.Accounts.{AnswersHoldOnce}
+use Rattle.osdp_sim_laws.specs.Accounts.{AnswersHoldOnce, IsInSession}
+use Rattle.osdp_sim_laws.proofs.Begun.{none_reopen}
 use Rattle.osdp_bus_progress.specs.RowsOfRounds.{buz, config, out}
 use Rattle.osdp_bus_progress.specs.RowsOfTaken.{OfTwoTakenOneIsSettled}
 
@@ -21,6 +23,6 @@ first_settled (p ∷ settled) more is few =
 
 pub of_two_taken : AnswersHoldOnce handler_answer handler_after → OfTwoTakenOneIsSettled
 of_two_taken once steps account is within taken =
-    let held = (once config new_handler steps (Ok account) is tt within).settled in
+    let held = (once config new_handler steps (Ok account) is tt (none_reopen 1 steps (each_of IsInSession steps within))).settled in
     first_settled (lists_of account).settled held.0
     (sym (ap (with_answers handler_answer handler_after config.reader new_handler) taken) ∙ held.1) held.2

@@ -1,10 +1,9 @@
 -- Something comes through for each of several readers. After m rounds that lose nothing, m / n - 1 more commands and events of each of n readers
 -- are settled and reported, or all of them.
-use Rattle.std.specs.Prelude.{◌≡◌, ◌≤◌, ℕ, zero, suc, ◌+◌, ◌-◌, ◌/◌, min, true, false, All, List, [], ◌∷◌, ◌++◌, length, Some, slice_get, Ok}
+use Rattle.std.specs.Prelude.{◌≡◌, ◌≤◌, ℕ, zero, suc, ◌+◌, ◌-◌, ◌/◌, min, false, All, List, [], ◌∷◌, ◌++◌, length, Some, slice_get, Ok}
 use Rattle.std.specs.Global.{Vec}
 use Rattle.osdp_msg.specs.declared.command.Command.{Command}
 use Rattle.osdp_controller_laws.specs.Calls.{longest_wait}
-use Rattle.osdp_reader.specs.declared.config.ReaderConfig.{ReaderConfig}
 use Rattle.osdp_reader.specs.declared.handler.Answer.{Answer}
 use Rattle.osdp_bus.specs.Settings.{controller_config}
 use Rattle.osdp_bus.specs.declared.config.BusConfig.{BusConfig}
@@ -14,10 +13,10 @@ use Rattle.osdp_sim.specs.Rounds.{rounds}
 use Rattle.osdp_sim.specs.declared.account.Account as declared
 use Rattle.osdp_sim.specs.declared.step.SimStep.{SimStep}
 use Rattle.osdp_sim.specs.declared.step.SimStep.TheVariants.{Busy}
-use Rattle.osdp_sim_bus.specs.Runs.{AreSettings, FitAlong, is_well, lists_of_all, run}
+use Rattle.osdp_sim_bus.specs.Runs.{lists_of_all, run}
 use Rattle.osdp_sim_bus.specs.State.{Given, LineState, ReaderSite, accounts, set_up}
 use Rattle.osdp_sim_laws.specs.Accounts.{IsInSession}
-use Rattle.osdp_sim_bus_laws.specs.Accounts.{EachMeets, IsAnswer}
+use Rattle.osdp_sim_bus_laws.specs.Accounts.{IsAnswer, IsRun, OfEach}
 use Rattle.osdp_sim_laws.specs.Progress.{HasComeThrough, done, losses}
 
 -- m rounds are m / readers for each reader, rounded down. After them as many more of its commands and events but one are settled and
@@ -56,17 +55,11 @@ module _ {H : Type 0} where
     pub readers : All IsReady s.sites
 
   module _ (answer_of : H → Command → Answer) (after : H → Command → H) where
-    -- a schedule whose settings are in their ranges, of which no step is refused, and what goes over the line in it fits
-    pub record IsRun (config : BusConfig) (readers : List (Given H)) (steps : List SimStep) : Type 0 where
-      pub settings : AreSettings config readers
-      pub well : is_well answer_of after steps (set_up config readers) ≡ true
-      pub fits : FitAlong answer_of after steps (set_up config readers)
-
     -- rounds as long as the longest of the four waits, after steps in which no session begins again and that leave the line clear:
     -- something comes through for each reader whose session has not ended
     abbrev pub EachComesThrough : Type 0
     EachComesThrough = (config : BusConfig) (readers : List (Given H)) (steps : List SimStep) (m wait : ℕ)
-        → IsRun config readers (steps ++ rounds m wait) → All IsInSession steps → longest_wait (controller_config 0 config) ≤ wait
+        → IsRun answer_of after config readers (steps ++ rounds m wait) → All IsInSession steps → longest_wait (controller_config 0 config) ≤ wait
         → let before = run answer_of after steps (set_up config readers) in
         IsClear before
         → let last = run answer_of after (steps ++ rounds m wait) (set_up config readers) in
@@ -76,7 +69,7 @@ module _ {H : Type 0} where
     -- for each reader whose session has not ended, where no COMSET to a device's address was issued
     abbrev pub EachRecovers : Type 0
     EachRecovers = (config : BusConfig) (readers : List (Given H)) (steps : List SimStep) (m wait : ℕ)
-        → IsRun config readers ((steps ++ clear (length readers) steps) ++ rounds m wait) → All IsInSession steps
+        → IsRun answer_of after config readers ((steps ++ clear (length readers) steps) ++ rounds m wait) → All IsInSession steps
         → longest_wait (controller_config 0 config) ≤ wait
         → let before = run answer_of after steps (set_up config readers) in
         NoneMoves (accounts before)
@@ -84,11 +77,11 @@ module _ {H : Type 0} where
         EachComesOn m (length readers) (accounts before) (accounts last)
 
     -- so it is of what `run_bus` answers: a reader whose session has not ended has its share of the rounds
-    abbrev pub HasItsShare : ℕ → ReaderConfig → H → Account → Type 0
-    HasItsShare count config handler a = a.ends ≡ [] → HasComeThrough answer_of after count config handler a
+    abbrev pub HasItsShare : ℕ → ℕ → Given H → Account → Type 0
+    HasItsShare count k given a = a.ends ≡ [] → HasComeThrough answer_of after count given.0 given.2 a
 
     abbrev pub EachAnswerRecovers : Type 0
     EachAnswerRecovers = (config : BusConfig) (readers : List (Given H)) (steps : List SimStep) (m wait : ℕ) (told : Vec declared.Account)
         → IsAnswer answer_of after config readers ((steps ++ clear (length readers) steps) ++ rounds m wait) (Ok told)
         → All IsInSession steps → longest_wait (controller_config 0 config) ≤ wait → NoneMoves (lists_of_all told.items)
-        → EachMeets (HasItsShare (m / length readers)) readers (lists_of_all told.items)
+        → OfEach (HasItsShare (m / length readers)) readers (lists_of_all told.items)

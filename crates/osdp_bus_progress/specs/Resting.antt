@@ -17,7 +17,8 @@ use Rattle.osdp_sim_bus.specs.Runs.{run}
 use Rattle.osdp_sim_bus.specs.State.{Given, LineState, accounts, set_up}
 use Rattle.osdp_sim_laws.specs.Accounts.{IsInSession}
 use Rattle.osdp_sim_laws.specs.Resting.{BringsOneMore}
-use Rattle.osdp_bus_progress.specs.Progress.{IsClear, IsRun, NoneMoves, clear}
+use Rattle.osdp_bus_progress.specs.Progress.{IsClear, NoneMoves, clear}
+use Rattle.osdp_sim_bus_laws.specs.Accounts.{IsRun}
 
 module _ {H : Type 0} where
   -- no burst is on the line, and no exchange is outstanding

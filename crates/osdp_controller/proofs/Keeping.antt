@@ -2,7 +2,6 @@
 use Rattle.std.proofs.Common.{◌≡◌, ℕ, ◌+◌, ◌*◌, ◌<◌, ◌≤◌, ◌&&◌, [], Option, Some, None, refl, arith, rules}
 use Rattle.std.specs.Prelude.{IfSome, nat_lt, nat_le, ◌==◌}
 use Rattle.std.proofs.lemmas.Bool.{ltb-true, ltb-false}
-use Rattle.std.proofs.lemmas.Nat.{mul-le}
 use Rattle.std.proofs.Math.Nat.{mul-add}
 use Rattle.osdp_frame.specs.Packet.{next_sequence}
 use Rattle.osdp_msg.specs.declared.command.Command.{Command}
@@ -11,7 +10,6 @@ use Rattle.osdp_msg.specs.declared.reply.Reply.{Reply}
 use Rattle.osdp_msg.specs.declared.reply_fields.PdId.{PdId}
 use Rattle.osdp_controller.specs.declared.meaning.ReplyMeaning.{ReplyMeaning}
 use Rattle.osdp_controller.specs.declared.meaning.ReplyMeaning.TheVariants.{NotTaken, Damaged, NumberRefused, Plain, Unreadable}
-use Rattle.osdp_controller.specs.declared.config.ControllerConfig.{ControllerConfig}
 use Rattle.osdp_controller.specs.declared.exchange.Exchange.{Exchange}
 use Rattle.osdp_controller.specs.declared.exchange.Exchange.TheVariants.{Opening, Polling, Asking}
 use Rattle.osdp_controller.specs.declared.exchange.Outstanding.{Outstanding}
@@ -75,17 +73,6 @@ keeps_ticks (Pausing until o) s same is opening =
     (λ h. keeps_send 1 o s same.config (omega arith) some is.command is.busies (omega arith) opening)
     (λ h. same)
 
--- what was sent can be counted
-pub few_sent : (c : ControllerConfig) (sends : ℕ) (o : Outstanding) → IsConfig c → sends ≤ c.sends → IsOutstanding c sends o
-    → o.sent + 1 < 4294967296
-few_sent c sends o config within is =
-    let sent : o.sent ≤ c.sends * o.busies + sends = is.sent in
-    let busies : o.busies ≤ c.busy_limit = is.busies in
-    let some : c.sends ≤ 255 = config.sends.1 in
-    let limit : c.busy_limit ≤ 255 = config.busy_limit in
-    let most : c.sends * o.busies ≤ 255 * 255 = mul-le c.sends o.busies 255 255 some (omega arith) in
-    omega arith
-
 -- one more BUSY
 keeps_busy : (sends : ℕ) (o : Outstanding) (s : Session) → IsConfig s.config → sends ≤ s.config.sends → IsOutstanding s.config sends o
     → (o.exchange ≡ Opening → s.number ≡ 0) → IsSession (hears_busy o s).session
@@ -147,11 +134,9 @@ keeps_pausing (Unreadable code) o s is = keeps_unread o.exchange code s is
 
 pub keeps_numbered : (state : State) (a : ReplyMeaning) (s : Session) → IsState s.config state → OpensAtZero state s.number → IsSession s
     → IsSession (numbered_in state a s).session
-keeps_numbered Closed a s state opening is = is
-keeps_numbered (Quiet until) a s state opening is = is
-keeps_numbered (Idle due) a s state opening is = is
 keeps_numbered (Waiting until sends o) a s state opening is = keeps_waiting a sends o s state.0 state.1 state.2 opening is
 keeps_numbered (Pausing until o) a s state opening is = keeps_pausing a o s is
+keeps_numbered _ a s state opening is = is
 
 -- a moment that is seen changes nothing else
 pub keeps_seen : (now : ℕ) (s : Session) → IsSession s → IsSession (seen now s)

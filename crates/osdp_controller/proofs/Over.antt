@@ -19,11 +19,8 @@ second false b x y z h = cc
 
 -- a session that is over gives up
 pub over : (state : State) (s : Session) (waiting : List Command) → is_over state s ≡ true → ticks_in state s waiting ≡ gives_up (outstanding_in state) s waiting
-over Closed s waiting h = cc
-over (Quiet until) s waiting h = cc
-over (Idle due) s waiting h = cc
 over (Waiting until sends o) s waiting h = second (nat_le until s.greatest) (nat_lt sends s.config.sends) _ _ _ h
-over (Pausing until o) s waiting h = cc
+over _ s waiting h = cc
 
 pub not_second : {A : Type 0} (P : A → Type 0) (a b : Bool) (x y z : A) → (a && not b) ≡ false → P x → P z → P (if a then (if b then x else y) else z)
 not_second P true true x y z h p q = p

@@ -406,18 +406,7 @@ module _ (old k : KeptSession) (s : Session) (q : Strings) (asks : on_its_way s.
 -- a COMSET by its code
 comset_begins : (c : Command) → begins 0x6E (command_code c ∷ command_data c) ≡ is_comset c
 comset_begins Poll = refl
-comset_begins (Id b) = refl
-comset_begins (Cap b) = refl
-comset_begins LocalStatus = refl
-comset_begins InputStatus = refl
-comset_begins OutputStatus = refl
-comset_begins ReaderStatus = refl
-comset_begins (Output records) = refl
-comset_begins (Led records) = refl
-comset_begins (Buzzer b) = refl
-comset_begins (Text t) = refl
-comset_begins (Comset asked) = refl
-comset_begins (Maker m) = refl
+comset_begins _ = refl
 
 comset_is : (ss : List (List ℕ)) → All IsCommand ss → has_first 0x6E ss ≡ has_comset (map command_kept ss)
 comset_is [] commands = refl

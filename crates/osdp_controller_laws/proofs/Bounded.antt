@@ -49,15 +49,13 @@ keeps_tick (Pausing until o) s w same is opening all =
 -- where an exchange is outstanding the waiting commands say nothing
 keeps_out : (state : State) (s : Session) (w : List Command) → is_outstanding state ≡ true → IsSession (ticks_in state s []).session
     → IsSession (ticks_in state s w).session
-keeps_out Closed s w h is = cc
-keeps_out (Quiet until) s w h is = cc
-keeps_out (Idle due) s w h is = cc
 keeps_out (Waiting until sends o) s w h is =
     subst IsSession (same_session (nat_le until s.greatest) (tries_again sends o s []) (stays s []) (tries_again sends o s w) (stays s w)
     (same_session (nat_lt sends s.config.sends) (sends_frame (sends + 1) o s []) (gives_up o s []) (sends_frame (sends + 1) o s w) (gives_up o s w) refl refl) refl)
     is
 keeps_out (Pausing until o) s w h is =
     subst IsSession (same_session (nat_le until s.greatest) (sends_frame 1 o s []) (stays s []) (sends_frame 1 o s w) (stays s w) refl refl) is
+keeps_out _ s w h is = cc
 
 pub keeps_hears : (p : Packet) (now : ℕ) (s : Session) → IsSession s → IsSession (hears p now s).session
 keeps_hears p now s is =
@@ -77,13 +75,9 @@ keeps_call (Tick now) m h is =
 keeps_call (Hear p now) m h is = keeps_hears p now m.session is
 
 keeps_sent : (call : Call) (m : Machine) (p : Packet) → IsMachine m → sent_by call m ≡ Some p → IsSession (after_call call m).session
-keeps_sent (Submit command) m p is e = cc
-keeps_sent (Begin now) m p is e = cc
-keeps_sent (Retarget address) m p is e = cc
-keeps_sent Withdraw m p is e = cc
 keeps_sent (Tick now) m p is e =
     keeps_tick m.session.state (seen now m.session) m.waiting (keeps_seen now m.session is.session) is.session.state is.session.opening is.waiting
-keeps_sent (Hear q now) m p is e = cc
+keeps_sent _ m p is e = cc
 
 -- the most that an exchange has sent
 
@@ -100,13 +94,11 @@ IsWithin n c = n ≤ c.sends * (c.busy_limit + 1)
 
 most_sent : (p : Packet) (c : ControllerConfig) (n : ℕ) (state : State) (s : Session) → is_outstanding state ≡ true → Holds p c n state s
     → IsState s.config state → IsWithin n c
-most_sent p c n Closed s h at is = cc
-most_sent p c n (Quiet until) s h at is = cc
-most_sent p c n (Idle due) s h at is = cc
 most_sent p c n (Waiting until sends o) s h at is =
     subst (IsWithin n) at.2 (subst (λ (k : ℕ). IsWithin k s.config) at.1 (most_out s.config sends o is.1 is.2))
 most_sent p c n (Pausing until o) s h at is =
     subst (IsWithin n) at.2 (subst (λ (k : ℕ). IsWithin k s.config) at.1 (most_out s.config 0 o (omega arith) is))
+most_sent p c n _ s h at is = cc
 
 join_count : (n : ℕ) (o : Option Packet) (rest : List Packet) (c : ControllerConfig) → IsWithin (more n o + length rest) c
     → IsWithin (n + length (option_to_list o ++ rest)) c

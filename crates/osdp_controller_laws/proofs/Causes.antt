@@ -22,7 +22,7 @@ use Rattle.osdp_controller.specs.declared.report.Report.{Report}
 use Rattle.osdp_controller.specs.declared.report.Report.TheVariants.{Moved, PollAnswered}
 use Rattle.osdp_controller.specs.declared.session.Session.{Session}
 use Rattle.osdp_controller.specs.declared.state.State.{State}
-use Rattle.osdp_controller.specs.declared.state.State.TheVariants.{Closed, Quiet, Idle, Waiting, Pausing}
+use Rattle.osdp_controller.specs.declared.state.State.TheVariants.{Closed, Waiting, Pausing}
 use Rattle.osdp_controller.specs.Answers.{meaning_of, is_not_taken}
 use Rattle.osdp_controller.specs.Hearing.{Heard, answered, answered_unread, com_of, command_answered, comset_of, hears, ignores, is_ack, is_from_reader, is_numbered, loses, moved_by, opening_answered, pausing_hears, pd_id_of, poll_told, waiting_hears}
 use Rattle.osdp_controller.specs.Private.{numbered_in}
@@ -182,13 +182,11 @@ of_reader p s is =
 
 why_numbered : (state : State) (answer : ReplyMeaning) (p : Packet) (s t : Session) → exchange_in s.state ≡ exchange_in state → is_from_reader p s ≡ true → meaning_of p ≡ answer
     → is_numbered p.sequence answer s ≡ true → OpensAtZero state s.number → WhyIf (numbered_in state answer t).report p s
-why_numbered Closed answer p s t out from says h zero = tt
-why_numbered (Quiet until) answer p s t out from says h zero = tt
-why_numbered (Idle due) answer p s t out from says h zero = tt
 why_numbered (Waiting until sends o) answer p s t out from says h zero =
     why_waiting answer sends o p s t (record { from_reader = is_reader p s from; outstanding = out; says = says }) h zero
 why_numbered (Pausing until o) answer p s t out from says h zero =
     why_pausing answer o p s t (record { from_reader = is_reader p s from; outstanding = out; says = says }) h zero
+why_numbered _ answer p s t out from says h zero = tt
 
 why_if : (p : Packet) (now : ℕ) (s : Session) → IsSession s → WhyIf (hears p now s).report p s
 why_if p now s is =

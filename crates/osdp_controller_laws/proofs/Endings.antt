@@ -42,9 +42,6 @@ given_up o x h = let e : o.exchange ≡ x = cc in ap (λ (y : Exchange). Some (L
 
 tick_ends : (state : State) (s : Session) (w : List Command) (x : Exchange) → exchange_in state ≡ Some x → exchange_in s.state ≡ Some x
     → TickEnds x (ticks_in state s w)
-tick_ends Closed s w x h same = cc
-tick_ends (Quiet until) s w x h same = cc
-tick_ends (Idle due) s w x h same = cc
 tick_ends (Waiting until sends o) s w x h same =
     either_way (TickEnds x) (nat_le until s.greatest) (tries_again sends o s w) (stays s w)
     (λ b. either_way (TickEnds x) (nat_lt sends s.config.sends) (sends_frame (sends + 1) o s w) (gives_up o s w)
@@ -53,6 +50,7 @@ tick_ends (Waiting until sends o) s w x h same =
 tick_ends (Pausing until o) s w x h same =
     either_way (TickEnds x) (nat_le until s.greatest) (sends_frame 1 o s w) (stays s w)
     (λ b. inl (record { outstanding = h; nothing = refl })) (λ b. inl (record { outstanding = same; nothing = refl }))
+tick_ends _ s w x h same = cc
 
 -- frames
 
@@ -110,13 +108,11 @@ pausing_ends (Unreadable code) o s same = unread_ends o.exchange code s same
 
 numbered_ends : (state : State) (a : ReplyMeaning) (s : Session) (x : Exchange) → exchange_in state ≡ Some x → exchange_in s.state ≡ exchange_in state
     → FrameEnds x (numbered_in state a s)
-numbered_ends Closed a s x h same = cc
-numbered_ends (Quiet until) a s x h same = cc
-numbered_ends (Idle due) a s x h same = cc
 numbered_ends (Waiting until sends o) a s x h same =
     let e : o.exchange ≡ x = cc in subst (λ (y : Exchange). FrameEnds y (waiting_hears a sends o s)) e (waiting_ends a sends o s same)
 numbered_ends (Pausing until o) a s x h same =
     let e : o.exchange ≡ x = cc in subst (λ (y : Exchange). FrameEnds y (pausing_hears a o s)) e (pausing_ends a o s same)
+numbered_ends _ a s x h same = cc
 
 pub frame_ends : (x : Exchange) (p : Packet) (now : ℕ) (s : Session) → exchange_in s.state ≡ Some x → FrameEnds x (hears p now s)
 frame_ends x p now s h =
@@ -193,11 +189,9 @@ abbrev FrameClosesIn : Bool → Heard → Type 0
 FrameClosesIn before h = is_closed h.session.state ≡ (before || tells_end h.report)
 
 numbered_closes : (state : State) (a : ReplyMeaning) (s : Session) → is_closed s.state ≡ is_closed state → FrameClosesIn (is_closed state) (numbered_in state a s)
-numbered_closes Closed a s same = same
-numbered_closes (Quiet until) a s same = same
-numbered_closes (Idle due) a s same = same
 numbered_closes (Waiting until sends o) a s same = waiting_closes a sends o s same
 numbered_closes (Pausing until o) a s same = pausing_closes a o s same
+numbered_closes _ a s same = same
 
 ignored_closes : (before : Bool) (s : Session) → is_closed s.state ≡ before → FrameClosesIn before (ignores s)
 ignored_closes true s same = same

@@ -5,7 +5,7 @@ use Rattle.osdp_frame.specs.Packet.{Packet}
 use Rattle.osdp_controller.specs.declared.meaning.ReplyMeaning.{ReplyMeaning}
 use Rattle.osdp_controller.specs.declared.session.Session.{Session}
 use Rattle.osdp_controller.specs.declared.state.State.{State}
-use Rattle.osdp_controller.specs.declared.state.State.TheVariants.{Closed, Quiet, Idle, Waiting, Pausing}
+use Rattle.osdp_controller.specs.declared.state.State.TheVariants.{Waiting, Pausing}
 use Rattle.osdp_controller.specs.Answers.{meaning_of}
 use Rattle.osdp_controller.specs.Hearing.{Heard, hears, hears_in, ignores, is_from_reader, is_numbered}
 use Rattle.osdp_controller.specs.Private.{numbered_in}
@@ -19,11 +19,9 @@ either_same false x = refl
 -- the state and the number may be tested in either order
 pub number_first : (state : State) (number : ℕ) (answer : ReplyMeaning) (s : Session)
     → hears_in state number answer s ≡ (if is_numbered number answer s then numbered_in state answer s else ignores s)
-number_first Closed number answer s = either_same (is_numbered number answer s) (ignores s)
-number_first (Quiet until) number answer s = either_same (is_numbered number answer s) (ignores s)
-number_first (Idle due) number answer s = either_same (is_numbered number answer s) (ignores s)
 number_first (Waiting until sends o) number answer s = refl
 number_first (Pausing until o) number answer s = refl
+number_first _ number answer s = either_same (is_numbered number answer s) (ignores s)
 
 -- what a frame from the reader brings about
 abbrev pub by_number : Packet → ℕ → Session → Heard

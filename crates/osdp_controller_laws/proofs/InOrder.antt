@@ -122,10 +122,7 @@ Unchanged m k = OneByPlace (asked_in m.session.state) m.waiting None None None N
 begin_by_place : (now : ℕ) (state : State) (m : Machine) → asked_in m.session.state ≡ asked_in state
     → Unchanged m (changed_unless (refused_unless_closed state) m (after_begin now m))
 begin_by_place now Closed m same = nothing_new (asked_in m.session.state) None m.waiting (sym same)
-begin_by_place now (Quiet until) m same = nothing_new (asked_in m.session.state) (asked_in m.session.state) m.waiting refl
-begin_by_place now (Idle due) m same = nothing_new (asked_in m.session.state) (asked_in m.session.state) m.waiting refl
-begin_by_place now (Waiting until sends o) m same = nothing_new (asked_in m.session.state) (asked_in m.session.state) m.waiting refl
-begin_by_place now (Pausing until o) m same = nothing_new (asked_in m.session.state) (asked_in m.session.state) m.waiting refl
+begin_by_place now _ m same = nothing_new (asked_in m.session.state) (asked_in m.session.state) m.waiting refl
 
 retarget_by_place : (f : Option ControllerFault) (address : ℕ) (m : Machine) → Unchanged m (changed_unless f m (after_retarget address m))
 retarget_by_place None address m = nothing_new (asked_in m.session.state) (asked_in m.session.state) m.waiting refl

@@ -201,11 +201,9 @@ pausing_near (Unreadable code) o s below same = unread_near o.exchange code s be
 
 numbered_near : (state : State) (a : ReplyMeaning) (s : Session) → Near state s.number (latest s) → Near s.state s.number (latest s)
     → FrameNear (numbered_in state a s)
-numbered_near Closed a s near same = same
-numbered_near (Quiet until) a s near same = same
-numbered_near (Idle due) a s near same = same
 numbered_near (Waiting until sends o) a s near same = waiting_near a sends o s near.0 near.2 same
 numbered_near (Pausing until o) a s near same = pausing_near a o s near.0 same
+numbered_near _ a s near same = same
 
 frame_near : (p : Packet) (now : ℕ) (s : Session) → Near s.state s.number (latest s) → FrameNear (hears p now s)
 frame_near p now s near =
@@ -220,10 +218,7 @@ MachineNear m = Near m.session.state m.session.number (latest m.session)
 
 number_below : (state : State) (number limit : ℕ) → Near state number limit → number < 4
 number_below Closed number limit near = near
-number_below (Quiet until) number limit near = near.0
-number_below (Idle due) number limit near = near.0
-number_below (Waiting until sends o) number limit near = near.0
-number_below (Pausing until o) number limit near = near.0
+number_below _ number limit near = near.0
 
 submit_near : (f : Option ControllerFault) (command : Command) (m : Machine) → MachineNear m → MachineNear (changed_unless f m (after_submit command m))
 submit_near None command m near = near
@@ -316,12 +311,8 @@ frame_is_packet x s address number fits =
 
 frame_sent : (call : Call) (m : Machine) (p : Packet) → sent_by call m ≡ Some p
     → (x : Exchange) × (exchange_in (after_call call m).session.state ≡ Some x) × (p ≡ frame_of x (after_call call m).session)
-frame_sent (Submit command) m p e = cc
-frame_sent (Begin now) m p e = cc
-frame_sent (Retarget address) m p e = cc
-frame_sent Withdraw m p e = cc
 frame_sent (Tick now) m p e = sends_its_frame now m.session m.waiting p e
-frame_sent (Hear q now) m p e = cc
+frame_sent _ m p e = cc
 
 pub sends_packets : SendsPackets
 sends_packets m call p is near e fits =

@@ -110,11 +110,9 @@ module _ (P : Option Report → ℕ → ControllerConfig → Type 0) where
   pausing_keeps (Unreadable code) o s all = unread_keeps o.exchange code s all
 
   numbered_keeps : (state : State) (a : ReplyMeaning) (s : Session) → HoldsOfKept s.greatest s.config → FrameKeeps (numbered_in state a s)
-  numbered_keeps Closed a s all = all.same None refl
-  numbered_keeps (Quiet until) a s all = all.same None refl
-  numbered_keeps (Idle due) a s all = all.same None refl
   numbered_keeps (Waiting until sends o) a s all = waiting_keeps a sends o s all
   numbered_keeps (Pausing until o) a s all = pausing_keeps a o s all
+  numbered_keeps _ a s all = all.same None refl
 
   pub frame_keeps : (p : Packet) (now : ℕ) (s : Session) → HoldsOfKept (max s.greatest now) s.config → FrameKeeps (hears p now s)
   frame_keeps p now s all =

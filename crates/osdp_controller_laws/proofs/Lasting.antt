@@ -30,11 +30,9 @@ use Rattle.osdp_controller_laws.proofs.Frames.{either_frame}
 
 -- where an exchange is outstanding: this is its packet, it has sent so many frames, and the settings are these
 abbrev pub Holds : Packet → ControllerConfig → ℕ → State → Session → Type 0
-Holds p c n Closed s = Unit {0}
-Holds p c n (Quiet until) s = Unit {0}
-Holds p c n (Idle due) s = Unit {0}
 Holds p c n (Waiting until sends o) s = (frame_of o.exchange s ≡ p) × (o.sent ≡ n) × (s.config ≡ c)
 Holds p c n (Pausing until o) s = (frame_of o.exchange s ≡ p) × (o.sent ≡ n) × (s.config ≡ c)
+Holds p c n _ s = Unit {0}
 
 abbrev pub more : ℕ → Option Packet → ℕ
 more n None = n
@@ -54,9 +52,6 @@ one_sent sent n e = ap (λ (k : ℕ). k + 1) e
 
 holds_ticks : (p : Packet) (c : ControllerConfig) (n : ℕ) (state : State) (s : Session) (w : List Command) → is_outstanding state ≡ true
     → Holds p c n state s → Holds p c n s.state s → HoldsTicked p c n (ticks_in state s w)
-holds_ticks p c n Closed s w h at same = cc
-holds_ticks p c n (Quiet until) s w h at same = cc
-holds_ticks p c n (Idle due) s w h at same = cc
 holds_ticks p c n (Waiting until sends o) s w h at same =
     either_way (HoldsTicked p c n) (nat_le until s.greatest) (tries_again sends o s w) (stays s w)
     (λ b. either_way (HoldsTicked p c n) (nat_lt sends s.config.sends) (sends_frame (sends + 1) o s w) (gives_up o s w)
@@ -65,6 +60,7 @@ holds_ticks p c n (Waiting until sends o) s w h at same =
 holds_ticks p c n (Pausing until o) s w h at same =
     either_way (HoldsTicked p c n) (nat_le until s.greatest) (sends_frame 1 o s w) (stays s w)
     (λ b. (at.0, (at.0, one_sent o.sent n at.1, at.2))) (λ b. (tt, same))
+holds_ticks p c n _ s w h at same = cc
 
 -- frames from the line
 
@@ -120,19 +116,15 @@ holds_pausing p c n (Unreadable code) o s same = holds_unread p c n o.exchange c
 
 holds_numbered : (p : Packet) (c : ControllerConfig) (n : ℕ) (state : State) (a : ReplyMeaning) (s : Session) → Holds p c n state s
     → Holds p c n s.state s → HoldsHeard p c n (numbered_in state a s)
-holds_numbered p c n Closed a s at same = same
-holds_numbered p c n (Quiet until) a s at same = same
-holds_numbered p c n (Idle due) a s at same = same
 holds_numbered p c n (Waiting until sends o) a s at same = holds_waiting p c n a sends o s at same
 holds_numbered p c n (Pausing until o) a s at same = holds_pausing p c n a o s same
+holds_numbered p c n _ a s at same = same
 
 -- a moment that is seen changes none of it
 holds_seen : (p : Packet) (c : ControllerConfig) (n now : ℕ) (state : State) (s : Session) → Holds p c n state s → Holds p c n state (seen now s)
-holds_seen p c n now Closed s at = tt
-holds_seen p c n now (Quiet until) s at = tt
-holds_seen p c n now (Idle due) s at = tt
 holds_seen p c n now (Waiting until sends o) s at = at
 holds_seen p c n now (Pausing until o) s at = at
+holds_seen p c n now _ s at = tt
 
 holds_hears : (p : Packet) (c : ControllerConfig) (n : ℕ) (q : Packet) (now : ℕ) (s : Session) → Holds p c n s.state s
     → HoldsHeard p c n (hears q now s)
@@ -144,19 +136,15 @@ holds_hears p c n q now s at =
 -- calls that are refused while an exchange is outstanding
 
 pub not_begun : (state : State) (m new : Machine) → is_outstanding state ≡ true → changed_unless (refused_unless_closed state) m new ≡ m
-not_begun Closed m new h = cc
-not_begun (Quiet until) m new h = cc
-not_begun (Idle due) m new h = cc
 not_begun (Waiting until sends o) m new h = refl
 not_begun (Pausing until o) m new h = refl
+not_begun _ m new h = cc
 
 pub not_moved : (state : State) (address : ℕ) (m new : Machine) → is_outstanding state ≡ true
     → changed_unless (or_no_device (refused_unless_closed state) address) m new ≡ m
-not_moved Closed address m new h = cc
-not_moved (Quiet until) address m new h = cc
-not_moved (Idle due) address m new h = cc
 not_moved (Waiting until sends o) address m new h = refl
 not_moved (Pausing until o) address m new h = refl
+not_moved _ address m new h = cc
 
 pub submit_session : (o : Option ControllerFault) (command : Command) (m : Machine) → (changed_unless o m (after_submit command m)).session ≡ m.session
 submit_session None command m = refl
@@ -208,23 +196,15 @@ holds_first (Pausing until o) s w =
 
 pub first_sent : (call : Call) (m : Machine) (p : Packet) → sent_by call m ≡ Some p
     → HoldsMachine p m.session.config (sent_in (after_call call m).session.state) (after_call call m) × (1 ≤ sent_in (after_call call m).session.state)
-first_sent (Submit command) m p e = cc
-first_sent (Begin now) m p e = cc
-first_sent (Retarget address) m p e = cc
-first_sent Withdraw m p e = cc
 first_sent (Tick now) m p e =
     subst (HoldsSent m.session.config (ticks_in m.session.state (seen now m.session) m.waiting)) e (holds_first m.session.state (seen now m.session) m.waiting)
-first_sent (Hear q now) m p e = cc
+first_sent _ m p e = cc
 
 -- all of the frames
 
 join_all : (p : Packet) (o : Option Packet) (rest : List Packet) → SameSent p o → All (λ q. q ≡ p) rest → All (λ q. q ≡ p) (option_to_list o ++ rest)
 join_all p None rest same all = all
 join_all p (Some q) rest same all = All-cons (λ (r : Packet). r ≡ p) q rest same all
-
-lasts_now : (calls : List Call) (m : Machine) → Lasts calls m → is_outstanding m.session.state ≡ true
-lasts_now [] m h = h
-lasts_now (call ∷ calls) m h = h.0
 
 same_frames : (p : Packet) (c : ControllerConfig) (n : ℕ) (calls : List Call) (m : Machine) → Lasts calls m → HoldsMachine p c n m
     → All (λ q. q ≡ p) (frames calls m)

@@ -26,14 +26,12 @@ abbrev TickBegins : State → Ticked → Type 0
 TickBegins state t = is_outstanding state ≡ false → is_outstanding t.session.state ≡ true → is_some t.step.frame ≡ true
 
 tick_begins : (state : State) (s : Session) (w : List Command) → is_outstanding s.state ≡ is_outstanding state → TickBegins state (ticks_in state s w)
-tick_begins Closed s w same = λ h k. cc
 tick_begins (Quiet until) s w same =
     either_way (TickBegins (Quiet until)) (nat_le until s.greatest) (begins Opening 0 s w) (stays s w) (λ b h k. refl) (λ b h k. cc)
 tick_begins (Idle due) s (command ∷ w) same = λ h k. refl
 tick_begins (Idle due) s [] same =
     either_way (TickBegins (Idle due)) (nat_le due s.greatest) (begins Polling (next_sequence s.number) s []) (stays s []) (λ b h k. refl) (λ b h k. cc)
-tick_begins (Waiting until sends o) s w same = λ h k. cc
-tick_begins (Pausing until o) s w same = λ h k. cc
+tick_begins _ s w same = λ h k. cc
 
 abbrev StaysIdle : Machine → Machine → Type 0
 StaysIdle m k = is_outstanding m.session.state ≡ false → is_outstanding k.session.state ≡ true → false ≡ true
@@ -44,10 +42,7 @@ submit_begins (Some fault) command m = λ h k. cc
 
 begin_begins : (now : ℕ) (state : State) (m : Machine) → StaysIdle m (changed_unless (refused_unless_closed state) m (after_begin now m))
 begin_begins now Closed m = λ h k. cc
-begin_begins now (Quiet until) m = λ h k. cc
-begin_begins now (Idle due) m = λ h k. cc
-begin_begins now (Waiting until sends o) m = λ h k. cc
-begin_begins now (Pausing until o) m = λ h k. cc
+begin_begins now _ m = λ h k. cc
 
 retarget_begins : (f : Option ControllerFault) (address : ℕ) (m : Machine) → StaysIdle m (changed_unless f m (after_retarget address m))
 retarget_begins None address m = λ h k. cc

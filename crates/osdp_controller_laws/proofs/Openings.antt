@@ -8,7 +8,7 @@ use Rattle.osdp_controller.specs.declared.exchange.Exchange.{Exchange}
 use Rattle.osdp_controller.specs.declared.exchange.Exchange.TheVariants.{Opening}
 use Rattle.osdp_controller.specs.declared.session.Session.{Session}
 use Rattle.osdp_controller.specs.declared.state.State.{State}
-use Rattle.osdp_controller.specs.declared.state.State.TheVariants.{Closed, Quiet, Idle, Waiting, Pausing}
+use Rattle.osdp_controller.specs.declared.state.State.TheVariants.{Quiet, Waiting, Pausing}
 use Rattle.osdp_controller.specs.Machine.{Machine, OpensAtZero}
 use Rattle.osdp_controller.specs.Sessions.{frame_of, seen}
 use Rattle.osdp_controller.specs.Ticking.{Ticked, begins, stays, ticks_in}
@@ -34,11 +34,9 @@ quiet_sends state s w until p is =
 
 -- while the opening is outstanding its number is 0
 number_zero : (state : State) (number : ℕ) → OpensAtZero state number → exchange_in state ≡ Some Opening → number ≡ 0
-number_zero Closed number zero is = absurd cc
-number_zero (Quiet until) number zero is = absurd cc
-number_zero (Idle due) number zero is = absurd cc
 number_zero (Waiting until sends o) number zero is = zero (cc)
 number_zero (Pausing until o) number zero is = zero (cc)
+number_zero _ number zero is = absurd cc
 
 pub opens_by_id : (now : ℕ) (m : Machine) → OpensById now m
 opens_by_id now m = record {

@@ -128,11 +128,9 @@ placed_pausing count (Unreadable code) o s at same = placed_unread count o.excha
 
 placed_numbered : (count : ℕ) (state : State) (a : ReplyMeaning) (s : Session) → Placed count state s.number → Placed count s.state s.number
     → PlacedIn count (numbered_in state a s)
-placed_numbered count Closed a s at same = same
-placed_numbered count (Quiet until) a s at same = same
-placed_numbered count (Idle due) a s at same = same
 placed_numbered count (Waiting until sends o) a s at same = placed_waiting count a sends o s at.0 at.1 same
 placed_numbered count (Pausing until o) a s at same = placed_pausing count a o s at.1 same
+placed_numbered count _ a s at same = same
 
 placed_hears : (count : ℕ) (p : Packet) (now : ℕ) (s : Session) → Placed count s.state s.number → PlacedIn count (hears p now s)
 placed_hears count p now s at =
@@ -151,10 +149,7 @@ PlacedMachine count m = Placed count m.session.state m.session.number
 placed_begins : (count now : ℕ) (state : State) (m : Machine) → PlacedMachine count m
     → PlacedMachine (if is_closed state then 0 else count) (changed_unless (refused_unless_closed state) m (after_begin now m))
 placed_begins count now Closed m at = refl
-placed_begins count now (Quiet until) m at = at
-placed_begins count now (Idle due) m at = at
-placed_begins count now (Waiting until sends o) m at = at
-placed_begins count now (Pausing until o) m at = at
+placed_begins count now _ m at = at
 
 -- each call
 
@@ -176,17 +171,12 @@ placed_calls count (call ∷ calls) m at =
 
 closed_placed : (state : State) (count number : ℕ) → is_closed state ≡ true → Placed count state number
 closed_placed Closed count number h = tt
-closed_placed (Quiet until) count number h = cc
-closed_placed (Idle due) count number h = cc
-closed_placed (Waiting until sends o) count number h = cc
-closed_placed (Pausing until o) count number h = cc
+closed_placed _ count number h = cc
 
 place_of : (state : State) (count number : ℕ) → is_outstanding state ≡ true → Placed count state number → HasNumberOfPlace count number
-place_of Closed count number h at = cc
-place_of (Quiet until) count number h at = cc
-place_of (Idle due) count number h at = cc
 place_of (Waiting until sends o) count number h at = at.1
 place_of (Pausing until o) count number h at = at.1
+place_of _ count number h at = cc
 
 -- a frame has the number of the session after it, and its exchange is outstanding then
 
@@ -211,14 +201,10 @@ sends_as (Pausing until o) s w = either_way SendsAs (nat_le until s.greatest) (s
 
 pub sent_as : (call : Call) (m : Machine) (p : Packet) → sent_by call m ≡ Some p
     → (p.sequence ≡ (after_call call m).session.number) × (is_outstanding (after_call call m).session.state ≡ true)
-sent_as (Submit command) m p e = cc
-sent_as (Begin now) m p e = cc
-sent_as (Retarget address) m p e = cc
-sent_as Withdraw m p e = cc
 sent_as (Tick now) m p e =
     let t = ticks_in m.session.state (seen now m.session) m.waiting in
     subst (SentAs t) e (sends_as m.session.state (seen now m.session) m.waiting)
-sent_as (Hear q now) m p e = cc
+sent_as _ m p e = cc
 
 number_sent : (count n sequence : ℕ) → sequence ≡ n → HasNumberOfPlace count n → HasNumberOfPlace count sequence
 number_sent count n sequence e at = (at.0, at.1, e ∙ at.2)

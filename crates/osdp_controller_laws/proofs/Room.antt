@@ -271,11 +271,7 @@ ample_kept places bytes = record {
 first_fits : (places bytes : ℕ) (call : Call) (calls : List Call) → SubmitsFitting (call ∷ calls)
     → SubmitsFor (AreAmple places bytes) CommandFits call × SubmitsFitting calls
 first_fits places bytes (Submit command) calls fit = fit
-first_fits places bytes (Begin now) calls fit = (tt, fit)
-first_fits places bytes (Retarget address) calls fit = (tt, fit)
-first_fits places bytes Withdraw calls fit = (tt, fit)
-first_fits places bytes (Tick now) calls fit = (tt, fit)
-first_fits places bytes (Hear p now) calls fit = (tt, fit)
+first_fits places bytes _ calls fit = (tt, fit)
 
 ample_stays : (places bytes : ℕ) (m : Machine) (calls : List Call) → SubmitsFitting calls → AreAmple places bytes m.waiting m.capacity m.room
     → let n = after_calls calls m in AreAmple places bytes n.waiting n.capacity n.room

@@ -98,11 +98,9 @@ either_sender : (p : Packet) (now : ℕ) (s : Session) → by_number p now s ≡
 either_sender p now s e = by_tests p now s ∙ either_number (is_from_reader p s) (by_number p now s) (ignores (seen now s)) e
 
 ignored_in : (state : State) (a : ReplyMeaning) (s : Session) → is_outstanding state ≡ false → numbered_in state a s ≡ ignores s
-ignored_in Closed a s h = refl
-ignored_in (Quiet until) a s h = refl
-ignored_in (Idle due) a s h = refl
 ignored_in (Waiting until sends o) a s h = cc
 ignored_in (Pausing until o) a s h = cc
+ignored_in _ a s h = refl
 
 not_outstanding : (p : Packet) (now : ℕ) (s : Session) → is_outstanding s.state ≡ false → hears p now s ≡ ignores (seen now s)
 not_outstanding p now s h =

@@ -50,22 +50,16 @@ counts_sends now s w = record {
 
 front_in : (state : State) (s : Session) (w : List Command) (command : Command) (rest : List Command) → is_idle state ≡ true → w ≡ command ∷ rest
     → (exchange_in (ticks_in state s w).session.state ≡ Some (Asking command)) × ((ticks_in state s w).waiting ≡ rest)
-front_in Closed s w command rest h e = cc
-front_in (Quiet until) s w command rest h e = cc
 front_in (Idle due) s w command rest h e = rw e (refl, refl)
-front_in (Waiting until sends o) s w command rest h e = cc
-front_in (Pausing until o) s w command rest h e = cc
+front_in _ s w command rest h e = cc
 
 abbrev Polls : Ticked → Type 0
 Polls t = is_some t.step.frame ≡ true → exchange_in t.session.state ≡ Some Polling
 
 poll_in : (state : State) (s : Session) (w : List Command) → is_idle state ≡ true → w ≡ [] → Polls (ticks_in state s w)
-poll_in Closed s w h e = cc
-poll_in (Quiet until) s w h e = cc
 poll_in (Idle due) s w h e =
     rw e (either_way Polls (nat_le due s.greatest) (begins Polling (next_sequence s.number) s []) (stays s []) (λ b f. refl) (λ b f. cc))
-poll_in (Waiting until sends o) s w h e = cc
-poll_in (Pausing until o) s w h e = cc
+poll_in _ s w h e = cc
 
 stay_in : (state : State) (s : Session) (w : List Command) → is_idle state ≡ false → (ticks_in state s w).waiting ≡ w
 stay_in Closed s w h = refl

@@ -90,10 +90,7 @@ RestWaits wait h = is_idle h.session.state ≡ true → WaitsFor wait h.session
 
 not_idle : (state : State) → is_outstanding state ≡ true → is_idle state ≡ true → ⊥
 not_idle Closed out idle = cc
-not_idle (Quiet until) out idle = cc
-not_idle (Idle due) out idle = cc
-not_idle (Waiting until sends o) out idle = cc
-not_idle (Pausing until o) out idle = cc
+not_idle _ out idle = cc
 
 opening_waits : (id : Option PdId) (s : Session) → is_outstanding s.state ≡ true → RestWaits s.config.poll_interval (opening_answered id s)
 opening_waits (Some id) s out = λ idle. refl
@@ -136,11 +133,9 @@ pausing_waits (Plain reply) o s out = answered_waits o.exchange reply s out
 pausing_waits (Unreadable code) o s out = unread_waits o.exchange code s out
 
 numbered_waits : (state : State) (a : ReplyMeaning) (s : Session) → is_outstanding s.state ≡ true → RestWaits s.config.poll_interval (numbered_in state a s)
-numbered_waits Closed a s out = λ idle. absurd (not_idle s.state out idle)
-numbered_waits (Quiet until) a s out = λ idle. absurd (not_idle s.state out idle)
-numbered_waits (Idle due) a s out = λ idle. absurd (not_idle s.state out idle)
 numbered_waits (Waiting until sends o) a s out = waiting_waits a sends o s out
 numbered_waits (Pausing until o) a s out = pausing_waits a o s out
+numbered_waits _ a s out = λ idle. absurd (not_idle s.state out idle)
 
 rest_waits : (p : Packet) (now : ℕ) (s : Session) → is_outstanding s.state ≡ true → RestWaits s.config.poll_interval (hears p now s)
 rest_waits p now s out =
@@ -165,10 +160,7 @@ HeardDue wait m h = IsDueAfter wait (record m { session = h.session })
 begins_quiet : (state : State) (now : ℕ) (m : Machine) → is_closed state ≡ true
     → changed_unless (refused_unless_closed state) m (after_begin now m) ≡ after_begin now m
 begins_quiet Closed now m closed = refl
-begins_quiet (Quiet until) now m closed = cc
-begins_quiet (Idle due) now m closed = cc
-begins_quiet (Waiting until sends o) now m closed = cc
-begins_quiet (Pausing until o) now m closed = cc
+begins_quiet _ now m closed = cc
 
 pub waits_as_set : (now : ℕ) (m : Machine) → WaitsAsSet now m
 waits_as_set now m = record {

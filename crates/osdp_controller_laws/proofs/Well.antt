@@ -58,10 +58,7 @@ keeps_begin now Closed m is = record {
   waiting = is.waiting;
   room = is.room;
 }
-keeps_begin now (Quiet until) m is = is
-keeps_begin now (Idle due) m is = is
-keeps_begin now (Waiting until sends o) m is = is
-keeps_begin now (Pausing until o) m is = is
+keeps_begin now _ m is = is
 
 -- another address
 
@@ -74,11 +71,9 @@ same_outstanding : (c : ControllerConfig) (address sends : ℕ) (o : Outstanding
 same_outstanding c address sends o is = record { command = is.command; busies = is.busies; some = is.some; sent = is.sent }
 
 same_state : (c : ControllerConfig) (address : ℕ) (state : State) → IsState c state → IsState (record c { address = address }) state
-same_state c address Closed is = tt
-same_state c address (Quiet until) is = tt
-same_state c address (Idle due) is = tt
 same_state c address (Waiting until sends o) is = (is.0, is.1, same_outstanding c address sends o is.2)
 same_state c address (Pausing until o) is = same_outstanding c address 0 o is
+same_state c address _ is = tt
 
 pub keeps_config : (c : ControllerConfig) (address : ℕ) → address < 127 → IsConfig c → IsConfig (record c { address = address })
 keeps_config c address device is = search rules

@@ -51,9 +51,6 @@ over (b ∷ bytes) fits some =
     ap (λ (e : Bool). after_all (record { bytes = b ∷ bytes; ended = e }) (items true (b ∷ bytes))) (sym (some_ended b bytes))
     ∙ after_ended (items true (b ∷ bytes)) (b ∷ bytes) fits refl
 
-held_is : (held : Held) (ended : Bool) → held.ended ≡ ended → held ≡ record { bytes = held.bytes; ended = ended }
-held_is held ended is = (λ i. record { bytes = held.bytes; ended = is i })
-
 -- ---- moments
 
 no_less : (a b : ℕ) → 1 ≤ a → b ≡ 0 → nat_le a b ≡ false

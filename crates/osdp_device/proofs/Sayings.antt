@@ -8,7 +8,7 @@ use Rattle.osdp_frame.proofs.Spelled.{spelled_is}
 use Rattle.osdp_msg.specs.declared.command.Command.{Command}
 use Rattle.osdp_reader.specs.declared.handler.Answer.{Answer}
 use Rattle.osdp_reader.specs.declared.kind.Kind.{Kind}
-use Rattle.osdp_reader.specs.declared.kind.Kind.TheVariants.{Silent, Secured, Zero, Repeat, Taken, Busy, Wrong}
+use Rattle.osdp_reader.specs.declared.kind.Kind.TheVariants.{Silent, Zero, Taken}
 use Rattle.osdp_reader.specs.Spelled.{IsSpelled}
 use Rattle.osdp_reader.specs.State.{ReaderState}
 use Rattle.osdp_reader.specs.Table.{begun, command_in, hears, kind_of, outcome, taken}
@@ -22,12 +22,7 @@ bytes_are (Some p) bytes is = spelled_is p bytes is
 
 says : (k : Kind) (said : Said) → speaks k ≡ true → Some said ≡ unless_silent k said
 says Silent said speaks = absurd cc
-says Secured said speaks = refl
-says Zero said speaks = refl
-says Repeat said speaks = refl
-says Taken said speaks = refl
-says Busy said speaks = refl
-says Wrong said speaks = refl
+says _ said speaks = refl
 
 -- the command that is acted on is that of the packet, where its kind is one of those that act
 module _ {H : Type 0} (answer_of : H → Command → Answer) (after : H → Command → H) where
@@ -40,13 +35,9 @@ module _ {H : Type 0} (answer_of : H → Command → Answer) (after : H → Comm
   by_next (Ok command) r p = refl
 
   acts_on : (k : Kind) (r : ReaderState H) (p : Packet) → (outcome answer_of after k r p).command ≡ acted_on k (result_ok (command_in p))
-  acts_on Silent r p = refl
-  acts_on Secured r p = refl
   acts_on Zero r p = by_zero (command_in p) r p
-  acts_on Repeat r p = refl
   acts_on Taken r p = by_next (command_in p) r p
-  acts_on Busy r p = refl
-  acts_on Wrong r p = refl
+  acts_on _ r p = refl
 
 pub said_here : {H : Type 0} (answer_of : H → Command → Answer) (after : H → Command → H) (r : ReaderState H) (p : Packet) (k : Kind) (sent : List ℕ)
     → speaks (kind_of r p) ≡ true → k ≡ kind_of r p → IsSpelled (hears answer_of after r p).reply sent
@@ -60,22 +51,12 @@ said_here answer_of after r p k sent speaks kind reply =
 -- A silent reader says nothing, and stays as it is.
 says_nothing : (k : Kind) (said : Said) → speaks k ≡ false → None ≡ unless_silent k said
 says_nothing Silent said silent = refl
-says_nothing Secured said silent = absurd cc
-says_nothing Zero said silent = absurd cc
-says_nothing Repeat said silent = absurd cc
-says_nothing Taken said silent = absurd cc
-says_nothing Busy said silent = absurd cc
-says_nothing Wrong said silent = absurd cc
+says_nothing _ said silent = absurd cc
 
 module _ {H : Type 0} (answer_of : H → Command → Answer) (after : H → Command → H) where
   stays_by : (k : Kind) (r : ReaderState H) (p : Packet) → speaks k ≡ false → r ≡ (outcome answer_of after k r p).reader
   stays_by Silent r p silent = refl
-  stays_by Secured r p silent = absurd cc
-  stays_by Zero r p silent = absurd cc
-  stays_by Repeat r p silent = absurd cc
-  stays_by Taken r p silent = absurd cc
-  stays_by Busy r p silent = absurd cc
-  stays_by Wrong r p silent = absurd cc
+  stays_by _ r p silent = absurd cc
 
   pub none_said : (part : RunItem) (r : ReaderState H) → is_answered r part ≡ false → None ≡ said_of answer_of after part r
   none_said (PacketItem p) r silent = says_nothing (kind_of r p) (said_to answer_of after r p) silent

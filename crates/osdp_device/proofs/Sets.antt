@@ -5,7 +5,7 @@ use Rattle.osdp_frame.specs.Packet.{Packet}
 use Rattle.osdp_frame.specs.Reading.{RunItem, PacketItem, SkippedItem, RefusedItem}
 use Rattle.osdp_frame.specs.Spelling.{spelling}
 use Rattle.osdp_msg.specs.declared.command.Command.{Command}
-use Rattle.osdp_msg.specs.declared.command.Command.TheVariants.{Poll, Id, Cap, LocalStatus, InputStatus, OutputStatus, ReaderStatus, Output, Led, Buzzer, Text, Comset, Maker}
+use Rattle.osdp_msg.specs.declared.command.Command.TheVariants.{Poll}
 use Rattle.osdp_msg.specs.declared.event.Event.{Event}
 use Rattle.osdp_msg.specs.declared.fault.MsgFault.{MsgFault}
 use Rattle.osdp_msg.specs.declared.reply.Reply.{Reply}
@@ -26,18 +26,7 @@ use Rattle.osdp_device.proofs.Sayings.{none_said, stays}
 -- a command that the reader doesn't answer by itself isn't one to which an event is told
 no_event : (config : ReaderConfig) (c : Command) (events : List Event) → own_reply config c ≡ None → event_for c events ≡ None
 no_event config Poll events e = absurd cc
-no_event config (Id kept) events e = refl
-no_event config (Cap kept) events e = refl
-no_event config LocalStatus events e = refl
-no_event config InputStatus events e = refl
-no_event config OutputStatus events e = refl
-no_event config ReaderStatus events e = refl
-no_event config (Output records) events e = refl
-no_event config (Led records) events e = refl
-no_event config (Buzzer b) events e = refl
-no_event config (Text t) events e = refl
-no_event config (Comset c) events e = refl
-no_event config (Maker m) events e = refl
+no_event config _ events e = refl
 
 module _ {H : Type 0} (answer_of : H → Command → Answer) (after : H → Command → H) where
   -- what is said to a packet by a line of the table
@@ -94,13 +83,9 @@ module _ {H : Type 0} (answer_of : H → Command → Answer) (after : H → Comm
 
   by_kind : (k : Kind) (r : ReaderState H) (p : Packet) (command : Command) → acted_on k (handled r.config (command_in p)) ≡ Some command
       → Says r command (said_by k r p)
-  by_kind kind.Silent r p command e = absurd cc
-  by_kind kind.Secured r p command e = absurd cc
   by_kind kind.Zero r p command e = by_zero (command_in p) r p command e
-  by_kind kind.Repeat r p command e = absurd cc
   by_kind kind.Taken r p command e = by_next (command_in p) r p command e
-  by_kind kind.Busy r p command e = absurd cc
-  by_kind kind.Wrong r p command e = absurd cc
+  by_kind _ r p command e = absurd cc
 
   by_item : (part : RunItem) (r : ReaderState H) (command : Command) → pending_at r part ≡ Some command → Says r command (said_of answer_of after part r)
   by_item (PacketItem p) r command e = by_kind (kind_of r p) r p command e
@@ -176,21 +161,17 @@ module _ {H : Type 0} (answer_of : H → Command → Answer) (after : H → Comm
 
   kind_alone : (k : Kind) (r : ReaderState H) (h : H) (p : Packet) → acted_on k (handled r.config (command_in p)) ≡ None
       → said_by k (after_set_handler h r) p ≡ said_by k r p
-  kind_alone kind.Silent r h p e = refl
-  kind_alone kind.Secured r h p e = refl
   kind_alone kind.Zero r h p e = (λ i. Some (record {
     kind = kind.Zero;
     command = zero_command (command_in p) r h p i;
     bytes = zero_alone (command_in p) r h p e i;
   }))
-  kind_alone kind.Repeat r h p e = refl
   kind_alone kind.Taken r h p e = (λ i. Some (record {
     kind = kind.Taken;
     command = next_command (command_in p) r h p i;
     bytes = next_alone (command_in p) r h p e i;
   }))
-  kind_alone kind.Busy r h p e = refl
-  kind_alone kind.Wrong r h p e = refl
+  kind_alone _ r h p e = refl
 
   item_alone : (part : RunItem) (r : ReaderState H) (h : H) → pending_at r part ≡ None
       → said_of answer_of after part (after_set_handler h r) ≡ said_of answer_of after part r
@@ -205,12 +186,7 @@ module _ {H : Type 0} (answer_of : H → Command → Answer) (after : H → Comm
 
   kind_some : (k : Kind) (r : ReaderState H) (p : Packet) → speaks k ≡ true → (w : Said) × (said_by k r p ≡ Some w)
   kind_some kind.Silent r p e = absurd cc
-  kind_some kind.Secured r p e = (_, refl)
-  kind_some kind.Zero r p e = (_, refl)
-  kind_some kind.Repeat r p e = (_, refl)
-  kind_some kind.Taken r p e = (_, refl)
-  kind_some kind.Busy r p e = (_, refl)
-  kind_some kind.Wrong r p e = (_, refl)
+  kind_some _ r p e = (_, refl)
 
   item_some : (part : RunItem) (r : ReaderState H) → is_answered r part ≡ true → (w : Said) × (said_of answer_of after part r ≡ Some w)
   item_some (PacketItem p) r e = kind_some (kind_of r p) r p e
@@ -263,12 +239,8 @@ module _ {H : Type 0} (answer_of : H → Command → Answer) (after : H → Comm
 
   kind_stored : (k : Kind) (r : ReaderState H) (p : Packet) → Stored r (said_by k r p)
   kind_stored kind.Silent r p said e is = absurd cc
-  kind_stored kind.Secured r p said e is = absurd (not_repeat _ said (λ f. absurd cc) e is)
-  kind_stored kind.Zero r p said e is = absurd (not_repeat _ said (λ f. absurd cc) e is)
   kind_stored kind.Repeat r p said e is = sym (ap (λ x. x.bytes) (told_is _ said e))
-  kind_stored kind.Taken r p said e is = absurd (not_repeat _ said (λ f. absurd cc) e is)
-  kind_stored kind.Busy r p said e is = absurd (not_repeat _ said (λ f. absurd cc) e is)
-  kind_stored kind.Wrong r p said e is = absurd (not_repeat _ said (λ f. absurd cc) e is)
+  kind_stored _ r p said e is = absurd (not_repeat _ said (λ f. absurd cc) e is)
 
   item_stored : (part : RunItem) (r : ReaderState H) → Stored r (said_of answer_of after part r)
   item_stored (PacketItem p) r = kind_stored (kind_of r p) r p

@@ -1,7 +1,7 @@
 //! What a device comes to whose user asks it again and again, and when a run that is over is read. The functions do
 //! nothing: their contracts are laws, and hold whatever the handler does.
 
-ghost use Rattle.std.specs.Prelude.{◌≡◌, ℕ, ◌<◌, ◌≤◌, List, [], ◌++◌, length, None, Some};
+ghost use Rattle.std.specs.Prelude.{◌≡◌, ◌↔◌, ℕ, ◌<◌, ◌≤◌, List, [], ◌++◌, length, None, Some, true};
 ghost use Rattle.osdp_frame.specs.Bytes.{AreBytes};
 ghost use Rattle.osdp_frame.specs.Held.{Held};
 ghost use Rattle.osdp_reader.specs.State.{ReaderState};
@@ -18,7 +18,8 @@ ghost use Rattle.osdp_msg.specs.declared.command.Command.{Command};
 ghost use Rattle.osdp_msg.specs.declared.reply.Reply.{Reply};
 ghost use Rattle.osdp_frame.specs.Packet.{Packet};
 ghost use Rattle.osdp_reader.specs.Table.{hears};
-ghost use Rattle.osdp_device.specs.Orders.{is_nak, is_refusal};
+ghost use Rattle.osdp_device.specs.Orders.{is_nak, is_refusal, order_of, ordered_in};
+ghost use Rattle.osdp_device.specs.declared.order.Order.TheVariants.{Refused};
 ghost use Rattle.osdp_device.specs.AgesLaws.{ArrivesWithItsMoment, BeginsWithNone, LeavesWithItsMoment, StaysWithItsMoment, TellsAges};
 
 use osdp_reader::Handler;
@@ -72,8 +73,11 @@ pub fn runs_are_read_at_their_end<H: Handler>()
 /// Where a reader answers a packet anew, what it sends is a NAK by its sixth byte exactly where the reply is one. So a command is told as
 /// refused where the reader has refused it, and nowhere else.
 pub fn refusals_are_naks<H: Handler>()
-    ensures { (r : ReaderState H) (p : Packet) (reply : Reply) → (hears H.answer_of H.after r p).said ≡ Some reply
+    ensures code { (r : ReaderState H) (p : Packet) (reply : Reply) → (hears H.answer_of H.after r p).said ≡ Some reply
         → is_nak (said_to H.answer_of H.after r p).bytes ≡ is_refusal reply }
+    ensures told { (r : ReaderState H) (p : Packet) (reply : Reply) (command : Command) → (hears H.answer_of H.after r p).said ≡ Some reply
+        → ordered_in (said_to H.answer_of H.after r p) ≡ Some command
+        → (order_of (said_to H.answer_of H.after r p) ≡ Refused) ↔ (is_refusal reply ≡ true) }
 {}
 
 /// What is said to a pending command is what the device's program has set for it, and what its status tells where nothing was set. Before that

@@ -1,7 +1,7 @@
 -- What is kept of the first item is enough to show it.
 use Rattle.std.specs.Prelude.{nat_lt, ◌==◌}
 use Rattle.std.proofs.Common.{◌≡◌, ℕ, ◌-◌, ◌/◌, ◌%◌, ◌≤◌, Bool, false, List, [], ◌∷◌, ◌++◌, length, take, drop, get_or, Option, Some, None, true, cond, ltb, refl, sym, ap, subst, ◌∙◌, arith}
-use Rattle.std.proofs.lemmas.List.{length-drop, length-take, take-append-le, drop-append-le, take-append-drop, get_or_append_left, length-append, take_at}
+use Rattle.std.proofs.lemmas.List.{length-drop, take-append-le, drop-append-le, take-append-drop, get_or_append_left, length-append, take_at}
 use Rattle.osdp_frame.specs.declared.first.First.{First}
 use Rattle.osdp_frame.specs.declared.first.First.TheVariants as kept
 use Rattle.osdp_frame.specs.Bytes.{AreBytes}
@@ -20,12 +20,6 @@ use Rattle.osdp_frame.proofs.Spelled.{length-spelled}
 -- a packet that is decided is one
 pub packet_decided : (ended : Bool) (bytes : List ℕ) (p : Packet) → AreBytes bytes → Some (PacketItem p) ≡ decided ended bytes → IsPacket p
 packet_decided ended bytes p fits is = (stands_first ended bytes (PacketItem p) (first_decided ended bytes (PacketItem p) fits (sym is))).spelled.fits
-
--- it has as many bytes as are kept
-pub packet_length-kept : (count : ℕ) (rest : List ℕ) → PacketFits rest count → packet_length (packet_at rest) ≡ count
-packet_length-kept count rest fits =
-    let m = count_at rest - check_size (check_at rest) in
-    omega (arith, length-take (m - 5) (drop 5 rest), length-drop 5 rest, fits.0, fits.1, fits.2)
 
 -- with more after it, it stays the same packet
 packet_at-append : (rest more : List ℕ) → PacketFits rest (count_at rest) → packet_at (rest ++ more) ≡ packet_at rest

@@ -208,11 +208,6 @@ Spells-packet_at rest h checked =
       whole = checked ∙ ap (λ l. l ++ check_of (check_at rest) l) (sym front-is) ∙ ap (λ k. front (packet_at rest) k ++ check_of (check_at rest) (front (packet_at rest) k)) (sym size);
     }
 
-pub packet_length-packet_at : (rest : List ℕ) → IsHead rest → packet_length (packet_at rest) ≡ count_at rest
-packet_length-packet_at rest h =
-    let m = count_at rest - check_size (check_at rest) in
-    omega (arith, length-take (m - 5) (drop 5 rest), length-drop 5 rest, h.there, h.not_short)
-
 pub Begins-packet_at : (rest more : List ℕ) → IsHead rest → IsChecked rest → Begins (packet_at rest) (rest ++ more)
 Begins-packet_at rest more h checked = record {
   bytes = take (count_at rest) rest;

@@ -4,7 +4,7 @@ use Rattle.std.proofs.lemmas.List.{length-append, take_at}
 use Rattle.osdp_frame.specs.declared.check_kind.CheckKind.{CheckKind}
 use Rattle.osdp_frame.specs.declared.check_kind.CheckKind.TheVariants.{Sum, Crc}
 use Rattle.osdp_frame.specs.Check.{check_of, check_size}
-use Rattle.osdp_frame.specs.Packet.{Packet, IsPacket, packet_length}
+use Rattle.osdp_frame.specs.Packet.{Packet, packet_length}
 use Rattle.osdp_frame.specs.Spelling.{Spells, spelling, front, address_byte, control_byte, crc_bit}
 
 pub length-check_of : (check : CheckKind) (bytes : List ℕ) → length (check_of check bytes) ≡ check_size check
@@ -23,18 +23,9 @@ length-spelled p bytes s =
     let n = length bytes in
     ap length s.whole ∙ (let e : length (front p n ++ check_of p.check (front p n)) ≡ packet_length p = omega (arith, length-checked p.check (front p n), length-front p n) in e)
 
-pub length-spelling : (p : Packet) → length (spelling p) ≡ packet_length p
-length-spelling p = omega (arith, length-checked p.check (front p (packet_length p)), length-front p (packet_length p))
-
 pub spelled_is : (p : Packet) (bytes : List ℕ) → Spells p bytes → bytes ≡ spelling p
 spelled_is p bytes s =
     s.whole ∙ ap (λ n. front p n ++ check_of p.check (front p n)) (length-spelled p bytes s)
-
-pub Spells-spelling : (p : Packet) → IsPacket p → Spells p (spelling p)
-Spells-spelling p fits = record {
-  fits = fits;
-  whole = ap (λ n. front p n ++ check_of p.check (front p n)) (sym (length-spelling p));
-}
 
 -- the fields that a byte holds are known by it
 pub same_address : (p q : Packet) → p.address < 128 → q.address < 128 → address_byte p ≡ address_byte q → (p.reply ≡ q.reply) × (p.address ≡ q.address)

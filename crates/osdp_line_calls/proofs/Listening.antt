@@ -1,9 +1,9 @@
 -- What is heard beside the bus: the lines of items, one after the other.
-use Rattle.std.proofs.Common.{◌≡◌, ℕ, ◌+◌, ◌<◌, Bool, true, false, List, [], ◌∷◌, ◌++◌, length, drop, Some, None, Result, Ok, Err, inl, inr, ◌≤◌, sym, ap, ◌∙◌, arith, append_assoc, append-nil}
+use Rattle.std.proofs.Common.{◌≡◌, ℕ, ◌+◌, ◌<◌, Bool, true, false, List, [], ◌∷◌, ◌++◌, length, drop, Some, Result, Ok, Err, inl, inr, ◌≤◌, sym, ap, ◌∙◌, arith, append_assoc, append-nil}
 use Rattle.std.specs.Prelude.{flat_map, slice_get, if◌then◌else◌, OnOk}
 use Rattle.std.specs.Option.{option_map_or}
 use Rattle.std.proofs.lemmas.Option.{slice_get_cases}
-use Rattle.std.proofs.lemmas.List.{drop_all, drop_more}
+use Rattle.std.proofs.lemmas.List.{drop_more}
 use Rattle.std.proofs.lemmas.Grind.{flat_map-append}
 use Rattle.osdp_frame.specs.Items.{items, rest_of}
 use Rattle.osdp_frame.specs.Reading.{RunItem}
@@ -66,6 +66,3 @@ found test ds i within is = first_step test ds i within ∙ ap (λ (b : Bool). i
 pub not_found : (test : Entry → Bool) (ds : List Entry) (i : ℕ) → i < length ds → option_map_or test (slice_get ds i) false ≡ false
     → first_from i test (drop i ds) ≡ first_from (i + 1) test (drop (i + 1) ds)
 not_found test ds i within is = first_step test ds i within ∙ ap (λ (b : Bool). if b then Some i else first_from (i + 1) test (drop (i + 1) ds)) is
-
-pub first_past : (test : Entry → Bool) (ds : List Entry) (i : ℕ) → length ds ≤ i → first_from i test (drop i ds) ≡ None
-first_past test ds i past = ap (first_from i test) (drop_all i ds past)

@@ -5,7 +5,7 @@ use Rattle.std.proofs.lemmas.Bool.{eq-eqb, false≢true}
 use Rattle.osdp_controller.specs.declared.exchange.Exchange.TheVariants.{Opening}
 use Rattle.osdp_controller.specs.declared.exchange.Outstanding.{Outstanding}
 use Rattle.osdp_controller.specs.declared.meaning.ReplyMeaning.{ReplyMeaning}
-use Rattle.osdp_controller.specs.declared.meaning.ReplyMeaning.TheVariants.{NotTaken, Damaged, NumberRefused, Plain, Unreadable}
+use Rattle.osdp_controller.specs.declared.meaning.ReplyMeaning.TheVariants.{Plain, Unreadable}
 use Rattle.osdp_controller.specs.declared.session.Session.{Session}
 use Rattle.osdp_controller.specs.declared.state.State.{State}
 use Rattle.osdp_controller.specs.declared.state.State.TheVariants.{Closed, Quiet, Idle, Waiting, Pausing}
@@ -28,11 +28,9 @@ use Rattle.osdp_line_calls.specs.PassingLaws.{IsNotOpenIn, IsPassedOver}
 
 -- what an opening does nothing on
 abbrev Passes : ReplyMeaning → Type 0
-Passes NotTaken = ⊥
-Passes Damaged = ⊥
-Passes NumberRefused = ⊥
 Passes (Plain reply) = pd_id_of reply ≡ None
 Passes (Unreadable code) = Unit {0}
+Passes _ = ⊥
 
 passes_reason : (reason : NakReason) (nak : NakData) → acts_on_reason reason ≡ false → Passes (meaning_by_reason reason nak)
 passes_reason CheckCharacters nak isnt = absurd (false≢true (sym isnt))
@@ -48,18 +46,14 @@ passes_reply other isnt = refl
 -- ---- what is told is passed over
 
 passes_waiting : (m : ReplyMeaning) → Passes m → (sends : ℕ) (o : Outstanding) (s : Session) → o.exchange ≡ Opening → waiting_hears m sends o s ≡ ignores s
-passes_waiting NotTaken isnt sends o s opens = absurd isnt
-passes_waiting Damaged isnt sends o s opens = absurd isnt
-passes_waiting NumberRefused isnt sends o s opens = absurd isnt
 passes_waiting (Plain reply) none sends o s opens = ap (λ x. answered x reply s) opens ∙ ap (λ id. opening_answered id s) none
 passes_waiting (Unreadable code) none sends o s opens = ap (λ x. answered_unread x code s) opens
+passes_waiting _ isnt sends o s opens = absurd isnt
 
 passes_pausing : (m : ReplyMeaning) → Passes m → (o : Outstanding) (s : Session) → o.exchange ≡ Opening → pausing_hears m o s ≡ ignores s
-passes_pausing NotTaken isnt o s opens = absurd isnt
-passes_pausing Damaged isnt o s opens = absurd isnt
-passes_pausing NumberRefused isnt o s opens = absurd isnt
 passes_pausing (Plain reply) none o s opens = ap (λ x. answered x reply s) opens ∙ ap (λ id. opening_answered id s) none
 passes_pausing (Unreadable code) none o s opens = ap (λ x. answered_unread x code s) opens
+passes_pausing _ isnt o s opens = absurd isnt
 
 either_way : (b : Bool) (first second : Heard) → first ≡ second → (if b then first else second) ≡ second
 either_way true first second same = same

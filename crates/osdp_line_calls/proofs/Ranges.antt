@@ -78,16 +78,11 @@ capability_in_range false r d e is h = absurd (none_some e is)
 
 pub put_in_range : (s : ReaderSetting) (r e : ReaderSettings) → SettingFits of_reader.entry s → of_reader.put s r ≡ Some e → of_reader.AreInRange r → of_reader.AreInRange e
 put_in_range (reader.At address) r e fits is h = subst of_reader.AreInRange (some_same _ e is) (record { address = fits; room = h.room; gap = h.gap; expire = h.expire })
-put_in_range (reader.Vendor vendor) r e fits is h = subst of_reader.AreInRange (some_same _ e is) (record { address = h.address; room = h.room; gap = h.gap; expire = h.expire })
-put_in_range (reader.Model n) r e fits is h = subst of_reader.AreInRange (some_same _ e is) (record { address = h.address; room = h.room; gap = h.gap; expire = h.expire })
-put_in_range (reader.Version n) r e fits is h = subst of_reader.AreInRange (some_same _ e is) (record { address = h.address; room = h.room; gap = h.gap; expire = h.expire })
-put_in_range (reader.Serial n) r e fits is h = subst of_reader.AreInRange (some_same _ e is) (record { address = h.address; room = h.room; gap = h.gap; expire = h.expire })
-put_in_range (reader.Firmware ns) r e fits is h = subst of_reader.AreInRange (some_same _ e is) (record { address = h.address; room = h.room; gap = h.gap; expire = h.expire })
 put_in_range (reader.Cap ns) r e fits is h = capability_in_range _ r _ e is (record { address = h.address; room = h.room; gap = h.gap; expire = h.expire })
 put_in_range (reader.Room n) r e fits is h = subst of_reader.AreInRange (some_same _ e is) (record { address = h.address; room = fits; gap = h.gap; expire = h.expire })
 put_in_range (reader.Gap n) r e fits is h = subst of_reader.AreInRange (some_same _ e is) (record { address = h.address; room = h.room; gap = fits; expire = h.expire })
 put_in_range (reader.Expire n) r e fits is h = subst of_reader.AreInRange (some_same _ e is) (record { address = h.address; room = h.room; gap = h.gap; expire = fits })
-put_in_range (reader.Presence told) r e fits is h = subst of_reader.AreInRange (some_same _ e is) (record { address = h.address; room = h.room; gap = h.gap; expire = h.expire })
+put_in_range _ r e fits is h = subst of_reader.AreInRange (some_same _ e is) (record { address = h.address; room = h.room; gap = h.gap; expire = h.expire })
 
 -- what is set without settings
 pub bus_in_range : IsBusConfig panel.defaults.config

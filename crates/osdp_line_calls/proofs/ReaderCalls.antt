@@ -9,20 +9,10 @@ use Rattle.osdp_device.specs.Status.{status_after, status_answer}
 use Rattle.osdp_device.specs.declared.status.DeviceStatus.{DeviceStatus}
 use Rattle.osdp_device.proofs.Pieces.{all_read}
 use Rattle.osdp_frame.proofs.Receipt.{received_silence, received_tick}
-use Rattle.osdp_line_calls.specs.ReaderSessions.{Called, Comes, IsHeard, Session, heard, is_any, then_does}
+use Rattle.osdp_line_calls.specs.ReaderSessions.{Called, Comes, Session, heard, is_any, then_does}
 use Rattle.osdp_line_calls.specs.ReaderTexts.{all_lines}
 
 module _ {A E : Type 0} where
-  -- what was heard was written
-  pub comes_heard : (r : Result A E) (before after : List ℕ) (q : ReaderState DeviceStatus) (m : Received) (g : AgesState) (s : Session) (h : Heard DeviceStatus)
-      → OnOk r (IsHeard before after q m s.ages g h) → OnOk r (Comes before after (record s { reader = q; line = m; ages = g }) (heard h s))
-  comes_heard (Ok x) before after q m g s h is = record {
-    text = is.text;
-    session = (λ i. record s { reader = is.reader_is i; line = is.line_is i; ages = is.ages_is i });
-    read = is.read;
-  }
-  comes_heard (Err e) before after q m g s h is = tt
-
   -- all that is held was read, and what is said written
   pub comes_read : (r : Result A E) (before after : List ℕ) (q r1 : ReaderState DeviceStatus) (m l1 l2 : Received) (g a1 : AgesState) (s : Session)
       → OnOk r (after ≡ before ++ all_lines (reads_all status_answer status_after r1 l1).said)

@@ -16,15 +16,14 @@ use Rattle.osdp_msg.specs.declared.command_fields.MakerMessage.{MakerMessage}
 use Rattle.osdp_msg.specs.declared.reply_fields.Nak.{Nak}
 use Rattle.osdp_msg.specs.declared.reply_fields.PdId.{PdId}
 use Rattle.osdp_msg.specs.declared.command_fields.Text.{Text}
-use Rattle.osdp_msg.specs.declared.nak.NakReason.{NakReason}
 use Rattle.osdp_msg.specs.CommandFields.{BuzzerFits, buzzer_at, buzzer_data, buzzer_words, CommunicationFits, communication_words, MakerFits, maker_words, TextFits, text_words}
-use Rattle.osdp_msg.specs.NakReasons.{reason_number, reason_of}
+use Rattle.osdp_msg.specs.NakReasons.{reason_number}
 use Rattle.osdp_msg.specs.Raw.{RawCard, raw_card}
 use Rattle.osdp_msg.specs.ReplyFields.{FormattedFits, formatted_words, KeypadFits, keypad_words, LocalStateFits, local_state_at, local_state_data, local_state_words, NakFits, detail_words, nak_words, PdIdFits, pd_id_words, RawFits, raw_words}
 use Rattle.osdp_msg.specs.ReplyTable.{StatesFit}
 use Rattle.osdp_msg.proofs.Bytes.{IsBytes-cells, IsBytes-each, all_cells}
 use Rattle.osdp_msg.proofs.CommandRows.{buzzer_spells}
-use Rattle.osdp_msg.proofs.ReplyRows.{local_state_spells, reason_again, reason_back, reason_byte, reason_fits}
+use Rattle.osdp_msg.proofs.ReplyRows.{local_state_spells, reason_byte}
 use Rattle.osdp_msg.proofs.TakenParts.{AreNumbers, IsBelow, IsList, IsVendor, list_words, number_words, numbers_words, two_no_back, two_no_front, two_whole, vendor_words}
 
 pub buzzer_made : IsMadeOf numbers_words (AreNumbers 5) buzzer_words BuzzerFits buzzer_at buzzer_data
@@ -359,49 +358,6 @@ module _ (given mid : List (List ℕ)) where
   pub nak_no_reason : (r : Option Nak) → Takes number_words (IsBelow (2 ^ 8)) given mid None → r ≡ None → ReadsWords nak_words NakFits given r
   nak_no_reason r t e = rw e record { value = tt; only = λ n fits stands. let found = (nak_front n None fits stands t).0 in cc found }
 
-  -- the reason that was read
-  reason_same : (k : ℕ) (n : Nak) → NakFits n → Some k ≡ Some (reason_number n.reason) → reason_of k ≡ n.reason
-  reason_same k n fits e = let same : k ≡ reason_number n.reason = cc e in ap reason_of same ∙ reason_again n.reason fits.reason
-
-  value_of : (k : ℕ) → Takes number_words (IsBelow (2 ^ 8)) given mid (Some k) → (first : List (List ℕ)) × (given ≡ first ++ mid) × AllStandFor (number k ∷ []) first × (k < 2 ^ 8)
-  value_of k t = t.value
-
-  -- the words of the reason, and those after
-  stand_reason : (k : ℕ) (ws : List Word) → Takes number_words (IsBelow (2 ^ 8)) given mid (Some k) → AllStandFor ws mid → AllStandFor (number k ∷ ws) given
-  stand_reason k ws t h = front (t.value.0) t.value.1 t.value.2
-    where
-      front : (first : List (List ℕ)) → given ≡ first ++ mid → AllStandFor (number k ∷ []) first → AllStandFor (number k ∷ ws) given
-      front [] e s = absurd s
-      front (g ∷ []) e s = rw e (s.0, h)
-      front (g ∷ x ∷ gs) e s = absurd s.1
-
-  -- a NAK with the detail of those words
-  nak_read : (k : ℕ) (detail : ArrayVec ℕ) → Takes number_words (IsBelow (2 ^ 8)) given mid (Some k) → AllStandFor (detail_words detail.items) mid
-      → length detail.items ≤ 1431 → IsBytes detail.items
-      → ((n : Nak) → NakFits n → AllStandFor (detail_words n.detail.items) mid → n.detail ≡ detail)
-      → ReadsWords nak_words NakFits given (Some (record { reason = reason_of k; detail = detail }))
-  nak_read k detail t stands room fits one = record {
-    value = (
-      subst (λ (number_is : ℕ). AllStandFor (number number_is ∷ detail_words detail.items) given) (sym (reason_back k)) (stand_reason k (detail_words detail.items) t stands),
-      record { reason = reason_fits k t.value.3; room = room; detail = fits },
-    );
-    only = λ n n_fits n_stands.
-        let front = nak_front n (Some k) n_fits n_stands t in
-        let reason = reason_same k n n_fits front.0 in
-        let same = one n n_fits front.1 in
-        ap (λ (x : NakReason). let made : Nak = record { reason = x; detail = detail } in Some made) reason
-        ∙ ap (λ (d : ArrayVec ℕ). let made : Nak = record { reason = n.reason; detail = d } in Some made) (sym same);
-  }
-
-  none_after : (d : List ℕ) → AllStandFor (detail_words d) [] → d ≡ []
-  none_after [] h = refl
-  none_after (b ∷ bs) h = absurd h
-
-  pub nak_alone : (k : ℕ) (r : Option Nak) → Takes number_words (IsBelow (2 ^ 8)) given mid (Some k) → mid ≡ []
-      → r ≡ Some (record { reason = reason_of k; detail = record { items = [] } }) → ReadsWords nak_words NakFits given r
-  nak_alone k r t end e =
-      rw e (nak_read k (record { items = [] }) t (rw end tt) (omega arith) (λ i. omega arith) (λ n fits stands. ap (λ (xs : List ℕ). let made : ArrayVec ℕ = record { items = xs } in made) (none_after n.detail.items (rw end at stands))))
-
   -- the detail that was read
   detail_found : (d : List ℕ) (r : Option (ArrayVec ℕ)) (left : List (List ℕ)) → (mid ≡ [] → ⊥) → length d ≤ 1431 → IsBytes d → AllStandFor (detail_words d) mid
       → Takes list_words (IsList 1431) mid left r → (r ≡ Some (record { items = d })) × (left ≡ []) × (0 < length d)
@@ -422,35 +378,3 @@ module _ (given mid : List (List ℕ)) where
         let found = detail_found n.detail.items None left more fits.room fits.detail (nak_front n (Some k) fits stands t).1 u in
         cc (found.0);
   }
-
-  pub nak_not_whole : (k : ℕ) (left : List (List ℕ)) (detail : ArrayVec ℕ) → Takes number_words (IsBelow (2 ^ 8)) given mid (Some k) → (mid ≡ [] → ⊥)
-      → Takes list_words (IsList 1431) mid left (Some detail) → (left ≡ [] → 0 < length detail.items → ⊥) → ReadsWords nak_words NakFits given None
-  nak_not_whole k left detail t more u not = record {
-    value = tt;
-    only = λ n fits stands.
-        let found = detail_found n.detail.items (Some detail) left more fits.room fits.detail (nak_front n (Some k) fits stands t).1 u in
-        let same : detail ≡ n.detail = some_list detail n.detail found.0 in
-        absurd (not found.1 (subst (λ (d : ArrayVec ℕ). 0 < length d.items) (sym same) found.2));
-  }
-    where
-      some_list : (a b : ArrayVec ℕ) → Some a ≡ Some b → a ≡ b
-      some_list a b e = cc
-
-  pub nak_whole : (k : ℕ) (left : List (List ℕ)) (detail : ArrayVec ℕ) → Takes number_words (IsBelow (2 ^ 8)) given mid (Some k) → (mid ≡ [] → ⊥)
-      → Takes list_words (IsList 1431) mid left (Some detail) → left ≡ [] → 0 < length detail.items
-      → ReadsWords nak_words NakFits given (Some (record { reason = reason_of k; detail = detail }))
-  nak_whole k left detail t more u end some =
-      nak_read k detail t (stand_detail detail.items some v.2) v.3.0 v.3.1 (λ n fits stands. some_list n.detail detail ((detail_found n.detail.items (Some detail) left more fits.room fits.detail stands u).0))
-    where
-      v : (first : List (List ℕ)) × (mid ≡ first ++ left) × AllStandFor (bytes detail.items ∷ []) first × IsList 1431 detail
-      v = u.value
-
-      whole : mid ≡ v.0
-      whole = v.1 ∙ ap (λ (rest : List (List ℕ)). v.0 ++ rest) end ∙ append-nil v.0
-
-      stand_detail : (d : List ℕ) → 0 < length d → AllStandFor (bytes d ∷ []) v.0 → AllStandFor (detail_words d) mid
-      stand_detail [] short h = absurd (omega arith)
-      stand_detail (b ∷ bs) long h = rw whole h
-
-      some_list : (a b : ArrayVec ℕ) → Some b ≡ Some a → a ≡ b
-      some_list a b e = cc

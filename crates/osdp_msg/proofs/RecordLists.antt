@@ -1,9 +1,9 @@
 -- Lists of records of one size.
-use Rattle.std.proofs.Common.{◌≡◌, ◌<◌, ◌≤◌, inl, inr, ℕ, zero, suc, ◌+◌, ◌-◌, ◌*◌, ◌/◌, ◌%◌, List, [], ◌∷◌, ◌++◌, length, drop, refl, sym, ap, ◌∙◌, append_assoc, arith}
+use Rattle.std.proofs.Common.{◌≡◌, ◌<◌, ◌≤◌, inl, inr, ℕ, zero, suc, ◌+◌, ◌-◌, ◌*◌, ◌/◌, ◌%◌, List, [], ◌∷◌, ◌++◌, length, drop, refl, sym, ap, ◌∙◌, arith}
 use Rattle.std.specs.List.{All, flat_map}
-use Rattle.std.proofs.lemmas.List.{append-nil, drop_at, length-append, length-drop, nil_from_length}
+use Rattle.std.proofs.lemmas.List.{drop_at, length-append, length-drop, nil_from_length}
 use Rattle.std.proofs.lemmas.List.Concat.{flat_map-cons}
-use Rattle.std.proofs.Math.Nat.{add-div_left, div-add-mod, div-lt_iff_lt-mul, mul-div-le, mul-div_cancel_left, mul-le-mul_left, mul-mod_right, mul-suc}
+use Rattle.std.proofs.Math.Nat.{add-div_left, div-add-mod, div-lt_iff_lt-mul, mul-div_cancel_left, mul-le-mul_left, mul-mod_right, mul-suc}
 use Rattle.std.proofs.lemmas.Bool.{cases_lt}
 use Rattle.std.proofs.lemmas.List.Elements.{All-cons, All-head, All-nil, All-tail}
 use Rattle.hex.specs.Hex.{IsBytes}
@@ -22,37 +22,6 @@ length-flat_map_size spelled size each (r ∷ rs) =
     let head = each r in
     let tail = length-flat_map_size spelled size each rs in
     ap length (flat_map-cons spelled r rs) ∙ length-append (spelled r) (flat_map spelled rs) ∙ omega (arith, head, tail, mul-suc size (length rs))
-
--- reading goes on after each record
-pub records_more : {R : Type 0} (first : List ℕ → R) (size n i : ℕ) (read : List R) (left : List ℕ) (all : List R)
-    → i < n → read ++ records_from first size (n - i) left ≡ all
-    → (read ++ (first left ∷ [])) ++ records_from first size (n - (i + 1)) (drop size left) ≡ all
-records_more first size n i read left all lt e =
-    let next : n - i ≡ suc (n - (i + 1)) = omega arith in
-    append_assoc read (first left ∷ []) (records_from first size (n - (i + 1)) (drop size left))
-    ∙ sym (ap (λ (k : ℕ). read ++ records_from first size k left) next)
-    ∙ e
-
-pub records_all : {R : Type 0} (first : List ℕ → R) (size n i : ℕ) (read : List R) (left : List ℕ) (all : List R)
-    → n ≤ i → read ++ records_from first size (n - i) left ≡ all → read ≡ all
-records_all first size n i read left all le e =
-    let none : n - i ≡ 0 = omega arith in
-    sym (append-nil read) ∙ sym (ap (λ (k : ℕ). read ++ records_from first size k left) none) ∙ e
-
--- where a record is left, its bytes are
-pub bytes_left : (size len i left : ℕ) → i < len / size → left + size * i ≡ len → size ≤ left
-bytes_left size len i left lt e =
-    let whole = mul-div-le len size in
-    let more : size * (i + 1) ≤ size * (len / size) = mul-le-mul_left size (omega arith) in
-    omega (arith, whole, more, e)
-
-pub room_left : (size len room i : ℕ) → zero < size → i < len / size → len < size * (room + 1) → i < room
-room_left size len room i some lt fits =
-    let few = (div-lt_iff_lt-mul {k = size} {x = len} {y = room + 1} some).1 (omega (arith, fits)) in
-    omega arith
-
-pub next_left : (size len i left : ℕ) → i < len / size → left + size * i ≡ len → (left - size) + size * (i + 1) ≡ len
-next_left size len i left lt e = let enough = bytes_left size len i left lt e in omega (arith, enough, e)
 
 -- room for one more record of a message
 pub spelling_room : (size len i spelled : ℕ) → i < len → size * len ≤ 1432 → spelled ≡ suc (size * i) → spelled + size ≤ 1433

@@ -139,33 +139,4 @@ module _ {R : Type 0} (word : R → Word) (Fits : R → Type 0) (given : List (L
             let same : a ≡ list = s.1 ∙ ap (λ (rest : List R). list ++ rest) none ∙ append-nil list in
             ap Some (sym same);
       }
-
   -- ---- one record at least
-
-  abbrev pub SomeFit : ℕ → List R → Type 0
-  SomeFit room rs = (0 < length rs) × (length rs ≤ room) × All Fits rs
-
-  pub some_none : (room : ℕ) (r : Option (List R)) → ReadsWords list_word (ListFits room) given None → r ≡ None
-      → ReadsWords list_word (SomeFit room) given r
-  some_none room r h e = rw e record {
-    value = tt;
-    only = λ rs fits stands. let found = h.only rs (fits.1, fits.2) stands in cc found;
-  }
-
-  pub some_empty : (room : ℕ) (list : List R) → length list ≡ 0 → ReadsWords list_word (ListFits room) given (Some list)
-      → ReadsWords list_word (SomeFit room) given None
-  some_empty room list none h = record {
-    value = tt;
-    only = λ rs fits stands.
-        let found = h.only rs (fits.1, fits.2) stands in
-        let same : list ≡ rs = cc found in
-        let some = fits.0 in
-        absurd (omega (arith, none, ap length same));
-  }
-
-  pub some_read : (room : ℕ) (list : List R) → 0 < length list → ReadsWords list_word (ListFits room) given (Some list)
-      → ReadsWords list_word (SomeFit room) given (Some list)
-  some_read room list some h = record {
-    value = (h.value.0, (some, h.value.1.0, h.value.1.1));
-    only = λ rs fits stands. h.only rs (fits.1, fits.2) stands;
-  }

@@ -1,6 +1,6 @@
 -- A row of texts: a name, and the words of the fields after it.
 use Rattle.std.proofs.Common.{◌≡◌, ℕ, Bool, true, false, ◌&&◌, eqb, List, [], ◌∷◌, Option, Some, None, refl, sym, ap, subst, ◌∙◌}
-use Rattle.std.specs.Prelude.{IfSome, IsSomeAnd, MatchOption, option_map}
+use Rattle.std.specs.Prelude.{IfSome, option_map}
 use Rattle.std.proofs.lemmas.Bool.{eq-eqb, true≢false}
 use Rattle.osdp_words.specs.Reading.{ReadsWords}
 use Rattle.osdp_words.specs.Word.{AllStandFor, Word, plain}
@@ -67,14 +67,3 @@ pub made_row_read : {M X : Type 0} (name_of : M → List ℕ) (fields_of : M →
 made_row_read name_of fields_of Fits name make named only =
     row_read name_of fields_of Fits (λ x. fields_of (make x)) (λ x. Fits (make x)) name make
     (record { named = named; fields = λ x. refl; fits = λ x h. h; allowed = λ x h. h; only = only })
-
--- what maps a value that was read, by a call that gives the row's value of it, makes that value
-pub mapped_by : {X M : Type 0} (make : X → M) (made : X → M → Type 0) → ((x : X) (m : M) → made x m → m ≡ make x)
-    → (o : Option X) (r : Option M) → MatchOption o (r ≡ None) (λ x. IsSomeAnd r (made x)) → r ≡ option_map make o
-mapped_by make made same None r h = h
-mapped_by make made same (Some x) (Some m) h = ap Some (same x m h)
-mapped_by make made same (Some x) None h = absurd h
-
--- the same where the call is the variant itself
-pub mapped : {X M : Type 0} (make : X → M) (o : Option X) (r : Option M) → MatchOption o (r ≡ None) (λ x. IsSomeAnd r (λ m. m ≡ make x)) → r ≡ option_map make o
-mapped make = mapped_by make (λ x m. m ≡ make x) (λ x m e. e)

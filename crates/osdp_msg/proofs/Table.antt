@@ -10,7 +10,7 @@ use Rattle.osdp_msg.specs.declared.fault.MsgFault.TheVariants.{Length, Count}
 use Rattle.osdp_msg.specs.ListedCommands.{AreRecords, HasLength}
 use Rattle.osdp_msg.specs.Messages.{IsMessage}
 use Rattle.osdp_msg.specs.Refusal.{refusal, unless_fault}
-use Rattle.std.specs.Prelude.{IfOk, IfErr, IfSome}
+use Rattle.std.specs.Prelude.{IfOk, IfErr}
 use Rattle.hex.specs.Hex.{IsBytes}
 
 -- a code takes data without a fault: they stand for the value at them
@@ -169,9 +169,6 @@ pub unless_err : {M : Type 0} (o : Option MsgFault) (x : M) (f : MsgFault) → (
 unless_err None x f = (λ e. absurd cc, λ e. absurd cc)
 unless_err (Some g) x f = (λ e. cc, λ e. cc)
 
-never_both : (o : Option MsgFault) (f : MsgFault) → Some f ≡ o → o ≡ None → ⊥
-never_both o f some none = cc
-
 module _ {M : Type 0} {Is : ℕ → List ℕ → M → Type 0} {fault : ℕ → List ℕ → Option MsgFault} {value_at : ℕ → List ℕ → M} (table : IsTable Is fault value_at) where
   pub found : (code : ℕ) (bytes : List ℕ) (m : M) → Is code bytes m → unless_fault (fault code bytes) (value_at code bytes) ≡ Ok m
   found code bytes m is = rw (table.well code bytes m is, table.again code bytes m is) refl
@@ -190,14 +187,3 @@ module _ {M : Type 0} {Is : ℕ → List ℕ → M → Type 0} {fault : ℕ → 
       → IfOk r (Is code bytes) × IfErr r (λ f. fault code bytes ≡ Some f) × ((m : M) → Is code bytes m → r ≡ Ok m)
   reads code bytes (Ok m) fits e = ((reading code bytes m fits).0 (sym e), tt, λ n is. e ∙ found code bytes n is)
   reads code bytes (Err f) fits e = (tt, (unless_err (fault code bytes) (value_at code bytes) f).0 (sym e), λ n is. e ∙ found code bytes n is)
-
-  -- a place where a call put the value of data without a fault has a value that stands there, and each value that stands there
-  pub placed_stands : (code : ℕ) (bytes : List ℕ) (o : Option M) → IsBytes bytes → fault code bytes ≡ None → o ≡ Some (value_at code bytes) → IfSome o (Is code bytes)
-  placed_stands code bytes o fits well e = rw e (table.takes code bytes fits well)
-
-  pub only_placed : (code : ℕ) (bytes : List ℕ) (o : Option M) → o ≡ Some (value_at code bytes) → (m : M) → Is code bytes m → o ≡ Some m
-  only_placed code bytes o e m is = e ∙ ap Some (table.again code bytes m is)
-
-  -- what has a fault stands for no value
-  pub none_stands : (code : ℕ) (bytes : List ℕ) (f : MsgFault) → Some f ≡ fault code bytes → (m : M) → Is code bytes m → ⊥
-  none_stands code bytes f e m is = never_both (fault code bytes) f e (table.well code bytes m is)

@@ -32,9 +32,6 @@ use Rattle.osdp_msg.proofs.ReplyRows.{reason_again, reason_byte}
 abbrev pub AreSmall : List ℕ → Type 0
 AreSmall ns = AllByRecursion (λ n. n < 2 ^ 64) ns
 
-wide : (n limit : ℕ) → limit ≤ 2 ^ 32 → n < limit → n < 2 ^ 64
-wide n limit le h = omega arith
-
 pub byte : (n : ℕ) → n < 256 → n < 2 ^ 64
 byte n h = omega arith
 

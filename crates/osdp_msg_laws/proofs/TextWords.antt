@@ -1,10 +1,9 @@
 -- The words of messages are words that a text can hold.
 use Rattle.std.proofs.Common.{◌≡◌, ◌<◌, ℕ, Bool, true, false, not, eqb, ◌&&◌, List, [], ◌∷◌, ◌++◌, length, map, refl, sym, ap, subst, ◌∙◌, arith}
-use Rattle.std.specs.List.{All, slice_split}
+use Rattle.std.specs.List.{slice_split}
 use Rattle.std.specs.Str.Iter.{LacksByte}
 use Rattle.std.proofs.lemmas.Bool.{eqb-false}
-use Rattle.std.proofs.lemmas.List.Elements.{All-head, All-tail}
-use Rattle.osdp_words.specs.Word.{AllStandFor, AreWords, IsWord, Word, number, numbers, plain, printed, text_of}
+use Rattle.osdp_words.specs.Word.{AllStandFor, AreWords, IsWord, Word, numbers, plain, printed, text_of}
 use Rattle.osdp_words.proofs.TextLaws.{parts_at_spaces}
 use Rattle.osdp_words.proofs.WordLaws.{are_all_words, lacks-cons, stands_for_itself}
 use Rattle.osdp_msg_laws.proofs.OneMeaning.{AreSmall}
@@ -26,16 +25,8 @@ lacks (c ∷ rest) e = let p = parts (eqb c 32) (has_no_space rest) e in lacks-c
 pub name_word : (text : List ℕ) → 0 < length text → has_no_space text ≡ true → IsWord (plain text)
 name_word text some e = (some, lacks text e)
 
-pub numbers_words : (ns : List ℕ) (ws : List Word) → AreSmall ns → AreWords ws → AreWords (map number ns ++ ws)
-numbers_words [] ws h k = k
-numbers_words (n ∷ ns) ws h k = ((are_all_words n [] (h.0, tt)).0, numbers_words ns ws h.1 k)
-
 pub record_word : (n : ℕ) (ns : List ℕ) → AreSmall (n ∷ ns) → IsWord (numbers (n ∷ ns))
 record_word n ns h = (are_all_words n ns h).1
-
-pub records_words : {R : Type 0} (word : R → Word) (Fits : R → Type 0) → ((r : R) → Fits r → IsWord (word r)) → (rs : List R) → All Fits rs → AreWords (map word rs)
-records_words word Fits each [] h = tt
-records_words word Fits each (r ∷ rs) h = (each r (All-head Fits r rs h), records_words word Fits each rs (All-tail Fits r rs h))
 
 pub all_printed : (ws : List Word) → AreWords ws → AllStandFor ws (map printed ws)
 all_printed [] h = tt

@@ -155,9 +155,6 @@ module _ (config : BusConfig) (late : ℕ) (time : ℕ → ℕ) (n entry limit :
 
   module _ (call : Call) (calls : List Call) (x : PanelState) (holds : Holds config x) (written : OrdersIt call) (runs : InTurns late time n (call ∷ calls) x)
       (under : IsUnderWay entry x.bus) where
-    abbrev y : PanelState
-    y = after_call call x
-
     abbrev rest : List Call
     rest = all_bus_calls calls (after_call call x)
 

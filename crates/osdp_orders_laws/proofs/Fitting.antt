@@ -62,12 +62,6 @@ both_true : (a b : Bool) → (a && b) ≡ true → b ≡ true
 both_true true b h = h
 both_true false b h = absurd cc
 
--- neither a POLL nor a COMSET, and it has a place
-record IsHeld (before : ℕ) (c : Command) (q : Queue) : Type 0 where
-  no_poll : c ≢ Poll
-  no_comset : comset_of c ≡ None
-  place : has_place before c q ≡ true
-
 not_poll : (c : Command) (before : ℕ) (q : Queue) → hold_refusal before c q ≡ None → c ≢ Poll
 not_poll c before q ok same = absurd (let refused = sym (ap (λ d. hold_refusal before d q) same) ∙ ok in cc)
 

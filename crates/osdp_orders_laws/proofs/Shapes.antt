@@ -94,9 +94,6 @@ pub record InTurns (late : ℕ) (time : ℕ → ℕ) (n : ℕ) (calls : List Cal
   pub few : HasFew n (all_bus_calls calls x) x.bus
 
 module _ (late : ℕ) (time : ℕ → ℕ) (n : ℕ) (call : Call) (calls : List Call) (x : PanelState) where
-  abbrev y : PanelState
-  y = after_call call x
-
   abbrev rest : List Call
   rest = all_bus_calls calls (after_call call x)
 

@@ -5,7 +5,7 @@ use Rattle.osdp_msg.specs.declared.command.Command.{Command}
 use Rattle.osdp_msg.specs.declared.fault.MsgFault.{MsgFault}
 use Rattle.osdp_reader.specs.declared.handler.Answer.{Answer}
 use Rattle.osdp_reader.specs.declared.kind.Kind.{Kind}
-use Rattle.osdp_reader.specs.declared.kind.Kind.TheVariants.{Silent, Secured, Zero, Repeat, Taken, Busy, Wrong}
+use Rattle.osdp_reader.specs.declared.kind.Kind.TheVariants.{Zero, Taken}
 use Rattle.osdp_reader.specs.Queue.{event_for, released}
 use Rattle.osdp_reader.specs.Replies.{reply_packet}
 use Rattle.osdp_reader.specs.State.{ReaderState, after_set_handler}
@@ -57,10 +57,6 @@ module _ {H : Type 0} where
 
     pub outcome_alike : (kind : Kind) (r : ReaderState H) (p : Packet) (handler : H)
         → ComesToTheSame (outcome answer_of after kind r p) (outcome answer_of after kind (after_set_handler handler r) p)
-    outcome_alike Silent r p handler = (refl, not_acted r handler)
-    outcome_alike Secured r p handler = (refl, not_acted r handler)
-    outcome_alike Repeat r p handler = (refl, not_acted r handler)
-    outcome_alike Busy r p handler = (refl, not_acted r handler)
-    outcome_alike Wrong r p handler = (refl, not_acted r handler)
     outcome_alike Zero r p handler = begun_alike (command_in p) r p handler
     outcome_alike Taken r p handler = taken_alike (command_in p) r p handler
+    outcome_alike _ r p handler = (refl, not_acted r handler)

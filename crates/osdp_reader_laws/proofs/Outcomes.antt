@@ -8,7 +8,7 @@ use Rattle.osdp_msg.specs.declared.fault.MsgFault.{MsgFault}
 use Rattle.osdp_msg.specs.declared.reply.Reply.{Reply}
 use Rattle.osdp_reader.specs.declared.handler.Answer.{Answer}
 use Rattle.osdp_reader.specs.declared.kind.Kind.{Kind}
-use Rattle.osdp_reader.specs.declared.kind.Kind.TheVariants.{Silent, Secured, Zero, Repeat, Taken, Busy, Wrong}
+use Rattle.osdp_reader.specs.declared.kind.Kind.TheVariants.{Zero, Taken}
 use Rattle.osdp_reader.specs.Queue.{event_for, offering, released, unoffered}
 use Rattle.osdp_reader.specs.Replies.{refused, reply_packet, unread_reason}
 use Rattle.osdp_reader.specs.State.{ReaderState}
@@ -60,13 +60,9 @@ module _ {H : Type 0} where
     pub by_kind : (P : ReaderState H → Type 0) (kind : Kind) (r : ReaderState H) (p : Packet) → P r
         → P (begun answer_of after (command_in p) r p).reader → P (taken answer_of after (command_in p) r p).reader
         → P (outcome answer_of after kind r p).reader
-    by_kind P Silent r p same zero next = same
-    by_kind P Secured r p same zero next = same
-    by_kind P Repeat r p same zero next = same
-    by_kind P Busy r p same zero next = same
-    by_kind P Wrong r p same zero next = same
     by_kind P Zero r p same zero next = zero
     by_kind P Taken r p same zero next = next
+    by_kind P _ r p same zero next = same
 
     acted : (P : ReaderState H → Type 0) (command : Command) (r : ReaderState H) → IsKeptByEffects P → P r
         → P (moved (new_address command) r)

@@ -11,12 +11,7 @@ use Rattle.osdp_reader_laws.specs.Runs.{HasNone}
 
 pub told_event : (e : Event) → event_in (event_reply e) ≡ Some e
 told_event (events.LocalState s) = refl
-told_event (events.Inputs s) = refl
-told_event (events.Outputs s) = refl
-told_event (events.Readers s) = refl
-told_event (events.Raw r) = refl
-told_event (events.Formatted f) = refl
-told_event (events.Keypad k) = refl
+told_event _ = refl
 
 pub same_some : {A : Type 0} (a b : A) → Some a ≡ Some b → a ≡ b
 same_some a b e = cc

@@ -9,7 +9,7 @@ use Rattle.osdp_msg.specs.Events.{event_reply}
 use Rattle.osdp_msg.specs.declared.limits.Room.{Room}
 use Rattle.osdp_reader.specs.declared.handler.Answer.{Answer}
 use Rattle.osdp_reader.specs.declared.kind.Kind.{Kind}
-use Rattle.osdp_reader.specs.declared.kind.Kind.TheVariants.{Silent, Secured, Zero, Repeat, Taken, Busy, Wrong}
+use Rattle.osdp_reader.specs.declared.kind.Kind.TheVariants.{Zero, Taken}
 use Rattle.osdp_reader.specs.Queue.{Queue, has_room, in_doubt, never_offered, offering, released}
 use Rattle.osdp_reader.specs.Replies.{reply_packet}
 use Rattle.osdp_reader.specs.declared.config.ReaderConfig.{ReaderConfig}
@@ -93,19 +93,11 @@ module _ {H : Type 0} where
     -- the first call of a list, and those after it
     first_none : (e : Event) (c : ReaderCall H) (cs : List (ReaderCall H)) → SubmitsNone e (c ∷ cs) → SubmitsNone e (c ∷ [])
     first_none e (SubmitEvent x) cs h = (h.0, tt)
-    first_none e (Hear p) cs h = tt
-    first_none e WithdrawEvent cs h = tt
-    first_none e LapseEvent cs h = tt
-    first_none e (SetBusy busy) cs h = tt
-    first_none e (SetHandler handler) cs h = tt
+    first_none e _ cs h = tt
 
     rest_none : (e : Event) (c : ReaderCall H) (cs : List (ReaderCall H)) → SubmitsNone e (c ∷ cs) → SubmitsNone e cs
     rest_none e (SubmitEvent x) cs h = h.1
-    rest_none e (Hear p) cs h = h
-    rest_none e WithdrawEvent cs h = h
-    rest_none e LapseEvent cs h = h
-    rest_none e (SetBusy busy) cs h = h
-    rest_none e (SetHandler handler) cs h = h
+    rest_none e _ cs h = h
 
     calls_keep : (e : Event) (P : ReaderState H → Type 0) (cs : List (ReaderCall H)) (r : ReaderState H) → IsKeptBesides e P → SubmitsNone e cs → P r
         → P (after_calls answer_of after cs r)
@@ -173,19 +165,11 @@ module _ {H : Type 0} where
         → IsFront e (outcome answer_of after kind r p).reader.queue
     outcome_tells Zero r p e t = absurd (begun_tells (command_in p) r p e t)
     outcome_tells Taken r p e t = taken_tells (command_in p) r p e t
-    outcome_tells Silent r p e t = let none : None ≡ Some command.Poll = t.0 in absurd cc
-    outcome_tells Secured r p e t = let none : None ≡ Some command.Poll = t.0 in absurd cc
-    outcome_tells Repeat r p e t = let none : None ≡ Some command.Poll = t.0 in absurd cc
-    outcome_tells Busy r p e t = let none : None ≡ Some command.Poll = t.0 in absurd cc
-    outcome_tells Wrong r p e t = let none : None ≡ Some command.Poll = t.0 in absurd cc
+    outcome_tells _ r p e t = let none : None ≡ Some command.Poll = t.0 in absurd cc
 
     call_tells : (c : ReaderCall H) (r : ReaderState H) (e : Event) → Tells answer_of after e c r → IsFront e (after_call answer_of after c r).queue
     call_tells (Hear p) r e t = outcome_tells (kind_of r p) r p e t
-    call_tells (SubmitEvent x) r e t = absurd t
-    call_tells WithdrawEvent r e t = absurd t
-    call_tells LapseEvent r e t = absurd t
-    call_tells (SetBusy busy) r e t = absurd t
-    call_tells (SetHandler handler) r e t = absurd t
+    call_tells _ r e t = absurd t
 
     -- ---- lists of calls
 
@@ -291,11 +275,7 @@ module _ {H : Type 0} where
         → Doubts e (outcome answer_of after kind r p).reader → Doubts e r ⊎ TellsIn e (outcome answer_of after kind r p)
     outcome_doubt Zero r p e is = inl (begun_doubt (command_in p) r p e is)
     outcome_doubt Taken r p e is = taken_doubt (command_in p) r p e is
-    outcome_doubt Silent r p e is = inl is
-    outcome_doubt Secured r p e is = inl is
-    outcome_doubt Repeat r p e is = inl is
-    outcome_doubt Busy r p e is = inl is
-    outcome_doubt Wrong r p e is = inl is
+    outcome_doubt _ r p e is = inl is
 
     submit_doubt : (fits : Bool) (r : ReaderState H) (x e : Event) → KnowsItsOffer r → Doubts e (cond fits (after_submit x r) r) → Doubts e r
     submit_doubt false r x e h is = is

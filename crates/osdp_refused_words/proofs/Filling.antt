@@ -109,9 +109,6 @@ module _ (slots : List Slot) (words : List (List ℕ)) where
     pub count : place + length left ≡ length words
     pub stops : (more : ℕ) → StopsAt (Fills (drop place slots)) left more → StopsAt (Fills slots) words (place + more)
 
-  pub at_first : AllByRecursion IsSlot slots → IsLeft 0 words
-  at_first are = record { are = are; count = omega arith; stops = λ more h. subst (StopsAt (Fills slots) words) (let e : more ≡ 0 + more = omega arith in e) h }
-
   at_place : (place : ℕ) → StopsAt (Fills slots) words (place + 0) → StopsAt (Fills slots) words place
   at_place place h = subst (StopsAt (Fills slots) words) (let e : place + 0 ≡ place = omega arith in e) h
 

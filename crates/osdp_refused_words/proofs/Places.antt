@@ -4,9 +4,6 @@ use Rattle.std.proofs.lemmas.List.{append-nil, length-append, nil_from_length}
 use Rattle.osdp_refused_words.specs.Laws.{OnePlace, StaysRefused, TellsMissingWords}
 use Rattle.osdp_refused_words.specs.Stops.{GoesOn, Stops}
 
-Texts : Type 1
-Texts = List (List ℕ) → Type 0
-
 first_of : (x y : List ℕ) (xs ys : List (List ℕ)) → x ∷ xs ≡ y ∷ ys → x ≡ y
 first_of x y xs ys e = cc e
 

@@ -35,9 +35,6 @@ module _ (slot : Slot) where
       pub count : place + length left ≡ length words
       pub stops : (more : ℕ) → StopsAt (SaysRecords slot room) left more → StopsAt (SaysRecords slot most) words (place + more)
 
-    pub at_first : IsLeft most 0 words
-    at_first = record { count = omega arith; stops = λ more h. subst (StopsAt (SaysRecords slot most) words) (let e : more ≡ 0 + more = omega arith in e) h }
-
     at_place : (place : ℕ) → StopsAt (SaysRecords slot most) words (place + 0) → StopsAt (SaysRecords slot most) words place
     at_place place h = subst (StopsAt (SaysRecords slot most) words) (let e : place + 0 ≡ place = omega arith in e) h
 

@@ -1,6 +1,5 @@
 -- Bursts on the line: each is the packet that it spells.
 use Rattle.std.proofs.Common.{◌≡◌, ◌↔◌, ◌⊎◌, ◌≤◌, ◌-◌, ℕ, true, false, not, ◌==◌, min, if◌then◌else◌, arith, List, [], ◌∷◌, length, take, Option, Some, None, inl, inr, refl, sym, ap, ◌∙◌}
-use Rattle.std.proofs.lemmas.Bool.{ne_eqb}
 use Rattle.std.proofs.lemmas.List.{take_all}
 use Rattle.std.specs.Prelude.{is_some, option_map}
 use Rattle.arrayvec.specs.ArrayVec.{ArrayVec}
@@ -72,12 +71,6 @@ pub sent_burst : (o : Option Packet) (bytes : List ℕ) → IsSpelled o bytes �
     → ((p : Packet) → Spells p bytes → bytes ≡ spelling p) → bytes ∷ [] ≡ sent o
 sent_burst None bytes spelled some one = absurd (let none = ap (λ (b : List ℕ). length b == 0) spelled in cc)
 sent_burst (Some p) bytes spelled some one = ap (λ b. b ∷ []) (one p spelled)
-
-pub sent_nothing : (o : Option Packet) (bytes : List ℕ) → IsSpelled o bytes → (length bytes == 0) ≡ true
-    → ((p : Packet) → Spells p bytes → bytes ≡ spelling p) → [] ≡ sent o
-sent_nothing None bytes spelled none one = refl
-sent_nothing (Some p) bytes spelled none one =
-    absurd (let some = ap (λ (b : List ℕ). length b == 0) (one p spelled) ∙ ne_eqb (length (spelling p)) 0 (λ h. omega (arith, h)) in cc)
 
 -- .. and so where they were written into a place
 pub written_sent : (o : Option Packet) (old bytes : List ℕ) → is_some o ≡ true → IsWritten o old bytes

@@ -2,7 +2,7 @@
 use Rattle.std.proofs.Common.{◌≡◌, ◌+◌, ◌≤◌, ◌&&◌, ℕ, suc, Bool, true, false, leb, List, [], ◌∷◌, ◌++◌, length, take, drop, refl, ap, ◌∙◌, arith, length-append}
 use Rattle.std.specs.Prelude.{zip}
 use Rattle.std.proofs.Math.Seq.{take-length}
-use Rattle.std.proofs.lemmas.Bool.{le-leb, leb-true}
+use Rattle.std.proofs.lemmas.Bool.{leb-true}
 use Rattle.std.proofs.lemmas.List.{drop-append-le, length-drop, take-append-le}
 use Rattle.osdp_sim.specs.Kept.{parts, total}
 
@@ -47,12 +47,6 @@ each_placed false b e = absurd cc
 
 pub placed : (a b c d : ℕ) → (leb a b && leb c d) ≡ true → (a ≤ b) × (c ≤ d)
 placed a b c d e = let p = each_placed (leb a b) (leb c d) e in (leb-true a b p.0, leb-true c d p.1)
-
-pub has_places : (a b c d : ℕ) → a ≤ b → c ≤ d → (leb a b && leb c d) ≡ true
-has_places a b c d first second = rw (le-leb a b first, le-leb c d second) refl
-
-pub both_placed : (a b : Bool) → a ≡ true → b ≡ true → (a && b) ≡ true
-both_placed a b first second = rw (first, second) refl
 
 -- ---- two lists side by side
 

@@ -1,10 +1,10 @@
 -- Schedules, step by step.
-use Rattle.std.proofs.Common.{◌≡◌, ◌<◌, ◌+◌, ◌-◌, add-one, get_or, suc, arith, ℕ, Bool, true, ◌&&◌, List, [], ◌∷◌, ◌++◌, length, take, drop, Option, Some, None, is_none, refl, sym, subst, ap, ◌∙◌}
+use Rattle.std.proofs.Common.{◌≡◌, ◌<◌, ◌+◌, ◌-◌, add-one, get_or, suc, ℕ, Bool, true, ◌&&◌, List, [], ◌∷◌, ◌++◌, length, drop, Option, Some, None, is_none, refl, sym, subst, ap, ◌∙◌}
 use Rattle.std.proofs.Math.Seq.{drop-cons}
-use Rattle.std.proofs.lemmas.List.{append-nil, append_assoc, drop_at, length-append, take_at}
+use Rattle.std.proofs.lemmas.List.{append_assoc, length-append}
 use Rattle.osdp_sim.specs.declared.fault.Cause.{Cause}
 use Rattle.osdp_sim.specs.declared.step.SimStep.{SimStep}
-use Rattle.osdp_sim.specs.Schedules.{HoldsAlong, IsCause, StopsAt, first_fault, is_well, run}
+use Rattle.osdp_sim.specs.Schedules.{HoldsAlong, is_well, run}
 
 -- the step at a place, and those after it
 pub next_step : (steps : List SimStep) (i : ℕ) (step : SimStep) → i < length steps → step ≡ get_or steps i step → drop i steps ≡ step ∷ drop (i + 1) steps
@@ -97,42 +97,3 @@ module _ {S : Type 0} (after_step : SimStep → S → S) (fault_of : SimStep →
     parts = come.parts ∙ ap (λ l. come.done ++ l) is ∙ sym (append_assoc come.done (step ∷ []) left);
     counted = length-append come.done (step ∷ []) ∙ ap (λ n. n + 1) come.counted;
   }
-
-  -- the steps before the next one
-  pub before : (steps : List SimStep) (count : ℕ) (left : List SimStep) (start here : S) (come : HasCome steps count left start here)
-      → take (count + 1 - 1) steps ≡ come.done
-  before steps count left start here come =
-      let same : count + 1 - 1 ≡ count = omega arith in
-      ap (λ k. take k steps) same ∙ ap (take count) come.parts ∙ take_at come.done left count come.counted
-
-  -- .. or the run stops at it
-  pub stops_there : {A : Type 0} (account_of : S → A) (steps : List SimStep) (count : ℕ) (step : SimStep) (old left : List SimStep) (start here : S) (why : Cause) (account : A)
-      → HasCome steps count old start here → old ≡ step ∷ left
-      → IsCause why (fault_of step here) → account ≡ account_of here
-      → StopsAt after_step fault_of account_of (count + 1) why account steps start
-  stops_there account_of steps count step old left start here why account come is cause told =
-      let same : count + 1 - 1 ≡ count = omega arith in
-      let done = before steps count old start here come in
-      let rest : drop (count + 1 - 1) steps ≡ step ∷ left =
-      ap (λ k. drop k steps) same ∙ ap (drop count) come.parts ∙ drop_at come.done old count come.counted ∙ is in
-      let many : length steps ≡ length come.done + length (step ∷ left) =
-      ap length come.parts ∙ length-append come.done old ∙ ap (λ l. length come.done + length l) is in
-      record {
-        within = omega (arith, many, come.counted);
-        well = ap (λ l. is_well after_step fault_of l start) done ∙ come.taken.well;
-        cause = subst (λ l. IsCause why (first_fault fault_of l (run after_step (take (count + 1 - 1) steps) start))) (sym rest)
-            (subst (λ l. IsCause why (fault_of step (run after_step l start))) (sym done) (subst (λ s. IsCause why (fault_of step s)) come.taken.here cause));
-        account = told ∙ ap account_of (come.taken.here ∙ ap (λ l. run after_step l start) (sym done));
-      }
-
-  -- what held along the steps before it
-  pub held_before : (steps : List SimStep) (count : ℕ) (left : List SimStep) (start here : S) → HasCome steps count left start here
-      → HoldsAlong after_step Holds (take (count + 1 - 1) steps) start
-  held_before steps count left start here come =
-      subst (λ l. HoldsAlong after_step Holds l start) (sym (before steps count left start here come)) come.taken.along
-
-  -- all of them were taken
-  pub all_taken : (steps : List SimStep) (count : ℕ) (left : List SimStep) (start here : S) → HasCome steps count left start here → left ≡ []
-      → HasTaken steps start here
-  all_taken steps count left start here come none =
-      subst (λ l. HasTaken l start here) (sym (come.parts ∙ ap (λ l. come.done ++ l) none ∙ append-nil come.done)) come.taken

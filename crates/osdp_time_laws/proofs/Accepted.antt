@@ -8,7 +8,7 @@ use Rattle.osdp_controller.specs.declared.config.ControllerConfig.{ControllerCon
 use Rattle.osdp_controller.specs.declared.fault.ControllerFault.{ControllerFault}
 use Rattle.osdp_controller.specs.declared.session.Session.{Session}
 use Rattle.osdp_controller.specs.declared.state.State.{State}
-use Rattle.osdp_controller.specs.declared.state.State.TheVariants.{Closed, Quiet, Idle, Waiting, Pausing}
+use Rattle.osdp_controller.specs.declared.state.State.TheVariants.{Waiting, Pausing}
 use Rattle.osdp_controller.specs.Machine.{IsState, Machine, after_submit, changed_unless, is_outstanding, submit_refusal}
 use Rattle.osdp_controller_laws.specs.Runs.{Call, Submit, after_call, after_calls}
 use Rattle.osdp_time_laws.specs.Acceptance.{AcceptedOrdersGoOut, WaitsItsTime}
@@ -41,9 +41,6 @@ one_busy left limit cost less =
 -- what is left of an outstanding exchange
 pub phase_now : (late more : ℕ) (calls : List Call) (c : ControllerConfig) (g : ℕ) (state : State) → IsState c state → WaitsItsTime c g state
     → is_outstanding state ≡ true → c.sends ≡ more + 1 → Phase late (g + whole late more c.busy_limit c) c more (Unit {0}) calls state g
-phase_now late more calls c g Closed is near out many = cc
-phase_now late more calls c g (Quiet until) is near out many = cc
-phase_now late more calls c g (Idle due) is near out many = cc
 phase_now late more calls c g (Waiting until sends o) is near out many =
     let one = c.reply_wait + late in
     let pause = (c.busy_wait + late) + (one + more * one) in
@@ -77,6 +74,7 @@ phase_now late more calls c g (Pausing until o) is near out many =
       left = inl (omega arith);
       fits = λ counts. pause_fits g c.busy_wait late round (left * pause) (c.busy_limit * pause) cost;
     }
+phase_now late more calls c g _ is near out many = cc
 
 -- where it is accepted
 after_accepted : (f : Option ControllerFault) (command : Command) (m : Machine) → f ≡ None → changed_unless f m (after_submit command m) ≡ after_submit command m

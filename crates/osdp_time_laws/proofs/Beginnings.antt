@@ -138,10 +138,7 @@ exchanges_end late now calls m = record {
 
 begun_quiet : (state : State) (m new : Machine) → is_closed state ≡ true → changed_unless (refused_unless_closed state) m new ≡ new
 begun_quiet Closed m new closed = refl
-begun_quiet (Quiet until) m new closed = cc
-begun_quiet (Idle due) m new closed = cc
-begun_quiet (Waiting until sends o) m new closed = cc
-begun_quiet (Pausing until o) m new closed = cc
+begun_quiet _ m new closed = cc
 
 quiet_ready : (late end : ℕ) (more q : ℕ) (Counts : Type 0) (calls : List Call) (s : Session) → Few s.config q calls
     → s.greatest + s.config.quiet_wait + late ≤ end

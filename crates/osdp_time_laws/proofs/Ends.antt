@@ -6,7 +6,7 @@ use Rattle.osdp_controller.specs.declared.config.ControllerConfig.{ControllerCon
 use Rattle.osdp_controller.specs.declared.exchange.Outstanding.{Outstanding}
 use Rattle.osdp_controller.specs.declared.session.Session.{Session}
 use Rattle.osdp_controller.specs.declared.state.State.{State}
-use Rattle.osdp_controller.specs.declared.state.State.TheVariants.{Closed, Quiet, Idle, Waiting, Pausing}
+use Rattle.osdp_controller.specs.declared.state.State.TheVariants.{Closed, Idle, Waiting}
 use Rattle.osdp_controller.specs.Machine.{Machine, after_begin, after_retarget, changed_unless, or_no_device, refused_unless_closed, submit_refusal}
 use Rattle.osdp_controller.specs.Sessions.{seen}
 use Rattle.osdp_controller.specs.States.{is_closed}
@@ -21,18 +21,12 @@ use Rattle.osdp_time_laws.proofs.Phases.{Holds, Phase, frame_holds, holds_passed
 -- while there is a session none begins, and its address stays
 pub begun_not : (state : State) (m new : Machine) → is_closed state ≡ false → changed_unless (refused_unless_closed state) m new ≡ m
 begun_not Closed m new lives = cc
-begun_not (Quiet until) m new lives = refl
-begun_not (Idle due) m new lives = refl
-begun_not (Waiting until sends o) m new lives = refl
-begun_not (Pausing until o) m new lives = refl
+begun_not _ m new lives = refl
 
 pub moved_not : (state : State) (address : ℕ) (m new : Machine) → is_closed state ≡ false
     → changed_unless (or_no_device (refused_unless_closed state) address) m new ≡ m
 moved_not Closed address m new lives = cc
-moved_not (Quiet until) address m new lives = refl
-moved_not (Idle due) address m new lives = refl
-moved_not (Waiting until sends o) address m new lives = refl
-moved_not (Pausing until o) address m new lives = refl
+moved_not _ address m new lives = refl
 
 -- the moment that is seen after a tick
 pub tick_at_moment : (now : ℕ) (m : Machine) → (after_call (Tick now) m).session.greatest ≡ max m.session.greatest now
@@ -42,10 +36,7 @@ tick_at_moment now m =
 
 lives_by : (test : State → Bool) (state : State) → test Closed ≡ false → test state ≡ true → is_closed state ≡ false
 lives_by test Closed not_closed so = absurd cc
-lives_by test (Quiet until) not_closed so = refl
-lives_by test (Idle due) not_closed so = refl
-lives_by test (Waiting until sends o) not_closed so = refl
-lives_by test (Pausing until o) not_closed so = refl
+lives_by test _ not_closed so = refl
 
 module _ (late end : ℕ) (c : ControllerConfig) (more : ℕ) (Counts : Type 0) (test : State → Bool) (not_closed : test Closed ≡ false)
     (counts : (until sends : ℕ) (o : Outstanding) → test (Waiting until sends o) ≡ true → Counts) (many : c.sends ≡ more + 1) where

@@ -242,9 +242,6 @@ order_4 = after_call (Tick 8) order_3
 abbrev order_5 : Machine
 order_5 = after_call (Tick 11) order_4
 
-abbrev order_6 : Machine
-order_6 = after_call (Hear ack 14) order_5
-
 order_slow : OrderWaits 0 0 0 order_calls two_orders
 unfolding replies.reply_of replies.reply_fault replies.reply_at
 order_slow = record {

@@ -32,44 +32,30 @@ use Rattle.osdp_time_laws.proofs.Silence.{frame_rests}
 
 pub lives : (state : State) → is_under_way state ≡ true → is_closed state ≡ false
 lives Closed so = cc
-lives (Quiet until) so = refl
-lives (Idle due) so = refl
-lives (Waiting until sends o) so = refl
-lives (Pausing until o) so = refl
+lives _ so = refl
 
 -- what one more exchange costs
 next_fits : (e late x j g end : ℕ) → g ≤ e + late → e + late + (j + (x + late)) ≤ end → (g + x) + late + j ≤ end
 next_fits e late x j g end within fits = omega arith
 
 not_idle : (state : State) → is_outstanding state ≡ true → is_idle state ≡ false
-not_idle Closed out = cc
-not_idle (Quiet until) out = cc
-not_idle (Idle due) out = cc
 not_idle (Waiting until sends o) out = refl
 not_idle (Pausing until o) out = refl
+not_idle _ out = cc
 
 pub at_rest : (state : State) → is_under_way state ≡ true → is_outstanding state ≡ false → is_idle state ≡ true
-at_rest Closed so none = cc
-at_rest (Quiet until) so none = cc
 at_rest (Idle due) so none = refl
-at_rest (Waiting until sends o) so none = cc
-at_rest (Pausing until o) so none = cc
+at_rest _ so none = cc
 
 stands_out : (state : State) → is_outstanding state ≡ true → is_closed state ≡ false
-stands_out Closed out = cc
-stands_out (Quiet until) out = cc
-stands_out (Idle due) out = cc
 stands_out (Waiting until sends o) out = refl
 stands_out (Pausing until o) out = refl
+stands_out _ out = cc
 
 -- a call while an exchange is outstanding, and one that is no tick, leaves the place of an order
 left_same : (call : Call) (m : Machine) (left : ℕ) → is_idle m.session.state ≡ false → left_after call m left ≡ left
-left_same (Submit command) m left none = refl
-left_same (Begin now) m left none = refl
-left_same (Retarget address) m left none = refl
-left_same Withdraw m left none = refl
 left_same (Tick now) m left none = ap (λ (b : Bool). if b then left - 1 else left) none
-left_same (Hear p now) m left none = refl
+left_same _ m left none = refl
 
 -- no command leaves but by a tick
 submit_waits : (f : Option ControllerFault) (command : Command) (m : Machine) (n : ℕ) → n ≤ length m.waiting
@@ -124,12 +110,9 @@ rests_config (Hear p now) m out idle = (frame_rests p now m.session out idle).0
 
 -- where nothing is outstanding and a command waits a tick does something at any moment
 pub due_idle : (state : State) (s : Session) (w : List Command) → is_idle state ≡ true → 1 ≤ length w → acts (ticks_in state s w).step ≡ true
-due_idle Closed s w idle some = cc
-due_idle (Quiet until) s w idle some = cc
 due_idle (Idle due) s (command ∷ w) idle some = refl
 due_idle (Idle due) s [] idle some = absurd (omega arith)
-due_idle (Waiting until sends o) s w idle some = cc
-due_idle (Pausing until o) s w idle some = cc
+due_idle _ s w idle some = cc
 
 left_one : (j : ℕ) (b : Bool) → b ≡ true → (if b then suc j - 1 else suc j) ≡ j
 left_one j true same = omega arith
@@ -247,8 +230,6 @@ module _ (late end : ℕ) (c : ControllerConfig) (more : ℕ) (many : c.sends �
 
     idle_asks : (j : ℕ) (calls : List Call) (state : State) (s : Session) (w : List Command) → is_idle state ≡ true → s.config ≡ c → j + 1 ≤ length w
         → Asked j calls s.greatest (ticks_in state s w)
-    idle_asks j calls Closed s w idle config wait = cc
-    idle_asks j calls (Quiet until) s w idle config wait = cc
     idle_asks j calls (Idle due) s [] idle config wait = absurd (omega arith)
     idle_asks j calls (Idle due) s (command ∷ w) idle config wait =
         let allowed : c.busy_limit ≡ s.config.busy_limit = ap (λ (k : ControllerConfig). k.busy_limit) (sym config) in
@@ -259,8 +240,7 @@ module _ (late end : ℕ) (c : ControllerConfig) (more : ℕ) (many : c.sends �
               (begins (Asking command) (next_sequence s.number) s w).session) config
               (begun_new late more c.busy_limit calls (Asking command) (next_sequence s.number) s w (inl limit) refl),
         )
-    idle_asks j calls (Waiting until sends o) s w idle config wait = cc
-    idle_asks j calls (Pausing until o) s w idle config wait = cc
+    idle_asks j calls _ s w idle config wait = cc
 
     idle_tick : (j now : ℕ) (calls : List Call) (m : Machine) → is_idle m.session.state ≡ true → m.session.config ≡ c
         → j + 1 ≤ length m.waiting → e + late + j * (x + late) ≤ end → max m.session.greatest now ≤ e + late

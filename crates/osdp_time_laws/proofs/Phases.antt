@@ -381,12 +381,10 @@ module _ (late end : ℕ) (c : ControllerConfig) (more : ℕ) (Counts : Type 0) 
 
       numbered_holds : (state : State) (p : Packet) (now : ℕ) (calls : List Call) (s : Session) → s.greatest ≤ end → s.config ≡ c
           → Phase (Hear p now ∷ calls) state s.greatest → Holds calls s → HeardHolds calls (numbered_in state (meaning_of p) s)
-      numbered_holds Closed p now calls s near same r stay = stay
-      numbered_holds (Quiet until) p now calls s near same r stay = stay
-      numbered_holds (Idle due) p now calls s near same r stay = stay
       numbered_holds (Waiting until sends o) p now calls s near same r stay =
           waiting_holds (meaning_of p) until sends o (Hear p now) calls s refl near same r (busy_left r.busies_left o.busies now p calls r.left) stay
       numbered_holds (Pausing until o) p now calls s near same r stay = pausing_holds (meaning_of p) o calls s near stay
+      numbered_holds _ p now calls s near same r stay = stay
 
       pub frame_holds : (p : Packet) (now : ℕ) (calls : List Call) (s : Session) → (seen now s).greatest ≤ end → s.config ≡ c
           → Phase (Hear p now ∷ calls) s.state (seen now s).greatest → Holds calls (seen now s) → HeardHolds calls (hears p now s)

@@ -16,7 +16,7 @@ use Rattle.osdp_controller.specs.declared.meaning.ReplyMeaning.TheVariants.{NotT
 use Rattle.osdp_controller.specs.declared.report.LostCause.TheVariants as causes
 use Rattle.osdp_controller.specs.declared.session.Session.{Session}
 use Rattle.osdp_controller.specs.declared.state.State.{State}
-use Rattle.osdp_controller.specs.declared.state.State.TheVariants.{Closed, Quiet, Idle, Waiting, Pausing}
+use Rattle.osdp_controller.specs.declared.state.State.TheVariants.{Closed, Idle, Waiting, Pausing}
 use Rattle.osdp_controller.specs.Answers.{meaning_of}
 use Rattle.osdp_controller.specs.Hearing.{Heard, answered, answered_unread, com_of, command_answered, comset_of, hears, hears_busy, loses, moved_by, opening_answered, pausing_hears, pd_id_of, waiting_hears}
 use Rattle.osdp_controller.specs.Machine.{is_outstanding}
@@ -24,7 +24,7 @@ use Rattle.osdp_controller.specs.Private.{numbered_in}
 use Rattle.osdp_controller.specs.Sessions.{later, seen}
 use Rattle.osdp_controller.specs.States.{is_idle}
 use Rattle.osdp_controller.proofs.Choices.{either_way}
-use Rattle.osdp_controller_laws.specs.Runs.{Call, Submit, Begin, Retarget, Withdraw, Tick, Hear, after_call, after_calls}
+use Rattle.osdp_controller_laws.specs.Runs.{Call, Hear, after_call, after_calls}
 use Rattle.osdp_controller_laws.proofs.Frames.{either_frame}
 use Rattle.osdp_time_laws.specs.Laws.{IsNotBusy, IsSilent, SilenceIsTold, is_in_session}
 use Rattle.osdp_time_laws.proofs.Beginnings.{no_busy, on_from, one_less, round_is}
@@ -38,10 +38,7 @@ Rests c h = is_idle h.session.state ≡ true → (h.session.config ≡ c) × (un
 
 not_idle : (state : State) → is_outstanding state ≡ true → is_idle state ≡ true → ⊥
 not_idle Closed out idle = cc
-not_idle (Quiet until) out idle = cc
-not_idle (Idle due) out idle = cc
-not_idle (Waiting until sends o) out idle = cc
-not_idle (Pausing until o) out idle = cc
+not_idle _ out idle = cc
 
 opening_rests : (id : Option PdId) (s : Session) → is_outstanding s.state ≡ true → Rests s.config (opening_answered id s)
 opening_rests (Some id) s out = λ idle. (refl, later_within s.config.poll_interval s)
@@ -82,11 +79,9 @@ pausing_rests (Plain reply) o s out = answered_rests o.exchange reply s out
 pausing_rests (Unreadable code) o s out = unread_rests o.exchange code s out
 
 numbered_rests : (state : State) (a : ReplyMeaning) (s : Session) → is_outstanding s.state ≡ true → Rests s.config (numbered_in state a s)
-numbered_rests Closed a s out = λ idle. absurd (not_idle s.state out idle)
-numbered_rests (Quiet until) a s out = λ idle. absurd (not_idle s.state out idle)
-numbered_rests (Idle due) a s out = λ idle. absurd (not_idle s.state out idle)
 numbered_rests (Waiting until sends o) a s out = waiting_rests a sends o s out
 numbered_rests (Pausing until o) a s out = pausing_rests a o s out
+numbered_rests _ a s out = λ idle. absurd (not_idle s.state out idle)
 
 pub frame_rests : (p : Packet) (now : ℕ) (s : Session) → is_outstanding s.state ≡ true → Rests s.config (hears p now s)
 frame_rests p now s out =
@@ -95,12 +90,8 @@ frame_rests p now s out =
 
 -- where nothing is read no BUSY is
 one_silent : (call : Call) → IsSilent call → IsNotBusy call
-one_silent (Submit command) silent = tt
-one_silent (Begin now) silent = tt
-one_silent (Retarget address) silent = tt
-one_silent Withdraw silent = tt
-one_silent (Tick now) silent = tt
 one_silent (Hear p now) silent = absurd silent
+one_silent _ silent = tt
 
 all_silent : (calls : List Call) → All IsSilent calls → All IsNotBusy calls
 all_silent [] silent = All-nil IsNotBusy
@@ -116,11 +107,8 @@ rests_fits g wait late r = omega arith
 
 idle_phase : (late end more : ℕ) (c : ControllerConfig) (calls : List Call) (state : State) (greatest : ℕ) → is_idle state ≡ true
     → Ready late end c more (Unit {0}) (until_of state) 0 greatest calls → Phase late end c more (Unit {0}) calls state greatest
-idle_phase late end more c calls Closed greatest idle ready = cc
-idle_phase late end more c calls (Quiet until) greatest idle ready = cc
 idle_phase late end more c calls (Idle due) greatest idle ready = ready
-idle_phase late end more c calls (Waiting until sends o) greatest idle ready = cc
-idle_phase late end more c calls (Pausing until o) greatest idle ready = cc
+idle_phase late end more c calls _ greatest idle ready = cc
 
 silent_ready : (late more until greatest : ℕ) (c : ControllerConfig) (calls : List Call) → All IsSilent calls → until ≤ greatest + c.poll_interval
     → Ready late (silent_end late more c greatest) c more (Unit {0}) until 0 greatest calls

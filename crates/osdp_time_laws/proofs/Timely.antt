@@ -112,11 +112,9 @@ pausing_timely (Plain reply) o s is = answered_timely o.exchange reply s is
 pausing_timely (Unreadable code) o s is = unread_timely o.exchange code s is
 
 numbered_timely : (state : State) (a : ReplyMeaning) (s : Session) → OfSession s → HeardTimely (numbered_in state a s)
-numbered_timely Closed a s is = is
-numbered_timely (Quiet until) a s is = is
-numbered_timely (Idle due) a s is = is
 numbered_timely (Waiting until sends o) a s is = waiting_timely a sends o s is
 numbered_timely (Pausing until o) a s is = pausing_timely a o s is
+numbered_timely _ a s is = is
 
 frame_timely : (p : Packet) (now : ℕ) (s : Session) → OfSession s → HeardTimely (hears p now s)
 frame_timely p now s is =
@@ -126,17 +124,11 @@ frame_timely p now s is =
 
 begin_timely : (now : ℕ) (state : State) (m : Machine) → IsTimely m → IsTimely (changed_unless (refused_unless_closed state) m (after_begin now m))
 begin_timely now Closed m is = later_within m.session.config.quiet_wait (seen now m.session)
-begin_timely now (Quiet until) m is = is
-begin_timely now (Idle due) m is = is
-begin_timely now (Waiting until sends o) m is = is
-begin_timely now (Pausing until o) m is = is
+begin_timely now _ m is = is
 
 at_address : (c : ControllerConfig) (address greatest : ℕ) (state : State) → WaitsItsTime c greatest state → WaitsItsTime (record c { address = address }) greatest state
 at_address c address greatest Closed w = tt
-at_address c address greatest (Quiet until) w = w
-at_address c address greatest (Idle due) w = w
-at_address c address greatest (Waiting until sends o) w = w
-at_address c address greatest (Pausing until o) w = w
+at_address c address greatest _ w = w
 
 retarget_timely : (f : Option ControllerFault) (address : ℕ) (m : Machine) → IsTimely m → IsTimely (changed_unless f m (after_retarget address m))
 retarget_timely None address m is = at_address m.session.config address m.session.greatest m.session.state is

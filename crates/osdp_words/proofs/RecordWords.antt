@@ -12,7 +12,6 @@ use Rattle.std.specs.Str.Iter.{LacksByte}
 use Rattle.std.specs.Str.Parse.{AllDigits, digits_value}
 use Rattle.osdp_words.specs.Reading.{Reads}
 use Rattle.osdp_words.specs.Word.{AreWithin, StandsFor, number, numbers}
-use Rattle.osdp_words.proofs.Lists.{HasOneValue}
 use Rattle.osdp_words.proofs.Joined.{from_pieces, pieces, pieces-join_by}
 
 -- the numbers of the first pieces
@@ -173,15 +172,3 @@ record_done text limits found count n small len some so_far all =
     ]
 
 -- ---- for callers: the numbers of a record, each by its place
-
-pub within_length : (limits ns : List ℕ) → AreWithin limits ns → length ns ≡ length limits
-within_length limits ns h = length_all_zip (λ n limit. n ≤ limit) ns limits h
-
-pub within_at : (limits ns : List ℕ) → AreWithin limits ns → (k : ℕ) → k < length limits → get_or ns k 0 ≤ get_or limits k 0
-within_at limits ns h k lt = AllZip-get_or (λ n limit. n ≤ limit) ns limits k 0 0 h (omega (arith, within_length limits ns h))
-
--- one record alone has the word for which a given one stands
-pub is_only_record : (limits : List ℕ) → AreSmall limits → 0 < length limits → HasOneValue numbers (AreWithin limits)
-is_only_record limits small some given a b ha hb ea eb =
-    same_numbers limits a b small ha hb
-    (sym (parts_of_record given limits a small ha some ea) ∙ parts_of_record given limits b small hb some eb)

@@ -1,13 +1,9 @@
 -- For callers: the values of several words, put together of what was taken for their parts.
-use Rattle.std.proofs.Common.{◌≡◌, ℕ, zero, suc, ◌<◌, List, [], ◌∷◌, ◌++◌, length, get_or, Bool, true, false, Option, Some, None, refl, sym, ap, subst, ◌∙◌, arith}
-use Rattle.std.proofs.lemmas.List.{append-nil, append_assoc, nil_from_length}
-use Rattle.std.proofs.lemmas.Bool.{false≢true}
-use Rattle.std.specs.Prelude.{IfSome, IsTrue, ◌↔◌, option_map}
-use Rattle.std.specs.Bool.{then_some}
-use Rattle.std.specs.List.{AllByRecursion}
-use Rattle.hex.specs.Hex.{IsBytes}
+use Rattle.std.proofs.Common.{◌≡◌, ℕ, ◌<◌, List, [], ◌∷◌, ◌++◌, Option, Some, None, refl, sym, ap, subst, ◌∙◌}
+use Rattle.std.proofs.lemmas.List.{append-nil, append_assoc}
+use Rattle.std.specs.Prelude.{IfSome, ◌↔◌, option_map}
 use Rattle.osdp_words.specs.Reading.{ReadsWords, Takes}
-use Rattle.osdp_words.specs.Word.{AllStandFor, Word, plain}
+use Rattle.osdp_words.specs.Word.{AllStandFor, Word}
 
 -- ---- lists of words
 
@@ -124,47 +120,7 @@ module _ {A : Type 0} (words : A → List Word) (Allowed : A → Type 0) (given 
   }
 
 -- the value that was taken, if the words end there
-module _ {A : Type 0} (words : A → List Word) (Allowed : A → Type 0) (given left : List (List ℕ)) where
-  pub ended_read : (ended : Bool) (a : A) → IsTrue ended ↔ (left ≡ []) → Takes words Allowed given left (Some a)
-      → ReadsWords words Allowed given (then_some ended a)
-  ended_read true a h taken = all_read words Allowed given left a (h.0 refl) taken
-  ended_read false a h taken = more_left words Allowed given left a (λ e. false≢true (h.1 e)) taken
 
 -- after a name
-module _ {A : Type 0} (name : List ℕ) (words : A → List Word) (Allowed : A → Type 0) (rest : List (List ℕ)) where
-  named_value : (r : Option A) → IfSome r (λ a. AllStandFor (words a) rest × Allowed a)
-      → IfSome r (λ a. AllStandFor (plain name ∷ words a) (name ∷ rest) × Allowed a)
-  named_value (Some a) h = ((refl, h.0), h.1)
-  named_value None h = tt
-
-  pub named : (given : List (List ℕ)) (r : Option A) → given ≡ name ∷ rest → ReadsWords words Allowed rest r
-      → ReadsWords (λ a. plain name ∷ words a) Allowed given r
-  named given r e h =
-      rw e record {
-        value = named_value r h.value;
-        only = λ a allowed stands. h.only a allowed stands.1;
-      }
 
 -- ---- numbers in a row
-
--- the n elements from place k on
-abbrev pub entries_from : ℕ → ℕ → List ℕ → List ℕ
-entries_from k zero xs = []
-entries_from k (suc n) xs = get_or xs k 0 ∷ entries_from (suc k) n xs
-
-entries_on : (x : ℕ) (k n : ℕ) (xs : List ℕ) → entries_from (suc k) n (x ∷ xs) ≡ entries_from k n xs
-entries_on x k zero xs = refl
-entries_on x k (suc n) xs = ap (λ (rest : List ℕ). get_or xs k 0 ∷ rest) (entries_on x (suc k) n xs)
-
--- as many elements as there are
-pub entries_whole : (n : ℕ) (xs : List ℕ) → length xs ≡ n → entries_from 0 n xs ≡ xs
-entries_whole zero xs h = sym (nil_from_length xs h)
-entries_whole (suc n) [] h = absurd (omega arith)
-entries_whole (suc n) (x ∷ xs) h =
-    ap (λ (rest : List ℕ). x ∷ rest) (entries_on x 0 n xs ∙ entries_whole n xs (omega arith))
-
--- each number, one after another, is a byte
-pub are_bytes : (bs : List ℕ) → AllByRecursion (λ b. b < 256) bs → IsBytes bs
-are_bytes [] h k = omega arith
-are_bytes (b ∷ bs) h zero = h.0
-are_bytes (b ∷ bs) h (suc k) = are_bytes bs h.1 k

@@ -1,13 +1,13 @@
 -- What a reader sends is a NAK where its reply is one.
-use Rattle.std.proofs.Common.{◌≡◌, ℕ, Some, Result, Ok, Err, refl, ap, ◌∙◌}
-use Rattle.osdp_device.specs.Saying.{bytes_of}
+use Rattle.std.proofs.Common.{◌≡◌, ◌↔◌, ℕ, Bool, true, false, Option, None, Some, Result, Ok, Err, refl, ap, sym, ◌∙◌}
+use Rattle.osdp_device.specs.Saying.{again_by, bytes_of, said_to, taken_by}
 use Rattle.osdp_frame.specs.Packet.{Packet}
 use Rattle.osdp_frame.specs.Spelling.{spelling}
 use Rattle.osdp_msg.specs.declared.command.Command.{Command}
 use Rattle.osdp_msg.specs.declared.fault.MsgFault.{MsgFault}
 use Rattle.osdp_msg.specs.declared.nak.NakReason.TheVariants.{SecurityBlock, UnexpectedSequence}
 use Rattle.osdp_msg.specs.declared.reply.Reply.{Reply}
-use Rattle.osdp_msg.specs.declared.reply.Reply.TheVariants.{Ack, Nak, PdId, PdCap, LocalState, Inputs, Outputs, Readers, Raw, Formatted, Keypad, Com, Busy, MakerReply}
+use Rattle.osdp_msg.specs.declared.reply.Reply.TheVariants.{Ack, Busy}
 use Rattle.osdp_reader.specs.declared.handler.Answer.{Answer}
 use Rattle.osdp_reader.specs.declared.kind.Kind.{Kind}
 use Rattle.osdp_reader.specs.declared.kind.Kind.TheVariants as kind
@@ -15,25 +15,14 @@ use Rattle.osdp_reader.specs.Queue.{event_for, released}
 use Rattle.osdp_reader.specs.Replies.{refused, reply_packet, unread_reason}
 use Rattle.osdp_reader.specs.State.{ReaderState}
 use Rattle.osdp_reader.specs.Table.{answer_to, begun, command_in, event_or_answer, kind_of, outcome, taken}
-use Rattle.osdp_device.specs.Orders.{is_nak, is_refusal}
+use Rattle.osdp_device.specs.Orders.{either, is_nak, is_refusal, order_by}
+use Rattle.osdp_device.specs.declared.order.Order.TheVariants.{Refused}
 use Rattle.osdp_device.proofs.laws.refusals_are_naks.Goals as goal
 
 -- the code of a reply is the sixth byte of its packet
 by_code : (p : Packet) (sequence : ℕ) (reply : Reply) → is_nak (spelling (reply_packet p sequence reply)) ≡ is_refusal reply
 by_code p sequence Ack = refl
-by_code p sequence (Nak n) = refl
-by_code p sequence (PdId i) = refl
-by_code p sequence (PdCap c) = refl
-by_code p sequence (LocalState s) = refl
-by_code p sequence (Inputs states) = refl
-by_code p sequence (Outputs states) = refl
-by_code p sequence (Readers states) = refl
-by_code p sequence (Raw r) = refl
-by_code p sequence (Formatted f) = refl
-by_code p sequence (Keypad k) = refl
-by_code p sequence (Com c) = refl
-by_code p sequence Busy = refl
-by_code p sequence (MakerReply m) = refl
+by_code p sequence _ = refl
 
 said_so : (p : Packet) (sequence : ℕ) (said reply : Reply) → Some said ≡ Some reply
     → is_nak (bytes_of (Some (reply_packet p sequence said))) ≡ is_refusal reply
@@ -64,5 +53,21 @@ module _ {H : Type 0} (answer_of : H → Command → Answer) (after : H → Comm
   by_kind kind.Busy r p reply e = said_so p 0 Busy reply e
   by_kind kind.Wrong r p reply e = said_so p p.sequence (refused UnexpectedSequence) reply e
 
-pub returns : goal.returns
-returns g c = λ r p reply e. by_kind g.H.Handler.answer_of g.H.Handler.after (kind_of r p) r p reply e
+-- where there is a command, it is told as refused where it is
+told_so : (refused : Bool) (one other : Option Command) (command : Command) → either one other ≡ Some command
+    → (order_by refused one other ≡ Refused) ↔ (refused ≡ true)
+told_so true (Some it) other command e = ((λ same. refl), (λ same. refl))
+told_so false (Some it) other command e = ((λ same. absurd cc), (λ same. absurd cc))
+told_so true None (Some it) command e = ((λ same. refl), (λ same. refl))
+told_so false None (Some it) command e = ((λ same. absurd cc), (λ same. absurd cc))
+told_so refused None None command e = absurd cc
+
+pub returns-clause-code : goal.returns-clause-code
+returns-clause-code g c = λ r p reply e. by_kind g.H.Handler.answer_of g.H.Handler.after (kind_of r p) r p reply e
+
+pub returns-clause-told : goal.returns-clause-told
+returns-clause-told g c = λ r p reply command e ordered.
+    let said = said_to g.H.Handler.answer_of g.H.Handler.after r p in
+    let same : is_nak said.bytes ≡ is_refusal reply = by_kind g.H.Handler.answer_of g.H.Handler.after (kind_of r p) r p reply e in
+    let told = told_so (is_nak said.bytes) (taken_by said.kind said.command) (again_by said.kind said.command) command ordered in
+    ((λ refused. sym same ∙ told.0 refused), (λ naks. told.1 (same ∙ naks)))

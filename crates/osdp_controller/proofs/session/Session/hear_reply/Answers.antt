@@ -2,7 +2,7 @@ use Rattle.std.proofs.Common.{◌≡◌, ℕ, true, ap, refl, sym, ◌∙◌, ru
 use Rattle.osdp_controller.specs.declared.meaning.ReplyMeaning.{ReplyMeaning}
 use Rattle.osdp_controller.specs.declared.session.Session.{Session}
 use Rattle.osdp_controller.specs.declared.state.State.{State}
-use Rattle.osdp_controller.specs.declared.state.State.TheVariants.{Closed, Quiet, Idle, Waiting, Pausing}
+use Rattle.osdp_controller.specs.declared.state.State.TheVariants.{Waiting, Pausing}
 use Rattle.osdp_controller.specs.Answers.{meaning_of}
 use Rattle.osdp_controller.specs.Hearing.{Heard, hears_in, is_numbered}
 use Rattle.osdp_controller.specs.Private.{numbered_in}
@@ -12,11 +12,9 @@ use Rattle.osdp_controller.proofs.session.Session.hear_reply.Goals as goal
 -- an answer that has the number is heard as one
 has_number : (state : State) (number : ℕ) (answer : ReplyMeaning) (s : Session) → is_numbered number answer s ≡ true
     → hears_in state number answer s ≡ numbered_in state answer s
-has_number Closed number answer s e = refl
-has_number (Quiet until) number answer s e = refl
-has_number (Idle due) number answer s e = refl
 has_number (Waiting until sends o) number answer s e = rw e refl
 has_number (Pausing until o) number answer s e = rw e refl
+has_number _ number answer s e = refl
 
 pub returns-then-not-is_no_answer : goal.returns-then-not-is_no_answer
 returns-then-not-is_no_answer c =
