@@ -1,11 +1,12 @@
 """What operators make of a small function and of a small definition, and what they leave alone."""
+import functools
 import os
 import sys
 
 TOP = os.path.dirname(os.path.dirname(os.path.realpath(__file__)))
 sys.dont_write_bytecode = True
 sys.path.insert(0, f"{TOP}/tools")
-from operators import code_operators, code_special, contracts, definition_operators, definitions, donors, generated, items, lawless, pairs, pinned, premises, shadows, short, spelling, whole  # noqa: E402
+from operators import code_operators, code_special, contracts, definition_operators, definitions, donors, generated, items, lawless, pairs, pinned, premises, shadows, short, spelling, typed, variants, whole  # noqa: E402
 from operators.facts import Facts  # noqa: E402
 
 CODE = """/// Whether a < b.
@@ -140,6 +141,40 @@ def same(*texts):
     return len(forms) == 1
 
 
+@functools.cache
+def below(crate):
+    """Returns the crates of the tree that a crate stands on, those that it names last first."""
+    found = []
+    for it in variants.uses_of(crate):
+        if os.path.isdir(f"{TOP}/crates/{it}"):
+            found += [it, *below(it)]
+    return tuple(dict.fromkeys(found))
+
+
+def untyped(path, name, old, new):
+    """Tells why an edit has no type that puts another text in a place of a clause or of a function."""
+    start = generated.read(path).index(old)
+    unit = next(it for it in generated.parsed(path).units if it.name == name and it.start <= start < it.end)
+    return typed.why_untyped(generated.Generated(path, unit, "", start, start + len(old), new), below(path.split("/")[1]))
+
+
+def types_are_told():
+    """What can't be read isn't drawn, and nothing that can be is left out: no definition of the tree is told to have no type."""
+    for path in generated.all_paths("specs"):
+        for it in generated.parsed(path).units:
+            why = it.tree and typed.why_untyped(generated.Generated(path, it, "", it.start, it.start, ""), below(path.split("/")[1]))
+            assert not why, f"{path} {it.name} is told to have no type: {why}"
+    calls, over, said = "crates/osdp_frame_laws/specs/Calls.antt", "run.ended && total_size run.parts == length run.bytes", 'communication.print(f, "COM")'
+    assert untyped(calls, "is_over", over, "run.ended && length run.bytes") == "`length run.bytes` is ℕ, and Bool is wanted", "a number is a truth value"
+    assert untyped(calls, "is_over", over, "run.ended && total_size run.ended == length run.bytes") == "`run.ended` is Bool, and List RunItem is wanted", "an argument is of another type"
+    assert not untyped(calls, "is_over", over, "false || run.ended"), "what has a type is told to have none"
+    assert untyped("crates/osdp_msg/specs/ReplyTable.antt", "reply_spelled", "(0x50, raw_data r)", "(0x54, communication_data elsewhere)") == "`elsewhere` is not in scope", "a name is taken from nowhere"
+    reply = "crates/osdp_msg/src/reply.rt"
+    assert untyped(reply, "fmt", said, "keypad.print(f)") == "`keypad` is not in scope", "a name of another case is taken"
+    assert untyped(reply, "fmt", said, "Elsewhere::print(f)") == "`Elsewhere` is not in scope", "a type is taken from nowhere"
+    assert not untyped(reply, "fmt", said, "communication.print(f)"), "a name of its case is told not to be in scope"
+
+
 def main():
     file = items.File(CODE)
     assert [it.name for it in file.units] == ["picks"], "a test has no edits"
@@ -179,7 +214,20 @@ def main():
 
     cites = {"IsLeast": {"IsLess", "n"}, "IsLess": {"m"}, "IsOther": {"IsLess"}}
     assert lawless.reached({"IsLeast", "of"}, cites) == {"IsLeast", "IsLess"}, "what a law reaches is told wrongly"
+    asked = "fn f(n: u8)\n    requires small { n < (2 : ℕ) → { A } }\n    requires { B }\n    ensures { C }\n"
+    assert lawless.words_of(lawless.without_unsaid(asked)) & {"A", "B", "C"} == {"C"}, "what a function requires is told as a statement"
+    ring, bus = "crates/osdp_ring/specs/Ring.antt", "crates/osdp_bus/src/deadlines.rt"
+    kept = {name: [it for it in generated.parsed(ring).units if it.name.startswith(f"{name}.")] for name in ("Strings", "IsRing")}
+    told = {name: lawless.is_of_types(units, generated.read(ring)) for name, units in kept.items()}
+    assert told == {"Strings": True, "IsRing": False}, f"which records are of types alone: {told}"
+    told = {it.name: lawless.is_promise(it, bus, generated.read(bus)) for it in generated.parsed(bus).units if it.kind == "fn"}
+    assert not any(told.values()), f"what osdp_bus keeps to itself is told as a promise: {told}"
+    count = next(it for it in generated.parsed("crates/osdp_frame/src/ahead.rt").units if it.name == "deciding_count")
+    assert lawless.is_promise(count, "crates/osdp_frame/src/ahead.rt", generated.read("crates/osdp_frame/src/ahead.rt")), "what a crate shows is a promise"
     assert "IsFirstOf" not in lawless.lawless().get("osdp_example_lines", ()), "a statement with a law is told as one without"
+    places = lawless.cited()[1]
+    stale = [f"{crate} {it}" for crate, excused in lawless.excused().items() for it in excused if crate not in places.get(it, ())]
+    assert not stale, f"docs/EDITS.md excuses what is no definition: {stale}"
 
     file = items.File(CHANGING)
     made = lines_of(CHANGING, [*code_special.Special(file, file.units[1], Facts([file], [])).make()])
@@ -217,6 +265,7 @@ def main():
 
     assert same("a < 1", "a == 0", "(a) <= 0") and same("let _ = a; f(b)", "f((b))") and same("!(a == b)", "b != a"), "one meaning has two forms"
     assert same("a < 1 && b == 2", "b == 2 && a == 0") and not same("f(a) && g(b)", "g(b) && f(a)"), "the order tells where something is done, and there alone"
+    types_are_told()
     assert not same("a < 1", "a < 2") and not same("f(a, b)", "f(b, a)") and not same("if a { f(); }", "f();"), "two meanings have one form"
     return 0
 

@@ -46,6 +46,15 @@ def main():
     loads, rest = trial.Trial.spread(None, edits, 2)
     assert [len(it) for it in loads] == [2, 1] and not rest, "an edit has no variant"
 
+    names = ["reply::Nak::parse", "reply::NakDebug::fmt", "reply::PdId::parse", "reply::parse", "line::Line::order", "bus::Bus::order", "main", "of"]
+    one = trial.Trial.__new__(trial.Trial)
+    for path, owner, name, wanted in (
+        ("src/reply.rt", "Nak", "parse", ["reply::Nak::parse"]), ("src/reply.rt", "", "parse", ["reply::parse"]), ("src/reply.rt", "Nak", "fmt", ["reply::NakDebug::fmt"]),
+        ("src/calls.rt", "Line", "order", ["line::Line::order"]), ("src/main.rt", "", "main", ["main"]), ("src/lib.rt", "", "of", ["of"]), ("src/calls.rt", "Other", "order", []),
+    ):
+        found = one.named(path, SimpleNamespace(name=name, owner=owner), names)
+        assert found == wanted, f"{path} {owner} {name} is told as {found}"
+
     made = [it for it in generated.all_of("osdp_ring", (), False) if it.path.endswith("ring.rt") and it.unit.kind == "fn"]
     first, last = made[0], next(it for it in reversed(made) if it.new.count("\n") == 0)
     texts, places = variants.with_edits([first, last])

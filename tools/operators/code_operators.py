@@ -380,7 +380,9 @@ class Maker(Statements, Texts):
             others = [it for it in node.arms if it is not arm]
             for it in others:
                 if self.said(it.value) != self.said(arm.value):
-                    self.replace("a case's value", arm.value, self.said(it.value))
+                    # a block needs no comma after it, and what takes its place does
+                    comma = "," if it.value.kind != "block" and not self.said(arm).endswith(",") else ""
+                    self.replace("a case's value", arm.value, self.said(it.value) + comma)
             for lost in self.lost(arm.value) if not kind else ():
                 self.replace("what is written is lost", arm.value, lost.rstrip(";"))
             if not kind and self.said(arm.value) != "{}":
@@ -397,7 +399,8 @@ class Maker(Statements, Texts):
                 self.apart(arm, list(dict.fromkeys([*(self.said(one.value) for one in others), *(new for _, new in self.values(arm.value, kind)), *([] if kind else ["{}"])])))
             if "(" in self.said(arm.pattern) and len(arm.pattern.alternatives) == 1 and kind:
                 for new in self.simple(kind) or (["0"] if kind in INTEGERS else []):
-                    self.put("a case's value", arm.start, arm.end, re.sub(r"\b[a-z]\w*\b(?!\s*[:(])", "_", self.said(arm.pattern)) + f" => {new}" + ("," if self.said(arm).endswith(",") else ""))
+                    self.put("a case's value", arm.start, arm.end, re.sub(r"\b[a-z]\w*\b(?!\s*[:(])", "_", self.said(arm.pattern)) + f" => {new},")
+
     def apart(self, arm, values):
         """One of several cases, with another value."""
         for i, (start, end) in enumerate(arm.pattern.alternatives):

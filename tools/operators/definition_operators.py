@@ -58,11 +58,9 @@ class Maker(More):
         self.text, self.unit, self.file, self.facts, self.own = text, unit, file, facts, own
         self.found = []
         self.kinds = self.parameters()
-        signature = split_arrows(file.types.get(unit.name, ""))
         self.returns = unit.returns
-        if unit.kind == "clause" and signature:
+        if unit.kind == "clause" and (explicit := self.explicit_types()):
             self.patterns = groups(unit.patterns)
-            explicit = [it for it in signature if not it.startswith("{")]
             for pattern, kind in zip(self.patterns, explicit):
                 if len(pattern) == 1:
                     self.kinds[pattern[0]] = kind.strip("()")
@@ -72,6 +70,14 @@ class Maker(More):
                 self.kinds.update({name: text[it.type[0]:it.type[1]] for name in it.names})
         self.binders(unit.tree)
         self.variables = [it.text for it in unit.patterns if unit.kind == "clause" and it.kind == "name" and it.text[:1].islower()]
+
+    def explicit_types(self):
+        """Returns the types of the clause's patterns, then those of what it gives, where a type of the file's own that is cited last is written out."""
+        found = [it for it in split_arrows(self.file.types.get(self.unit.name, "")) if not it.startswith("{")]
+        for one in self.file.units if found and len(groups(self.unit.patterns)) >= len(found) else ():
+            if one.kind == "clause" and one.name == found[-1] and not one.patterns:
+                return [*found[:-1], *split_arrows(self.file.text[one.tree.start:one.tree.end])]
+        return found
 
     def binders(self, node):
         for it in node.walk():

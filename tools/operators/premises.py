@@ -5,6 +5,7 @@ definition, each case that a last clause takes together with others, each case o
 that it has itself. A law of the same crate, or of the one that builds upon it, must refuse it."""
 import functools
 import os
+import random
 import re
 
 from . import generated, variants
@@ -299,8 +300,10 @@ class Asking:
             self.chain = Chain(copy, crates, self.budget)
             # what is asked must be proved without any edit
             said = self.chain.ask([None], laws)
-            if said is None or not variants.is_proved(said[0]):
-                self.tools.stop(f"{self.crate}: not proved without any edit, so no edit shows anything:\n{(said or [''])[0][-2000:]}")
+            if said is None:
+                return waiting
+            if not variants.is_proved(said[0]):
+                self.tools.stop(f"{self.crate}: not proved without any edit, so no edit shows anything:\n{said[0][-2000:]}")
             return self.stage(waiting, laws, is_last)
         finally:
             copy.remove()
@@ -375,13 +378,20 @@ def plain(text):
     return "".join(sorted(re.sub(r"\s+", "", it) for it in text.split("\n")))
 
 
-def main(tools, words, budget, log, copies):
-    """Tries the premises of these crates, or those that a word names, or all; prints what came of each, and how many of each result there were."""
+def drawn(wanted, most, seed):
+    """Returns one of these crates, each as likely as it has premises, and so many of them, as the seed has it."""
+    order = random.Random(seed)
+    [crate] = order.choices(sorted(wanted), [len(wanted[it]) for it in sorted(wanted)])
+    return {crate: order.sample(wanted[crate], min(most, len(wanted[crate])))}
+
+
+def main(tools, words, budget, log, copies, most=None, seed="0"):
+    """Tries the premises of these crates, or those that a word names, or all, or so many of one of the crates; prints what came of each, and how many of each result there were."""
     is_list = "--list" in words
-    wanted = [it.partition("/")[::2] for it in words if it.partition("/")[0] in ASKED] or [(it, "") for it in ASKED]
+    named = [it.partition("/")[::2] for it in words if it.partition("/")[0] in ASKED] or [(it, "") for it in ASKED]
+    wanted = {crate: [it for it in of_crate(crate) if any(of == crate and it.part.startswith(part) for of, part in named)] for crate in dict.fromkeys(it for it, _ in named)}
     failed = 0
-    for crate in dict.fromkeys(it for it, _ in wanted):
-        edits = [it for it in of_crate(crate) if any(of == crate and it.part.startswith(part) for of, part in wanted)]
+    for crate, edits in (drawn(wanted, most, seed) if most else wanted).items():
         for it in edits if is_list else ():
             print(it.name())
         if not is_list:

@@ -47,6 +47,9 @@ def citing(crate):
         for unit in generated.parsed(path).units:
             words = set(re.findall(r"[^\W\d][\w'-]*", text[unit.start:unit.end]))
             definitions.setdefault(unit.name.partition(".")[0], set()).update(words)
+        # a record is cited by what takes or gives one, also where the clauses don't name it
+        for name, types in re.findall(r"^ *(?:abbrev |unfoldable )?pub ([^\W\d][\w'-]*) : (.*)$", text, re.M):
+            definitions.setdefault(name, set()).update(re.findall(r"[^\W\d][\w'-]*", types))
     for path in generated.paths_of(crate, "src"):
         text = generated.read(path)
         for unit in generated.parsed(path).units:
@@ -61,7 +64,7 @@ def names_of_laws(crate):
     found = []
     for path in generated.paths_of(crate, "src"):
         module = path.split("/src/")[1].removesuffix(".rt").removesuffix("/mod").replace("/", "::")
-        inside = "" if module == "lib" else module + "::"
+        inside = "" if module in ("lib", "main") else module + "::"
         found += [inside + it.name for it in generated.parsed(path).units if generated.is_law(it) and not it.owner]
     return found
 
@@ -267,7 +270,7 @@ class Trial:
         return [it for load, said in zip(loads, saids) for it in load if not self.is_settled(it, said, places[it])] if loads else []
 
     def is_settled(self, edit, said, place):
-        goals = self.tools.own_goals(said, (edit.path, *place, edit.unit.name))
+        goals = self.tools.own_goals(said, (edit.path, *place, edit.unit.name, edit.unit.owner))
         if goals:
             self.say(edit, REFUSED, ", ".join(goals[:3]))
         elif gone := self.gone(edit, said):
@@ -286,23 +289,35 @@ class Trial:
 
     def gone(self, edit, said):
         """Returns what the proof of the edit's function says that names something which is gone."""
-        module = os.path.basename(edit.path).removesuffix(".rt")
-        place = re.compile(rf"(\./)?proofs/(\S*/)?{module}/(\S*/)?{edit.unit.name}/|(\./)?proofs/{edit.unit.name}/")
+        module = "|".join(filter(None, [os.path.basename(edit.path).removesuffix(".rt"), edit.unit.owner]))
+        place = re.compile(rf"(\./)?proofs/(\S*/)?(?:{module})/(\S*/)?{edit.unit.name}/|(\./)?proofs/{edit.unit.name}/")
         return next((it[:160] for it in said.split("\n") if place.match(it) and self.tools.GONE.match(it)), "")
 
     def symbol(self, path, unit):
         """A pattern for the names that a check gives a function."""
         module = os.path.basename(path).removesuffix(".rt")
-        inside = "" if module == "lib" else rf"(?:\w+::)*{module}::"
-        return rf"{inside}(?:\w+::)?{unit.name}"
+        inside = "" if module in ("lib", "main") else rf"(?:\w+::)*{module}::"
+        # a method of a type with arguments has these in its name, as Device+ProgramAnswers::ask
+        own = rf"{inside}(?:[\w+]+::)?{unit.name}"
+        # and it stands in the module of its type, which may be another
+        return rf"(?:{own}|(?:\w+::)*{unit.owner}(?:\+\w+)*::{unit.name})" if unit.owner else own
+
+    def named(self, path, unit, names):
+        """Returns those of a check's names that a function has: of several methods of one name the type's own, or those of its traits."""
+        whole = re.compile(self.symbol(path, unit))
+        found = [it for it in names if whole.fullmatch(it)]
+        holders = {it: it.split("::")[-2] if "::" in it else "" for it in found}
+        if not unit.owner:
+            return [it for it in found if not holders[it][:1].isupper()] or found
+        return [it for it in found if holders[it] == unit.owner] or [it for it in found if unit.owner in holders[it]] or found
 
     def symbols(self, edit):
-        whole = re.compile(self.symbol(edit.path, edit.unit))
-        return [it for it in self.variants.functions if whole.fullmatch(it)]
+        return self.named(edit.path, edit.unit, self.variants.functions)
 
     def still_proved(self, edit, said):
-        told = re.findall(rf"^fn {self.crate}::{self.symbol(edit.path, edit.unit)}: (.*)$", said, re.M)
-        return bool(told) and all(it == "proved" for it in told)
+        told = dict(re.findall(rf"^fn {self.crate}::(\S+): (.*)$", said, re.M))
+        found = self.symbols(edit) or self.named(edit.path, edit.unit, told)
+        return bool(found) and all(told.get(it) == "proved" for it in found)
 
     # ---- definitions, constants and macros
 
@@ -319,7 +334,7 @@ class Trial:
         while words - seen:
             over = [(path, unit) for path, unit, contract, body in functions if words & contract or not edit.is_definition() and words & body]
             over = [it for it in over if generated.is_law(it[1])] or over
-            found = {name for path, unit in over for name in self.variants.functions if re.fullmatch(self.symbol(path, unit), name)}
+            found = {name for path, unit in over for name in self.named(path, unit, self.variants.functions)}
             if len(found) > 2 * step:
                 return sorted(found, key=self.size)[2 * step:2 + 6 * step]
             seen |= words
@@ -395,7 +410,7 @@ class Trial:
             return []
         while more := {name for name, cited in definitions.items() if cited & taken} - taken:
             taken |= more
-        found = {name for path, unit, contract, _ in functions if taken & contract for name in names if re.fullmatch(self.symbol(path, unit), name)}
+        found = {name for path, unit, contract, _ in functions if taken & contract for name in self.named(path, unit, names)}
         found |= {name for name in names for it in taken if re.search(rf"\w{it}::\w+$", name)}
         size = {name: sum(os.path.getsize(f"{at}/{it}") for at, _, files in os.walk(f"{generated.TOP}/crates/{over}/proofs/{name.replace('::', '/')}") for it in files) for name in found}
         return sorted(found, key=size.get)[:8]
@@ -436,7 +451,7 @@ class Trial:
         while more := {name for name, cited in definitions.items() if cited & words} - words:
             words |= more
         over = [(path, unit) for path, unit, contract, body in functions if words & contract or words & body and not edit.is_definition()]
-        return sorted({name for path, unit in over for name in self.variants.functions if re.fullmatch(self.symbol(path, unit), name)}, key=self.size)[:MOST_ASKED]
+        return sorted({name for path, unit in over for name in self.named(path, unit, self.variants.functions)}, key=self.size)[:MOST_ASKED]
 
     def asked(self, batch, only):
         """Asks these functions, or all, of each edit; returns the edits of which that shows nothing, or None at the end of the budget."""

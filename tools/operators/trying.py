@@ -9,7 +9,7 @@ import signal
 import subprocess
 import sys
 
-from . import chains, generated, premises, streams, variants, whole
+from . import chains, generated, premises, streams, typed, variants, whole
 from .trial import BY_CODE, EQUAL, NOT_TRIED, REFUSED, SURVIVED, Trial, key_of
 from .variants import Budget
 
@@ -35,17 +35,22 @@ def known_equal(crate):
 
 def chosen(crate, tools, most, seed, is_wide=True, is_left=False):
     """Returns edits of a crate: all, or so many, each kind of operator alike; and those among them that are known to be equal. Of those that no contract decides
-    so many are taken that each is as likely as each other, and the first of them stay the same where more are wanted."""
-    edits = generated.all_of(crate, tuple(tools.below(crate)), is_wide)
+    so many are taken that each is as likely as each other, and the first of them stay the same where more are wanted. What is seen to have no type is left out."""
+    below = tuple(tools.below(crate))
+    edits = generated.all_of(crate, below, is_wide)
     meanings = generated.Meanings()
+
+    def is_taken(edit):
+        return meanings.is_new(edit) and not typed.why_untyped(edit, below)
+
     equal, _ = known_equal(crate)
     if is_left:
         edits = [it for it in edits if not whole.is_decided(it)]
     if most is None:
-        edits = [it for it in edits if meanings.is_new(it)]
+        edits = [it for it in edits if is_taken(it)]
     elif is_left:
         random.Random(f"{seed} {crate}").shuffle(edits)
-        edits = list(itertools.islice((it for it in edits if meanings.is_new(it)), most))
+        edits = list(itertools.islice((it for it in edits if is_taken(it)), most))
     else:
         order = random.Random(f"{seed} {crate}")
         kinds = {}
@@ -56,7 +61,7 @@ def chosen(crate, tools, most, seed, is_wide=True, is_left=False):
         edits = []
         while len(edits) < most and any(kinds.values()):
             for it in list(kinds.values()):
-                if it and len(edits) < most and meanings.is_new(one := it.pop()):
+                if it and len(edits) < most and is_taken(one := it.pop()):
                     edits.append(one)
     same = [it for it in edits if key_of(it) in equal]
     return [it for it in edits if it not in same], same
@@ -197,7 +202,7 @@ def main(tools, words):
     budget = Budget(60 * float(given["--minutes"]) if given["--minutes"] else None)
     copies, variants.JOBS[:] = given["--copies"] and int(given["--copies"]), [given["--jobs"]]
     if kind == "--premises":
-        return premises.main(tools, words, budget, log, copies)
+        return premises.main(tools, words, budget, log, copies, most, seed)
     if kind == "--asked":
         return chains.main(tools, words, budget, log, copies)
     only, is_wide, asks_runs, is_left = "--list" in words, "--wide" in words, "--runs" in words, "--left" in words

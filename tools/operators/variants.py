@@ -167,7 +167,8 @@ class Variants:
     def run(self, names, words):
         if self.names != [self.crate]:
             uses = ",".join(dict.fromkeys(["core", "std", *uses_of(self.crate)]))
-            words = [*(it for name in names for it in ("--lib", f"{name}:{uses}=../{name}/src/lib.rt")), *words]
+            root = "main" if os.path.isfile(f"{self.copy.folder(self.crate)}/src/main.rt") else "lib"
+            words = [*(it for name in names for it in ("--lib", f"{name}:{uses}=../{name}/src/{root}.rt")), *words]
         return ran(["rt", "check", "--jobs", *JOBS, *words], self.room, self.budget)
 
     def check(self, loads, only=None):
