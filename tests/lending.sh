@@ -14,7 +14,8 @@ git init -q "$copy"
 grep -E '^osdp_(check|frame):' crates.txt > "$copy/crates.txt"
 echo 'lending: osdp_frame' >> "$copy/crates.txt"
 
-# $1: what is done while the item is in use; $2: the text that the check must say; $3: the text that it must not say; $4: seconds
+# $1: what is done while the item is in use; $2: the text that the check must say; $3: the text that it must not say before. It is waited for as long as other
+# copies of the repository build the libraries below.
 try() {
   mkdir -p "$copy/crates/lending/src"
   cat > "$copy/crates/lending/src/lib.rt" <<CODE
@@ -33,17 +34,20 @@ pub fn size_of_next(framer: &mut Framer) -> usize {
     }
 }
 CODE
-  said=$(cd "$copy/crates/lending" && timeout "$4" rt lib 2>&1)
-  if ! grep -q "$2" <<<"$said" || grep -q "$3" <<<"$said"; then
+  (cd "$copy/crates/lending" && exec timeout 600 rt lib) >"$copy/said" 2>&1 &
+  while kill -0 $! 2>/dev/null && ! grep -q "$2" "$copy/said"; do sleep 1; done
+  kill $! 2>/dev/null
+  wait $! 2>/dev/null
+  if ! grep -q "$2" "$copy/said" || grep -q "$3" "$copy/said"; then
     echo "with '$1' the check says:"
-    echo "$said"
+    cat "$copy/said"
     exit 1
   fi
 }
 
-# The borrow check comes first and takes seconds; but where a check of another copy left work on this machine, the libraries are built
-# before it. Where it finds nothing, the libraries below are built, which isn't waited for, or all is proved at once.
-try 'framer.advance();' 'borrow-e0502' 'for osdp_check' 600
-try 'let _ = framer.push(&[0]);' 'borrow-e0502' 'for osdp_check' 600
-try '' 'for osdp_check\|logic=proved' 'borrow-e0502' 45
+# The borrow check comes first and takes seconds. Where it finds nothing, a library below is built, which isn't waited for, or all is proved at once. Which
+# library that is depends on what other copies on this machine have built.
+try 'framer.advance();' 'borrow-e0502' 'for osdp_\(check\|frame\)'
+try 'let _ = framer.push(&[0]);' 'borrow-e0502' 'for osdp_\(check\|frame\)'
+try '' 'for osdp_\(check\|frame\)\|logic=proved' 'borrow-e0502'
 exit 0
