@@ -2,7 +2,8 @@
 
 ghost use Rattle.std.specs.Prelude.{◌≡◌, ◌≤◌, length};
 
-use osdp_msg::{Command, MAX_DATA, MakerMessage, NakReason, Spelling, States};
+use osdp_frame::Burst;
+use osdp_msg::{Command, MAX_DATA, MakerMessage, NakReason, States};
 use osdp_ring::put;
 
 /// What a handler answers to a command. An answer that doesn't belong to the command is told as NAK 9.
@@ -45,14 +46,14 @@ pub trait Handler: Drop {
     /// The state after a command.
     ghost after: { Self → Command → Self };
 
-    /// Acts on a command. What the answer has of bytes may be written into `place`.
-    fn answer<'a>(&mut self, command: &Command<'_>, place: &'a mut Spelling) -> Answer<'a>
+    /// Acts on a command. What the answer has of bytes may be written into `place`, which is where the packet of the reply is put after that.
+    fn answer<'a>(&mut self, command: &Command<'_>, place: &'a mut Burst) -> Answer<'a>
         ensures answer { result ≡ answer_of self.old command.now }
         ensures state { self.new ≡ after self.old command.now };
 }
 
 /// Puts these bytes in place of what stands in `place`, and lends them there: for a handler whose answer has bytes that it keeps itself.
-pub fn lend<'a>(bytes: &[u8], place: &'a mut Spelling) -> &'a [u8]
+pub fn lend<'a>(bytes: &[u8], place: &'a mut Burst) -> &'a [u8]
     requires { length bytes.now ≤ MAX_DATA }
     ensures { result.now ≡ bytes.now }
 {

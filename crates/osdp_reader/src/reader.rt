@@ -12,16 +12,17 @@ ghost use Rattle.osdp_reader.specs.Table.{begun, command_in, hears, kind_by_numb
 ghost use Rattle.osdp_reader.specs.declared.fault.ReaderFault.TheVariants.{OutOfRange};
 ghost use Rattle.osdp_reader.specs.declared.kind.Kind.TheVariants.{Taken, Zero};
 
-use crate::config::ReaderConfig;
+use crate::config::{KeptConfig, ReaderConfig};
 use crate::events::EventQueue;
 use crate::fault::ReaderFault;
 use crate::handler::Handler;
 use crate::heard::Heard;
 use crate::kind::Kind;
+use crate::parts::ReaderParts;
 use crate::reply::{spell_answer, spell_busy, spell_event_or_answer, spell_nak, unread};
 use crate::stored::StoredReply;
 use osdp_frame::{Address, Burst, FrameView, Seq};
-use osdp_msg::{Command, Event, MsgFault, NakReason, Room, Spelling};
+use osdp_msg::{Command, Event, MsgFault, NakReason, PdCap, Room};
 use std::alloc::Global;
 use std::marker::Model;
 use std::mem::replace;
@@ -29,13 +30,11 @@ use std::mem::replace;
 /// A reader on the line.
 #[derive(Drop)]
 pub struct Reader<H: Handler> {
-    config: ReaderConfig,
+    config: KeptConfig,
     last: Option<Seq>,
     stored: StoredReply,
     queue: EventQueue,
     busy: bool,
-    /// Where the handler may write what its answer has of bytes.
-    place: Spelling,
     handler: H,
 }
 
@@ -49,7 +48,7 @@ impl<H: Handler> Model for Reader<H> {
 
 impl<H: Handler> Reader<H> {
     /// A reader that nothing has come to yet, with such room for events. N3: the address is above 126, or the room is out of its range. N1:
-    /// there is no memory for the events. N3 is decided first.
+    /// there is no memory for the events, or for what is answered to CAP. N3 is decided first.
     pub fn new(
         alloc: Global,
         config: ReaderConfig,
@@ -59,21 +58,27 @@ impl<H: Handler> Reader<H> {
         ensures made { IfOk result (λ r. r ≡ new_reader config handler room) }
         ensures range { IsErrOf result OutOfRange ↔ ((126 < config.address) ⊎ (AreRoom room.messages room.bytes → ⊥)) }
     {
-        if !config.address.is_device() || !room.is_right() {
-            return Err(ReaderFault::OutOfRange);
+        let caps = PdCap::new(config.caps.as_slice()).unwrap();
+        match ReaderParts::new(alloc, config.address, config.id, &caps, room) {
+            Ok(parts) => Ok(Reader::with(parts, handler)),
+            Err(fault) => Err(fault),
         }
-        let Ok(queue) = EventQueue::new(alloc, room) else {
-            return Err(ReaderFault::NoMemory);
-        };
-        Ok(Reader {
+    }
+
+    /// As `new`, of parts that were made before: for a program with little stack, which hands no reader on.
+    #[inline(always)]
+    pub fn with(parts: ReaderParts, handler: H) -> Reader<H>
+        ensures { result ≡ new_reader parts.config handler parts.room }
+    {
+        let ReaderParts { config, queue } = parts;
+        Reader {
             config,
             last: None,
             stored: StoredReply::none(),
             queue,
             busy: false,
-            place: Spelling::new(),
             handler,
-        })
+        }
     }
 
     /// Puts an event after those that wait, where it has room. Whether it has (N2 where not); else nothing changes.
@@ -127,7 +132,7 @@ impl<H: Handler> Reader<H> {
     pub fn address(&self) -> Address
         ensures { result ≡ self.now.config.address }
     {
-        self.config.address
+        self.config.address()
     }
 
     /// How many events wait, the one that is offered included.
@@ -243,7 +248,7 @@ impl<H: Handler> Reader<H> {
     {
         let address = packet.address().get();
         packet.is_reply()
-            || !(address == self.config.address.get() || address == Address::CONFIGURATION)
+            || !(address == self.config.address().get() || address == Address::CONFIGURATION)
     }
 
     /// Acts on a packet with number 0.
@@ -268,7 +273,6 @@ impl<H: Handler> Reader<H> {
             &self.config,
             &mut self.handler,
             &command,
-            &mut self.place,
             out,
         );
         self.move_to(new_address(&command));
@@ -300,7 +304,6 @@ impl<H: Handler> Reader<H> {
             &self.config,
             &mut self.handler,
             &command,
-            &mut self.place,
             out,
         );
         self.queue.offer(told);
@@ -314,11 +317,10 @@ impl<H: Handler> Reader<H> {
         ensures { self.new ≡ moved address self.old }
     {
         let Some(address) = address else { return };
-        if address.get() == self.config.address.get() {
+        if address.get() == self.config.address().get() {
             return;
         }
-        let config = &mut self.config;
-        config.address = address;
+        self.config.set_address(address);
         self.last = None;
         self.stored.forget();
     }

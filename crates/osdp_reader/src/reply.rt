@@ -1,22 +1,22 @@
 //! The reply to a command that is acted on, and the bytes of a reply.
 
-ghost use Rattle.std.specs.Prelude.{◌≡◌, ◌<◌, ◌≤◌, true, false, length};
+ghost use Rattle.std.specs.Prelude.{◌≡◌, ◌<◌, ◌≤◌, ◌∷◌, true, false, length};
 ghost use Rattle.osdp_frame.specs.Bytes.{AreBytes};
 ghost use Rattle.osdp_frame.specs.Packed.{packed};
 ghost use Rattle.osdp_frame.specs.Spelling.{Spells};
 ghost use Rattle.std.specs.Option.{option_map};
 ghost use Rattle.osdp_msg.specs.declared.reply.Reply.TheVariants as told;
 ghost use Rattle.osdp_msg.specs.Events.{event_reply};
-ghost use Rattle.osdp_msg.specs.ReplyTable.{ReplyFits};
+ghost use Rattle.osdp_msg.specs.ReplyTable.{ReplyFits, reply_code, reply_data};
 ghost use Rattle.osdp_reader.specs.Replies.{comset_reply, done_reply, list_reply, local_reply, maker_reply, not_processed, refusal_reply, refused, reply_for, reply_packet, unread_reason};
 ghost use Rattle.osdp_reader.specs.Table.{answer_to, event_or_answer};
 
-use crate::config::ReaderConfig;
+use crate::config::KeptConfig;
 use crate::handler::{Answer, Handler};
 use osdp_frame::{Address, Burst, FrameView, Header, Seq};
 use osdp_msg::{
-    Command, Communication, Event, LocalState, MAX_MESSAGE, MakerMessage, MsgFault, NakReason,
-    PdCap, Reply, Spelling, States,
+    Command, Communication, Event, LocalState, MAX_MESSAGE, MakerMessage, MsgFault, Nak, NakReason,
+    Reply, Spelling, States,
 };
 
 /// The reason of a packet that is no command.
@@ -29,38 +29,41 @@ pub fn unread(fault: MsgFault) -> NakReason
     }
 }
 
-/// The bytes of what the handler has done: ACK to a command that a device does.
-fn spell_done(packet: &FrameView, seq: Seq, command: &Command<'_>, out: &mut Burst)
-    ensures spelled { Spells (reply_packet packet.now seq (done_reply command.now)) out.new.items }
-    ensures fits { ReplyFits (done_reply command.now) }
+/// A NAK with this reason and no detail.
+fn refused<'a>(reason: NakReason) -> Reply<'a>
+    ensures { result ≡ refused reason }
+{
+    Reply::Nak(Nak::new(reason, &[]).unwrap())
+}
+
+/// The reply where an answer doesn't belong to its command.
+fn not_processed<'a>() -> Reply<'a>
+    ensures { result ≡ not_processed }
+{
+    refused(NakReason::RecordNotProcessed)
+}
+
+/// What the handler has done: ACK to a command that a device does.
+fn done_reply<'a>(command: &Command<'_>) -> Reply<'a>
+    ensures { result ≡ done_reply command.now }
 {
     match command {
         Command::Output(_)
         | Command::Led(_)
         | Command::Buzzer(_)
         | Command::Text(_)
-        | Command::Maker(_) => spell_ack(packet, seq, out),
-        _ => spell_nak(packet, seq, NakReason::RecordNotProcessed, out),
+        | Command::Maker(_) => Reply::Ack,
+        _ => not_processed(),
     }
 }
 
-/// The bytes of the state of the device itself, tamper and power.
-fn spell_local(
-    packet: &FrameView,
-    seq: Seq,
-    command: &Command<'_>,
-    tamper: u8,
-    power: u8,
-    out: &mut Burst,
-)
-    ensures spelled { Spells (reply_packet packet.now seq (local_reply command.now tamper power)) out.new.items }
-    ensures fits { ReplyFits (local_reply command.now tamper power) }
+/// The state of the device itself, tamper and power.
+fn local_reply<'a>(command: &Command<'_>, tamper: u8, power: u8) -> Reply<'a>
+    ensures { result ≡ local_reply command.now tamper power }
 {
-    if let Command::LocalStatus = command {
-        let state = LocalState { tamper, power };
-        spell(packet, seq, &Reply::LocalState(state), out);
-    } else {
-        spell_nak(packet, seq, NakReason::RecordNotProcessed, out);
+    match command {
+        Command::LocalStatus => Reply::LocalState(LocalState { tamper, power }),
+        _ => not_processed(),
     }
 }
 
@@ -82,61 +85,72 @@ fn told_reason(reason: NakReason) -> NakReason
     }
 }
 
-/// The bytes of a byte for each input, output or reader.
-fn spell_list(
-    packet: &FrameView,
-    seq: Seq,
-    command: &Command<'_>,
-    states: &States<'_>,
-    out: &mut Burst,
-)
-    ensures spelled { Spells (reply_packet packet.now seq (list_reply command.now states.now.items)) out.new.items }
-    ensures fits { ReplyFits (list_reply command.now states.now.items) }
+/// A byte for each input, output or reader.
+fn list_reply<'a>(command: &Command<'_>, states: &States<'a>) -> Reply<'a>
+    ensures { result ≡ list_reply command.now states.now.items }
 {
     match command {
-        Command::InputStatus => spell(packet, seq, &Reply::Inputs(states.copy()), out),
-        Command::OutputStatus => spell(packet, seq, &Reply::Outputs(states.copy()), out),
-        Command::ReaderStatus => spell(packet, seq, &Reply::Readers(states.copy()), out),
-        _ => spell_nak(packet, seq, NakReason::RecordNotProcessed, out),
+        Command::InputStatus => Reply::Inputs(states.copy()),
+        Command::OutputStatus => Reply::Outputs(states.copy()),
+        Command::ReaderStatus => Reply::Readers(states.copy()),
+        _ => not_processed(),
     }
 }
 
-/// The bytes of the maker's own reply.
-fn spell_maker(
-    packet: &FrameView,
-    seq: Seq,
-    command: &Command<'_>,
-    own: &MakerMessage<'_>,
-    out: &mut Burst,
-)
-    ensures spelled { Spells (reply_packet packet.now seq (maker_reply command.now own.now)) out.new.items }
-    ensures fits { ReplyFits (maker_reply command.now own.now) }
+/// The maker's own reply.
+fn maker_reply<'a>(command: &Command<'_>, own: &MakerMessage<'a>) -> Reply<'a>
+    ensures { result ≡ maker_reply command.now own.now }
 {
-    if let Command::Maker(_) = command {
-        spell(packet, seq, &Reply::MakerReply(own.copy()), out);
-    } else {
-        spell_nak(packet, seq, NakReason::RecordNotProcessed, out);
+    match command {
+        Command::Maker(_) => Reply::MakerReply(own.copy()),
+        _ => not_processed(),
     }
 }
 
-/// The bytes of a handler's answer to a command.
-fn spell_handled(
-    packet: &FrameView,
-    seq: Seq,
-    answer: &Answer<'_>,
-    command: &Command<'_>,
-    out: &mut Burst,
-)
-    ensures spelled { Spells (reply_packet packet.now seq (reply_for answer.now command.now)) out.new.items }
-    ensures fits { ReplyFits (reply_for answer.now command.now) }
+/// A handler's answer to a command.
+fn reply_for<'a>(answer: &Answer<'a>, command: &Command<'_>) -> Reply<'a>
+    ensures { result ≡ reply_for answer.now command.now }
 {
     match answer {
-        Answer::Done => spell_done(packet, seq, command, out),
-        Answer::Local(tamper, power) => spell_local(packet, seq, command, *tamper, *power, out),
-        Answer::List(states) => spell_list(packet, seq, command, states, out),
-        Answer::Refuse(reason) => spell_nak(packet, seq, told_reason(*reason), out),
-        Answer::Maker(own) => spell_maker(packet, seq, command, own, out),
+        Answer::Done => done_reply(command),
+        Answer::Local(tamper, power) => local_reply(command, *tamper, *power),
+        Answer::List(states) => list_reply(command, states),
+        Answer::Refuse(reason) => refused(told_reason(*reason)),
+        Answer::Maker(own) => maker_reply(command, own),
     }
+}
+
+/// Puts what a handler answers to a command there. What the answer has of bytes stands in `place`.
+fn write_handled<H: Handler>(
+    handler: &mut H,
+    command: &Command<'_>,
+    place: &mut Burst,
+    body: &mut Spelling,
+)
+    ensures spelled { let reply = reply_for (H.answer_of handler.old command.now) command.now in
+        body.new.items ≡ reply_code reply ∷ reply_data reply }
+    ensures handler { handler.new ≡ H.after handler.old command.now }
+    ensures fits { ReplyFits (reply_for (H.answer_of handler.old command.now) command.now) }
+{
+    let answer = handler.answer(command, place);
+    reply_for(&answer, command).write_into(body);
+}
+
+/// The bytes of what a handler answers to a command.
+fn spell_handled<H: Handler>(
+    packet: &FrameView,
+    seq: Seq,
+    handler: &mut H,
+    command: &Command<'_>,
+    out: &mut Burst,
+)
+    ensures spelled { Spells (reply_packet packet.now seq (reply_for (H.answer_of handler.old command.now) command.now)) out.new.items }
+    ensures handler { handler.new ≡ H.after handler.old command.now }
+    ensures fits { ReplyFits (reply_for (H.answer_of handler.old command.now) command.now) }
+{
+    let mut body = Spelling::new();
+    write_handled(handler, command, out, &mut body);
+    spell_body(packet, seq, body.as_slice(), out);
 }
 
 /// What a slice of bytes holds is bytes.
@@ -192,20 +206,19 @@ pub fn spell_nak(packet: &FrameView, seq: Seq, reason: NakReason, out: &mut Burs
 }
 
 /// The bytes of what the reader is, as the answer to ID.
-fn spell_id(packet: &FrameView, seq: Seq, config: &ReaderConfig, out: &mut Burst)
+fn spell_id(packet: &FrameView, seq: Seq, config: &KeptConfig, out: &mut Burst)
     ensures spelled { Spells (reply_packet packet.now seq (told.PdId config.now.id)) out.new.items }
     ensures fits { ReplyFits (told.PdId config.now.id) }
 {
-    spell(packet, seq, &Reply::PdId(config.id), out);
+    spell(packet, seq, &Reply::PdId(config.id()), out);
 }
 
 /// The bytes of what the reader can do, as the answer to CAP.
-fn spell_caps(packet: &FrameView, seq: Seq, config: &ReaderConfig, out: &mut Burst)
+fn spell_caps(packet: &FrameView, seq: Seq, config: &KeptConfig, out: &mut Burst)
     ensures spelled { Spells (reply_packet packet.now seq (told.PdCap (record { capabilities = config.now.caps }))) out.new.items }
     ensures fits { ReplyFits (told.PdCap (record { capabilities = config.now.caps })) }
 {
-    let caps = PdCap::new(config.caps.as_slice()).unwrap();
-    spell(packet, seq, &Reply::PdCap(caps), out);
+    spell(packet, seq, &Reply::PdCap(config.caps()), out);
 }
 
 /// The bytes of the reply to a COMSET.
@@ -232,10 +245,9 @@ fn spell_event(packet: &FrameView, seq: Seq, event: &Event<'_>, out: &mut Burst)
 pub fn spell_answer<H: Handler>(
     packet: &FrameView,
     seq: Seq,
-    config: &ReaderConfig,
+    config: &KeptConfig,
     handler: &mut H,
     command: &Command<'_>,
-    place: &mut Spelling,
     out: &mut Burst,
 )
     ensures reply { let answer = answer_to H.answer_of H.after config.now handler.old command.now in
@@ -256,10 +268,7 @@ pub fn spell_answer<H: Handler>(
         | Command::Led(_)
         | Command::Buzzer(_)
         | Command::Text(_)
-        | Command::Maker(_) => {
-            let answer = handler.answer(command, place);
-            spell_handled(packet, seq, &answer, command, out);
-        }
+        | Command::Maker(_) => spell_handled(packet, seq, handler, command, out),
     }
 }
 
@@ -267,10 +276,9 @@ pub fn spell_answer<H: Handler>(
 pub fn spell_event_or_answer<H: Handler>(
     packet: &FrameView,
     event: Option<Event<'_>>,
-    config: &ReaderConfig,
+    config: &KeptConfig,
     handler: &mut H,
     command: &Command<'_>,
-    place: &mut Spelling,
     out: &mut Burst,
 )
     ensures reply { let told = option_map event_reply event.entry in
@@ -283,6 +291,6 @@ pub fn spell_event_or_answer<H: Handler>(
 {
     match event {
         Some(event) => spell_event(packet, packet.seq(), &event, out),
-        None => spell_answer(packet, packet.seq(), config, handler, command, place, out),
+        None => spell_answer(packet, packet.seq(), config, handler, command, out),
     }
 }
