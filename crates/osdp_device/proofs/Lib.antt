@@ -6,3 +6,4 @@ pub mod Sets
 pub mod Staying
 pub mod Moments
 pub mod Waiting
+pub mod Ordering

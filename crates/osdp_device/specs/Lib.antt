@@ -11,4 +11,5 @@ pub mod Device
 pub mod Keeping
 pub mod Deciding
 pub mod Orders
+pub mod OrdersLaws
 pub mod DecidingLaws

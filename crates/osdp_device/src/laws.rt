@@ -19,6 +19,7 @@ ghost use Rattle.osdp_msg.specs.declared.reply.Reply.{Reply};
 ghost use Rattle.osdp_frame.specs.Packet.{Packet};
 ghost use Rattle.osdp_reader.specs.Table.{hears};
 ghost use Rattle.osdp_device.specs.Orders.{is_nak, is_refusal, order_of, ordered_in};
+ghost use Rattle.osdp_device.specs.OrdersLaws.{OrdersByNumber};
 ghost use Rattle.osdp_device.specs.declared.order.Order.TheVariants.{Refused};
 ghost use Rattle.osdp_device.specs.AgesLaws.{ArrivesWithItsMoment, BeginsWithNone, LeavesWithItsMoment, StaysWithItsMoment, TellsAges};
 
@@ -79,6 +80,14 @@ pub fn refusals_are_naks<H: Handler>()
         → ordered_in (said_to H.answer_of H.after r p) ≡ Some command
         → (order_of (said_to H.answer_of H.after r p) ≡ Refused) ↔ (is_refusal reply ≡ true) }
 {}
+
+/// A command that is acted on, is no POLL and isn't refused is done once exactly where it came with the next number, and as one that may come again exactly where
+/// it came with number 0. Nothing is done on a POLL, nor on what isn't acted on or can't be read.
+pub fn orders_by_number<H: Handler>()
+    ensures { (r : ReaderState H) (p : Packet) → OrdersByNumber H.answer_of H.after r p }
+{
+    refusals_are_naks::<H>();
+}
 
 /// What is said to a pending command is what the device's program has set for it, and what its status tells where nothing was set. Before that
 /// the device stops, once. A pending command stays so, whatever comes after it: so it is the one about which the program was asked.
