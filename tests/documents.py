@@ -447,7 +447,7 @@ if __name__ == "__main__":
     judge_manual()
     judge_quotes("docs/PREMISES.md", {"AllKeep", "IsSetUp"}, 15, "## From the statement")
     judge_carriers("docs/PREMISES.md")
-    judge_quotes("docs/HEADLINE.md", {"LedgerHoldsOnce", "Ledger", "May"}, 5, None)
+    judge_quotes("docs/HEADLINE.md", {"LedgerHoldsOnce", "Ledger", "May"}, 5, "## To the letter")
     judge_profile()
     every_word = words_of_sources()
     for each_page in PAGES:
