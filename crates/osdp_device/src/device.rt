@@ -1,6 +1,6 @@
 //! A reader on a serial line.
 
-ghost use Rattle.std.specs.Prelude.{◌≡◌, ◌↔◌, is_some, IfOk, IfSome, IsErrOf, IsSome, None};
+ghost use Rattle.std.specs.Prelude.{◌≡◌, ◌↔◌, is_some, IfOk, IsErrOf, None};
 ghost use Rattle.std.specs.Borrow.{Lends, sem};
 ghost use Rattle.osdp_device.specs.Ages.{after_saying, no_ages};
 ghost use Rattle.osdp_device.specs.contracts.device.Device.{the_row};
@@ -61,32 +61,25 @@ impl<H: Handler> Device<H> {
         let Ok(ages) = Ages::new(alloc, reader.room().messages) else {
             return Err(ReaderFault::NoMemory);
         };
-        Ok(Device {
-            reader,
-            line: Receiver::new(gap),
-            first: First::Unread,
-            ages,
-        })
+        Ok(Device::with_ages(reader, ages, gap))
     }
 
-    /// As `new`, of ages that were made before: for a program with little stack, which hands no device on. None where the gap is out of its range, or
-    /// the ages have room for another number of events than the reader.
+    /// As `new`, of ages that were made before: for a program with little stack, which hands no device on. The gap is one of 1 to 3,600,000
+    /// milliseconds (`is_time`), and the ages have room for as many events as the reader.
     #[inline(always)]
-    pub fn with_ages(reader: Reader<H>, ages: Ages, gap: u32) -> Option<Device<H>>
-        ensures range { IsSome result ↔ (IsTime gap × (ages.room ≡ reader.queue.capacity)) }
-        ensures reader { IfSome result (λ d. d.reader ≡ reader) }
-        ensures line { IfSome result (λ d. d.line ≡ new_line gap) }
-        ensures ages { IfSome result (λ d. d.ages ≡ ages) }
+    pub fn with_ages(reader: Reader<H>, ages: Ages, gap: u32) -> Device<H>
+        requires gap { IsTime gap }
+        requires room { ages.room ≡ reader.queue.capacity }
+        ensures reader { result.reader ≡ reader }
+        ensures line { result.line ≡ new_line gap }
+        ensures ages { result.ages ≡ ages }
     {
-        if !is_time(gap) || ages.room() != reader.room().messages {
-            return None;
-        }
-        Some(Device {
+        Device {
             reader,
             line: Receiver::new(gap),
             first: First::Unread,
             ages,
-        })
+        }
     }
 
     /// The reader's end of the link: how many events wait, whether the oldest is in doubt, the address, the handler.

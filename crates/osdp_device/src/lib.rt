@@ -3,7 +3,7 @@
 //! Nothing here reads or writes. The device's program reads from its port, takes the moment after the read, and hands both
 //! in; then it asks for answers until there is none. No bytes, as of a read that timed out or would block, end no run: a
 //! run is over where no byte came for the gap, by the moments of `take` and `tick` alone, or where the program saw the line
-//! silent. None of it takes memory, but `Reader::new` and `Device::new`.
+//! silent. None of it takes memory, but what makes a reader, a device and their parts.
 //!
 //! ```text
 //! let reader = Reader::new(alloc, config, DeviceStatus::new(), Room::of(64))?;
@@ -56,7 +56,9 @@ pub use osdp_msg::{
     LocalState, MAX_DATA, MakerMessage, NakReason, OutputRecord, Outputs, PdCap, PdId, Raw, Room,
     Spelling, States, Text,
 };
-pub use osdp_reader::{Answer, Handler, Heard, Kind, Reader, ReaderConfig, ReaderFault, lend};
+pub use osdp_reader::{
+    Answer, Handler, Heard, Kind, Reader, ReaderConfig, ReaderFault, ReaderParts, lend,
+};
 pub use program::ProgramAnswers;
 pub use question::{KeptQuestion, Question};
 pub use settled::{Settled, Turn};

@@ -5,7 +5,8 @@ ghost use Rattle.osdp_device.specs.Program.{new_program};
 
 use crate::question::KeptQuestion;
 use crate::status::DeviceStatus;
-use osdp_msg::{Command, Spelling};
+use osdp_frame::Burst;
+use osdp_msg::Command;
 use osdp_reader::{Answer, Handler};
 
 /// What there is at a device, and what its program says to the command that it was asked about.
@@ -36,7 +37,7 @@ impl Handler for ProgramAnswers {
 
     ghost after = { program_after };
 
-    fn answer<'a>(&mut self, command: &Command<'_>, place: &'a mut Spelling) -> Answer<'a> {
+    fn answer<'a>(&mut self, command: &Command<'_>, place: &'a mut Burst) -> Answer<'a> {
         if !self.question.is_set() {
             self.question.forget();
             return self.status.answer(command, place);

@@ -7,7 +7,8 @@ ghost use Rattle.osdp_device.specs.Program.{is_set};
 ghost use Rattle.osdp_device.specs.declared.question.Question.TheVariants as questions;
 
 use arrayvec::ArrayVec;
-use osdp_msg::{MAX_DATA, MakerMessage, NakReason, Spelling};
+use osdp_frame::Burst;
+use osdp_msg::{MAX_DATA, MakerMessage, NakReason};
 use osdp_reader::{Answer, lend};
 use std::marker::Model;
 
@@ -90,7 +91,7 @@ impl KeptQuestion {
     }
 
     /// The answer that it has set, whose bytes are put into `place`.
-    pub(crate) fn answer<'a>(&self, place: &'a mut Spelling) -> Answer<'a>
+    pub(crate) fn answer<'a>(&self, place: &'a mut Burst) -> Answer<'a>
         requires { is_set self.now ≡ true }
         ensures { questions.Answered result ≡ self.now }
     {
@@ -152,7 +153,7 @@ fn keep(answer: &Answer<'_>, bytes: &mut ArrayVec<u8, MAX_DATA>) -> Shape
 }
 
 /// The answer of this shape, whose bytes are put into `place`.
-fn lend_answer<'a>(shape: Shape, bytes: &[u8], place: &'a mut Spelling) -> Answer<'a>
+fn lend_answer<'a>(shape: Shape, bytes: &[u8], place: &'a mut Burst) -> Answer<'a>
     requires room { length bytes.now ≤ MAX_DATA }
     requires fits { ShapeFits shape bytes.now }
     ensures { result ≡ answer_of shape bytes.now }

@@ -4,7 +4,8 @@ ghost use Rattle.std.specs.Prelude.{◌≡◌};
 ghost use Rattle.osdp_device.specs.Status.{are_there, new_status, status_answer};
 
 use arrayvec::ArrayVec;
-use osdp_msg::{Command, MAX_DATA, NakReason, OutputRecord, Records, Spelling};
+use osdp_frame::Burst;
+use osdp_msg::{Command, MAX_DATA, NakReason, OutputRecord, Records};
 use osdp_reader::{Answer, Handler, lend};
 
 /// What there is at a device, as its program has set it: by `Reader::handler_mut` between two packets.
@@ -40,7 +41,7 @@ impl DeviceStatus {
     }
 
     /// What is told of a command; its bytes are put into `place`. It changes nothing.
-    fn told<'a>(&self, command: &Command<'_>, place: &'a mut Spelling) -> Answer<'a>
+    fn told<'a>(&self, command: &Command<'_>, place: &'a mut Burst) -> Answer<'a>
         ensures { result ≡ status_answer self.now command.now }
     {
         match command {
@@ -81,7 +82,7 @@ impl Handler for DeviceStatus {
 
     ghost after = { status_after };
 
-    fn answer<'a>(&mut self, command: &Command<'_>, place: &'a mut Spelling) -> Answer<'a> {
+    fn answer<'a>(&mut self, command: &Command<'_>, place: &'a mut Burst) -> Answer<'a> {
         self.told(command, place)
     }
 }
