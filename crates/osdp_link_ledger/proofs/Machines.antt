@@ -67,25 +67,25 @@ module _ (fixed : ControllerConfig) where
     same_number m n last other = let e : Some m ≡ Some n = sym last ∙ other in cc
 
     -- the device hasn't acted on the exchange: its last number is the one before
-    behind : (m n : ℕ) (y : Exchange) (b : Reply) (x : Exchange) → r.config.address ≡ fixed.address → r.last ≡ Some m → HasActed fixed n y b r
+    none_kept_for_next : (m n : ℕ) (y : Exchange) (b : Reply) (x : Exchange) → r.config.address ≡ fixed.address → r.last ≡ Some m → HasActed fixed n y b r
         → IsAsking fixed (next_sequence n) x s → AreKept m [] []
-    behind m n y b x here last acted asks =
+    none_kept_for_next m n y b x here last acted asks =
         let same = same_number m n last (acted.here here).0 in
         let differs : (m == s.number) ≡ false = is_false m s.number (λ e. next_differs n (sym asks.is_open.1 ∙ sym e ∙ same)) in (
           sym (ap (λ t. answer_to (outstanding_command s.state) t r.stored) differs ∙ no_answer (outstanding_command s.state) r.stored),
           sym (ap (λ t. offered_to (is_polling s.state) t r.queue) differs ∙ no_offer (is_polling s.state) r.queue),
         )
 
-    -- it has
-    level : (m n : ℕ) (x : Exchange) (a : Reply) → r.config.address ≡ fixed.address → r.last ≡ Some m → HasActed fixed n x a r
+    -- it has: its last number is that of the exchange
+    kept_for_last : (m n : ℕ) (x : Exchange) (a : Reply) → r.config.address ≡ fixed.address → r.last ≡ Some m → HasActed fixed n x a r
         → IsAsking fixed n x s → meaning_of (answer fixed n a) ≡ Plain a → AreKept m (owed x a) (shown x a)
-    level m n Opening a here last acted asks says = none_kept m asks.command asks.polls
-    level m n Polling a here last acted asks says =
+    kept_for_last m n Opening a here last acted asks says = none_kept m asks.command asks.polls
+    kept_for_last m n Polling a here last acted asks says =
         let same = is_true m s.number (same_number m n last (acted.here here).0 ∙ sym asks.is_open.1) in (
           sym (ap (λ o. answer_to o (m == s.number) r.stored) asks.command),
           offered_front (event_in a) r.queue acted.offer ∙ (λ i. offered_to (sym asks.polls i) (sym same i) r.queue),
         )
-    level m n (Asking c) a here last acted asks says =
+    kept_for_last m n (Asking c) a here last acted asks says =
         let kept = acted.here here in
         let same = is_true m s.number (same_number m n last kept.0 ∙ sym asks.is_open.1) in (
           ap read_as (sym says) ∙ (λ i. answer_to (sym asks.command i) (sym same i) (sym kept.1 i)),
@@ -100,10 +100,10 @@ module _ (fixed : ControllerConfig) where
     kept_at given since (Behind Start Polling) m stage is reader way here last = absurd stage.1
     kept_at given since (Behind Start (Asking c)) m stage is reader way here last = absurd stage.1
     kept_at given since (Behind (After n y b) x) m stage is reader way here last =
-        behind m n y b x here last (has_acted since m n y b last reader) (asking fixed s.state (next_sequence n) x s refl is way)
+        none_kept_for_next m n y b x here last (has_acted since m n y b last reader) (asking fixed s.state (next_sequence n) x s refl is way)
     kept_at given since (Level past x a) m stage is reader way here last =
         let n = number_after past in
-        level m n x a here last (has_acted since m n x a last reader) (asking fixed s.state n x s refl is way)
+        kept_for_last m n x a here last (has_acted since m n x a last reader) (asking fixed s.state n x s refl is way)
         (given.hears n a stage.2.0.fits ∙ given.plain a stage.2.0.plain)
     kept_at given since (Rest n x a) m stage is reader way here last =
         let rests = resting fixed s.state n s refl is way in none_kept m rests.command rests.polls
