@@ -25,6 +25,7 @@ use Rattle.osdp_bus_links.proofs.Linked.{AreLinked, IsLinked, OfALink, linked_af
 use Rattle.osdp_bus_links.proofs.Names.{IsName}
 use Rattle.osdp_bus_links.proofs.Naming.{Keeps}
 use Rattle.osdp_bus_links.proofs.Reserved.{One, front_is, new_is}
+use Rattle.osdp_shared_line.proofs.Rounds.{fits_both, net_more}
 
 -- ---- what is under way
 
@@ -103,15 +104,6 @@ module _ {H : Type 0} (answer_of : H → Command → Answer) (after : H → Comm
 
   -- ---- one list of moves after another
 
-  pub net_run_more : (ms more : List (NetMove H)) (n : Net H) → run answer_of after (ms ++ more) n ≡ run answer_of after more (run answer_of after ms n)
-  net_run_more [] more n = refl
-  net_run_more (m ∷ ms) more n = net_run_more ms more (after_net answer_of after m n)
-
-  pub net_fits_more : (ms more : List (NetMove H)) (n : Net H) → NetMovesFit answer_of after ms n
-      → NetMovesFit answer_of after more (run answer_of after ms n) → NetMovesFit answer_of after (ms ++ more) n
-  net_fits_more [] more n first last = last
-  net_fits_more (m ∷ ms) more n first last = (first.0, net_fits_more ms more (after_net answer_of after m n) first.1 last)
-
   pub others_more : (ms more : List (NetMove H)) (n : Net H) → AllOthersFit answer_of after ms n
       → AllOthersFit answer_of after more (run answer_of after ms n) → AllOthersFit answer_of after (ms ++ more) n
   others_more [] more n first last = last
@@ -160,9 +152,9 @@ module _ {H : Type 0} (answer_of : H → Command → Answer) (after : H → Comm
     sufficing first ms (move ∷ moves) up along scheduled others linked =
         let n = run answer_of after ms first in
         let fit = fits move n scheduled.0 others.0 linked in
-        let same : run answer_of after (ms ++ move ∷ []) first ≡ after_net answer_of after move n = net_run_more ms (move ∷ []) first in (
+        let same : run answer_of after (ms ++ move ∷ []) first ≡ after_net answer_of after move n = net_more answer_of after ms (move ∷ []) first in (
           fit,
-          subst (NetMovesFit answer_of after moves) same (sufficing first (ms ++ move ∷ []) moves up (net_fits_more ms (move ∷ []) first along (fit, tt))
+          subst (NetMovesFit answer_of after moves) same (sufficing first (ms ++ move ∷ []) moves up (fits_both answer_of after ms (move ∷ []) first along (fit, tt))
               scheduled.1 (subst (AllOthersFit answer_of after moves) (sym same) others.1)
               (subst (AreLinked answer_of after) (sym same) (linked_on first ms move up along scheduled.0 others.0 fit linked))),
         )
@@ -174,10 +166,10 @@ module _ {H : Type 0} (answer_of : H → Command → Answer) (after : H → Comm
     linked_all first ms [] up along scheduled fit linked = linked
     linked_all first ms (move ∷ moves) up along scheduled fit linked =
         let n = run answer_of after ms first in
-        let same : run answer_of after (ms ++ move ∷ []) first ≡ after_net answer_of after move n = net_run_more ms (move ∷ []) first in
+        let same : run answer_of after (ms ++ move ∷ []) first ≡ after_net answer_of after move n = net_more answer_of after ms (move ∷ []) first in
         let next = linked_on first ms move up along scheduled.0 (others move n fit.0) fit.0 linked in
         subst (λ m. AreLinked answer_of after (run answer_of after moves m)) same
-        (linked_all first (ms ++ move ∷ []) moves up (net_fits_more ms (move ∷ []) first along (fit.0, tt)) scheduled.1
+        (linked_all first (ms ++ move ∷ []) moves up (fits_both answer_of after ms (move ∷ []) first along (fit.0, tt)) scheduled.1
         (subst (NetMovesFit answer_of after moves) (sym same) fit.1) (subst (AreLinked answer_of after) (sym same) next))
 
     pub all_linked : (first : Net H) (moves : List (NetMove H)) → IsSetUp first → NoneIsKept first → Each IsScheduled moves

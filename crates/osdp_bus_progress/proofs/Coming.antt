@@ -32,7 +32,6 @@ use Rattle.osdp_shared_line.specs.Runs as runs
 use Rattle.osdp_shared_line.specs.Views.{own, view}
 use Rattle.osdp_shared_line.proofs.Running.{apart_all, apart_first}
 use Rattle.osdp_shared_line.proofs.Sites.{some_same}
-use Rattle.osdp_bus_links.proofs.Sufficing.{net_run_more}
 use Rattle.osdp_bus_links.specs.Links.{device_of, packets_on}
 use Rattle.osdp_bus_links.specs.Premises.{IsScheduled}
 use Rattle.osdp_bus_links.proofs.Keeping.{moves_usual}
@@ -61,9 +60,10 @@ use Rattle.osdp_bus_progress.specs.SeveralLinks.{SeveralLinks}
 use Rattle.osdp_bus_progress.proofs.Along.{first_at, run_at_all}
 use Rattle.osdp_bus_progress.proofs.Bursts.{at_each}
 use Rattle.osdp_bus_progress.proofs.Ends.{NoEnd, lasts_there, none_before_rounds}
-use Rattle.osdp_bus_progress.proofs.Round.{fits_first, fits_then, AtRest, site_within, sited}
+use Rattle.osdp_bus_progress.proofs.Round.{AtRest, sited}
 use Rattle.osdp_bus_progress.proofs.Rounds.{HasRounds, all_rounds, all_turns}
 use Rattle.osdp_bus_progress.proofs.Turns.{IsAway, IsTurn, once_around, some_turn}
+use Rattle.osdp_shared_line.proofs.Rounds.{at_length, fits_first, fits_then, net_more}
 
 -- ---- lists
 
@@ -116,7 +116,7 @@ module _ {H : Type 0} (answer_of : H → Command → Answer) (after : H → Comm
   as_long a t earlier lists one =
       let none = none_earlier a t earlier lists one in
       let only : IsOf a t [] = subst (IsOf a t) none lists in
-      record { settled = ap length only.settled; reported = ap length only.reported; issued = ap length only.issued; queued = ap length (only.queued refl) }
+      record { settled = ap length only.settled; reported = ap length only.reported; issued = ap length (only.issued refl); queued = ap length (only.queued refl) }
 
   module _ (on : SeveralLinks answer_of after) where
     open on use {schedules, counts, links, laws, ranges, comes, laws.{in_time, places, stays}}
@@ -168,7 +168,7 @@ module _ {H : Type 0} (answer_of : H → Command → Answer) (after : H → Comm
       pub both_are : (r : ℕ) → run answer_of after (moves_of answer_of after (steps ++ rounds r wait) start) first ≡ run answer_of after (round_moves r) n
       both_are r =
           ap (λ ms. run answer_of after ms first) (moves_more answer_of after steps (rounds r wait) start)
-          ∙ net_run_more answer_of after (moves_of answer_of after steps start) (round_moves r) first
+          ∙ net_more answer_of after (moves_of answer_of after steps start) (round_moves r) first
 
       pub goes : (r : ℕ) → r ≤ m → FollowsSites (simulation.run answer_of after (rounds r wait) s) (run answer_of after (round_moves r) n)
       goes r few =
@@ -208,7 +208,7 @@ module _ {H : Type 0} (answer_of : H → Command → Answer) (after : H → Comm
 
       pub link_at : (k : ℕ) (t : line.Site H) → site_at k n.sites ≡ Some t → HasLink k t
       link_at k t at =
-          let few = site_within k t n.sites at in
+          let few = at_length k t n.sites at in
           let same = sites_count in
           let given = there_is k readers (omega (arith, few, same)) in
           let begins = has_site config k given.0 readers given.1 in
@@ -263,7 +263,7 @@ module _ {H : Type 0} (answer_of : H → Command → Answer) (after : H → Comm
             let begun = up.begins k (first_site config l.given) l.begins in
             let issued = each_of SetsNoAddress u.0.account.issued ready.issued in
             let placed = ap (λ (v : Link H). ended_commands v.earlier ++ v.account.issued) l.moved ∙ sym (places old ms begun l.its.fits) in
-            let submitted = subst (Each SetsNoAddress) (u.2.tells.issued ∙ placed) issued in
+            let submitted = subst (Each SetsNoAddress) (u.2.issued ∙ placed) issued in
             let stay = stays old ms begun l.its.fits (each_all SetsNoAddress (old.controller.waiting ++ all_submitted answer_of after ms old) submitted)
             (set_no_other old.reader.config.address old.controller.session.config.address ms l.steady) in
             let moved = l.moved in
@@ -274,7 +274,7 @@ module _ {H : Type 0} (answer_of : H → Command → Answer) (after : H → Comm
                   ∙ sym (ap (λ (v : Link H). v.controller.session.config.address) moved);
               ready = sym (ap (λ r. r.busy) u.2.reader) ∙ ready.ready;
               issued = each_all SetsNoAddress t.account.issued
-                  (each_rest SetsNoAddress (ended_commands t.earlier) t.account.issued (subst (Each SetsNoAddress) u.2.tells.issued issued));
+                  (each_rest SetsNoAddress (ended_commands t.earlier) t.account.issued (subst (Each SetsNoAddress) u.2.issued issued));
             }
 
         entries_count : length s.bus.devices.entries ≡ length readers
@@ -310,7 +310,7 @@ module _ {H : Type 0} (answer_of : H → Command → Answer) (after : H → Comm
 
         pub its_turn : (k : ℕ) (t : line.Site H) → site_at k n.sites ≡ Some t → NoEnd k later → HasTurn k
         its_turn k t at none =
-            let few = site_within k t n.sites at in
+            let few = at_length k t n.sites at in
             let same = sites_count in
             let entries = entries_count in
             let turn = some_turn s.bus (omega (arith, few, same, entries)) in

@@ -31,7 +31,7 @@ use Rattle.osdp_shared_line.specs.Line.{Net, NetMove, Tick, ToPanel, address_of,
 use Rattle.osdp_shared_line.specs.Progress.{IsEmpty, all_read, net_round}
 use Rattle.osdp_shared_line.specs.Views.{view}
 use Rattle.osdp_shared_line.proofs.Apart.{Apart, reader_address}
-use Rattle.osdp_shared_line.proofs.Rounds.{IsRound, one_round}
+use Rattle.osdp_shared_line.proofs.Rounds.{IsRound, at_length, fits_first, fits_then, one_round}
 use Rattle.osdp_shared_line.proofs.Sites.{some_same}
 use Rattle.osdp_bus_links.specs.Links.{device_of, one_ticks, who_ticks}
 use Rattle.osdp_bus_links.proofs.Devices.{get_device, get_none}
@@ -70,27 +70,12 @@ rest_is_free _ rests = refl
 
 -- ---- places
 
-pub site_within : {A : Type 0} (k : ℕ) (t : A) (ss : List A) → site_at k ss ≡ Some t → k < length ss
-site_within k t [] is = absurd cc
-site_within zero t (u ∷ ss) is = omega arith
-site_within (suc k) t (u ∷ ss) is = omega (arith, site_within k t ss is)
-
 pub sited : {A : Type 0} (k : ℕ) (ss : List A) → k < length ss → (t : A) × (site_at k ss ≡ Some t)
 sited k [] few = absurd (omega (arith, few))
 sited zero (t ∷ ss) few = (t, refl)
 sited (suc k) (t ∷ ss) few = sited k ss (omega (arith, few))
 
 module _ {H : Type 0} (answer_of : H → Command → Answer) (after : H → Command → H) where
-  -- of moves that fit, the first do, and so do the others after them
-  pub fits_first : (ms more : List (NetMove H)) (n : Net H) → NetMovesFit answer_of after (ms ++ more) n → NetMovesFit answer_of after ms n
-  fits_first [] more n fits = tt
-  fits_first (m ∷ ms) more n fits = (fits.0, fits_first ms more (after_net answer_of after m n) fits.1)
-
-  pub fits_then : (ms more : List (NetMove H)) (n : Net H) → NetMovesFit answer_of after (ms ++ more) n
-      → NetMovesFit answer_of after more (run answer_of after ms n)
-  fits_then [] more n fits = fits
-  fits_then (m ∷ ms) more n fits = fits_then ms more (after_net answer_of after m n) fits.1
-
 module _ {H : Type 0} where
   abbrev pub IsOpen : Link H → Type 0
   IsOpen l = l.controller.session.state ≡ Closed → ⊥
@@ -222,7 +207,7 @@ module _ {H : Type 0} (answer_of : H → Command → Answer) (after : H → Comm
           (subst (λ (d : Entry). is_due (max s.bus.greatest now) d.controller ≡ true) its_site.2 ticks_one.turn.due)
 
       at_below : at < count
-      at_below = let below = site_within at its_site.0 n.sites its_site.1 in let same = h.count_is in omega (arith, below, same)
+      at_below = let below = at_length at its_site.0 n.sites its_site.1 in let same = h.count_is in omega (arith, below, same)
 
       -- ---- the moves of the round
 
@@ -274,7 +259,7 @@ module _ {H : Type 0} (answer_of : H → Command → Answer) (after : H → Comm
       fits_round : NetMovesFit answer_of after (net_round count (at, now)) n
       fits_round =
           let rest = moves_of answer_of after (rounds m wait) s3 in
-          fits_first answer_of after (net_round count (at, now)) rest n (subst (λ ms. NetMovesFit answer_of after ms n) (moves_are rest) fits)
+          fits_first answer_of after answer_of after (net_round count (at, now)) rest n (subst (λ ms. NetMovesFit answer_of after ms n) (moves_are rest) fits)
 
       follows3 : FollowsSites s3 (round_net count at now n)
       follows3 = subst (λ ms. FollowsSites s3 (run answer_of after ms n)) round_is goes
@@ -289,7 +274,7 @@ module _ {H : Type 0} (answer_of : H → Command → Answer) (after : H → Comm
       round : (i : ℕ) (t : line.Site H) → site_at i n.sites ≡ Some t → IsRound answer_of after laws.known count i at now t n (round_net count at now n)
       round i t there =
           one_round answer_of after laws.known count i at now t n there (together i t there) h.apart h.empty
-          (λ j u is. let under = site_within j u n.sites is in let same = h.count_is in omega (arith, under, same)) fits_round
+          (λ j u is. let under = at_length j u n.sites is in let same = h.count_is in omega (arith, under, same)) fits_round
 
       mine : IsRound answer_of after laws.known count at at now its_site.0 n (round_net count at now n)
       mine = round at its_site.0 its_site.1

@@ -16,8 +16,7 @@ use Rattle.osdp_shared_line.specs.Line.{Net, NetMove, Tick, ToPanel, address_of,
 use Rattle.osdp_shared_line.specs.Progress.{IsEmpty, net_round}
 use Rattle.osdp_shared_line.specs.Views.{view}
 use Rattle.osdp_shared_line.proofs.Reading.{IsSeen}
-use Rattle.osdp_shared_line.proofs.Rounds.{IsRound}
-use Rattle.osdp_bus_links.proofs.Sufficing.{net_run_more}
+use Rattle.osdp_shared_line.proofs.Rounds.{IsRound, at_length, fits_then, net_more}
 use Rattle.osdp_sim.specs.Rounds.{rounds}
 use Rattle.osdp_sim_bus.specs.Runs as simulation
 use Rattle.osdp_sim_bus.specs.State.{LineState}
@@ -25,7 +24,7 @@ use Rattle.osdp_sim_bus_laws.specs.Moves.{FollowsSites, moves_of}
 use Rattle.osdp_shared_line.proofs.Sites.{some_same}
 use Rattle.osdp_bus_progress.specs.Resting.{IsItsRound}
 use Rattle.osdp_bus_progress.specs.SeveralLinks.{LinkLaws}
-use Rattle.osdp_bus_progress.proofs.Round.{AtRest, fits_then, NextRound, after_round, next_round, round_net, site_within}
+use Rattle.osdp_bus_progress.proofs.Round.{AtRest, NextRound, after_round, next_round, round_net}
 use Rattle.osdp_bus_progress.proofs.Ends.{NoEnd, lasts_there, none_before_rounds}
 use Rattle.osdp_bus_progress.proofs.Turns.{IsAway, away_next, once_around}
 
@@ -81,7 +80,7 @@ module _ {H : Type 0} (answer_of : H → Command → Answer) (after : H → Comm
       goes_on : Later (suc m) s n ≡ Later m (after_round answer_of after laws wait s) later_net
       goes_on =
           ap (λ ms. run answer_of after ms n) (it.moves m)
-          ∙ net_run_more answer_of after (net_round count (it.at, it.now)) (moves_of answer_of after (rounds m wait) (after_round answer_of after laws wait s)) n
+          ∙ net_more answer_of after (net_round count (it.at, it.now)) (moves_of answer_of after (rounds m wait) (after_round answer_of after laws wait s)) n
 
       abbrev Then : ℕ → Type 0
       Then away = HasRounds own_round_is.seen.site m away (after_round answer_of after laws wait s) later_net
@@ -134,7 +133,7 @@ module _ {H : Type 0} (answer_of : H → Command → Answer) (after : H → Comm
     goes_later m entry s n it goes r few =
         subst (FollowsSites (simulation.run answer_of after (rounds r wait) (after_round answer_of after laws wait s)))
         (ap (λ ms. run answer_of after ms n) (it.moves r)
-        ∙ net_run_more answer_of after (net_round count (it.at, it.now)) (moves_of answer_of after (rounds r wait) (after_round answer_of after laws wait s)) n)
+        ∙ net_more answer_of after (net_round count (it.at, it.now)) (moves_of answer_of after (rounds r wait) (after_round answer_of after laws wait s)) n)
         (goes (suc r) (omega (arith, few)))
 
     fits_later : (m entry : ℕ) (s : LineState H) (n : Net H) (it : NextRound answer_of after laws ranges comes count wait k m entry s n)
@@ -161,7 +160,7 @@ module _ {H : Type 0} (answer_of : H → Command → Answer) (after : H → Comm
         let it = next_round answer_of after laws ranges comes count wait k m entry s n h (goes 1 (omega arith)) fits (none_before_rounds answer_of after k m wait _ lasts) in
         let below = h.below in
         let same = h.count_is in
-        let within = site_within k t n.sites at in
+        let within = at_length k t n.sites at in
         let there : k < count = omega (arith, within, same) in
         let seen = (it.each k t at).seen in
         let later : (less : ℕ) → IsAway count it.next k less → Then m entry s n it t at less =

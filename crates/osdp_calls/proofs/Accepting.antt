@@ -41,9 +41,10 @@ use Rattle.osdp_calls.proofs.Matching.{FoundAt, Nobody, Somebody, found}
 use Rattle.osdp_calls.proofs.Nexts.{each_at}
 use Rattle.osdp_calls.proofs.Noticing.{Agrees}
 use Rattle.osdp_calls.proofs.Orders.{asked_same, beside_free, no_device_none, not_begun, or_parts, or_taken_none, refused_free, refusal_same, unrefused}
-use Rattle.osdp_calls.proofs.Powers.{address_at, are_settings, settings_of, there_is, within}
+use Rattle.osdp_calls.proofs.Powers.{address_at, are_settings, settings_of, there_is}
 use Rattle.osdp_calls.proofs.Same.{Controls, IsNetOf, IsSame}
 use Rattle.osdp_calls.proofs.Stations.{Sites, of_site, of_station}
+use Rattle.osdp_shared_line.proofs.Rounds.{at_length}
 
 module _ {H : Type 0} where
   -- ---- the same addresses are known
@@ -125,7 +126,7 @@ module _ {H : Type 0} where
       → ((k a : ℕ) → site_at k xs ≡ Some a → (settings k).0.address ≡ a) → programs.KeepsRule (RestartPanel settings) n noted
   panel_rule config xs settings l n notes noted h agree rule many set k s at =
       let it = of_site k s l n h at in
-      let less = within k it.station l.stations it.there in
+      let less = at_length k it.station l.stations it.there in
       let here = there_is k xs (omega (arith, less, many)) in
       subst (λ a. programs.IsKnown a s (noted k)) (sym (set k (address_at k xs) here))
       (to_site k (address_at k xs) it.device it.station s l (begun_of (site_at k l.stations))
@@ -162,12 +163,12 @@ module _ {H : Type 0} where
         next_fits answer_of after suffices n0 up n noted path (RestartPanel (settings_of config xs))
         (λ k s at.
         let it = of_site k s l n h at in
-        let less = within k it.station l.stations it.there in
+        let less = at_length k it.station l.stations it.there in
         let many = range.2 in
         are_settings config (address_at k xs) range.0
         (each_at (λ a. a < 127) k (address_at k xs) xs (each_of (λ a. a < 127) xs range.1) (there_is k xs (omega (arith, less, many)))))
         (panel_rule config xs (settings_of config xs) l n notes noted h agree rule range.2
-        (λ k a is. some_same (address_at k xs) a (sym (there_is k xs (within k a xs is)) ∙ is)))
+        (λ k a is. some_same (address_at k xs) a (sym (there_is k xs (at_length k a xs is)) ∙ is)))
 
     pub panel_premise : (config : BusConfig) (xs : List ℕ) → IsBusConfig config × All (λ a. a < 127) xs × (length l.stations ≤ length xs)
         → KeepsRule (NewPanel config xs) l notes → PanelIsApart xs l
@@ -194,4 +195,4 @@ module _ {H : Type 0} where
         apart j k s u other at there name = (panel_fits config xs range rule k u there).1 j s other at name
 
         address_is : (k a : ℕ) → site_at k xs ≡ Some a → address_at k xs ≡ a
-        address_is k a is = some_same (address_at k xs) a (sym (there_is k xs (within k a xs is)) ∙ is)
+        address_is k a is = some_same (address_at k xs) a (sym (there_is k xs (at_length k a xs is)) ∙ is)

@@ -31,6 +31,7 @@ use Rattle.osdp_calls.proofs.Losing.{IsLoss, IsStill, loss_still}
 use Rattle.osdp_calls.proofs.Matching.{IsOurs}
 use Rattle.osdp_calls.proofs.Noticing.{Agrees, agrees_next, got_new, got_other, same_begun, ticked_closed, ticked_next}
 use Rattle.osdp_calls.proofs.Ticking.{GoesOn, IsOfOther, IsTicked, Opens, Rests}
+use Rattle.osdp_calls.proofs.Ends.{says_bus}
 
 -- ---- a tick tells of no session that has opened
 
@@ -83,15 +84,6 @@ ticked_at e k b next at = by_device (device_of e b) refl
 
 module _ {H : Type 0} where
   -- ---- what the panel says
-
-  says_bus : (o : Option ℕ) (s : Option Packet) (l : InUse H) → (panel_says o s l).bus ≡ l.bus
-  says_bus None s l = refl
-  says_bus (Some e) None l = refl
-  says_bus (Some e) (Some p) l = by_begun (begun_of (site_at e l.stations))
-    where
-      by_begun : (q : Option ℕ) → (begins_with e p q l).bus ≡ l.bus
-      by_begun None = refl
-      by_begun (Some moment) = refl
 
   says_other : (j e : ℕ) (s : Option Packet) (l : InUse H) → j ≢ e → begun_of (site_at j (panel_says (Some e) s l).stations) ≡ begun_of (site_at j l.stations)
   says_other j e None l other = refl

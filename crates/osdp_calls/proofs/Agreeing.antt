@@ -35,13 +35,13 @@ use Rattle.osdp_calls.proofs.Controllers.{config_same, hears_same, ignored_quiet
 use Rattle.osdp_calls.proofs.Losing.{IsLoss, IsStill, loss_still}
 use Rattle.osdp_calls.proofs.Lasting.{heard_keeps}
 use Rattle.osdp_calls.proofs.Matching.{FoundAt, IsOurs, Nobody, Somebody, found, ours_below}
-use Rattle.osdp_calls.proofs.Nexts.{place_within}
 use Rattle.osdp_calls.proofs.Noticing.{Agrees, HeardAt, Touched, Untouched, address_stays, begun_before, chosen, false_so, heard_at, reports_then, same_reports, touched}
 use Rattle.osdp_calls.proofs.Panel.{IsHeard, IsIgnored, IsRead, hears_one, panel_on, reads_here, told_then}
 use Rattle.osdp_calls.proofs.Runs.{NotPast, unheard}
 use Rattle.osdp_calls.proofs.Same.{Controls, IsNetOf, IsSame, IsToOpen}
 use Rattle.osdp_calls.proofs.Stations.{Sites}
 use Rattle.osdp_calls.proofs.Strangers.{AreOfOthers, IsElsewhere, Ordered, ordered_heard, others_hear}
+use Rattle.osdp_shared_line.proofs.Rounds.{at_length}
 
 equal_of : (a b : ℕ) → (a == b) ≡ true → a ≡ b
 equal_of a b is = elim (eqb_tells a b) [ inl same ↦ same.1 | inr other ↦ absurd (false_so (sym other.0 ∙ is)) ]
@@ -371,7 +371,7 @@ module _ {H : Type 0} where
           all_read ps (i ∷ places) (hears_one answer_of after p l) n (told_notes l.bus.devices told notes) noted (unheard answer_of after p l n h others.0) path
           (ordered_heard told p l ps (i ∷ places) l.place others.1) past agree2)
       all_read (p ∷ ps) (i ∷ places) l n notes noted h path (inl all) past agree =
-          let inside = place_within i all.0 l.said all.1 in
+          let inside = at_length i all.0 l.said all.1 in
           let l1 = record l { place = i } in
           let l2 = hears_one answer_of after p l1 in
           let g = l.bus.greatest in

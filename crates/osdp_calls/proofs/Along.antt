@@ -7,7 +7,8 @@ use Rattle.osdp_shared_line.specs.Addresses.{IsSetUp, NetMoveFits, NetMovesFit, 
 use Rattle.osdp_shared_line.specs.Line.{Net, NetMove, Reopen, RestartPanel, RestartReader, Retarget, Site, Submit, ToPanel, after_net, run, site_at}
 use Rattle.osdp_shared_line.specs.Programs.{KeepRule, KeepsRule, Note, RestFits, RuleSuffices, no_notes, note_after, noted_at, notes_after}
 use Rattle.osdp_shared_line.specs.Views.{HeardByOwn}
-use Rattle.osdp_calls.proofs.Losing.{IsStill, run_then}
+use Rattle.osdp_calls.proofs.Losing.{IsStill}
+use Rattle.osdp_shared_line.proofs.Rounds.{fits_then, net_more}
 
 module _ {H : Type 0} where
   -- a move on which the rule asks nothing
@@ -87,11 +88,6 @@ module _ {H : Type 0} where
     rule_then (m ∷ ms) more n notes first last =
         (first.0, first.1, rule_then ms more (after_net answer_of after m n) (notes_after m n notes) first.2 last)
 
-    last_fits : (ms more : List (NetMove H)) (n : Net H) → NetMovesFit answer_of after (ms ++ more) n
-        → NetMovesFit answer_of after more (run answer_of after ms n)
-    last_fits [] more n fit = fit
-    last_fits (m ∷ ms) more n fit = last_fits ms more (after_net answer_of after m n) fit.1
-
     -- moves that keep to the rule come to this net, and to this that is noted
     pub record Path (n0 n : Net H) (notes : ℕ → Note) : Type 0 where
       pub moves : List (NetMove H)
@@ -105,7 +101,7 @@ module _ {H : Type 0} where
       moves = x.moves ++ ms;
       rule = rule_then x.moves ms n0 no_notes x.rule
           (subst (λ (p : Net H × (ℕ → Note)). KeepRule answer_of after ms p.0 p.1) (λ i. (sym x.is i, sym x.noted i)) rule);
-      is = run_then answer_of after x.moves ms n0 ∙ ap (run answer_of after ms) x.is ∙ is;
+      is = net_more answer_of after x.moves ms n0 ∙ ap (run answer_of after ms) x.is ∙ is;
       noted = along_then x.moves ms n0 no_notes ∙ (λ i. notes_along ms (x.is i) (x.noted i));
     }
 
@@ -116,7 +112,7 @@ module _ {H : Type 0} where
       next_fits n notes x m rest rule =
           let all = suffices n0 (x.moves ++ m ∷ []) up (rule_then x.moves (m ∷ []) n0 no_notes x.rule
           (subst (λ (p : Net H × (ℕ → Note)). KeepRule answer_of after (m ∷ []) p.0 p.1) (λ i. (sym x.is i, sym x.noted i)) (rest, rule, tt))) in
-          (subst (NetMovesFit answer_of after (m ∷ [])) x.is (last_fits x.moves (m ∷ []) n0 all)).0
+          (subst (NetMovesFit answer_of after (m ∷ [])) x.is (fits_then answer_of after x.moves (m ∷ []) n0 all)).0
 
       pub heard_by_own : NobodyElseHears answer_of after → (n : Net H) (notes : ℕ → Note) → Path n0 n notes → HeardByOwn n
       heard_by_own nobody n notes x = subst HeardByOwn x.is (nobody n0 x.moves up (suffices n0 x.moves up x.rule)).heard

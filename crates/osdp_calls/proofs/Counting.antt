@@ -12,7 +12,7 @@ use Rattle.osdp_shared_line.specs.Addresses.{IsSetUp, NetMoveFits, NetMovesFit, 
 use Rattle.osdp_shared_line.specs.Line.{LoseToPanel, LoseToReader, Net, NetMove, Queue, Reopen, RestartPanel, RestartReader, Retarget, SetBusy, SetHandler, Site, Submit, Tick, ToPanel, ToReader, Withdraw, WithdrawEvent, address_of, after_net, is_retarget_refused, run, site_at}
 use Rattle.osdp_shared_line.specs.Runs.{moves_at, moves_of}
 use Rattle.osdp_shared_line.specs.Views.{EachMoveIsItsOwn, HeardByOwn, OpensQuietly, front_to_panel, lost, move_of, one_if, other_reply, own_front, own_place, own_reply, sees, view}
-use Rattle.osdp_calls.proofs.Losing.{run_then}
+use Rattle.osdp_shared_line.proofs.Rounds.{fits_first, net_more}
 
 module _ {H : Type 0} where
   -- ---- moves that give no command and no event
@@ -92,16 +92,12 @@ module _ {H : Type 0} where
     AllHeard [] n = Unit {0}
     AllHeard (move ∷ moves) n = HeardByOwn n × AllHeard moves (after_net answer_of after move n)
 
-    fit_first : (first more : List (NetMove H)) (n : Net H) → NetMovesFit answer_of after (first ++ more) n → NetMovesFit answer_of after first n
-    fit_first [] more n fit = tt
-    fit_first (m ∷ ms) more n fit = (fit.0, fit_first ms more (after_net answer_of after m n) fit.1)
-
     pub all_heard : NobodyElseHears answer_of after → (n : Net H) → IsSetUp n → (done moves : List (NetMove H))
         → NetMovesFit answer_of after (done ++ moves) n → AllHeard moves (run answer_of after done n)
     all_heard nobody n up done [] fit = tt
     all_heard nobody n up done (m ∷ ms) fit = (
-      (nobody n done up (fit_first done (m ∷ ms) n fit)).heard,
-      subst (AllHeard ms) (run_then answer_of after done (m ∷ []) n)
+      (nobody n done up (fits_first answer_of after done (m ∷ ms) n fit)).heard,
+      subst (AllHeard ms) (net_more answer_of after done (m ∷ []) n)
           (all_heard nobody n up (done ++ m ∷ []) ms
           (subst (λ l. NetMovesFit answer_of after l n) (sym (append_assoc done (m ∷ []) ms)) fit)),
     )

@@ -67,7 +67,7 @@ module _ {H : Type 0} where
   begins_bus entry p None l = refl
   begins_bus entry p (Some moment) l = refl
 
-  says_bus : (o : Option ℕ) (p : Option Packet) (l : InUse H) → (panel_says o p l).bus ≡ l.bus
+  pub says_bus : (o : Option ℕ) (p : Option Packet) (l : InUse H) → (panel_says o p l).bus ≡ l.bus
   says_bus None p l = refl
   says_bus (Some entry) None l = refl
   says_bus (Some entry) (Some p) l = begins_bus entry p (begun_of (site_at entry l.stations)) l
@@ -117,7 +117,7 @@ module _ {H : Type 0} where
         all_keep k steps (cond (is_of_device k step.call) (device_after answer_of after step.call d) d) (after_call answer_of after step.call step.places l)
         (step_keeps k step.call step.places d l is)
 
-    next_bus : (i : ℕ) (places : List ℕ) (o : Option (Station H)) (l : InUse H) → (after_next answer_of after i places o l).bus ≡ l.bus
+    pub next_bus : (i : ℕ) (places : List ℕ) (o : Option (Station H)) (l : InUse H) → (after_next answer_of after i places o l).bus ≡ l.bus
     next_bus i places None l = refl
     next_bus i places (Some t) l = refl
 

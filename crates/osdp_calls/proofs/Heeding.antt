@@ -34,6 +34,7 @@ use Rattle.osdp_calls.proofs.Noticing.{Agrees, got_new, got_other}
 use Rattle.osdp_calls.proofs.Same.{IsNetOf}
 use Rattle.osdp_calls.proofs.Lasting.{change_keeps, forget_keeps}
 use Rattle.osdp_calls.proofs.Matching.{IsOurs}
+use Rattle.osdp_calls.proofs.Places.{station_other}
 
 -- ---- the entries of a bus of which one changes
 
@@ -159,13 +160,6 @@ module _ {H : Type 0} where
     begins_at k moment t ts there =
         ap (λ o. begun_of (site_at k (changes_at k (is_to_begin moment) o ts))) there ∙ ap begun_of (at_changed k (is_to_begin moment t) t ts there)
 
-    begins_other : (j k moment : ℕ) (ts : List (Station H)) → j ≢ k → begun_of (site_at j (change_at k (is_to_begin moment) ts)) ≡ begun_of (site_at j ts)
-    begins_other j k moment ts other = by_station (site_at k ts)
-      where
-        by_station : (o : Option (Station H)) → begun_of (site_at j (changes_at k (is_to_begin moment) o ts)) ≡ begun_of (site_at j ts)
-        by_station None = refl
-        by_station (Some t) = ap begun_of (at_other j k (is_to_begin moment t) ts other)
-
     pub begin_agrees : (k now : ℕ) (l : InUse H) (n m : Net H) (notes noted : ℕ → Note) (moves : List (NetMove H)) → IsNetOf l m → Each IsStill moves
         → AllAgree l notes noted → AllAgree (record l {
           bus = changed_unless (bus.begin_refusal_at k l.bus) l.bus (bus.after_begin_at k now l.bus);
@@ -198,7 +192,7 @@ module _ {H : Type 0} where
             all_carried (OfPanel (panel.Begin k now)) l next notes noted noted2 agree (λ j. change_keeps j k (is_to_begin moment) l.stations) (λ j e own at.
             elim (changed_at k (bus.entry_begins moment) (seen now l.bus) j e at) [
               | AsBefore other was ↦
-                  as_it_was (OfPanel (panel.Begin k now)) l next notes noted noted2 j e e was refl (begins_other j k moment l.stations other)
+                  as_it_was (OfPanel (panel.Begin k now)) l next notes noted noted2 j e e was refl (ap begun_of (station_other j k (is_to_begin moment) l.stations other))
                   (mine None is j e ∙ ap (λ b. cond b (record (notes j) { begun = true }) (notes j)) (is_false k j (λ f. other (sym f)))) (its j)
               | IsChanged same d was becomes ↦
                   let there : device_of j l.bus ≡ Some d = subst (λ i. device_of i l.bus ≡ Some d) (sym same) was in

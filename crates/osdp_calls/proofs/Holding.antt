@@ -24,7 +24,6 @@ use Rattle.osdp_calls.specs.Promises.{CallsKeepApart}
 use Rattle.osdp_calls.proofs.Counting.{counted, in_net, in_net_more}
 use Rattle.osdp_calls.proofs.Devices.{handling, lines_change, next_still, nexting, queueing, withdrawing_event}
 use Rattle.osdp_calls.proofs.Lasting.{call_keeps}
-use Rattle.osdp_calls.proofs.Losing.{fit_then, run_then}
 use Rattle.osdp_calls.proofs.Matching.{IsOurs}
 use Rattle.osdp_calls.proofs.Orders.{beginning, retargeting, submitting, withdrawing}
 use Rattle.osdp_calls.proofs.Panel.{at_seen}
@@ -36,6 +35,7 @@ use Rattle.osdp_calls.proofs.Stations.{Makes, busying, make_none, of_station}
 use Rattle.osdp_calls.proofs.Strangers.{ordered}
 use Rattle.osdp_calls.proofs.Steps.{IsOf, IsOfOne, Made, StepsTo, by_plain}
 use Rattle.osdp_calls.proofs.Ticks.{ticking}
+use Rattle.osdp_shared_line.proofs.Rounds.{fits_both, net_more}
 
 module _ {H : Type 0} (answer_of : H → Command → Answer) (after : H → Command → H) where
   -- ---- a call
@@ -133,8 +133,8 @@ module _ {H : Type 0} (answer_of : H → Command → Answer) (after : H → Comm
       record {
         net = b.net;
         moves = a.moves ++ b.moves;
-        fit = fit_then answer_of after a.moves b.moves n a.fit (subst (NetMovesFit answer_of after b.moves) (sym a.run) b.fit);
-        run = run_then answer_of after a.moves b.moves n ∙ ap (run answer_of after b.moves) a.run ∙ b.run;
+        fit = fits_both answer_of after a.moves b.moves n a.fit (subst (NetMovesFit answer_of after b.moves) (sym a.run) b.fit);
+        run = net_more answer_of after a.moves b.moves n ∙ ap (run answer_of after b.moves) a.run ∙ b.run;
         same = b.same;
         kinds = each_append (IsOfOne (step ∷ steps)) a.moves b.moves
             (each_map (IsOf step.call) (IsOfOne (step ∷ steps)) (λ move is. inl is) a.moves a.kinds)

@@ -11,6 +11,8 @@ use Rattle.osdp_shared_line.specs.Line as line
 use Rattle.osdp_shared_line.specs.Line.{LoseToPanel, LoseToReader, Net, NetMove, Queue, Reopen, RestartPanel, RestartReader, Retarget, SetHandler, Site, Submit, ToPanel, Withdraw, WithdrawEvent, after_net, changed, run, site_at}
 use Rattle.osdp_shared_line.proofs.Sites.{at_changed}
 use Rattle.osdp_calls.specs.Lines.{Burst, those}
+use Rattle.osdp_link_laws.proofs.Doing.{lost_there}
+use Rattle.osdp_shared_line.proofs.Rounds.{fits_both, net_more}
 
 -- ---- a list without some of it
 
@@ -35,10 +37,6 @@ pub changed_twice : {A : Type 0} (k : ℕ) (new old : A) (xs : List A) → chang
 changed_twice k new old [] = refl
 changed_twice zero new old (x ∷ xs) = refl
 changed_twice (suc k) new old (x ∷ xs) = ap (λ l. x ∷ l) (changed_twice k new old xs)
-
-pub lost_middle : {A : Type 0} (xs : List A) (x : A) (ys : List A) → lost_at (length xs) (xs ++ x ∷ ys) ≡ xs ++ ys
-lost_middle [] x ys = refl
-lost_middle (z ∷ xs) x ys = ap (λ l. z ∷ l) (lost_middle xs x ys)
 
 -- a move that gives no command and no event, sets no handler, takes nothing back and restarts nobody
 abbrev pub IsPlain : {H : Type 0} → NetMove H → Type 0
@@ -84,15 +82,6 @@ module _ {H : Type 0} (answer_of : H → Command → Answer) (after : H → Comm
   pub stays : (n : Net H) → Reaches n n
   stays n = record { moves = []; fit = tt; run = refl; plain = tt }
 
-  pub run_then : (ms more : List (NetMove H)) (n : Net H) → run answer_of after (ms ++ more) n ≡ run answer_of after more (run answer_of after ms n)
-  run_then [] more n = refl
-  run_then (m ∷ ms) more n = run_then ms more (after_net answer_of after m n)
-
-  pub fit_then : (ms more : List (NetMove H)) (n : Net H) → NetMovesFit answer_of after ms n → NetMovesFit answer_of after more (run answer_of after ms n)
-      → NetMovesFit answer_of after (ms ++ more) n
-  fit_then [] more n first last = last
-  fit_then (m ∷ ms) more n first last = (first.0, fit_then ms more (after_net answer_of after m n) first.1 last)
-
   -- moves, and then more
   pub record Joins (a c : Net H) (ms : List (NetMove H)) : Type 0 where
     pub reached : Reaches a c
@@ -102,8 +91,8 @@ module _ {H : Type 0} (answer_of : H → Command → Answer) (after : H → Comm
   joins a b c x y = record {
     reached = record {
       moves = x.moves ++ y.moves;
-      fit = fit_then x.moves y.moves a x.fit (subst (NetMovesFit answer_of after y.moves) (sym x.run) y.fit);
-      run = run_then x.moves y.moves a ∙ ap (run answer_of after y.moves) x.run ∙ y.run;
+      fit = fits_both answer_of after x.moves y.moves a x.fit (subst (NetMovesFit answer_of after y.moves) (sym x.run) y.fit);
+      run = net_more answer_of after x.moves y.moves a ∙ ap (run answer_of after y.moves) x.run ∙ y.run;
       plain = each_append IsPlain x.moves y.moves x.plain y.plain;
     };
     are = refl;
@@ -141,7 +130,7 @@ module _ {H : Type 0} (answer_of : H → Command → Answer) (after : H → Comm
       (lose_to_panel xs ys (front ++ x ∷ []) n sub))
   lose_to_panel us vs front n (SubLeave x xs ys sub) =
       then_loses (with_panel (front ++ x ∷ ys) n) (with_panel (front ++ ys) n) (with_panel (front ++ xs) n)
-      (subst (λ l. Loses (with_panel (front ++ x ∷ ys) n) (with_panel l n)) (lost_middle front x ys)
+      (subst (λ l. Loses (with_panel (front ++ x ∷ ys) n) (with_panel l n)) (lost_there front x ys)
       (one_loss (LoseToPanel (length front)) (with_panel (front ++ x ∷ ys) n) tt tt tt))
       (lose_to_panel xs ys front n sub)
 
@@ -156,7 +145,7 @@ module _ {H : Type 0} (answer_of : H → Command → Answer) (after : H → Comm
       ap (λ o. line.change_at k o (λ t. record t { coming = lost_at (length front) t.coming }) (with_coming k s (front ++ x ∷ ys) n))
       (at_changed k old s n.sites is)
       ∙ ap (λ ss. record n { sites = ss }) (changed_twice k (record old { coming = lost_at (length front) (front ++ x ∷ ys) }) old n.sites)
-      ∙ ap (λ l. with_coming k s l n) (lost_middle front x ys)
+      ∙ ap (λ l. with_coming k s l n) (lost_there front x ys)
 
   pub lose_to_reader : (k : ℕ) (s : Site H) (xs ys front : List (ℕ × Packet)) (n : Net H) → site_at k n.sites ≡ Some s → Sub xs ys
       → Loses (with_coming k s (front ++ ys) n) (with_coming k s (front ++ xs) n)

@@ -24,7 +24,7 @@ use Rattle.osdp_shared_line.specs.Line.{site_at}
 use Rattle.osdp_calls.specs.Calls.{Call, NewDevice, NewPanel, Next, OfPanel, Pending, SetBusy, SetHandler, Silence, SubmitEvent, Take, TickDevice, WithdrawEvent, after_call, after_next, after_panel, answers, change_at, first_answered, last_of, made_anew, nexts, noted, queues, read_up_to, withdraws_event}
 use Rattle.osdp_calls.specs.Ends.{KeepsPanel}
 use Rattle.osdp_calls.specs.Lines.{InUse, Station}
-use Rattle.osdp_calls.proofs.Ends.{next_stations, said_bus}
+use Rattle.osdp_calls.proofs.Ends.{next_bus, next_stations, said_bus}
 use Rattle.osdp_calls.proofs.Marking.{Agrees, Told, next}
 use Rattle.osdp_calls.proofs.Places.{those}
 use Rattle.osdp_calls.proofs.Marked.{Stands, Tells, call_tells, reported_in, station_changes, tells_as}
@@ -73,10 +73,6 @@ module _ {H : Type 0} where
       nexts_same : (places : List ℕ) → Same (nexts answer_of after places)
       nexts_same places t = answers_same (first_answered t.reader (read_up_to t.reader (items_of t.line.held))) t
 
-      next_keeps_bus : (i : ℕ) (places : List ℕ) (o : Option (Station H)) (l : InUse H) → (after_next answer_of after i places o l).bus ≡ l.bus
-      next_keeps_bus i places None l = refl
-      next_keeps_bus i places (Some t) l = refl
-
       -- of the panel's calls
       abbrev pub told_by : Call H → InUse H → List (ℕ × Report)
       told_by (OfPanel call) l = told_in call l.bus
@@ -104,7 +100,7 @@ module _ {H : Type 0} where
       step_tells (Next i) places l x keeps is =
           let next_l = after_next answer_of after i places (site_at i l.stations) l in
           tells_as n k l.bus.devices.entries next_l.bus.devices.entries (change_at i (nexts answer_of after places) l.stations) next_l.stations x x
-          (ap (λ (b : BusState). b.devices.entries) (next_keeps_bus i places (site_at i l.stations) l))
+          (ap (λ (b : BusState). b.devices.entries) (next_bus answer_of after i places (site_at i l.stations) l))
           (sym (next_stations answer_of after i places (site_at i l.stations) l)) refl
           (of_device i (nexts answer_of after places) l x (nexts_same places) is)
       step_tells (Pending i) places l x keeps is =

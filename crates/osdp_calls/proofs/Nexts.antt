@@ -21,21 +21,17 @@ use Rattle.osdp_calls.specs.Calls.{answers, by_device, first_answered, last_of, 
 use Rattle.osdp_calls.specs.Lines.{Burst, InUse, Opening, Station, ahead_of_device, is_past_for_device}
 use Rattle.osdp_calls.specs.Premises.{AreInOrder}
 use Rattle.osdp_calls.proofs.Ahead.{AreWithin, device_front, device_further, device_told_device, device_told_panel, from_device}
-use Rattle.osdp_calls.proofs.Losing.{IsLoss, Loses, changed_twice, joins, lose_to_reader, run_then, then_reaches, with_coming}
+use Rattle.osdp_calls.proofs.Losing.{IsLoss, Loses, changed_twice, joins, lose_to_reader, then_reaches, with_coming}
 use Rattle.osdp_calls.proofs.Matching.{FoundAt, Nobody, Somebody, changed_same, found, matched, set_station}
 use Rattle.osdp_calls.proofs.Replying.{IsReply, hears_replies, reader_with, silent_to_replies}
 use Rattle.osdp_calls.proofs.Same.{IsNetOf, IsRightly, IsSiteOf, placed_so, read_so, sites_so}
 use Rattle.osdp_calls.proofs.Stations.{LosesTo, Makes, Refines, Sites, make_move, make_none}
 use Rattle.osdp_calls.proofs.Strangers.{IsUnanswered, unanswered_first}
+use Rattle.osdp_shared_line.proofs.Rounds.{at_length, net_more}
 
 pub length_more : {A : Type 0} (xs : List A) (x : A) → length (xs ++ x ∷ []) ≡ length xs + 1
 length_more [] x = refl
 length_more (y ∷ xs) x = let rest = length_more xs x in omega (arith, rest)
-
-pub place_within : {A : Type 0} (i : ℕ) (x : A) (xs : List A) → site_at i xs ≡ Some x → i < length xs
-place_within i x [] is = absurd cc
-place_within zero x (y ∷ xs) is = omega arith
-place_within (suc i) x (y ∷ xs) is = let rest = place_within i x xs is in omega (arith, rest)
 
 pub each_at : {A : Type 0} (P : A → Type 0) (i : ℕ) (x : A) (xs : List A) → Each P xs → site_at i xs ≡ Some x → P x
 each_at P i x [] all is = absurd cc
@@ -180,7 +176,7 @@ module _ {H : Type 0} where
     passed_before k o r n m before moves losses is (IsPassed none all) = IsPassed none (each_append IsLoss before moves losses all)
     passed_before k o r n m before moves losses is (IsAnswered p s entry rest mid lost more some all runs there reader coming after_it are) =
         IsAnswered p s entry rest mid (before ++ lost) more some (each_append IsLoss before lost losses all)
-        (run_then answer_of after before lost n ∙ ap (run answer_of after lost) is ∙ runs) there reader coming after_it
+        (net_more answer_of after before lost n ∙ ap (run answer_of after lost) is ∙ runs) there reader coming after_it
         (ap (λ ms. before ++ ms) are ∙ sym (append_assoc before lost (ToReader k Repeated ∷ more)))
 
     then_next : (k : ℕ) (o : Option Packet) (r : ReaderState H) (n : Net H) (l m : InUse H) → LosesTo answer_of after n l
@@ -199,7 +195,7 @@ module _ {H : Type 0} where
         → AreInOrder Others said ps places before → (before ≤ last_of places before) × (last_of places before ≤ length said)
     last_within Others said [] [] before le all = (omega arith, le)
     last_within Others said (p ∷ ps) (i ∷ places) before le (inl all) =
-        let within = place_within i all.0 said all.1 in
+        let within = at_length i all.0 said all.1 in
         let first = all.3 in
         let rest = last_within Others said ps places i (omega (arith, within)) all.4 in
         let more = rest.0 in
@@ -249,7 +245,7 @@ module _ {H : Type 0} where
         subst (λ o. Makes answer_of after (IsNext k o t.reader n) n (read_to k o (last_of places i) t l)) (sym (unanswered_first t.reader p ps others.0))
         (reads_all k ps (i ∷ places) t l n h is within others.1 past fits.1)
     reads_all k (p ∷ ps) (i ∷ places) t l n h is within (inl all) past fits =
-        let inside = place_within i all.0 l.said all.1 in
+        let inside = at_length i all.0 l.said all.1 in
         let t1 = record t { place = i } in
         let l1 = with_station k t1 l in
         let there : site_at k l1.stations ≡ Some t1 = at_changed k t1 t l.stations is in

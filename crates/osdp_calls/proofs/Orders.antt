@@ -41,10 +41,7 @@ use Rattle.osdp_calls.proofs.Panel.{at_seen}
 use Rattle.osdp_calls.proofs.Same.{Controls, IsNetOf, IsSame, IsToOpen, controlled_so, sites_so}
 use Rattle.osdp_calls.proofs.Stations.{Makes, Sites, make_move, make_none}
 use Rattle.osdp_calls.proofs.Steps.{Made, MadeByPanel, StepsTo, by_other, by_own, by_plain, by_refusal, by_submit}
-
-some_fault : (o : Option ControllerFault) → option_map bus_fault o ≡ None → o ≡ None
-some_fault None none = refl
-some_fault (Some fault) none = absurd cc
+use Rattle.osdp_bus_laws.proofs.Calling.{map_none}
 
 -- no session of it was begun where its controller is closed
 pub not_begun : (o : Option ℕ) (top : ℕ) (m c : Machine) → Controls o top m c → m.session.state ≡ Closed → o ≡ None
@@ -200,7 +197,7 @@ module _ {H : Type 0} where
                 let l1 = record l { bus = seen now l.bus } in
                 let h1 = at_seen now l n h in
                 let shut : d.controller.session.state ≡ Closed =
-                closed_of d.controller.session.state (some_fault (begin_refusal d.controller) (sym (ap bus.begin_refusal_of a) ∙ is)) in
+                closed_of d.controller.session.state (map_none (begin_refusal d.controller) (sym (ap bus.begin_refusal_of a) ∙ is)) in
                 let begun : t.begun ≡ None = not_begun t.begun l.bus.greatest d.controller s.controller has.controller shut in
                 let control : IsSame l.bus.greatest d.controller s.controller = subst (λ o. Controls o l.bus.greatest d.controller s.controller) begun has.controller in
                 let e : Entry = entry_begins moment d in
@@ -229,7 +226,7 @@ module _ {H : Type 0} where
 
     pub unrefused : (x : Bool) (o : Option ControllerFault) → cond x (Some AddressTaken) (option_map bus_fault o) ≡ None → (x ≡ false) × (o ≡ None)
     unrefused true o is = absurd cc
-    unrefused false o is = (refl, some_fault o is)
+    unrefused false o is = (refl, map_none o is)
 
     pub refusal_same : (command : Command) (o : Option ℕ) (top : ℕ) (m c : Machine) → Controls o top m c → submit_refusal command c ≡ submit_refusal command m
     refusal_same command None top m c is =

@@ -40,7 +40,7 @@ module _ {H : Type 0} where
       → site_at i (change_at i change ts) ≡ Some (change t)
   station_here i change ts t at = ap (λ o. site_at i (changes_at i change o ts)) at ∙ at_changed i (change t) t ts at
 
-  station_other : (k i : ℕ) (change : Station H → Station H) (ts : List (Station H)) → k ≢ i → site_at k (change_at i change ts) ≡ site_at k ts
+  pub station_other : (k i : ℕ) (change : Station H → Station H) (ts : List (Station H)) → k ≢ i → site_at k (change_at i change ts) ≡ site_at k ts
   station_other k i change ts differs = by_station (site_at i ts)
     where
       by_station : (o : Option (Station H)) → site_at k (changes_at i change o ts) ≡ site_at k ts

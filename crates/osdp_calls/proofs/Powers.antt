@@ -31,6 +31,7 @@ use Rattle.osdp_calls.proofs.Orders.{no_other}
 use Rattle.osdp_calls.proofs.Same.{Controls, IsNetOf, IsSiteOf, controlled_so, read_so, sites_so}
 use Rattle.osdp_calls.proofs.Stations.{Sites, both_change, of_site}
 use Rattle.osdp_calls.proofs.Steps.{StepsTo, by_own}
+use Rattle.osdp_shared_line.proofs.Rounds.{at_length}
 
 -- the settings of the controllers of a bus with these addresses
 abbrev pub address_at : ℕ → List ℕ → ℕ
@@ -45,11 +46,6 @@ pub there_is : (k : ℕ) (xs : List ℕ) → k < length xs → site_at k xs ≡ 
 there_is k [] lt = absurd (omega (arith, lt))
 there_is zero (a ∷ xs) lt = refl
 there_is (suc k) (a ∷ xs) lt = there_is k xs (omega (arith, lt))
-
-pub within : {A : Type 0} (k : ℕ) (x : A) (xs : List A) → site_at k xs ≡ Some x → k < length xs
-within k x [] is = absurd cc
-within zero x (y ∷ xs) is = omega arith
-within (suc k) x (y ∷ xs) is = let rest = within k x xs is in omega (arith, rest)
 
 pub are_settings : (config : BusConfig) (a : ℕ) → IsBusConfig config → a < 127 → AreSettings (controller_config a config) config.room.messages config.room.bytes
 are_settings config a is lt = record {
@@ -151,14 +147,14 @@ module _ {H : Type 0} where
     set_at : (config : BusConfig) (ys xs : List ℕ) (k a : ℕ) → site_at k xs ≡ Some a → settings_of config xs (0 + k) ≡ (controller_config a config, config.room)
     set_at config ys xs k a is =
         ap (settings_of config xs) (let e : 0 + k ≡ k = omega arith in e)
-        ∙ ap (λ b. (controller_config b config, config.room)) (some_same (address_at k xs) a (sym (there_is k xs (within k a xs is)) ∙ is))
+        ∙ ap (λ b. (controller_config b config, config.room)) (some_same (address_at k xs) a (sym (there_is k xs (at_length k a xs is)) ∙ is))
 
     pub panel_anew : (config : BusConfig) (xs : List ℕ) (l : InUse H) (n : Net H) → IsNetOf l n → PanelIsApart xs l
         → IsBusConfig config × All (λ a. a < 127) xs × (length l.stations ≤ length xs) → StepsTo answer_of after (NewPanel config xs) l n (panel_made_anew config xs l)
     panel_anew config xs l n h apart fits =
         by_own answer_of after (NewPanel config xs) (RestartPanel (settings_of config xs)) l n (panel_made_anew config xs l)
         (λ j. refl) (λ j. refl) tt (config, xs, refl)
-        (settings_of config xs, refl, λ k a is. some_same (address_at k xs) a (sym (there_is k xs (within k a xs is)) ∙ is))
+        (settings_of config xs, refl, λ k a is. some_same (address_at k xs) a (sym (there_is k xs (at_length k a xs is)) ∙ is))
         (λ k s at. (
           are_settings config (address_at k xs) fits.0 (each_at (λ a. a < 127) k (address_at k xs) xs (each_of (λ a. a < 127) xs fits.1) (there_is k xs (count k s at))),
           λ j t other there. by_name k j (of_site k s l n h at).station (of_site k s l n h at).there other (there_is k xs (count k s at)) t there (found (Sites l) j l.bus.devices.entries l.stations n.sites h.sites),
@@ -167,7 +163,7 @@ module _ {H : Type 0} where
       where
         count : (k : ℕ) (s : Site H) → site_at k n.sites ≡ Some s → k < length xs
         count k s at =
-            let less = within k s n.sites at in
+            let less = at_length k s n.sites at in
             let many = as_many (Sites l) 0 l.bus.devices.entries l.stations n.sites h.sites in
             let same = fits.2 in
             omega (arith, less, many, same)
@@ -176,7 +172,7 @@ module _ {H : Type 0} where
             → FoundAt (Sites l) j j l.bus.devices.entries l.stations n.sites → IsNameOf (address_at k xs) j (restarts answer_of after (settings_of config xs j) t) → ⊥
         by_name k j u mine other here t there (Nobody o a b c) name = absurd (let e = sym c ∙ there in cc)
         by_name k j u mine other here t there (Somebody d t1 s2 a b c has) (inl is) =
-            let less = within j t n.sites there in
+            let less = at_length j t n.sites there in
             let many = as_many (Sites l) 0 l.bus.devices.entries l.stations n.sites h.sites in
             let same = fits.2 in
             apart.own j k (address_at j xs) (address_at k xs) t1 u other (there_is j xs (omega (arith, less, many, same))) here b mine is

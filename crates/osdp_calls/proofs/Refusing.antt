@@ -38,15 +38,16 @@ use Rattle.osdp_calls.proofs.Controllers.{hears_same, ignored_command, ignored_q
 use Rattle.osdp_calls.proofs.Handing.{hands_over}
 use Rattle.osdp_calls.proofs.Holding.{comes}
 use Rattle.osdp_calls.proofs.Lasting.{heard_keeps}
-use Rattle.osdp_calls.proofs.Losing.{Reaches, fit_then, run_then}
+use Rattle.osdp_calls.proofs.Losing.{Reaches}
 use Rattle.osdp_calls.proofs.Matching.{IsOurs}
-use Rattle.osdp_calls.proofs.Nexts.{each_at, place_within}
+use Rattle.osdp_calls.proofs.Nexts.{each_at}
 use Rattle.osdp_calls.proofs.Panel.{AtAddress, NoneThere, OneThere, at_address, at_seen, hears_one, panel_on, reads_here}
 use Rattle.osdp_calls.proofs.Runs.{NotPast, unheard}
 use Rattle.osdp_calls.proofs.Same.{Controls, IsNetOf, IsRightly, IsSame, IsToOpen}
 use Rattle.osdp_calls.proofs.Setting.{first_net, first_site, first_there}
 use Rattle.osdp_calls.proofs.Stations.{Sites}
 use Rattle.osdp_calls.proofs.Strangers.{AreOfOthers, Ordered, hears_other, ordered, ordered_heard, others_hear}
+use Rattle.osdp_shared_line.proofs.Rounds.{at_length, fits_both, net_more}
 
 module _ {H : Type 0} (answer_of : H → Command → Answer) (after : H → Command → H) where
   -- a session that counts no restart ends by no refused number, whatever the panel's program calls next
@@ -146,8 +147,8 @@ module _ {H : Type 0} where
     reached_more : (n0 n m : Net H) → Reached n0 n → Reaches answer_of after n m → Reached n0 m
     reached_more n0 n m x y = record {
       moves = x.moves ++ y.moves;
-      fit = fit_then answer_of after x.moves y.moves n0 x.fit (subst (NetMovesFit answer_of after y.moves) (sym x.is) y.fit);
-      is = run_then answer_of after x.moves y.moves n0 ∙ ap (run answer_of after y.moves) x.is ∙ y.run;
+      fit = fits_both answer_of after x.moves y.moves n0 x.fit (subst (NetMovesFit answer_of after y.moves) (sym x.is) y.fit);
+      is = net_more answer_of after x.moves y.moves n0 ∙ ap (run answer_of after y.moves) x.is ∙ y.run;
     }
 
     module _ (n0 : Net H) (up : IsSetUp n0) (k : ℕ) (first : Site H) (was : site_at k n0.sites ≡ Some first) where
@@ -252,7 +253,7 @@ module _ {H : Type 0} where
           (all_tell ps (i ∷ places) (hears_one answer_of after p l) n (unheard answer_of after p l n h others.0) r
           (ordered_heard told p l ps (i ∷ places) l.place others.1) past (all_unbroken k told l.stations unbroken) (heard_keeps k told l.stations ∙ own))
       all_tell (p ∷ ps) (i ∷ places) l n h r (inl all) past unbroken own =
-          let inside = place_within i all.0 l.said all.1 in
+          let inside = at_length i all.0 l.said all.1 in
           let l1 = record l { place = i } in
           let l2 = hears_one answer_of after p l1 in
           let on = (panel_on answer_of after i l n h all.3 (omega (arith, inside))).refines in

@@ -54,12 +54,12 @@ mapped_front f others zero x (y ∷ ys) is = ap (λ z. Some (f z)) (some_same y 
 mapped_front f others (suc k) x (y ∷ ys) is = mapped_front f others k x ys is
 
 module _ {H : Type 0} where
-  queues_begun : (full : Bool) (event : Event) (t : Station H) → (queues full event t).begun ≡ t.begun
+  pub queues_begun : (full : Bool) (event : Event) (t : Station H) → (queues full event t).begun ≡ t.begun
   queues_begun true event t = refl
   queues_begun false event t = refl
 
   module _ (answer_of : H → Command → Answer) (after : H → Command → H) where
-    answers_begun : (o : Option Packet) (t : Station H) → (answers answer_of after o t).begun ≡ t.begun
+    pub answers_begun : (o : Option Packet) (t : Station H) → (answers answer_of after o t).begun ≡ t.begun
     answers_begun None t = refl
     answers_begun (Some p) t = refl
 

@@ -13,11 +13,12 @@ use Rattle.osdp_shared_line.specs.Line.{Net, site_at}
 use Rattle.osdp_calls.specs.Calls.{all_hear, last_of, read_at_end, read_at_silence, read_of_bytes}
 use Rattle.osdp_calls.specs.Lines.{Burst, InUse, is_past_for_panel}
 use Rattle.osdp_calls.specs.Premises.{AreInOrder}
-use Rattle.osdp_calls.proofs.Nexts.{place_within, then_refines}
+use Rattle.osdp_calls.proofs.Nexts.{then_refines}
 use Rattle.osdp_calls.proofs.Panel.{at_seen, hears_one, panel_on, reads_here, told_then}
 use Rattle.osdp_calls.proofs.Same.{IsNetOf, sites_so}
 use Rattle.osdp_calls.proofs.Stations.{Refines, by_none}
 use Rattle.osdp_calls.proofs.Strangers.{IsElsewhere, Ordered, ordered_heard, ordered_silent, others_hear}
+use Rattle.osdp_shared_line.proofs.Rounds.{at_length}
 
 -- ---- places, one part after the other
 
@@ -122,7 +123,7 @@ module _ {H : Type 0} where
         passed_by p parts (i ∷ places) l n (panel_reads parts (i ∷ places) (hears_one answer_of after p l) n (unheard p l n h others.0)
         (ordered_heard (told_by_item l.bus.greatest (PacketItem p) l.bus.devices) p l (whole_packets parts) (i ∷ places) l.place others.1) past)
     panel_reads (PacketItem p ∷ parts) (i ∷ places) l n h (inl all) past =
-        let inside = place_within i all.0 l.said all.1 in
+        let inside = at_length i all.0 l.said all.1 in
         let l1 = record l { place = i } in
         let l2 = hears_one answer_of after p l1 in
         let g = l.bus.greatest in

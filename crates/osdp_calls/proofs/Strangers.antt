@@ -33,6 +33,7 @@ use Rattle.osdp_calls.specs.Premises.{AreInOrder, IsAsked, IsOfOthers, IsThere}
 use Rattle.osdp_calls.specs.Strangers.{OthersArePassedOver}
 use Rattle.osdp_calls.proofs.Matching.{Match, none_past, set_other}
 use Rattle.osdp_calls.proofs.Same.{IsSiteOf}
+use Rattle.osdp_calls.proofs.Noticing.{got_other}
 
 -- ---- the same order, with more that need none
 
@@ -107,13 +108,6 @@ from_least test at j (d ∷ ds) is = by_test (test d) is (λ further. from_least
     by_test : (b : Bool) → cond b (Some at) (first_from (at + 1) test ds) ≡ Some j → (first_from (at + 1) test ds ≡ Some j → at + 1 ≤ j) → at ≤ j
     by_test true here least = let same = some_same at j here in omega (arith, same)
     by_test false further least = let more = least further in omega (arith, more)
-
-got_other : {A : Type 0} (k j : ℕ) (x : A) (xs : List A) → k ≢ j → slice_get (slice_set xs j x) k ≡ slice_get xs k
-got_other k j x [] other = refl
-got_other zero zero x (y ∷ ys) other = absurd (other refl)
-got_other zero (suc j) x (y ∷ ys) other = refl
-got_other (suc k) zero x (y ∷ ys) other = refl
-got_other (suc k) (suc j) x (y ∷ ys) other = got_other k j x ys (λ e. other (ap suc e))
 
 -- only a controller past these hears such a packet
 heard_past : (p : Packet) (m at j : ℕ) (ds : List Entry) → IsElsewhere m ds p → first_from at (is_at p.address) ds ≡ Some j → at + m ≤ j

@@ -111,13 +111,13 @@ module _ (k : ℕ) where
 
 -- ---- lists of calls, in parts
 
-told_more : (xs ys : List bus.Call) (b : BusState) → told_along (xs ++ ys) b ≡ told_along xs b ++ told_along ys (bus.after_calls xs b)
+pub told_more : (xs ys : List bus.Call) (b : BusState) → told_along (xs ++ ys) b ≡ told_along xs b ++ told_along ys (bus.after_calls xs b)
 told_more [] ys b = refl
 told_more (x ∷ xs) ys b =
     ap (λ l. told_in x b ++ l) (told_more xs ys (bus.after_call x b))
     ∙ sym (append_assoc (told_in x b) (told_along xs (bus.after_call x b)) (told_along ys (bus.after_calls xs (bus.after_call x b))))
 
-taken_more : (xs ys : List bus.Call) (b : BusState) → taken_along (xs ++ ys) b ≡ taken_along xs b ++ taken_along ys (bus.after_calls xs b)
+pub taken_more : (xs ys : List bus.Call) (b : BusState) → taken_along (xs ++ ys) b ≡ taken_along xs b ++ taken_along ys (bus.after_calls xs b)
 taken_more [] ys b = refl
 taken_more (x ∷ xs) ys b =
     ap (λ l. reports.taken_in x b ++ l) (taken_more xs ys (bus.after_call x b))

@@ -40,6 +40,7 @@ use Rattle.osdp_calls.proofs.Panel.{one_seen, one_told}
 use Rattle.osdp_calls.proofs.Same.{Controls, IsNetOf, IsRightly, IsSiteOf, IsToOpen, controlled_so, placed_so, sites_so}
 use Rattle.osdp_calls.proofs.Stations.{Makes, Sites, make_move, make_none}
 use Rattle.osdp_calls.proofs.Strangers.{heard_by_none}
+use Rattle.osdp_calls.proofs.Noticing.{got_new}
 
 -- ---- what a controller sends are commands
 
@@ -55,11 +56,6 @@ frames_so (Waiting until sends o) s waiting =
     (both (λ (t : Ticked). IfSome t.step.frame (λ p. p.reply ≡ false)) (nat_lt sends s.config.sends) (ticking.sends_frame (sends + 1) o s waiting) (ticking.gives_up o s waiting) refl tt) tt
 frames_so (Pausing until o) s waiting =
     both (λ (t : Ticked). IfSome t.step.frame (λ p. p.reply ≡ false)) (nat_le until s.greatest) (ticking.sends_frame 1 o s waiting) (ticking.stays s waiting) refl tt
-
-pub got_set : {A : Type 0} (k : ℕ) (new old : A) (xs : List A) → slice_get xs k ≡ Some old → slice_get (slice_set xs k new) k ≡ Some new
-got_set k new old [] is = absurd cc
-got_set zero new old (x ∷ xs) is = refl
-got_set (suc k) new old (x ∷ xs) is = got_set k new old xs is
 
 module _ {H : Type 0} where
   -- ---- what the panel says goes to every device
@@ -368,7 +364,7 @@ module _ {H : Type 0} where
               stations = change_at k (begins_session (waiting_of o)) l.stations;
               openings = opening_of k d l ∷ l.openings;
               said = l.said ++ from_panel k p ∷ [];
-            })) (sym (got_set k e d l.bus.devices.entries a))
+            })) (sym (got_new k e d l.bus.devices.entries a))
             (subst (λ o. Makes answer_of after (IsTicked (Some k) l n) n (record lb {
               stations = changes_at k (begins_session d.controller.waiting) o l.stations;
               openings = opening_of k d l ∷ l.openings;

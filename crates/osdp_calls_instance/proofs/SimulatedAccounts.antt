@@ -33,24 +33,19 @@ use Rattle.osdp_calls.specs.Calls.{Call, NewPanel, OfPanel, Step, after_call}
 use Rattle.osdp_calls.specs.Ends.{GoByTheirOwn, KeepsPanel, one_panel_call, panel_calls}
 use Rattle.osdp_calls.specs.Lines.{InUse}
 use Rattle.osdp_calls.specs.Sayings.{AddsMakeTheBus}
-use Rattle.osdp_calls.proofs.Ends.{more_calls}
+use Rattle.osdp_calls.proofs.Ends.{more_calls, one_bus}
 use Rattle.osdp_calls.proofs.Places.{IsAt, one_so}
 use Rattle.osdp_calls_instance.proofs.SimulatedBus.{Follows, Here, all_follow, begins_so, goes, joined, step_follows, well_first}
 use Rattle.osdp_calls_instance.proofs.SimulatedEnds.{sim_devices_are}
-use Rattle.osdp_calls_instance.proofs.SimulatedReports.{IsTold, all_told, both_same, more_reports, more_told, with_one, with_those}
+use Rattle.osdp_calls_instance.proofs.SimulatedReports.{IsTold, all_told, both_same, more_reports, with_one, with_those}
 use Rattle.osdp_calls_instance.specs.OwnCalls.{AtDevice, AtPanel, IsOfDevice, all_calls, calls_at}
 use Rattle.osdp_calls_instance.specs.SimulatedBus.{Begins, DeviceStep, HandsBytes, HearsRun, IsBusy, Queues, SimCall, Submits, Waits, all_hear, begin_calls, line_at_first, new_station, panel_step_calls, programs_at_first, schedule_calls, sim_device, sim_panel, step_calls}
 use Rattle.osdp_calls_instance.specs.SimulatedReports.{RunTellsTheSame, Told, told_in_run, told_to}
+use Rattle.osdp_calls.proofs.Takings.{taken_more, told_more}
 
 -- nothing is told
 abbrev nothing : Told
 nothing = record { settled = []; unsettled = []; reported = [] }
-
-more_taken : (xs ys : List bus.Call) (b : BusState) → taken_along (xs ++ ys) b ≡ taken_along xs b ++ taken_along ys (bus.after_calls xs b)
-more_taken [] ys b = refl
-more_taken (x ∷ xs) ys b =
-    ap (λ l. taken_in x b ++ l) (more_taken xs ys (bus.after_call x b))
-    ∙ sym (append_assoc (taken_in x b) (taken_along xs (bus.after_call x b)) (taken_along ys (bus.after_calls xs (bus.after_call x b))))
 
 adds_take : (addresses : List ℕ) (b : BusState) → taken_along (map bus.Add addresses) b ≡ []
 adds_take [] b = refl
@@ -323,7 +318,7 @@ module _ {H : Type 0} where
         let told = taken_of first w in
         let tells = all_tell k steps (with_those k told y) next (goes answer_of after first w) parts.1 fits.1 one.follows (step_tells k step y s w follows is) in
         let joined_list : taken_of (first ++ rest) w ≡ told ++ taken_of rest (goes answer_of after first w) =
-        ap (λ cs. taken_along cs w.panel) (more_part first rest) ∙ more_taken (bus_part first) (bus_part rest) w.panel
+        ap (λ cs. taken_along cs w.panel) (more_part first rest) ∙ taken_more (bus_part first) (bus_part rest) w.panel
         ∙ ap (λ b. told ++ taken_along (bus_part rest) b) (sym (panel_goes first w)) in
         subst (λ z. IsSite k z (run answer_of after steps next).sites)
         (sym (more_reports k told (taken_of rest (goes answer_of after first w)) y) ∙ ap (λ said. with_those k said y) (sym joined_list)) tells
@@ -354,7 +349,7 @@ module _ {H : Type 0} where
         let keep = keep_steps calls (subst (Each Keeps) (sym are) (all_keep_panel (begin ++ taken) w)) in
         let goes_bus : (call : Call H) (places : List ℕ) (m : InUse H) → KeepsPanel call
         → (after_call answer_of after call places m).bus ≡ bus.after_calls (one_panel_call call) m.bus =
-        λ call places m keeps. one_bus call places m keeps in
+        λ call places m keeps. one_bus answer_of after call places m keeps in
         let in_use = all_told answer_of after goes_bus k calls nothing l keep (new_stations k gap readers lt) in
         let t_is : told_to t ≡ with_those k (told_along part l.bus) nothing =
         ap told_to (some_same t in_use.0 (sym there ∙ in_use.1)) ∙ in_use.2 ∙ ap (λ cs. with_those k (told_along cs l.bus) nothing) part_is in
@@ -362,11 +357,11 @@ module _ {H : Type 0} where
         let added = map bus.Add addresses in
         let bus_is : bus.after_calls added (new_bus config) ≡ l.bus = adds config addresses none in
         let told_all : told_along (added ++ part) (new_bus config) ≡ told_along part l.bus =
-        more_told added part (new_bus config) ∙ ap (λ x. x ++ told_along part (bus.after_calls added (new_bus config))) (adds_tell addresses (new_bus config))
+        told_more added part (new_bus config) ∙ ap (λ x. x ++ told_along part (bus.after_calls added (new_bus config))) (adds_tell addresses (new_bus config))
         ∙ ap (told_along part) bus_is in
         let taken_all : taken_along (added ++ part) (new_bus config) ≡ taken_of taken w1 =
-        more_taken added part (new_bus config) ∙ ap (λ x. x ++ taken_along part (bus.after_calls added (new_bus config))) (adds_take addresses (new_bus config))
-        ∙ ap (taken_along part) bus_is ∙ ap (λ cs. taken_along cs l.bus) (more_part begin taken) ∙ more_taken (bus_part begin) (bus_part taken) l.bus
+        taken_more added part (new_bus config) ∙ ap (λ x. x ++ taken_along part (bus.after_calls added (new_bus config))) (adds_take addresses (new_bus config))
+        ∙ ap (taken_along part) bus_is ∙ ap (λ cs. taken_along cs l.bus) (more_part begin taken) ∙ taken_more (bus_part begin) (bus_part taken) l.bus
         ∙ ap (λ x. x ++ taken_along (bus_part taken) (bus.after_calls (bus_part begin) l.bus)) (begins_take 0 readers l.bus)
         ∙ ap (taken_along (bus_part taken)) (sym (panel_goes begin w)) in
         let ends : bus.after_calls (added ++ part) (new_bus config) ≡ last.bus =
@@ -378,10 +373,3 @@ module _ {H : Type 0} where
         sym (append-nil (taken_of taken w1)) ∙ ap (λ x. x ++ []) (sym taken_all)
         ∙ ap (λ x. taken_along (added ++ part) (new_bus config) ++ x) (sym waits) ∙ once config (added ++ part) settings ∙ told_all in
         t_is ∙ ap (λ said. with_those k said nothing) (sym all_once) ∙ sym u_is
-      where
-        one_bus : (call : Call H) (places : List ℕ) (m : InUse H) → KeepsPanel call
-            → (after_call answer_of after call places m).bus ≡ bus.after_calls (one_panel_call call) m.bus
-        one_bus call places m keeps =
-            let steps_one : List (Step H) = record { call = call; places = places } ∷ [] in
-            (own m).panel steps_one (each_all (λ (step : Step H). KeepsPanel step.call) steps_one (keeps, tt))
-            ∙ ap (λ cs. bus.after_calls cs m.bus) (append-nil (one_panel_call call))

@@ -8,7 +8,7 @@ use Rattle.osdp_bus_laws.specs.Calls as bus
 use Rattle.osdp_device.specs.Hearing.{hears_bytes, reads_all, turns_left}
 use Rattle.osdp_frame.specs.Receiving.{Received, after_silence, after_take, count_taken}
 use Rattle.osdp_device.specs.Telling.{items_of, said_to_all}
-use Rattle.osdp_link_laws.proofs.Lines.{each_of}
+use Rattle.osdp_link_laws.proofs.Lines.{each_append, each_of}
 use Rattle.osdp_link_laws.proofs.Stages.{Each}
 use Rattle.osdp_reader.specs.State.{ReaderState}
 use Rattle.osdp_reader.specs.declared.handler.Answer.{Answer}
@@ -33,10 +33,6 @@ abbrev pub PanelGivesNone : bus.Call → Type 0
 PanelGivesNone (bus.Submit k command) = comset_of command ≡ None
 PanelGivesNone (bus.Retarget k address) = ⊥
 PanelGivesNone _ = Unit {0}
-
-both_each : {A : Type 0} (P : A → Type 0) (xs ys : List A) → Each P xs → Each P ys → Each P (xs ++ ys)
-both_each P [] ys a b = b
-both_each P (x ∷ xs) ys a b = (a.0, both_each P xs ys a.1 b)
 
 module _ {H : Type 0} where
   abbrev pub GivesNone : Call H → Type 0
@@ -68,7 +64,7 @@ module _ {H : Type 0} where
         let rest = drop (count_taken bytes now l) bytes in
         let h = reads_all answer_of after r (after_take bytes now l) in (
           tt,
-          both_each GivesNone (nexts k (length (said_to_all answer_of after (items_of (after_take bytes now l).held) r))) _
+          each_append GivesNone (nexts k (length (said_to_all answer_of after (items_of (after_take bytes now l).held) r))) _
               (nexts_give H k (length (said_to_all answer_of after (items_of (after_take bytes now l).held) r)))
               (done_give rest _ (handing_give turns k rest now h.reader h.line)),
         )
@@ -80,7 +76,7 @@ module _ {H : Type 0} where
     device_give k (HearsBurst (b ∷ bytes) now) d =
         let h = hears_bytes answer_of after (b ∷ bytes) now d.reader d.line in
         let turns = suc (turns_left (b ∷ bytes) now d.line) in
-        both_each GivesNone (handing answer_of after turns k (b ∷ bytes) now d.reader d.line) _
+        each_append GivesNone (handing answer_of after turns k (b ∷ bytes) now d.reader d.line) _
         (handing_give turns k (b ∷ bytes) now d.reader d.line)
         (tt, nexts_give H k (length (said_to_all answer_of after (items_of (after_silence now h.line).held) h.reader)))
 
@@ -106,9 +102,9 @@ module _ {H : Type 0} where
         → Each GivesNone (all_calls sim_panel (sim_device answer_of after) own w)
     all_give [] w none = tt
     all_give (AtPanel step ∷ more) w none =
-        both_each (GivesNone {H = H}) (map OfPanel (panel_step_calls step)) _ (panel_give step none.0) (all_give more (goes answer_of after (AtPanel step ∷ []) w) none.1)
+        each_append (GivesNone {H = H}) (map OfPanel (panel_step_calls step)) _ (panel_give step none.0) (all_give more (goes answer_of after (AtPanel step ∷ []) w) none.1)
     all_give (AtDevice k own ∷ more) w none =
-        both_each GivesNone (calls_at sim_panel (sim_device answer_of after) k own (site_at k w.devices)) _ (at_give k own (site_at k w.devices))
+        each_append GivesNone (calls_at sim_panel (sim_device answer_of after) k own (site_at k w.devices)) _ (at_give k own (site_at k w.devices))
         (all_give more (goes answer_of after (AtDevice k own ∷ []) w) none.1)
 
     there_gives : (t : Bool) (own : SimCall answer_of after) → OwnGivesNone own → Each OwnGivesNone (cond t (own ∷ []) [])
@@ -131,7 +127,7 @@ module _ {H : Type 0} where
     schedule_gives : (steps : List SimStep) (s : LineState H) → Each OrdersNoComset steps → Each OwnGivesNone (schedule_calls answer_of after steps s)
     schedule_gives [] s none = tt
     schedule_gives (step ∷ steps) s none =
-        both_each OwnGivesNone (step_calls answer_of after step s) _ (step_gives step s none.0) (schedule_gives steps (after_step answer_of after step s) none.1)
+        each_append OwnGivesNone (step_calls answer_of after step s) _ (step_gives step s none.0) (schedule_gives steps (after_step answer_of after step s) none.1)
 
     begins_give : (k : ℕ) (readers : List (Given H)) → Each OwnGivesNone (begin_calls answer_of after k readers)
     begins_give k [] = tt
@@ -149,7 +145,7 @@ module _ {H : Type 0} where
         subst (Each GivesNone) (sym are)
         (all_give (begin_calls answer_of after 0 readers ++ schedule_calls answer_of after steps (set_up config readers))
         (programs_at_first answer_of after config gap readers)
-        (both_each OwnGivesNone (begin_calls answer_of after 0 readers) _ (begins_give 0 readers)
+        (each_append OwnGivesNone (begin_calls answer_of after 0 readers) _ (begins_give 0 readers)
         (schedule_gives steps (set_up config readers) (each_of OrdersNoComset steps none))))
 
     pub run_keeps_addresses : RunKeepsAddresses answer_of after

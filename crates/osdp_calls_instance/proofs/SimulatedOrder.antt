@@ -3,7 +3,6 @@ use Rattle.std.proofs.Common.{◌≡◌, ◌-◌, ℕ, suc, Bool, true, false, c
 use Rattle.std.specs.Prelude.{◌==◌}
 use Rattle.std.proofs.lemmas.List.{map-append}
 use Rattle.osdp_msg.specs.declared.command.Command.{Command}
-use Rattle.osdp_bus_links.proofs.Sufficing.{net_run_more}
 use Rattle.osdp_bus_links.specs.Links.{IsBusOf, tick_moves}
 use Rattle.osdp_bus_links.specs.Premises.{NoneIsKept}
 use Rattle.osdp_link_laws.specs.Peers.{ReadsWhatIsAsked}
@@ -53,6 +52,7 @@ use Rattle.osdp_calls_instance.specs.OwnCalls.{AtDevice, AtPanel, IsLineOf, all_
 use Rattle.osdp_calls_instance.specs.SimulatedBus.{Begins, HandsBytes, HearsRun, IsBusy, Queues, SimCall, Submits, begin_calls, line_at_first, programs_at_first, schedule_calls, sim_device, sim_panel, step_calls}
 use Rattle.osdp_calls_instance.specs.SimulatedOrder.{AllOrdered, AllRuled, RunKeepsOrder}
 use Rattle.osdp_calls_instance.specs.SimulatedPremises.{AllAtAddresses, AllInRange, HandsShort}
+use Rattle.osdp_shared_line.proofs.Rounds.{net_more}
 
 ours_as : {A B : Type 0} (k : ℕ) (xs : List A) (ys : List B) → length xs ≡ length ys → IsOurs k xs → IsOurs k ys
 ours_as k [] [] same own = absurd (let e = own in cc)
@@ -181,7 +181,7 @@ module _ {H : Type 0} (answer_of : H → Command → Answer) (after : H → Comm
           let m_is : m ≡ net_run answer_of after (moves_of answer_of after (done ++ step ∷ []) s0) first =
           ap (net_run answer_of after (moves_for step s)) n_is
           ∙ ap (λ x. net_run answer_of after (moves_for step x) (net_run answer_of after (moves_of answer_of after done s0) first)) s_is
-          ∙ sym (net_run_more answer_of after (moves_of answer_of after done s0) (moves_for step (run answer_of after done s0)) first)
+          ∙ sym (net_more answer_of after (moves_of answer_of after done s0) (moves_for step (run answer_of after done s0)) first)
           ∙ ap (λ ms. net_run answer_of after (moves_of answer_of after done s0 ++ ms) first) (sym (append-nil (moves_for step (run answer_of after done s0))))
           ∙ ap (λ ms. net_run answer_of after ms first) (sym (moves_more answer_of after done (step ∷ []) s0)) in
           let rest = rest_ordered steps (done ++ step ∷ []) next m (goes answer_of after (step_calls answer_of after step s) w) later next_is m_is

@@ -24,6 +24,7 @@ use Rattle.osdp_calls_instance.proofs.SimulatedReads.{CallGood, CallsGood, reads
 use Rattle.osdp_calls_instance.proofs.SimulatedReplies.{replies_by, replies_each}
 use Rattle.osdp_calls_instance.specs.OwnCalls.{IsOfDevice}
 use Rattle.osdp_calls_instance.specs.SimulatedOrder.{AllOrdered, IsOrdered}
+use Rattle.osdp_calls.proofs.Ruling.{answers_begun, queues_begun}
 
 -- ---- places
 
@@ -200,10 +201,6 @@ module _ {H : Type 0} where
       other_at None j other = refl
       other_at (Some u) j other = at_other j k (change u) l.stations other
 
-  queue_begun : (full : Bool) (event : Event) (t : Station H) → (queues full event t).begun ≡ t.begun
-  queue_begun true event t = refl
-  queue_begun false event t = refl
-
   queue_place : (full : Bool) (event : Event) (t : Station H) → (queues full event t).place ≡ t.place
   queue_place true event t = refl
   queue_place false event t = refl
@@ -220,10 +217,6 @@ module _ {H : Type 0} where
     placed_are i [] l = refl
     placed_are i (call ∷ calls) l = ap (λ c. call ∷ c) (placed_are i calls (after_placed i call l))
 
-    answers_begun : (o : Option Packet) (t : Station H) → (answers answer_of after o t).begun ≡ t.begun
-    answers_begun None t = refl
-    answers_begun (Some p) t = refl
-
     next_spoke : (k i : ℕ) (l : InUse H) (o : Option (Station H)) (t : Station H) → o ≡ Some t → site_at k l.stations ≡ Some t
         → SpokeBy k i (replies_by answer_of after (Next k) (held_by t)) l (after_next answer_of after k (at_place i (next_reads o)) o l)
     next_spoke k i l o t is at =
@@ -237,7 +230,7 @@ module _ {H : Type 0} where
               let same : t ≡ u = some_same t u (sym at ∙ there) in (
                 nexts answer_of after (at_place i reads) t,
                 at_changed k (nexts answer_of after (at_place i reads) t) t l.stations at,
-                answers_begun (first_answered t.reader reads) t ∙ ap (λ (x : Station H). x.begun) same,
+                answers_begun answer_of after (first_answered t.reader reads) t ∙ ap (λ (x : Station H). x.begun) same,
                 subst (λ (x : Station H). (last_of (at_place i reads) t.place ≡ x.place) ⊎ (last_of (at_place i reads) t.place ≡ i)) same (last_place i t.place reads),
               );
         })
@@ -252,7 +245,7 @@ module _ {H : Type 0} where
     one_spoke k i (SubmitEvent j event) l t Good own good at =
         let full = lacks_room event t.reader.queue in
         subst (λ (m : ℕ). SpokeBy k i [] l (on_station m (λ (x : Station H). queues (lacks_room event x.reader.queue) event x) l)) (sym (same_number j k own))
-        (on_one k i (λ (x : Station H). queues (lacks_room event x.reader.queue) event x) l t at (queue_begun full event t) (queue_place full event t))
+        (on_one k i (λ (x : Station H). queues (lacks_room event x.reader.queue) event x) l t at (queues_begun full event t) (queue_place full event t))
     one_spoke k i (SetBusy j busy) l t Good own good at =
         subst (λ (m : ℕ). SpokeBy k i [] l (after_call answer_of after (SetBusy m busy) [] l)) (sym (same_number j k own)) (on_one k i _ l t at refl refl)
     one_spoke k i (WithdrawEvent j) l t Good own good at =

@@ -27,6 +27,7 @@ use Rattle.osdp_calls.specs.Lines.{InUse, Station}
 use Rattle.osdp_device.specs.Telling.{items_of}
 use Rattle.osdp_calls.proofs.Places.{Stays, panel_so, station_so, those}
 use Rattle.osdp_calls_instance.specs.SimulatedReports.{Told, told_to}
+use Rattle.osdp_calls.proofs.Takings.{told_more}
 
 -- ---- what reports add
 
@@ -44,12 +45,6 @@ with_those k said y = those with_one k said y
 pub more_reports : (k : ℕ) (xs ys : List (ℕ × Report)) (y : Told) → with_those k (xs ++ ys) y ≡ with_those k ys (with_those k xs y)
 more_reports k [] ys y = refl
 more_reports k (x ∷ xs) ys y = more_reports k xs ys (cond (x.0 == k) (with_one x.1 y) y)
-
-pub more_told : (xs ys : List bus.Call) (b : BusState) → told_along (xs ++ ys) b ≡ told_along xs b ++ told_along ys (bus.after_calls xs b)
-more_told [] ys b = refl
-more_told (x ∷ xs) ys b =
-    ap (λ l. told_in x b ++ l) (more_told xs ys (bus.after_call x b))
-    ∙ sym (append_assoc (told_in x b) (told_along xs (bus.after_call x b)) (told_along ys (bus.after_calls xs (bus.after_call x b))))
 
 pub both_same : (b : Bool) (y : Told) → cond b y y ≡ y
 both_same true y = refl
@@ -166,5 +161,5 @@ module _ {H : Type 0} where
         let joined : with_those k (told_along (panel_calls steps) next.bus) (with_those k one y) ≡ with_those k (told_along (one_panel_call step.call ++ panel_calls steps) l.bus) y =
         ap (λ b. with_those k (told_along (panel_calls steps) b) (with_those k one y)) (goes step.call step.places l keeps.0)
         ∙ sym (more_reports k one (told_along (panel_calls steps) (bus.after_calls (one_panel_call step.call) l.bus)) y)
-        ∙ ap (λ said. with_those k said y) (sym (more_told (one_panel_call step.call) (panel_calls steps) l.bus)) in
+        ∙ ap (λ said. with_those k said y) (sym (told_more (one_panel_call step.call) (panel_calls steps) l.bus)) in
         subst (λ z. IsTold k z (after_calls answer_of after steps next).stations) joined rest

@@ -1,18 +1,23 @@
 -- A device that never changes is one whose site never does.
-use Rattle.std.proofs.Common.{ℕ, List, [], ◌∷◌, is_some, refl, subst, ap, ◌∙◌, inl, inr}
+use Rattle.std.proofs.Common.{ℕ, List, [], ◌∷◌, is_some, refl, sym, subst, ap, ◌∙◌, inl, inr}
 use Rattle.osdp_msg.specs.declared.command.Command.{Command}
 use Rattle.osdp_reader.specs.declared.handler.Answer.{Answer}
 use Rattle.osdp_ledger.specs.History.{new_history, runs}
 use Rattle.osdp_ledger.specs.Plain.{ThrowsNoneAway}
-use Rattle.osdp_link_laws.specs.OneHandler.{AreItsAnswers, GivesItsAnswers}
+use Rattle.osdp_link_laws.specs.Link.{Account}
+use Rattle.osdp_link_laws.specs.Sessions.{in_all}
 use Rattle.osdp_link_laws.proofs.Lines.{each_all, each_map, each_of}
 use Rattle.osdp_link_laws.proofs.Stages.{Each}
-use Rattle.osdp_link_ledger.proofs.Answered.{acts_have}
-use Rattle.osdp_line_ledger.proofs.Devices.{each_answers}
+use Rattle.osdp_link_ledger.specs.Accounts.{LedgerTellsAccounts}
+use Rattle.osdp_link_ledger.proofs.Answered.{same_acts}
+use Rattle.osdp_line_ledger.specs.Devices.{EachActsByOneHandler}
+use Rattle.osdp_line_ledger.specs.Laws.{steps_at}
 use Rattle.osdp_shared_line.specs.Line as line
 use Rattle.osdp_shared_line.specs.Line.{Net, NetMove, RestartPanel, RestartReader, site_at}
 use Rattle.osdp_shared_line.specs.Restarts.{KeepsDeviceOf}
-use Rattle.osdp_shared_line.specs.Runs.{EachIsALink}
+use Rattle.osdp_shared_line.specs.Runs.{EachIsALink, moves_of}
+use Rattle.osdp_shared_line.specs.Views.{view}
+use Rattle.osdp_shared_line.proofs.Linking.{viewed}
 use Rattle.osdp_calls.specs.Calls.{Step, after_calls}
 use Rattle.osdp_calls.specs.OneDevice.{KeepsHandler}
 use Rattle.osdp_calls.proofs.Holding.{comes, its_site}
@@ -34,23 +39,28 @@ module _ {H : Type 0} where
   keeps_device k (step ∷ steps) (line.SetHandler i handler) keep (inl is) = subst (KeepsHandler k) is keep.0
   keeps_device k (step ∷ steps) _ keep (inl is) = tt
 
-  pub one_device : (answer_of : H → Command → Answer) (after : H → Command → H) → EachIsALink answer_of after → GivesItsAnswers answer_of after → EachKeepsLedger answer_of after
-      → ThrowsNoneAway → OneDeviceHoldsOnce answer_of after
-  one_device answer_of after links gives keeps throws l steps up keep k first is same =
+  -- what it acted on is what the device of its site did: both are the answers of its sessions
+  pub one_device : (answer_of : H → Command → Answer) (after : H → Command → H) → EachIsALink answer_of after → LedgerTellsAccounts answer_of after
+      → EachActsByOneHandler answer_of after → EachKeepsLedger answer_of after → ThrowsNoneAway → OneDeviceHoldsOnce answer_of after
+  one_device answer_of after links tells acts keeps throws l steps up keep k first is same =
       let c = comes answer_of after l steps up keep in
       let n0 = first_net c.start.config l.stations in
+      let f = first_site c.start.config first in
+      let from = first_there c.start.config k first l.stations is in
       let moves = RestartPanel c.start.settings ∷ c.came.moves in
       let ls = after_calls answer_of after steps l in
       let last = there_is (site_at k ls.stations) (calls_keep k answer_of after steps l ∙ ap is_some is) refl in
       let s = its_site answer_of after k last.0 ls c.came.net c.came.same last.1 in
       let each = each_of (λ (step : Step H). KeepsHandler k step.call) steps same in
       let device = each_map (IsOfOne steps) (KeepsDeviceOf k) (λ m of_one. keeps_device k steps m each of_one) c.came.moves c.came.kinds in
-      let gave = each_answers answer_of after links gives n0 moves c.start.is_set_up (c.start.fits, c.came.fit) k (first_site c.start.config first) s.site
-      (first_there c.start.config k first l.stations is) (ap (λ (m : Net H). site_at k m.sites) c.came.run ∙ s.there)
-      (each_all (KeepsDeviceOf k) moves (tt, device)) in
-      let its : AreItsAnswers answer_of after first.reader.config first.reader.handler (last.0.account ∷ last.0.earlier) =
-      subst (AreItsAnswers answer_of after first.reader.config first.reader.handler) (λ i. s.account i ∷ s.earlier i) gave in (
-        acts_have answer_of after first.reader.config first.reader.handler (last.0.account ∷ last.0.earlier) (runs (steps_from answer_of after k first steps l) new_history)
-            (keeps l steps up keep k first last.0 s.entry is last.1 s.is_entry).accounts.acted its,
+      let its = links n0 moves c.start.is_set_up (c.start.fits, c.came.fit) k f from in
+      let view_is = viewed answer_of after n0 moves k f s.site its (ap (λ (m : Net H). site_at k m.sites) c.came.run ∙ s.there) in
+      let site = (tells (view k f n0) (moves_of answer_of after k moves n0) (c.start.is_set_up.begins k f from) its.fits).acted in
+      let entry = (keeps l steps up keep k first last.0 s.entry is last.1 s.is_entry).accounts.acted in
+      let alike = entry
+      ∙ sym (site ∙ (λ i. in_all (λ (t : Account). t.given) ((sym view_is i).account ∷ (sym view_is i).earlier))
+      ∙ (λ i. in_all (λ (t : Account). t.given) (s.account i ∷ s.earlier i))) in (
+        same_acts answer_of after first.reader.config first.reader.handler (runs (steps_at answer_of after k f moves n0) new_history)
+            (runs (steps_from answer_of after k first steps l) new_history) alike (acts n0 moves k f (each_all (KeepsDeviceOf k) moves (tt, device))),
         none_thrown answer_of after k throws first steps l each,
       )

@@ -31,6 +31,7 @@ use Rattle.osdp_calls.proofs.Same.{Controls, IsNetOf, IsSame}
 use Rattle.osdp_calls.proofs.Stations.{Sites}
 use Rattle.osdp_calls_ledger.specs.Steps.{device_steps, given_back, panel_restarts, panel_steps, steps_at}
 use Rattle.osdp_calls_ledger.proofs.Seen.{seen, seen_at}
+use Rattle.osdp_shared_line.proofs.Doing.{both_accept}
 
 pub none_back : (r : Result (Option Command) BusFault) → withdrawn r ≡ [] → given_back r ≡ None
 none_back (Ok None) none = refl
@@ -41,11 +42,6 @@ none_back (Err fault) none = refl
 pub no_steps : (b : Bool) (steps : List ledger.Step) → steps ≡ [] → cond b steps [] ≡ []
 no_steps true steps none = none
 no_steps false steps none = refl
-
-unrefused : (x : Bool) (o : Option ControllerFault) → not (x || is_some o) ≡ true → (x ≡ false) × (o ≡ None)
-unrefused true o is = absurd (let e = is in cc)
-unrefused false None is = (refl, refl)
-unrefused false (Some fault) is = absurd (let e = is in cc)
 
 module _ {H : Type 0} (answer_of : H → Command → Answer) (after : H → Command → H) where
   -- a move of one link
@@ -121,7 +117,7 @@ module _ {H : Type 0} (answer_of : H → Command → Answer) (after : H → Comm
           ∙ elim (eqb_tells i k) [
             | inl equal ↦
                 let accepted = command_accepted answer_of after k command d t s l n h a has (subst (λ j. submit_refusal_at j command l.bus ≡ None) equal.1 none) in
-                let free = unrefused (is_comset_refused k (comset_of command) s n.sites) (submit_refusal command s.controller) accepted in
+                let free = both_accept (is_comset_refused k (comset_of command) s n.sites) (submit_refusal command s.controller) accepted in
                 ap (λ b. all_steps answer_of after (cond b [] (one_if i k (link.Submit command))) (view k s n) g)
                 (ap (λ j. is_comset_refused j (comset_of command) s n.sites) equal.1 ∙ free.0)
                 ∙ one_shown i k (link.Submit command) (view k s n) g

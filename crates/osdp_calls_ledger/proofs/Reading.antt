@@ -35,7 +35,6 @@ use Rattle.osdp_calls.proofs.Agreeing.{address_same, at_entry, reads_those}
 use Rattle.osdp_calls.proofs.Controllers.{hears_same, ignored_quiet}
 use Rattle.osdp_calls.proofs.Counting.{AllHeard}
 use Rattle.osdp_calls.proofs.Matching.{FoundAt, Nobody, Somebody, found, IsOurs, ours_below}
-use Rattle.osdp_calls.proofs.Nexts.{place_within}
 use Rattle.osdp_calls.proofs.Noticing.{FirstAt, NoneAt, OneAt, first_at, first_before}
 use Rattle.osdp_calls.proofs.Panel.{IsHeard, IsIgnored, IsRead, hears_one, panel_on, reads_here, told_then}
 use Rattle.osdp_calls.proofs.Runs.{NotPast, unheard}
@@ -47,6 +46,7 @@ use Rattle.osdp_calls_ledger.proofs.Own.{seen_one}
 use Rattle.osdp_calls_ledger.proofs.Seen.{in_turn, seen, seen_at}
 use Rattle.osdp_calls_ledger.proofs.Shows.{Shown, Shows, both_shown, by_losses, by_made, none_shown, shows_as, then_shows}
 use Rattle.osdp_calls.proofs.Lasting.{heard_keeps}
+use Rattle.osdp_shared_line.proofs.Rounds.{at_length}
 
 -- ---- what is told of one entry
 
@@ -248,7 +248,7 @@ module _ {H : Type 0} where
         unread_shows p ps (i ∷ places) l n others.0 (reads_show ps (i ∷ places) (hears_one answer_of after p l) n (unheard answer_of after p l n h others.0)
         (ordered_heard (told_by_item l.bus.greatest (PacketItem p) l.bus.devices) p l ps (i ∷ places) l.place others.1) past)
     reads_show (p ∷ ps) (i ∷ places) l n h (inl all) past =
-        let inside = place_within i all.0 l.said all.1 in
+        let inside = at_length i all.0 l.said all.1 in
         let l1 = record l { place = i } in
         let l2 = hears_one answer_of after p l1 in
         let g = l.bus.greatest in

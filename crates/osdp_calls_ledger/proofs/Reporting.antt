@@ -41,6 +41,7 @@ use Rattle.osdp_calls.specs.Lines.{InUse, Station}
 use Rattle.osdp_calls_ledger.specs.Reports.{Told, TellsReports, all_told, nothing_told, told_by, told_in_history, with_report, with_reports}
 use Rattle.osdp_calls_ledger.specs.Steps.{answered, device_steps, given_back, opening, panel_restarts, panel_steps, reported, steps_along, steps_at, steps_of}
 use Rattle.osdp_calls_ledger.proofs.Allowing.{opening_open}
+use Rattle.osdp_link_ledger.proofs.Tallies.{command_at, offered_event}
 
 -- ---- what a step tells
 
@@ -178,14 +179,6 @@ acts_silent kind.Zero None said g = tt
 acts_silent _ c said g = tt
 
 -- ---- a report
-
-command_at : (os : List Order) (c : Command) → (order_at os c).command ≡ c
-command_at [] c = refl
-command_at (o ∷ os) c = refl
-
-offered_event : (offer : Offer) (e : Event) → (offered_at offer e).event ≡ e
-offered_event NoOffer e = refl
-offered_event _ e = refl
 
 report_tells : (r : Report) (g : Ledger) (y : Told) → with_steps (told (Some r) g) y ≡ with_report r y
 report_tells (report.Settled c answer) g y = (λ i. record y { settled = y.settled ++ (command_at g.ahead c i, answer) ∷ [] })

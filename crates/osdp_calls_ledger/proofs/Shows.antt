@@ -11,12 +11,13 @@ use Rattle.osdp_shared_line.specs.Addresses.{NetMovesFit}
 use Rattle.osdp_shared_line.specs.Line.{Net, NetMove, after_net, run, site_at}
 use Rattle.osdp_calls.specs.Lines.{InUse}
 use Rattle.osdp_calls.proofs.Counting.{AllHeard}
-use Rattle.osdp_calls.proofs.Losing.{IsLoss, fit_then, run_then}
+use Rattle.osdp_calls.proofs.Losing.{IsLoss}
 use Rattle.osdp_calls.proofs.Same.{IsNetOf}
 use Rattle.osdp_calls.proofs.Stations.{LosesTo, Makes}
 use Rattle.osdp_calls_ledger.proofs.Quiet.{ShowsNothing, loss_shows, seen_none}
 use Rattle.osdp_calls_ledger.proofs.Seen.{in_turn, seen, seen_more}
 use Rattle.osdp_calls.proofs.Matching.{IsOurs}
+use Rattle.osdp_shared_line.proofs.Rounds.{fits_both, net_more}
 
 -- the steps of each entry, as a ledger has them
 abbrev pub Shown : Type 0
@@ -91,8 +92,8 @@ module _ {H : Type 0} (answer_of : H → Command → Answer) (after : H → Comm
       record {
         net = y.net;
         moves = x.moves ++ y.moves;
-        fit = fit_then answer_of after x.moves y.moves n x.fit (subst (NetMovesFit answer_of after y.moves) (sym x.run) y.fit);
-        run = run_then answer_of after x.moves y.moves n ∙ ap (run answer_of after y.moves) x.run ∙ y.run;
+        fit = fits_both answer_of after x.moves y.moves n x.fit (subst (NetMovesFit answer_of after y.moves) (sym x.run) y.fit);
+        run = net_more answer_of after x.moves y.moves n ∙ ap (run answer_of after y.moves) x.run ∙ y.run;
         same = y.same;
         shows = λ heard k g own.
             let first = x.shows (heard_first x.moves y.moves n heard) k g (sym (keeps k) ∙ own) in

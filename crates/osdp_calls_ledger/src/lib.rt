@@ -73,7 +73,8 @@ pub fn one_device_holds_once<H: Handler>()
 {
     each_keeps_ledger::<H>();
     osdp_shared_line::each_is_a_link::<H>();
-    osdp_link_laws::answers_of_one_handler::<H>();
+    osdp_link_ledger::ledger_tells_accounts::<H>();
+    osdp_line_ledger::each_acts_by_one_handler::<H>();
     osdp_ledger::throws_none_away();
 }
 

@@ -12,12 +12,13 @@ use Rattle.osdp_calls.specs.Calls.{last_of}
 use Rattle.osdp_calls.specs.Handing.{hears_all, told_by_all}
 use Rattle.osdp_calls.specs.Lines.{InUse}
 use Rattle.osdp_calls.proofs.Agreeing.{reads_those}
-use Rattle.osdp_calls.proofs.Nexts.{place_within, then_refines}
+use Rattle.osdp_calls.proofs.Nexts.{then_refines}
 use Rattle.osdp_calls.proofs.Panel.{hears_one, panel_on, reads_here, told_then}
 use Rattle.osdp_calls.proofs.Runs.{NotPast, unheard}
 use Rattle.osdp_calls.proofs.Same.{IsNetOf}
 use Rattle.osdp_calls.proofs.Stations.{Refines, by_none}
 use Rattle.osdp_calls.proofs.Strangers.{Ordered, ordered_heard}
+use Rattle.osdp_shared_line.proofs.Rounds.{at_length}
 
 module _ {H : Type 0} (answer_of : H → Command → Answer) (after : H → Command → H) where
   -- a packet that none of our controllers hears
@@ -43,7 +44,7 @@ module _ {H : Type 0} (answer_of : H → Command → Answer) (after : H → Comm
       unread p ps (i ∷ places) l n (reads_net ps (i ∷ places) (hears_one answer_of after p l) n (unheard answer_of after p l n h others.0)
       (ordered_heard (told_by_item l.bus.greatest (PacketItem p) l.bus.devices) p l ps (i ∷ places) l.place others.1) past)
   reads_net (p ∷ ps) (i ∷ places) l n h (inl all) past =
-      let inside = place_within i all.0 l.said all.1 in
+      let inside = at_length i all.0 l.said all.1 in
       let l1 = record l { place = i } in
       let l2 = hears_one answer_of after p l1 in
       let g = l.bus.greatest in

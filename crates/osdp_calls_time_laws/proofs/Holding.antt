@@ -35,6 +35,7 @@ use Rattle.osdp_calls_time_laws.proofs.Nexts.{runs_next}
 use Rattle.osdp_calls_time_laws.proofs.Panel.{is_quiet, runs_panel}
 use Rattle.osdp_calls_time_laws.proofs.Quiet.{ReadAt, opens_quietly}
 use Rattle.osdp_calls_time_laws.proofs.Waits.{AllWait, IsKept, IsOf, IsPast, Runs, Waits, runs_silent}
+use Rattle.osdp_calls.proofs.Ruling.{queues_begun}
 
 -- a time is no matter to a clock that has just begun
 short : (q : ℕ) → q ≤ 3600000 → 0 + q < 2 ^ 64
@@ -78,17 +79,13 @@ module _ {H : Type 0} where
       station_changes k change start same =
           rests (record l { stations = change_at k change l.stations }) start refl refl refl (λ j. begun_change j k change l.stations same)
 
-      queue_begun : (full : Bool) (event : Event) (u : Station H) → (queues full event u).begun ≡ u.begun
-      queue_begun true event u = refl
-      queue_begun false event u = refl
-
       pub runs_call : (call : Call H) (places : List ℕ) → InOrder call places l → QuietOpening call places l → InRange answer_of after call l
           → KeepsClock w call t c l → Each (ReadAt w t.at c.said) places → (m : Net H) → IsNetOf (after_call answer_of after call places l) m
           → Runs w (clock_after t c (after_call answer_of after call places l)) (after_call answer_of after call places l)
       runs_call (OfPanel call) places order quiet range clock read m same =
           runs_panel answer_of after reads w t c l n h apart r later clock.0 call places order quiet range clock.1
       runs_call (SubmitEvent k event) places order quiet range clock read m same =
-          station_changes k (λ u. queues (lacks_room event u.reader.queue) event u) clock (λ u. queue_begun (lacks_room event u.reader.queue) event u)
+          station_changes k (λ u. queues (lacks_room event u.reader.queue) event u) clock (λ u. queues_begun (lacks_room event u.reader.queue) event u)
       runs_call (SetBusy k busy) places order quiet range clock read m same =
           station_changes k (λ u. record u { reader = after_set_busy busy u.reader }) clock (λ u. refl)
       runs_call (SetHandler k handler) places order quiet range clock read m same =

@@ -22,7 +22,7 @@ use Rattle.osdp_calls.specs.Calls.{answers, begun_of, by_device, after_next, fir
 use Rattle.osdp_calls.specs.Lines.{Burst, InUse, Station, concerns, is_ahead_of_device, is_past_for_device, those}
 use Rattle.osdp_calls.specs.Premises.{AreInOrder, NextInOrder}
 use Rattle.osdp_calls.proofs.Agreeing.{begun_changed}
-use Rattle.osdp_calls.proofs.Nexts.{each_at, place_within}
+use Rattle.osdp_calls.proofs.Nexts.{each_at}
 use Rattle.osdp_calls.proofs.Replying.{silent_to_replies}
 use Rattle.osdp_calls.proofs.Same.{IsNetOf, IsRightly}
 use Rattle.osdp_calls.proofs.Stations.{of_station}
@@ -31,6 +31,8 @@ use Rattle.osdp_calls_time_laws.specs.Moments.{Clock, Timed, clock_after}
 use Rattle.osdp_calls_time_laws.proofs.Quiet.{ReadAt, device_not_past}
 use Rattle.osdp_calls_time_laws.proofs.Stamps.{there_is}
 use Rattle.osdp_calls_time_laws.proofs.Waits.{IsKept, Runs, Waits, latest, of_entry, runs_on, still_past, still_waits}
+use Rattle.osdp_shared_line.proofs.Rounds.{at_length}
+use Rattle.osdp_calls.proofs.Ruling.{answers_begun}
 
 -- what passes a test is among those that do
 those_has : (test : ℕ → Burst → Bool) (P : ℕ × Packet → Type 0) (from m i : ℕ) (b : Burst) (bs : List Burst) → i ≡ from + m → Each P (those test from bs)
@@ -193,7 +195,7 @@ module _ {H : Type 0} where
         let here : ((k == e) || (said.0.address == address_of d)) ≡ true = subst (λ (y : Burst). concerns (of_entry e (address_of d)) y ≡ true) (sym said.2) con in
         let asked : concerns (of_entry e (address_of d)) x.burst ≡ true =
         (λ i. (x.entry i == e) || (sym same i == address_of d)) ∙ here in
-        let inside = place_within x.place x.burst l.said x.there in
+        let inside = at_length x.place x.burst l.said x.there in
         let stamps = r.stamps in
         let m = there_is x.place c.said (omega (arith, inside, stamps)) in
         let when = r.waits e d began entry begun x.place x.burst m.0 x.there m.1 asked in
@@ -206,10 +208,6 @@ module _ {H : Type 0} where
         within : (m : ℕ) → m ≤ c.start + began → t.at ≤ m + w → t.at ≤ (t.start + began) + w
         within m before soon = let s = start in omega (arith, before, soon, s)
 
-    answers_begun : (o : Option Packet) (u : Station H) → (answers answer_of after o u).begun ≡ u.begun
-    answers_begun None u = refl
-    answers_begun (Some p) u = refl
-
     pub runs_next : (k : ℕ) (places : List ℕ) (o : Option (Station H)) → site_at k l.stations ≡ o → NextInOrder l places o → Each (ReadAt w t.at c.said) places
         → IsKept w t.start t.at l.bus → (quiet : Runs w (clock_after t c l) l) → Runs w (clock_after t c (after_next answer_of after k places o l)) (after_next answer_of after k places o l)
     runs_next k places None at order read kept quiet = quiet
@@ -218,7 +216,7 @@ module _ {H : Type 0} where
         let o = first_answered u.reader ps in
         let new = by_device k (reply_to answer_of after o u.reader) in
         let begun : (j : ℕ) → begun_of (site_at j (changed k (nexts answer_of after places u) l.stations)) ≡ begun_of (site_at j l.stations) =
-        λ j. begun_changed j k (nexts answer_of after places u) u l.stations at (answers_begun o u) in
+        λ j. begun_changed j k (nexts answer_of after places u) u l.stations at (answers_begun answer_of after o u) in
         runs_on w t c l (after_next answer_of after k places (Some u) l) r later kept
         (λ e d began entry is.
         let was : begun_of (site_at e l.stations) ≡ Some began = sym (begun e) ∙ is in

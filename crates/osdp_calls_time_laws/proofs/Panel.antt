@@ -48,6 +48,7 @@ use Rattle.osdp_calls_time_laws.specs.Moments.{Clock, Timed, clock_after, stampe
 use Rattle.osdp_calls_time_laws.proofs.Devices.{InTime, kept_bus, quiet_heard}
 use Rattle.osdp_calls_time_laws.proofs.Ticks.{HasTicked, IsWaiting, has_ticked}
 use Rattle.osdp_calls_time_laws.proofs.Waits.{AllWait, IsKept, IsPast, Runs, Waits, latest, runs_on, runs_silent}
+use Rattle.osdp_calls.proofs.Places.{station_other}
 
 -- an entry whose session is to begin, and is not closed
 pub record IsQuiet (k : ℕ) (b : BusState) : Type 0 where
@@ -84,13 +85,6 @@ module _ {H : Type 0} where
       by_station None is begun = absurd (let e = sym (ap begun_of is) ∙ begun in cc)
       by_station (Some t) is begun =
           let e : Some moment ≡ Some began = sym (ap begun_of (at_changed k (is_to_begin moment t) t ts is)) ∙ begun in sym (some_same moment began e)
-
-  begins_there : (j k moment : ℕ) (ts : List (Station H)) → j ≢ k → begun_of (site_at j (change_at k (is_to_begin moment) ts)) ≡ begun_of (site_at j ts)
-  begins_there j k moment ts other = by_station (site_at k ts)
-    where
-      by_station : (o : Option (Station H)) → begun_of (site_at j (changes_at k (is_to_begin moment) o ts)) ≡ begun_of (site_at j ts)
-      by_station None = refl
-      by_station (Some t) = ap begun_of (at_other j k (is_to_begin moment t) ts other)
 
   -- the stations, what was said, and the sessions that have begun
   after_alike : (w start at : ℕ) (stamps : List ℕ) (l m : InUse H) → of_line l ≡ of_line m → HasTicked w start at stamps l
@@ -166,7 +160,7 @@ module _ {H : Type 0} where
             (λ k e began entry begun. elim (eqb_tells k i) [
               | inr other ↦ elim (changed_at i (machine.entry_begins (max l.bus.greatest now)) (seen now l.bus) k e entry) [
                 | AsBefore differs was ↦
-                    old_waits k e began was (sym (begins_there k i (max l.bus.greatest now) l.stations other.1) ∙ begun)
+                    old_waits k e began was (sym (ap begun_of (station_other k i (is_to_begin (max l.bus.greatest now)) l.stations other.1)) ∙ begun)
                 | IsChanged here d was becomes ↦ absurd (other.1 here)
               ]
               | inl mine ↦ λ j b m there then con.

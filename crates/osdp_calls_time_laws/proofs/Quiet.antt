@@ -10,10 +10,10 @@ use Rattle.osdp_calls.specs.Calls.{Call, Next, OfPanel}
 use Rattle.osdp_calls.specs.Lines.{Burst, InUse, Opening, concerns, is_before, is_past_for_device, is_past_for_panel}
 use Rattle.osdp_calls.specs.Premises.{QuietOpening}
 use Rattle.osdp_calls.proofs.Ahead.{and_false, any_false}
-use Rattle.osdp_calls.proofs.Nexts.{place_within}
 use Rattle.osdp_calls_time_laws.specs.Moments.{Clock}
 use Rattle.osdp_calls_time_laws.proofs.Stamps.{there_is}
 use Rattle.osdp_calls_time_laws.proofs.Waits.{IsPast, Runs}
+use Rattle.osdp_shared_line.proofs.Rounds.{at_length}
 
 -- what is read at this place, at this moment, was said no more than so long ago
 abbrev pub ReadAt : ℕ → ℕ → List ℕ → ℕ → Type 0
@@ -24,7 +24,7 @@ module _ {H : Type 0} (w : ℕ) (c : Clock) (l : InUse H) (r : Runs w c l) (at :
       → is_before o i b ≡ false
   not_before i b there read o past = is_false (is_before o i b) (λ is.
       let both = and_parts (nat_lt i o.place) (concerns o b) is in
-      let inside = place_within i b l.said there in
+      let inside = at_length i b l.said there in
       let same = r.stamps in
       let m = there_is i c.said (omega (arith, inside, same)) in
       let gone = past i b m.0 (ltb-true i o.place both.0) there m.1 both.1 in

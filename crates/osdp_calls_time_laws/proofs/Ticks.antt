@@ -29,6 +29,7 @@ use Rattle.osdp_calls_time_laws.specs.Moments.{stamped}
 use Rattle.osdp_calls_time_laws.proofs.Devices.{frame_due, frames_to, ticks_config, whole_wait}
 use Rattle.osdp_calls_time_laws.proofs.Stamps.{IsStamped, SaidNow, WasSaid, is_stamped, stamped_same}
 use Rattle.osdp_calls_time_laws.proofs.Waits.{AllWait, IsPast, Waits, latest, of_entry, past_later, still_past, still_waits}
+use Rattle.osdp_calls.proofs.Places.{station_other}
 
 -- what an entry's session waits for
 pub record IsWaiting (w q start : ℕ) (said : List Burst) (stamps : List ℕ) (k began g : ℕ) (d : Entry) : Type 0 where
@@ -41,13 +42,6 @@ latest_most w began true = omega arith
 latest_most w began false = omega arith
 
 module _ {H : Type 0} where
-  elsewhere : (k e : ℕ) (change : Station H → Station H) (ts : List (Station H)) → k ≢ e → site_at k (change_at e change ts) ≡ site_at k ts
-  elsewhere k e change ts other = by_station (site_at e ts)
-    where
-      by_station : (o : Option (Station H)) → site_at k (changes_at e change o ts) ≡ site_at k ts
-      by_station None = refl
-      by_station (Some t) = at_other k e (change t) ts other
-
   -- a session waits to begin at an entry with a station alone
   begun_ours : (k began : ℕ) (ts : List (Station H)) → begun_of (site_at k ts) ≡ Some began → IsOurs k ts
   begun_ours k began ts = by_station (site_at k ts)
@@ -229,7 +223,7 @@ module _ {H : Type 0} where
               record {
                 waits = λ k f began2 at_k begun2.
                     let other : k ≢ e = not_it k began2 (change_at e (begins_session ws) ts) (has_begun e ws ts) begun2 in
-                    others_wait p sent k began2 f own other at_k (sym (heard_same k) ∙ sym (ap begun_of (elsewhere k e (begins_session ws) ts other)) ∙ begun2);
+                    others_wait p sent k began2 f own other at_k (sym (heard_same k) ∙ sym (ap begun_of (station_other k e (begins_session ws) ts other)) ∙ begun2);
                 opened = (opens p sent began (sym (heard_same e) ∙ begun), old_past);
               }
 

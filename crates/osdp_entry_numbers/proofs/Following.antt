@@ -21,7 +21,7 @@ use Rattle.osdp_shared_line.proofs.Sites.{some_same}
 use Rattle.osdp_calls.specs.Calls.{Call, NewDevice, NewPanel, Next, OfPanel, Pending, SetBusy, SetHandler, Silence, SubmitEvent, Take, TickDevice, WithdrawEvent, after_call, after_next, asked_at, last_of, noted}
 use Rattle.osdp_calls.specs.Lines.{InUse, Station, bus_with}
 use Rattle.osdp_calls.specs.Premises.{InRange, PanelInRange}
-use Rattle.osdp_calls.proofs.Ends.{said_bus}
+use Rattle.osdp_calls.proofs.Ends.{next_bus, said_bus}
 use Rattle.osdp_calls.proofs.Sayings.{adds_make_the_bus}
 use Rattle.osdp_calls_ledger.specs.Steps.{panel_restarts, panel_steps, steps_of}
 use Rattle.osdp_entry_numbers.specs.Numbers.{AreNumbers, IsIdle, IsNewPanel, Numbers, has_entry, named, renumbered, renumbers, turn_of}
@@ -132,10 +132,6 @@ module _ {H : Type 0} where
     no_add : (call : bus.Call) (f : ℕ → ℕ) → PanelInRange answer_of after (renumbered f call) → IsNoAdd call
     no_add (bus.Add address) f range = range
     no_add _ f range = tt
-
-    next_bus : (i : ℕ) (ps : List ℕ) (o : Option (Station H)) (l : InUse H) → (after_next answer_of after i ps o l).bus ≡ l.bus
-    next_bus i ps None l = refl
-    next_bus i ps (Some t) l = refl
 
     -- the line follows after the call, too, and shows what the panel's own bus shows, where there is an entry
     pub record StillFollows (step : OwnStep H) (a : OwnLine H) : Type 0 where
@@ -259,7 +255,7 @@ module _ {H : Type 0} where
     still_follows (Silence i now) ps ordered n a f keeps =
         record { follows = by_device (record { call = Silence i now; places = ps; ordered = ordered; numbers = n }) a f refl refl refl; shown = λ k g e at. refl }
     still_follows (Next i) ps ordered n a f keeps = record {
-      follows = by_device (record { call = Next i; places = ps; ordered = ordered; numbers = n }) a f refl refl (next_bus i ps (site_at i a.line.stations) (turned (Next i) a));
+      follows = by_device (record { call = Next i; places = ps; ordered = ordered; numbers = n }) a f refl refl (next_bus answer_of after i ps (site_at i a.line.stations) (turned (Next i) a));
       shown = λ k g e at. refl;
     }
     still_follows (Pending i) ps ordered n a f keeps =

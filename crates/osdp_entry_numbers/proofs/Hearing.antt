@@ -23,6 +23,7 @@ use Rattle.osdp_bus_laws.proofs.Changing.{Sound}
 use Rattle.osdp_bus_laws.proofs.Sound.{sound_item}
 use Rattle.osdp_entry_numbers.specs.Numbers.{AreNumbers, IsIdle, Numbers, renumbers}
 use Rattle.osdp_entry_numbers.proofs.Entries.{AreUnder, FirstUnder, IsFirst, IsIdleFirst, IsOnlyOne, IsUnder, first_of, present, set_idle, set_under}
+use Rattle.osdp_link_laws.proofs.Hearing.{closed_hears}
 
 pub record UnderDevices (n : Numbers) (ds es : Devices) : Type 0 where
   pub entries : AreUnder n ds.entries es.entries
@@ -44,20 +45,12 @@ waits_under n i (Some report) old new same = refl
 
 -- ---- an idle entry
 
-ignored : (p : Packet) (now : ℕ) (s : Session) → s.state ≡ Closed → hears p now s ≡ ignores (seen now s)
-ignored p now s shut =
-    ap (λ st. cond (is_from_reader p s) (hears_in st p.sequence (meaning_of p) (seen now s)) (ignores (seen now s))) shut ∙ either (is_from_reader p s)
-  where
-    either : (b : Bool) → cond b (ignores (seen now s)) (ignores (seen now s)) ≡ ignores (seen now s)
-    either true = refl
-    either false = refl
-
 told_nothing : (p : Packet) (now : ℕ) (g : Entry) → IsIdle g → told_of p now g ≡ None
-told_nothing p now g is = ap (λ (h : Heard). h.report) (ignored p now g.controller.session is.closed)
+told_nothing p now g is = ap (λ (h : Heard). h.report) (closed_hears p now g.controller.session is.closed)
 
 idle_hears : (p : Packet) (now : ℕ) (g : Entry) → IsIdle g → IsIdle (entry_hears p now g)
 idle_hears p now g is =
-    let quiet = ignored p now g.controller.session is.closed in
+    let quiet = closed_hears p now g.controller.session is.closed in
     record {
       closed = ap (λ (h : Heard). h.session.state) quiet ∙ is.closed;
       waiting = is.waiting;

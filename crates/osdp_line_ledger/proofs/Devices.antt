@@ -1,20 +1,18 @@
 -- A device that never changes, and one that nobody disturbs: so is its link.
-use Rattle.std.proofs.Common.{◌≡◌, ℕ, All, List, ◌∷◌, Some, sym, subst}
+use Rattle.std.proofs.Common.{ℕ, All, List}
 use Rattle.osdp_msg.specs.declared.command.Command.{Command}
 use Rattle.osdp_reader.specs.declared.handler.Answer.{Answer}
 use Rattle.osdp_link_laws.specs.Link.{Link}
-use Rattle.osdp_link_laws.specs.OneHandler.{AreItsAnswers, GivesItsAnswers, KeepHandler, KeepsDevice}
+use Rattle.osdp_link_laws.specs.OneHandler.{KeepHandler, KeepsDevice}
 use Rattle.osdp_link_laws.specs.Ordinary.{IsOrdinary}
 use Rattle.osdp_link_laws.proofs.Lines.{each_all, each_map, each_of}
-use Rattle.osdp_link_laws.proofs.OneHandler.{keep_handler}
+use Rattle.osdp_link_laws.proofs.OrdinaryRuns.{keep_handler}
 use Rattle.osdp_link_ledger.specs.Answers.{ActsHaveAnswersOfOneHandler}
 use Rattle.osdp_link_ledger.specs.Ordinary.{OrdinaryMovesEndTold}
-use Rattle.osdp_shared_line.specs.Addresses.{IsSetUp, NetMovesFit}
-use Rattle.osdp_shared_line.specs.Line.{LoseToPanel, LoseToReader, Net, NetMove, RestartPanel, RestartReader, SetHandler, Site, ToPanel, Withdraw, WithdrawEvent, run, site_at}
+use Rattle.osdp_shared_line.specs.Line.{LoseToPanel, LoseToReader, Net, NetMove, RestartPanel, RestartReader, SetHandler, ToPanel, Withdraw, WithdrawEvent}
 use Rattle.osdp_shared_line.specs.Restarts.{IsOrdinaryOf, KeepsDeviceOf}
-use Rattle.osdp_shared_line.specs.Runs.{EachIsALink, moves_of}
+use Rattle.osdp_shared_line.specs.Runs.{moves_of}
 use Rattle.osdp_shared_line.specs.Views.{view}
-use Rattle.osdp_shared_line.proofs.Linking.{viewed}
 use Rattle.osdp_shared_line.proofs.Restarting.{HoldsOf, moves_hold}
 use Rattle.osdp_line_ledger.specs.Devices.{EachActsByOneHandler, EachOrdinaryEndsTold}
 
@@ -46,22 +44,9 @@ module _ {H : Type 0} (answer_of : H → Command → Answer) (after : H → Comm
       keep_handler answer_of after own l
       (moves_hold KeepsDevice k answer_of after moves n (each_map (KeepsDeviceOf k) (HoldsOf KeepsDevice k) (device_kept k) moves (each_of (KeepsDeviceOf k) moves keep)))
 
-  pub each_acts : EachIsALink answer_of after → ActsHaveAnswersOfOneHandler answer_of after → EachActsByOneHandler answer_of after
-  each_acts links acts n moves up fits k first is keep =
-      let own = moves_of answer_of after k moves n in
-      let l = view k first n in
-      acts l own (up.begins k first is) (links n moves up fits k first is).fits (keeps_its_handler n moves k l keep)
-
-  -- the accounts of its sessions say the same
-  pub each_answers : EachIsALink answer_of after → GivesItsAnswers answer_of after → (n : Net H) (moves : List (NetMove H)) → IsSetUp n → NetMovesFit answer_of after moves n
-      → (k : ℕ) (first last : Site H) → site_at k n.sites ≡ Some first → site_at k (run answer_of after moves n).sites ≡ Some last
-      → All (KeepsDeviceOf k) moves → AreItsAnswers answer_of after first.reader.config first.reader.handler (last.account ∷ last.earlier)
-  each_answers links gives n moves up fits k first last is there keep =
-      let own = moves_of answer_of after k moves n in
-      let l = view k first n in
-      let h = links n moves up fits k first is in
-      subst (λ (v : Link H). AreItsAnswers answer_of after first.reader.config first.reader.handler (v.account ∷ v.earlier))
-      (sym (viewed answer_of after n moves k first last h there)) (gives l own (up.begins k first is) h.fits (keeps_its_handler n moves k l keep))
+  pub each_acts : ActsHaveAnswersOfOneHandler answer_of after → EachActsByOneHandler answer_of after
+  each_acts acts n moves k first keep =
+      let l = view k first n in acts l (moves_of answer_of after k moves n) (keeps_its_handler n moves k l keep)
 
   pub each_ordinary : OrdinaryMovesEndTold answer_of after → EachOrdinaryEndsTold answer_of after
   each_ordinary told n moves k first ordinary =

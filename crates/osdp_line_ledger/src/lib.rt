@@ -24,7 +24,6 @@ pub fn each_keeps_ledger<H: Handler>()
 pub fn each_acts_by_one_handler<H: Handler>()
     ensures { EachActsByOneHandler H.answer_of H.after }
 {
-    osdp_shared_line::each_is_a_link::<H>();
     osdp_link_ledger::acts_have_answers_of_one_handler::<H>();
 }
 

@@ -17,7 +17,6 @@ use Rattle.osdp_reader.specs.declared.handler.Answer.{Answer}
 use Rattle.osdp_reader.specs.declared.kind.Kind.TheVariants.{Silent, Zero, Repeat, Taken, Busy, Wrong}
 use Rattle.osdp_reader.specs.Queue.{Queue, event_for, released}
 use Rattle.osdp_reader.specs.State.{ReaderState}
-use Rattle.osdp_reader_laws.proofs.Sequences.{same_own}
 use Rattle.osdp_reader.specs.Table.{answer_to, answered, event_or_answer, kind_by_number, kind_of, moved}
 use Rattle.osdp_link_laws.specs.Link.{Account, given_to, taken_command}
 use Rattle.osdp_link_laws.proofs.Numbers.{is_true, is_false, next_above_zero, next_differs}
@@ -95,13 +94,6 @@ module _ (fixed : ControllerConfig) {H : Type 0} where
   polled_front [] answer_of after config handler = refl
   polled_front (event.LocalState s ∷ rest) answer_of after config handler = refl
   polled_front (_ ∷ rest) answer_of after config handler = refl
-
-  -- the answer depends on the settings for ID and CAP alone
-  pub same_answer : (answer_of : H → Command → Answer) (after : H → Command → H) (config other : ReaderConfig) (handler : H) (c : Command)
-      → config.id ≡ other.id → config.caps ≡ other.caps
-      → answer_to answer_of after config handler c ≡ answer_to answer_of after other handler c
-  same_answer answer_of after config other handler c id caps =
-      ap (λ o. answered answer_of after o handler c) (same_own config other c id caps)
 
 -- a command other than POLL has no event for its answer, and is taken as one
 pub no_event : (c : Command) (events : List Event) → c ≢ command.Poll → event_for c events ≡ None

@@ -18,27 +18,25 @@ use Rattle.osdp_frame.specs.Packet.{next_sequence}
 use Rattle.osdp_controller.specs.Exchanges.{exchange_command}
 use Rattle.osdp_reader.specs.Queue.{Queue, event_for, offering, queued, released, lacks_room}
 use Rattle.osdp_reader.specs.State.{ReaderState}
-use Rattle.osdp_reader.specs.Table.{answer_to}
+use Rattle.osdp_reader.specs.Table.{answer_to, event_or_answer}
 use Rattle.osdp_reader.specs.declared.config.ReaderConfig.{ReaderConfig}
 use Rattle.osdp_reader.specs.declared.handler.Answer.{Answer}
 use Rattle.osdp_link_laws.specs.Clean.{AreSpaced, GoesInTurn, IsInTurn, IsOrder}
-use Rattle.osdp_link_laws.specs.Headline.{MovesFit, Begins, MaySubmit}
+use Rattle.osdp_link_laws.specs.Headline.{MovesFit, MaySubmit}
 use Rattle.osdp_link_laws.specs.Link as link
 use Rattle.osdp_link_laws.specs.Link.{Account, Link, Move, Queue as QueueEvent, Reopen, RestartController, RestartReader, Retarget, SetBusy, SetHandler, Submit, Tick, ToController, ToReader, Withdraw, WithdrawEvent, after_move, new_account, run, LoseToReader, LoseToController}
-use Rattle.osdp_link_laws.specs.OneHandler.{KeepHandler, KeepsHandler, handler_after, with_answers}
+use Rattle.osdp_link_laws.specs.OneHandler.{with_answers}
 use Rattle.osdp_link_laws.specs.Peers.{ReadEachOther}
 use Rattle.osdp_link_laws.specs.Progress.{SetsNoAddress, round, rounds}
 use Rattle.osdp_link_laws.proofs.Acting.{no_event}
 use Rattle.osdp_link_laws.proofs.Due.{Acts, next_exchange}
-use Rattle.osdp_link_laws.proofs.Exchanges.{accounted, opening_exchange}
-use Rattle.osdp_link_laws.proofs.Growing.{GoesOn, goes_on}
+use Rattle.osdp_link_laws.proofs.Exchanges.{accounted, opening_exchange, rested_link}
 use Rattle.osdp_link_laws.proofs.InARow.{assumed}
-use Rattle.osdp_link_laws.proofs.Lines.{each_append, each_map, each_of}
+use Rattle.osdp_link_laws.proofs.Lines.{each_append, each_of}
 use Rattle.osdp_link_laws.proofs.Moves.{Premises, not_poll}
 use Rattle.osdp_link_laws.proofs.Once.{Goes, fresh}
 use Rattle.osdp_link_laws.proofs.Sessions.{lasts}
 use Rattle.osdp_link_laws.proofs.Accounts.{Accounts}
-use Rattle.osdp_link_laws.proofs.OneHandler.{gives_its_answers}
 use Rattle.osdp_link_laws.proofs.Parts.{At}
 use Rattle.osdp_link_laws.proofs.Round.{IsIdle, IsStill, goes}
 use Rattle.osdp_link_laws.proofs.Rounds.{idle_exchange, rested_idle}
@@ -65,7 +63,12 @@ spaced_acts wait now s waiting rests short late =
     subst (λ st. Acts (ticks_in st (seen now s) waiting)) (sym rests)
     (rest_acts (later_by s.config.poll_interval s) (seen now s) waiting (omega (arith, short, late)))
 
-module _ (fixed : ControllerConfig) {H : Type 0} (answer_of : H → Command → Answer) (after : H → Command → H) (settings : ReaderConfig) where
+pub as_many : {H : Type 0} (answer_of : H → Command → Answer) (after : H → Command → H) (config : ReaderConfig) (h : H) (cs : List Command)
+    → length (with_answers answer_of after config h cs) ≡ length cs
+as_many answer_of after config h [] = refl
+as_many answer_of after config h (c ∷ cs) = ap suc (as_many answer_of after config (answer_to answer_of after config h c).handler cs)
+
+module _ (fixed : ControllerConfig) {H : Type 0} (answer_of : H → Command → Answer) (after : H → Command → H) where
   abbrev Given : Type 0
   Given = Premises fixed answer_of after
 
@@ -86,9 +89,10 @@ module _ (fixed : ControllerConfig) {H : Type 0} (answer_of : H → Command → 
   abbrev unreported : Link H → List Event
   unreported l = (released l.reader.queue).events
 
-  -- what n rounds make of an account, from these commands that wait and these events
-  record Made (n : ℕ) (waiting : List Command) (events : List Event) (t u : Account) : Type 0 where
+  -- what n rounds make of an account, from these commands that wait and these events, with this device
+  record Made (n : ℕ) (waiting : List Command) (events : List Event) (config : ReaderConfig) (handler : H) (t u : Account) : Type 0 where
     pub taken : u.taken ≡ t.taken ++ take n waiting
+    pub given : u.given ≡ t.given ++ with_answers answer_of after config handler (take n waiting)
     pub reported : u.reported ≡ t.reported ++ take (n - length waiting) events
     pub issued : u.issued ≡ t.issued
     pub queued : u.queued ≡ t.queued
@@ -96,9 +100,10 @@ module _ (fixed : ControllerConfig) {H : Type 0} (answer_of : H → Command → 
   nothing_less : (k : ℕ) → 0 - k ≡ 0
   nothing_less k = omega arith
 
-  made_none : (waiting : List Command) (events : List Event) (t : Account) → Made 0 waiting events t t
-  made_none waiting events t = record {
+  made_none : (waiting : List Command) (events : List Event) (r : ReaderState H) (t : Account) → Made 0 waiting events r.config r.handler t t
+  made_none waiting events r t = record {
     taken = sym (append-nil t.taken);
+    given = sym (append-nil t.given);
     reported = sym (ap (λ k. t.reported ++ take k events) (nothing_less (length waiting)) ∙ append-nil t.reported);
     issued = refl;
     queued = refl;
@@ -109,11 +114,20 @@ module _ (fixed : ControllerConfig) {H : Type 0} (answer_of : H → Command → 
   left_by (c ∷ waiting) events = events
   left_by [] events = drop 1 events
 
+  -- the handler after one round
+  abbrev handler_by : List Command → ReaderState H → H
+  handler_by (c ∷ waiting) r = (answer_to answer_of after r.config r.handler c).handler
+  handler_by [] r = r.handler
+
   -- one round first
   made_more : (n : ℕ) (waiting : List Command) (events : List Event) (r : ReaderState H) (t u : Account)
-      → Made n (drop 1 waiting) (left_by waiting events) (accounted answer_of after waiting events r t) u → Made (suc n) waiting events t u
+      → Made n (drop 1 waiting) (left_by waiting events) r.config (handler_by waiting r) (accounted answer_of after waiting events r t) u
+      → Made (suc n) waiting events r.config r.handler t u
   made_more n (c ∷ waiting) events r t u made = record {
     taken = made.taken ∙ append_assoc t.taken (c ∷ []) (take n waiting);
+    given =
+        let a = answer_to answer_of after r.config r.handler c in
+        made.given ∙ append_assoc t.given ((c, a.reply) ∷ []) (with_answers answer_of after r.config a.handler (take n waiting));
     reported = made.reported ∙ ap (λ k. t.reported ++ take k events) (shorter n (length waiting));
     issued = made.issued;
     queued = made.queued;
@@ -123,6 +137,7 @@ module _ (fixed : ControllerConfig) {H : Type 0} (answer_of : H → Command → 
       shorter n k = omega arith
   made_more n [] (e ∷ events) r t u made = record {
     taken = made.taken ∙ ap (λ cs. t.taken ++ cs) (none_of n);
+    given = made.given ∙ ap (λ cs. t.given ++ with_answers answer_of after r.config r.handler cs) (none_of n);
     reported = made.reported ∙ append_assoc t.reported (e ∷ []) (take (n - 0) events)
         ∙ ap (λ k. t.reported ++ take k (e ∷ events)) (longer n);
     issued = made.issued;
@@ -133,6 +148,7 @@ module _ (fixed : ControllerConfig) {H : Type 0} (answer_of : H → Command → 
       longer n = omega arith
   made_more n [] [] r t u made = record {
     taken = made.taken ∙ ap (λ cs. t.taken ++ cs) (none_of n);
+    given = made.given ∙ ap (λ cs. t.given ++ with_answers answer_of after r.config r.handler cs) (none_of n);
     reported = made.reported ∙ ap (λ es. t.reported ++ es) (none_of (n - 0) ∙ sym (none_of (suc n - 0)));
     issued = made.issued;
     queued = made.queued;
@@ -146,12 +162,18 @@ module _ (fixed : ControllerConfig) {H : Type 0} (answer_of : H → Command → 
   left_is (c ∷ waiting) events capacity room ever may =
       ap (λ o. (released (offering o (record { events = events; capacity = capacity; room = room; offered = false; ever_offered = ever }))).events) (no_event c events may.0.no_poll)
 
+  handler_is : (waiting : List Command) (events : List Event) (r : ReaderState H) → Each MaySubmit waiting
+      → (let c = exchange_command (next_exchange waiting) in (event_or_answer answer_of after (event_for c events) r.config r.handler c).handler) ≡ handler_by waiting r
+  handler_is [] [] r may = refl
+  handler_is [] (e ∷ events) r may = refl
+  handler_is (c ∷ waiting) events r may = ap (λ o. (event_or_answer answer_of after o r.config r.handler c).handler) (no_event c events may.0.no_poll)
+
   -- each round is an exchange from rest
   rounds_make : Given → (wait interval : ℕ) → interval ≤ wait → (moments : List ℕ) (l : Link H) → IsBetween interval l → AreSpaced answer_of after wait moments l
       → MovesFit answer_of after (rounds moments) l
       → let last = run answer_of after (rounds moments) l in
-      IsBetween interval last × Made (length moments) l.controller.waiting (unreported l) l.account last.account
-  rounds_make given wait interval short [] l b spaced fits = (b, made_none l.controller.waiting (unreported l) l.account)
+      IsBetween interval last × Made (length moments) l.controller.waiting (unreported l) l.reader.config l.reader.handler l.account last.account
+  rounds_make given wait interval short [] l b spaced fits = (b, made_none l.controller.waiting (unreported l) l.reader l.account)
   rounds_make given wait interval short (now ∷ later) l b spaced fits =
       let w = l.controller.waiting in
       let does = spaced_acts wait now l.controller.session w b.rests (omega (arith, short, b.keeps)) spaced.0 in
@@ -165,11 +187,15 @@ module _ (fixed : ControllerConfig) {H : Type 0} (answer_of : H → Command → 
       } in
       let last = run answer_of after (rounds later) m in
       let rest = rounds_make given wait interval short later m next spaced.1 fits.1.1.1 in
-      let afterwards = subst (λ k. Made (length later) k.controller.waiting (unreported k) k.account last.account) is rest.1 in
-      let left = left_is w (unreported l) l.reader.queue.capacity l.reader.queue.room (released l.reader.queue).ever_offered b.holds.holds.2.waiting in (
+      let afterwards = subst (λ k. Made (length later) k.controller.waiting (unreported k) k.reader.config k.reader.handler k.account last.account) is rest.1 in
+      let t = accounted answer_of after w (unreported l) l.reader l.account in
+      let may = b.holds.holds.2.waiting in
+      let left = left_is w (unreported l) l.reader.queue.capacity l.reader.queue.room (released l.reader.queue).ever_offered may in
+      let handler = handler_is w (unreported l) l.reader may in (
         rest.0,
         made_more (length later) w (unreported l) l.reader l.account last.account
-            (subst (λ es. Made (length later) (drop 1 w) es (accounted answer_of after w (unreported l) l.reader l.account) last.account) left afterwards),
+            (subst (λ h. Made (length later) (drop 1 w) (left_by w (unreported l)) l.reader.config h t last.account) handler
+            (subst (λ es. Made (length later) (drop 1 w) es l.reader.config (rested_link fixed answer_of after now l).reader.handler t last.account) left afterwards)),
       )
 
   -- at rest each command that was taken is settled, and none is told unsettled
@@ -185,19 +211,14 @@ module _ (fixed : ControllerConfig) {H : Type 0} (answer_of : H → Command → 
       by_stage since (Level past x b) h a = absurd (subst (λ st. Asks fixed st (number_after past) x l.controller.session) idle h.controller)
       by_stage since (Rest n x b) h a = sym (append-nil l.account.settled) ∙ a.orders.settled
 
-  as_many : (h : H) (cs : List Command) → length (with_answers answer_of after settings h cs) ≡ length cs
-  as_many h [] = refl
-  as_many h (c ∷ cs) = ap suc (as_many (answer_to answer_of after settings h c).handler cs)
-
   -- so they were settled and reported in turn
-  in_turn : (handler : H) (n interval : ℕ) (waiting : List Command) (events : List Event) (l : Link H) → IsBetween interval l
-      → l.account.given ≡ with_answers answer_of after settings handler l.account.taken
-      → Made n waiting events (new_account waiting events) l.account → IsInTurn answer_of after settings handler n l.account
-  in_turn handler n interval waiting events l b answered made =
+  in_turn : (config : ReaderConfig) (handler : H) (n interval : ℕ) (waiting : List Command) (events : List Event) (l : Link H) → IsBetween interval l
+      → Made n waiting events config handler (new_account waiting events) l.account → IsInTurn answer_of after config handler n l.account
+  in_turn config handler n interval waiting events l b made =
       let all = settled_all l b.holds b.idle.idle.0 b.idle.idle.1 in
       let taken : l.account.taken ≡ take n l.account.issued = made.taken ∙ ap (take n) (sym made.issued) in
-      let settled = all.0 ∙ answered ∙ ap (with_answers answer_of after settings handler) taken in
-      let count = ap length settled ∙ as_many handler (take n l.account.issued) ∙ length-take n l.account.issued in
+      let settled = all.0 ∙ made.given ∙ ap (λ cs. with_answers answer_of after config handler (take n cs)) (sym made.issued) in
+      let count = ap length settled ∙ as_many answer_of after config handler (take n l.account.issued) ∙ length-take n l.account.issued in
       let many = ap length made.issued in
       record {
         taken = taken;
@@ -213,26 +234,27 @@ module _ (fixed : ControllerConfig) {H : Type 0} (answer_of : H → Command → 
   -- ---- before the opening
 
   -- a reader as it is set at first, which isn't busy
-  pub record IsFree (set : ReaderConfig) (busy : Bool) : Type 0 where
-    pub config : set ≡ settings
+  pub record IsFree (first : ReaderState H) (config : ReaderConfig) (handler : H) (busy : Bool) : Type 0 where
+    pub set_so : config ≡ first.config
+    pub answers_so : handler ≡ first.handler
     pub ready : busy ≡ false
 
   -- a session that has begun, of which nothing was sent yet
-  pub record IsReadied (s : Session) (l : Link H) : Type 0 where
+  pub record IsReadied (s : Session) (first : ReaderState H) (l : Link H) : Type 0 where
     pub session : l.controller.session ≡ s
     pub waiting : Each MaySubmit l.controller.waiting
-    pub reader : IsFree l.reader.config l.reader.busy
+    pub reader : IsFree first l.reader.config l.reader.handler l.reader.busy
     pub line : (l.to_reader ≡ []) × (l.to_controller ≡ [])
     pub account : l.account ≡ new_account l.controller.waiting l.reader.queue.events
 
   -- another list of commands that wait, and another queue
-  waits_ready : (s : Session) (cs : List Command) (queue : Queue) (l : Link H) → Each MaySubmit cs → IsReadied s l
-      → IsReadied s (record l {
+  waits_ready : (s : Session) (first : ReaderState H) (cs : List Command) (queue : Queue) (l : Link H) → Each MaySubmit cs → IsReadied s first l
+      → IsReadied s first (record l {
         controller = record l.controller { waiting = cs };
         reader = record l.reader { queue = queue };
         account = new_account cs queue.events;
       })
-  waits_ready s cs queue l may h = record {
+  waits_ready s first cs queue l may h = record {
     session = h.session;
     waiting = may;
     reader = h.reader;
@@ -240,53 +262,40 @@ module _ (fixed : ControllerConfig) {H : Type 0} (answer_of : H → Command → 
     account = refl;
   }
 
-  submits_ready : (s : Session) (refusal : Option ControllerFault) (c : Command) (l : Link H) → (refusal ≡ None → MaySubmit c) → IsReadied s l
-      → IsReadied s (link.submits refusal c l)
-  submits_ready s (Some fault) c l may h = h
-  submits_ready s None c l may h =
-      subst (λ (t : Account). IsReadied s (record (link.submits None c l) { account = record t { issued = t.issued ++ c ∷ [] } })) (sym h.account)
-      (waits_ready s (l.controller.waiting ++ c ∷ []) l.reader.queue l
+  submits_ready : (s : Session) (first : ReaderState H) (refusal : Option ControllerFault) (c : Command) (l : Link H) → (refusal ≡ None → MaySubmit c) → IsReadied s first l
+      → IsReadied s first (link.submits refusal c l)
+  submits_ready s first (Some fault) c l may h = h
+  submits_ready s first None c l may h =
+      subst (λ (t : Account). IsReadied s first (record (link.submits None c l) { account = record t { issued = t.issued ++ c ∷ [] } })) (sym h.account)
+      (waits_ready s first (l.controller.waiting ++ c ∷ []) l.reader.queue l
       (each_append MaySubmit l.controller.waiting (c ∷ []) h.waiting (may refl, tt)) h)
 
-  queues_ready : (s : Session) (full : Bool) (e : Event) (l : Link H) → IsReadied s l → IsReadied s (link.queues full e l)
-  queues_ready s true e l h = h
-  queues_ready s false e l h =
-      subst (λ (t : Account). IsReadied s (record (link.queues false e l) { account = record t { queued = t.queued ++ e ∷ []; stayed = t.stayed ++ e ∷ []; kept = t.kept ++ e ∷ [] } })) (sym h.account)
-      (waits_ready s l.controller.waiting (queued e l.reader.queue) l h.waiting h)
+  queues_ready : (s : Session) (first : ReaderState H) (full : Bool) (e : Event) (l : Link H) → IsReadied s first l → IsReadied s first (link.queues full e l)
+  queues_ready s first true e l h = h
+  queues_ready s first false e l h =
+      subst (λ (t : Account). IsReadied s first (record (link.queues false e l) { account = record t { queued = t.queued ++ e ∷ []; stayed = t.stayed ++ e ∷ []; kept = t.kept ++ e ∷ [] } })) (sym h.account)
+      (waits_ready s first l.controller.waiting (queued e l.reader.queue) l h.waiting h)
 
-  orders_ready : (s : Session) (orders : List (Move H)) (l : Link H) → Each IsOrder orders → MovesFit answer_of after orders l → IsReadied s l
-      → IsReadied s (run answer_of after orders l)
-  orders_ready s [] l all fits h = h
-  orders_ready s (Submit c ∷ orders) l all fits h =
+  orders_ready : (s : Session) (first : ReaderState H) (orders : List (Move H)) (l : Link H) → Each IsOrder orders → MovesFit answer_of after orders l → IsReadied s first l
+      → IsReadied s first (run answer_of after orders l)
+  orders_ready s first [] l all fits h = h
+  orders_ready s first (Submit c ∷ orders) l all fits h =
       let refusal = submit_refusal c l.controller in
-      orders_ready s orders (link.submits refusal c l) all.1 fits.1
-      (submits_ready s refusal c l (λ e. record { no_poll = not_poll c l.controller e; fits = fits.0 }) h)
-  orders_ready s (QueueEvent e ∷ orders) l all fits h =
+      orders_ready s first orders (link.submits refusal c l) all.1 fits.1
+      (submits_ready s first refusal c l (λ e. record { no_poll = not_poll c l.controller e; fits = fits.0 }) h)
+  orders_ready s first (QueueEvent e ∷ orders) l all fits h =
       let full = lacks_room e l.reader.queue in
-      orders_ready s orders (link.queues full e l) all.1 fits.1 (queues_ready s full e l h)
-  orders_ready s (WithdrawEvent ∷ orders) l all fits h = absurd all.0
-  orders_ready s (SetBusy busy ∷ orders) l all fits h = absurd all.0
-  orders_ready s (Tick now ∷ orders) l all fits h = absurd all.0
-  orders_ready s (ToReader how ∷ orders) l all fits h = absurd all.0
-  orders_ready s (ToController how now ∷ orders) l all fits h = absurd all.0
-  orders_ready s (Reopen now ∷ orders) l all fits h = absurd all.0
-  orders_ready s ((LoseToReader place) ∷ orders) l all fits h = absurd all.0
-  orders_ready s ((LoseToController place) ∷ orders) l all fits h = absurd all.0
-  orders_ready s (SetHandler handler ∷ orders) l all fits h = absurd all.0
-  orders_ready s (Withdraw ∷ orders) l all fits h = absurd all.0
-  orders_ready s (Retarget address ∷ orders) l all fits h = absurd all.0
-  orders_ready s (RestartReader config handler room ∷ orders) l all fits h = absurd all.0
-  orders_ready s (RestartController config room ∷ orders) l all fits h = absurd all.0
+      orders_ready s first orders (link.queues full e l) all.1 fits.1 (queues_ready s first full e l h)
+  orders_ready s first (move ∷ orders) l all fits h = absurd all.0
 
   -- ---- from the opening on
 
-  pub opens_and_goes : Given → (handler : H) (until opening wait : ℕ) (moments : List ℕ) (s : Session) (l : Link H) → IsReadied s l → s.config ≡ fixed → s.state ≡ Quiet until
-      → settings.address ≡ fixed.address → until ≤ opening → s.config.poll_interval ≤ wait → Each SetsNoAddress l.account.issued
+  pub opens_and_goes : Given → (until opening wait : ℕ) (moments : List ℕ) (s : Session) (first : ReaderState H) (l : Link H) → IsReadied s first l → s.config ≡ fixed → s.state ≡ Quiet until
+      → first.config.address ≡ fixed.address → until ≤ opening → s.config.poll_interval ≤ wait → Each SetsNoAddress l.account.issued
       → AreSpaced answer_of after wait moments (run answer_of after (round opening) l) → MovesFit answer_of after (rounds (opening ∷ moments)) l
       → let last = run answer_of after (rounds (opening ∷ moments)) l in
-      last.account.given ≡ with_answers answer_of after settings handler last.account.taken
-      → IsInTurn answer_of after settings handler (length moments) last.account × (is_closed last.controller.session.state ≡ false)
-  opens_and_goes given handler until opening wait moments s l h same quiet here reached short none spaced fits answered =
+      IsInTurn answer_of after first.config first.handler (length moments) last.account × (is_closed last.controller.session.state ≡ false)
+  opens_and_goes given until opening wait moments s first l h same quiet here reached short none spaced fits =
       let w = l.controller.waiting in
       let events = l.reader.queue.events in
       let state : l.controller.session.state ≡ Quiet until = ap (λ (t : Session). t.state) h.session ∙ quiet in
@@ -301,7 +310,7 @@ module _ (fixed : ControllerConfig) {H : Type 0} (answer_of : H → Command → 
       let still : IsStill fixed answer_of after l = record {
         to_reader = h.line.0;
         to_controller = h.line.1;
-        ready = record { here = ap (λ c. c.address) h.reader.config ∙ here; ready = h.reader.ready };
+        ready = record { here = ap (λ c. c.address) h.reader.set_so ∙ here; ready = h.reader.ready };
         issued = none;
       } in
       let is = opening_exchange fixed answer_of after given until opening l still config state (omega (arith, reached)) fits.1.0 in
@@ -324,70 +333,28 @@ module _ (fixed : ControllerConfig) {H : Type 0} (answer_of : H → Command → 
       } in
       let made = rounds_make given wait interval short moments m between spaced fits.1.1.1 in
       let last = run answer_of after (rounds moments) m in
-      let all = subst (λ k. Made (length moments) k.controller.waiting (unreported k) k.account last.account) is made.1 in (
-        in_turn handler (length moments) interval w events last made.0 answered (subst (λ t. Made (length moments) w events t last.account) h.account all),
+      let n = length moments in
+      let all = subst (λ k. Made n k.controller.waiting (unreported k) k.reader.config k.reader.handler k.account last.account) is made.1 in
+      let from_new = subst (λ t. Made n w events l.reader.config l.reader.handler t last.account) h.account all in (
+        in_turn first.config first.handler n interval w events last made.0
+            (subst (λ c. Made n w events c first.handler (new_account w events) last.account) h.reader.set_so
+            (subst (λ x. Made n w events l.reader.config x (new_account w events) last.account) h.reader.answers_so from_new)),
         ap is_closed made.0.idle.idle.1,
       )
 
 module _ {H : Type 0} (answer_of : H → Command → Answer) (after : H → Command → H) where
-  -- one list of moves after the other
-  run_both : (moves more : List (Move H)) (l : Link H) → run answer_of after (moves ++ more) l ≡ run answer_of after more (run answer_of after moves l)
-  run_both [] more l = refl
-  run_both (move ∷ moves) more l = run_both moves more (after_move answer_of after move l)
-
-  fit_both : (moves more : List (Move H)) (l : Link H) → MovesFit answer_of after moves l → MovesFit answer_of after more (run answer_of after moves l)
-      → MovesFit answer_of after (moves ++ more) l
-  fit_both [] more l fits last = last
-  fit_both (move ∷ moves) more l fits last = (fits.0, fit_both moves more (after_move answer_of after move l) fits.1 last)
-
-  -- orders and rounds begin no session, and change no handler
-  abbrev Plain : Move H → Type 0
-  Plain move = GoesOn move × ((l : Link H) → KeepsHandler move l)
-
-  order_plain : (move : Move H) → IsOrder move → Plain move
-  order_plain (Submit c) order = (tt, λ l. tt)
-  order_plain (QueueEvent e) order = (tt, λ l. tt)
-  order_plain move order = absurd order
-
-  rounds_plain : (moments : List ℕ) → Each Plain (rounds moments)
-  rounds_plain [] = tt
-  rounds_plain (now ∷ later) = ((tt, λ l. tt), ((tt, λ l. tt), ((tt, λ l. tt), rounds_plain later)))
-
-  keep_plain : (moves : List (Move H)) (l : Link H) → Each Plain moves → KeepHandler answer_of after moves l
-  keep_plain [] l plain = tt
-  keep_plain (move ∷ moves) l plain = (plain.0.1 l, keep_plain moves (after_move answer_of after move l) plain.1)
-
-  earlier_plain : (moves : List (Move H)) (l : Link H) → Each Plain moves → (run answer_of after moves l).earlier ≡ l.earlier
-  earlier_plain [] l plain = refl
-  earlier_plain (move ∷ moves) l plain =
-      earlier_plain moves (after_move answer_of after move l) plain.1 ∙ (goes_on answer_of after move l plain.0.0).1
-
-  -- so the answers given are the handler's
-  answers_plain : ReadEachOther answer_of after → (l : Link H) (moves : List (Move H)) → Begins l → MovesFit answer_of after moves l → Each Plain moves
-      → let last = run answer_of after moves l in last.account.given ≡ with_answers answer_of after l.reader.config l.reader.handler last.account.taken
-  answers_plain peers l moves b fits plain =
-      let last = run answer_of after moves l in
-      let gives = gives_its_answers answer_of after peers l moves b fits (keep_plain moves l plain) in
-      gives.0 ∙ ap (λ ts. with_answers answer_of after l.reader.config (handler_after answer_of after l.reader.config l.reader.handler ts) last.account.taken)
-      (earlier_plain moves l plain ∙ b.earlier)
-
   pub goes_in_turn : ReadEachOther answer_of after → GoesInTurn answer_of after
   goes_in_turn peers l orders opening wait moments b are fits here ready reached short none spaced more =
       let s = l.controller.session in
-      let config = l.reader.config in
       let before = run answer_of after orders l in
       let until = b.quiet.0 in
-      let readied = orders_ready s.config answer_of after config s orders l (each_of IsOrder orders are) fits (record {
+      let readied = orders_ready s.config answer_of after s l.reader orders l (each_of IsOrder orders are) fits (record {
         session = refl;
         waiting = each_of MaySubmit l.controller.waiting b.waiting;
-        reader = record { config = refl; ready = ready };
+        reader = record { set_so = refl; answers_so = refl; ready = ready };
         line = (b.to_reader, b.to_controller);
         account = b.account;
       }) in
       let due : until ≤ opening = subst (λ state. IfSome (moment_of state) (λ quiet. quiet ≤ opening)) b.quiet.1 reached in
-      let after_all : List (Move H) = rounds (opening ∷ moments) in
-      let plain = each_append Plain orders after_all (each_map IsOrder Plain order_plain orders (each_of IsOrder orders are)) (rounds_plain (opening ∷ moments)) in
-      let answered = subst (λ m. m.account.given ≡ with_answers answer_of after config l.reader.handler m.account.taken) (run_both orders after_all l)
-      (answers_plain peers l (orders ++ after_all) b (fit_both orders after_all l fits more) plain) in
-      opens_and_goes s.config answer_of after config (assumed answer_of after peers s.config b.address) l.reader.handler until opening wait moments s before readied
-      refl b.quiet.1 here due short (each_of SetsNoAddress before.account.issued none) spaced more answered
+      opens_and_goes s.config answer_of after (assumed answer_of after peers s.config b.address) until opening wait moments s l.reader before readied
+      refl b.quiet.1 here due short (each_of SetsNoAddress before.account.issued none) spaced more

@@ -156,7 +156,7 @@ may_not _ address why = (NotClosed, refl)
 
 -- ---- a packet is lost
 
-lost_there : {A : Type 0} (front : List A) (x : A) (rest : List A) → lost_at (length front) (front ++ x ∷ rest) ≡ front ++ rest
+pub lost_there : {A : Type 0} (front : List A) (x : A) (rest : List A) → lost_at (length front) (front ++ x ∷ rest) ≡ front ++ rest
 lost_there [] x rest = refl
 lost_there (y ∷ front) x rest = ap (λ l. y ∷ l) (lost_there front x rest)
 

@@ -1,5 +1,5 @@
 -- Each answer given is one of the reader's to its command.
-use Rattle.std.proofs.Common.{◌≡◌, ◌⊎◌, ◌≢◌, ℕ, Bool, true, false, List, [], ◌∷◌, Option, Some, None, Result, Ok, Err, refl, sym, subst, inl, inr}
+use Rattle.std.proofs.Common.{◌≡◌, ℕ, Bool, true, false, List, [], ◌∷◌, Option, Some, None, Result, Ok, Err, refl, sym, subst}
 use Rattle.osdp_frame.specs.Packet.{Packet}
 use Rattle.osdp_msg.specs.declared.command.Command.{Command}
 use Rattle.osdp_msg.specs.declared.command.Command.TheVariants as command
@@ -23,13 +23,8 @@ use Rattle.osdp_reader.specs.declared.kind.Kind.TheVariants as kind
 use Rattle.osdp_link_laws.specs.Headline.{Begins}
 use Rattle.osdp_link_laws.specs.Link as link
 use Rattle.osdp_link_laws.specs.Link.{Account, Delivered, Delivery, Link, Lost, Move, Queue as QueueEvent, Reopen, Repeated, Retarget, Submit, Tick, ToController, ToReader, after_move, taken_command, after_report}
-use Rattle.osdp_link_laws.proofs.Acting.{no_event, taken_is}
 use Rattle.osdp_link_laws.proofs.Lines.{each_append}
 use Rattle.osdp_link_laws.proofs.Stages.{Each}
-
-pub poll_or_not : (c : Command) → (c ≡ command.Poll) ⊎ (c ≢ command.Poll)
-poll_or_not command.Poll = inl refl
-poll_or_not c = inr (λ e. absurd cc)
 
 told_gives : (r : Option Report) (t : Account) → (after_report r t).given ≡ t.given
 told_gives None t = refl
@@ -46,16 +41,9 @@ module _ {H : Type 0} (answer_of : H → Command → Answer) (after : H → Comm
   command_given : (r : ReaderState H) (front : List Event) (t : Account) (c : Command) → AreAnswers t
       → let a = event_or_answer answer_of after (event_for c (released r.queue).events) r.config r.handler c in
       AreAnswers (taken_command c (Some a.reply) front t)
+  command_given r front t command.Poll are = are
   command_given r front t c are =
-      let events = (released r.queue).events in
-      elim (poll_or_not c) [
-        | inl poll ↦ subst (λ d. AreAnswers (taken_command d (Some (event_or_answer answer_of after (event_for d events) r.config r.handler d).reply) front t)) (sym poll) are
-        | inr other ↦
-            let a = answer_to answer_of after r.config r.handler c in
-            subst (λ event. AreAnswers (taken_command c (Some (event_or_answer answer_of after event r.config r.handler c).reply) front t)) (sym (no_event c events other))
-            (subst AreAnswers (sym (taken_is c (Some a.reply) front t other))
-            (each_append IsAnswerOf t.given ((c, a.reply) ∷ []) are ((r.config, r.handler, refl), tt)))
-      ]
+      each_append IsAnswerOf t.given ((c, (answer_to answer_of after r.config r.handler c).reply) ∷ []) are ((r.config, r.handler, refl), tt)
 
   taken_given : (read : Result Command MsgFault) (r : ReaderState H) (p : Packet) (front : List Event) (t : Account) → AreAnswers t
       → let o = taken answer_of after read r p in AreAnswers (link.taken kind.Taken o.command o.said front t)

@@ -29,7 +29,6 @@ pub mod Ordinary
 pub mod OrdinaryRuns
 pub mod Kept
 pub mod GivenAnswers
-pub mod OneHandler
 pub mod Reports
 pub mod Refusals
 pub mod Endings

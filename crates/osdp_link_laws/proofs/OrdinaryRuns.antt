@@ -1,17 +1,16 @@
 -- What ordinary moves keep, and what their sessions have ended.
-use Rattle.std.proofs.Common.{List, ◌∷◌, All, refl, sym, subst}
+use Rattle.std.proofs.Common.{List, [], ◌∷◌, All, refl, sym, subst}
 use Rattle.std.specs.Prelude.{ℕ}
 use Rattle.osdp_msg.specs.declared.command.Command.{Command}
 use Rattle.osdp_reader.specs.declared.handler.Answer.{Answer}
 use Rattle.osdp_link_laws.specs.Addresses.{SetsNoOther}
 use Rattle.osdp_link_laws.specs.Headline.{Begins}
 use Rattle.osdp_link_laws.specs.Link as link
-use Rattle.osdp_link_laws.specs.Link.{Link, Move}
-use Rattle.osdp_link_laws.specs.OneHandler.{KeepHandler, KeepsDevice}
+use Rattle.osdp_link_laws.specs.Link.{Link, Move, after_move}
+use Rattle.osdp_link_laws.specs.OneHandler.{KeepHandler, KeepsDevice, KeepsHandler}
 use Rattle.osdp_link_laws.specs.Ordinary.{AreUndisturbed, IsOrdinary, IsSteady, IsUndisturbed}
 use Rattle.osdp_link_laws.specs.Refusals.{KeepsReader}
 use Rattle.osdp_link_laws.proofs.Lines.{each_all, each_map}
-use Rattle.osdp_link_laws.proofs.OneHandler.{keep_handler}
 use Rattle.osdp_link_laws.proofs.Stages.{Each}
 
 -- ---- moves
@@ -40,6 +39,17 @@ sets_no_other reader controller m steady = tt
 
 pub steady_ordinary : {H : Type 0} (ms : List (Move H)) → Each IsSteady ms → Each IsOrdinary ms
 steady_ordinary ms steady = each_map IsSteady IsOrdinary is_ordinary ms steady
+
+-- a device that is never another keeps its handler
+keeps_handler : {H : Type 0} (move : Move H) (l : Link H) → KeepsDevice move → KeepsHandler move l
+keeps_handler (link.SetHandler handler) l keeps = absurd keeps
+keeps_handler (link.RestartReader config handler room) l keeps = absurd keeps
+keeps_handler move l keeps = tt
+
+pub keep_handler : {H : Type 0} (answer_of : H → Command → Answer) (after : H → Command → H) (moves : List (Move H)) (l : Link H) → Each KeepsDevice moves
+    → KeepHandler answer_of after moves l
+keep_handler answer_of after [] l keep = tt
+keep_handler answer_of after (move ∷ moves) l keep = (keeps_handler move l keep.0, keep_handler answer_of after moves (after_move answer_of after move l) keep.1)
 
 pub steady_handler : {H : Type 0} (answer_of : H → Command → Answer) (after : H → Command → H) (ms : List (Move H)) (l : Link H) → Each IsSteady ms
     → KeepHandler answer_of after ms l

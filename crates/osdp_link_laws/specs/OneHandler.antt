@@ -1,13 +1,11 @@
--- Where the device never changes: the answers are those of its settings and of its one handler.
+-- A device that never changes, and the answers of its settings and of its one handler.
 use Rattle.std.specs.Prelude.{◌≡◌, List, [], ◌∷◌}
 use Rattle.osdp_msg.specs.declared.command.Command.{Command}
 use Rattle.osdp_msg.specs.declared.reply.Reply.{Reply}
 use Rattle.osdp_reader.specs.declared.config.ReaderConfig.{ReaderConfig}
 use Rattle.osdp_reader.specs.declared.handler.Answer.{Answer}
 use Rattle.osdp_reader.specs.Table.{answer_to}
-use Rattle.osdp_reader_laws.specs.Answering.{handler_after_commands}
-use Rattle.osdp_link_laws.specs.Headline.{Begins, MovesFit}
-use Rattle.osdp_link_laws.specs.Link.{Account, Link, Move, RestartReader, SetHandler, after_move, run}
+use Rattle.osdp_link_laws.specs.Link.{Link, Move, RestartReader, SetHandler, after_move}
 
 -- the reader doesn't restart, and its handler isn't set
 abbrev pub KeepsDevice : {H : Type 0} → Move H → Type 0
@@ -33,21 +31,6 @@ module _ {H : Type 0} (answer_of : H → Command → Answer) (after : H → Comm
       let a = answer_to answer_of after config handler command in
       (command, a.reply) ∷ with_answers config a.handler commands
 
-  -- the handler after the commands taken in these sessions, the last of them first
-  abbrev pub handler_after : ReaderConfig → H → List Account → H
-  handler_after config handler [] = handler
-  handler_after config handler (t ∷ earlier) = handler_after_commands answer_of after config (handler_after config handler earlier) t.taken
-
-  -- .. of each session the answers given are those of the one handler
-  abbrev pub AreItsAnswers : ReaderConfig → H → List Account → Type 0
-  AreItsAnswers config handler [] = Unit {0}
-  AreItsAnswers config handler (t ∷ earlier) =
-      (t.given ≡ with_answers config (handler_after config handler earlier) t.taken) × AreItsAnswers config handler earlier
-
   abbrev pub KeepHandler : List (Move H) → Link H → Type 0
   KeepHandler [] l = Unit {0}
   KeepHandler (move ∷ moves) l = KeepsHandler move l × KeepHandler moves (after_move answer_of after move l)
-
-  abbrev pub GivesItsAnswers : Type 0
-  GivesItsAnswers = (l : Link H) (moves : List (Move H)) → Begins l → MovesFit answer_of after moves l → KeepHandler moves l
-      → let later = run answer_of after moves l in AreItsAnswers l.reader.config l.reader.handler (later.account ∷ later.earlier)

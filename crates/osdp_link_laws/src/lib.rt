@@ -4,7 +4,6 @@
 
 ghost use Rattle.osdp_link_laws.specs.Peers.{ReadEachOther, ReadsWhatIsAsked, ReadsWhatIsAnswered, TakesPlainReplies, TellsItsEvent};
 ghost use Rattle.osdp_link_laws.specs.Headline.{HoldsOnce};
-ghost use Rattle.osdp_link_laws.specs.OneHandler.{GivesItsAnswers};
 ghost use Rattle.osdp_link_laws.specs.Ordinary.{OrdinaryIsUndisturbed};
 ghost use Rattle.osdp_link_laws.specs.Addresses.{StayWhereTheyAre};
 ghost use Rattle.osdp_link_laws.specs.Progress.{ComesThrough, ComesThroughFromRest, ComesThroughInTime, ComesToRest};
@@ -58,14 +57,6 @@ pub fn read_each_other<H: Handler>()
 /// whatever model comes back.
 pub fn holds_once<H: Handler>()
     ensures { HoldsOnce H.answer_of H.after }
-{
-    read_each_other::<H>();
-}
-
-/// Where the device stays the same model, with one handler, the answers given are its settings' to ID, CAP and COMSET, and its handler's to all
-/// others, in order.
-pub fn answers_of_one_handler<H: Handler>()
-    ensures { GivesItsAnswers H.answer_of H.after }
 {
     read_each_other::<H>();
 }

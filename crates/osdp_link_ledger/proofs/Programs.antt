@@ -246,7 +246,7 @@ front_late ahead acted owing pend o c acts out command = by_owing acts
 
 -- ---- the panel loses power
 
-none_outstanding : (state : State) → is_under_way state ≡ false → outstanding_command state ≡ None
+pub none_outstanding : (state : State) → is_under_way state ≡ false → outstanding_command state ≡ None
 none_outstanding (Waiting until sends out) over = cc
 none_outstanding (Pausing until out) over = cc
 none_outstanding _ over = refl

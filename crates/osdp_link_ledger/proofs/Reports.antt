@@ -23,6 +23,7 @@ use Rattle.osdp_link_ledger.proofs.Lists.{IsOfferedFront, commands, front_order,
 use Rattle.osdp_link_ledger.proofs.Programs.{front_late, nothing_out}
 use Rattle.osdp_link_ledger.proofs.Telling.{Stays, Tells}
 use Rattle.osdp_link_ledger.proofs.Ties.{ActedIs, IsTied, IsUnderWay, Leads, OffersAre, Ties}
+use Rattle.osdp_link_ledger.proofs.Tallies.{command_at}
 
 module _ {H : Type 0} (l : Link H) (d : Due) (g : Ledger) (f : OutIs l.controller.session.state d) (h : IsTied l d g) (s : IsUnderWay l.controller.session.state l.reader.queue d g) where
   abbrev state : State
@@ -165,15 +166,11 @@ module _ {H : Type 0} (l : Link H) (d : Due) (g : Ledger) (f : OutIs l.controlle
           session = inr (inr (record {
             closed = closed;
             acted = refl;
-            late = front_late g.ahead g.acted d.owing d.pend (order_at g.ahead c) c s.acted (sym out ∙ f s.way) (command g.ahead);
+            late = front_late g.ahead g.acted d.owing d.pend (order_at g.ahead c) c s.acted (sym out ∙ f s.way) (command_at g.ahead c);
             offers = s.offers;
           }));
         },
       )
-    where
-      command : (ahead : List Order) → (order_at ahead c).command ≡ c
-      command [] = refl
-      command (o ∷ rest) = refl
 
   closing : (e : Due) (new : State) (ps qs : List Packet) → out_of state ≡ [] → new ≡ Closed → e ≡ d → Leads (Close ∷ []) g (Becomes new ps qs e)
   closing e new ps qs out closed due =

@@ -24,6 +24,7 @@ use Rattle.osdp_link_ledger.specs.Accounts.{cut_off_as, doubted_as, removed_as, 
 use Rattle.osdp_link_ledger.specs.Laws.{is_under_way}
 use Rattle.osdp_link_ledger.specs.Steps.{acts_on, card_at, leaves, offered_at, offers, opens, order_acted, order_at, told, withdraws, withdraws_event}
 use Rattle.osdp_link_ledger.proofs.Lists.{commands, events}
+use Rattle.osdp_link_ledger.proofs.Programs.{none_outstanding}
 
 abbrev by_settled : Order × End → List (Command × Reply)
 by_settled e = settled_as e.0 e.1
@@ -131,15 +132,18 @@ queues_more c cs es ts h is =
 
 -- ---- the places of what is read off
 
-command_at : (os : List Order) (c : Command) → (order_at os c).command ≡ c
+pub command_at : (os : List Order) (c : Command) → (order_at os c).command ≡ c
 command_at [] c = refl
 command_at (o ∷ os) c = refl
+
+pub order_is : (c : Command) (g : Ledger) → (order_acted c g).command ≡ c
+order_is c g = command_at (if g.is_open then g.ahead else option_to_list g.late) c
 
 event_at : (cards : List Card) (e : Event) → (card_at cards e).event ≡ e
 event_at [] e = refl
 event_at (c ∷ cs) e = refl
 
-offered_event : (offer : Offer) (e : Event) → (offered_at offer e).event ≡ e
+pub offered_event : (offer : Offer) (e : Event) → (offered_at offer e).event ≡ e
 offered_event NoOffer e = refl
 offered_event _ e = refl
 
@@ -163,12 +167,6 @@ forgets_all (o ∷ os) waiting is =
       of_removal = ap (λ l. link.ThrownAway o.command ∷ l) rest.of_removal ∙ ap (map link.ThrownAway) is;
     }
 
-idle_out : (state : State) → is_under_way state ≡ false → outstanding_command state ≡ None
-idle_out Closed way = refl
-idle_out (Quiet until) way = refl
-idle_out (Idle due) way = refl
-idle_out _ way = absurd cc
-
 pub ends_at : (state : State) (waiting : List Command) (g : Ledger) (out : Option Command) → outstanding_command state ≡ out → g.is_open ≡ is_under_way state
     → commands g.ahead ≡ option_to_list out ++ waiting → EndsAtRestart (option_to_list out) waiting (ends_at_restart g.is_open (is_some out) g.ahead)
 ends_at state waiting g out is same ahead = by_state g.is_open refl out is g.ahead ahead
@@ -177,7 +175,7 @@ ends_at state waiting g out is same ahead = by_state g.is_open refl out is g.ahe
         → EndsAtRestart (option_to_list out) waiting (ends_at_restart b (is_some out) ahead)
     by_state false shut None is ahead all = forgets_all ahead waiting all
     by_state false shut (Some c) is ahead all =
-        absurd (let none : None ≡ Some c = sym (idle_out state (sym same ∙ shut)) ∙ is in cc)
+        absurd (let none : None ≡ Some c = sym (none_outstanding state (sym same ∙ shut)) ∙ is in cc)
     by_state true going None is ahead all = forgets_all ahead waiting all
     by_state true going (Some c) is (o ∷ os) all =
         let same : o.command ≡ c = cc in
@@ -280,7 +278,7 @@ module _ (cs : List Command) (es : List Event) (earlier : List Account) where
       → Now (record t { taken = t.taken ++ c ∷ []; given = t.given ++ (c, a) ∷ [] }) (steps_on (ledger.Act (order_acted c g) a) h)
   acted_tally c a t h g is =
       (λ i. record (of_history h) { acted = map-append asked_in h.acted ((order_acted c g, a) ∷ []) i })
-      ∙ (λ i. record (is i) { acted = (is i).acted ++ (command_at (if g.is_open then g.ahead else option_to_list g.late) c i, a) ∷ [] })
+      ∙ (λ i. record (is i) { acted = (is i).acted ++ (order_is c g i, a) ∷ [] })
       ∙ (λ i. record (said t) { acted = append_assoc (in_all (λ t. t.given) earlier) t.given ((c, a) ∷ []) i })
 
   pub taking_tally : (c : Command) (a : Reply) (front : List Event) (t : Account) (h : History) (g : Ledger) → Now t h

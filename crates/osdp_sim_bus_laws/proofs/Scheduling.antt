@@ -18,7 +18,7 @@ use Rattle.osdp_bus_links.specs.Premises.{AllOthersFit, BusSuffices, IsScheduled
 use Rattle.osdp_bus_links.proofs.Linked.{AreLinked, IsLinked, OfALink}
 use Rattle.osdp_bus_links.proofs.Names.{are_steady}
 use Rattle.osdp_bus_links.proofs.Sited.{IsSited, all_sited, each_own}
-use Rattle.osdp_bus_links.proofs.Sufficing.{all_linked, net_run_more, others_more}
+use Rattle.osdp_bus_links.proofs.Sufficing.{all_linked, others_more}
 use Rattle.osdp_sim.specs.declared.step.SimStep.{SimStep}
 use Rattle.osdp_sim_bus.specs.Runs as simulation
 use Rattle.osdp_sim_bus.specs.Runs.{FitAlong}
@@ -26,6 +26,7 @@ use Rattle.osdp_sim_bus.specs.State.{LineState}
 use Rattle.osdp_sim_bus.specs.Steps.{after_step, fault_of}
 use Rattle.osdp_sim.proofs.Schedules.{first_well}
 use Rattle.osdp_sim_bus_laws.specs.Moves.{FollowsSites, IsKnown, SchedulesAreMoves, StepsAreMoves, moves_for, moves_of}
+use Rattle.osdp_shared_line.proofs.Rounds.{net_more}
 
 module _ {H : Type 0} (answer_of : H → Command → Answer) (after : H → Command → H) where
   -- ---- what is known after any moves
@@ -84,13 +85,13 @@ module _ {H : Type 0} (answer_of : H → Command → Answer) (after : H → Comm
         let sited = all_sited answer_of after ms first scheduled (subst (Each (λ (q : ℕ × Packet). IsSited first.sites q.0)) (sym up.to_panel) tt) in
         let one = steps_move step s n both.0 along.0 (always n (links first ms up none scheduled others) sited) h in
         let more = each_of IsScheduled moves one.scheduled in
-        let same : run answer_of after (ms ++ moves) first ≡ run answer_of after moves n = net_run_more answer_of after ms moves first in
+        let same : run answer_of after (ms ++ moves) first ≡ run answer_of after moves n = net_more answer_of after ms moves first in
         let later = goes steps next first (ms ++ moves) up none (each_append IsScheduled ms moves scheduled more)
         (others_more answer_of after ms moves first others one.fits) (subst (FollowsSites next) (sym same) one.follows) both.1 along.1 in
         record {
           scheduled = each_append IsScheduled moves rest more later.scheduled;
           others = others_more answer_of after moves rest n one.fits (subst (AllOthersFit answer_of after rest) same later.others);
-          follows = subst (FollowsSites (simulation.run answer_of after steps next)) (sym (net_run_more answer_of after moves rest n))
+          follows = subst (FollowsSites (simulation.run answer_of after steps next)) (sym (net_more answer_of after moves rest n))
               (subst (λ m. FollowsSites (simulation.run answer_of after steps next) (run answer_of after rest m)) same later.follows);
         }
 

@@ -1,5 +1,5 @@
 -- Each step of a schedule is a list of moves of the sites.
-use Rattle.std.proofs.Common.{◌≡◌, ◌≢◌, ◌-◌, ◌&&◌, ◌==◌, not, ℕ, zero, suc, Bool, true, false, if◌then◌else◌, List, [], ◌∷◌, length, map, Option, Some, None, refl, sym, subst, ap, ◌∙◌, arith}
+use Rattle.std.proofs.Common.{◌≡◌, ◌≢◌, ◌-◌, ◌&&◌, ◌==◌, not, ℕ, zero, suc, Bool, true, false, if◌then◌else◌, List, [], ◌∷◌, ◌++◌, length, map, Option, Some, None, refl, sym, subst, ap, ◌∙◌, arith, append_assoc}
 use Rattle.std.proofs.lemmas.Bool.{ne_eqb}
 use Rattle.std.proofs.lemmas.List.{length-append}
 use Rattle.std.specs.Prelude.{slice_get}
@@ -19,7 +19,7 @@ use Rattle.osdp_bus.specs.Machine.{begin_refusal_of, begin_refusal_at, bus_fault
 use Rattle.osdp_bus.specs.declared.entry.Entry.{Entry}
 use Rattle.osdp_link_laws.specs.Peers.{IsPlainlySaid}
 use Rattle.osdp_link_laws.specs.Link as link
-use Rattle.osdp_link_laws.specs.Sessions.{LastsOrLeaves, Leaves}
+use Rattle.osdp_link_laws.specs.Sessions.{LastsOrLeaves, Leaves, ended_commands, ended_in}
 use Rattle.osdp_link_laws.proofs.Lines.{each_all, each_of}
 use Rattle.osdp_link_laws.proofs.Stages.{Each}
 use Rattle.osdp_shared_line.specs.Line as line
@@ -89,7 +89,9 @@ module _ {H : Type 0} (answer_of : H → Command → Answer) (after : H → Comm
       let more = length-append u.account.sessions (lengths_of u.account ∷ []) in
       record {
         reader = is.reader;
-        tells = tells_session u.account t.account t.controller.waiting t.reader.queue.events t.earlier leaves.of_commands.commands is.tells;
+        tells = tells_session u.account t.account t.controller.waiting t.reader.queue.events t.earlier is.tells;
+        issued = is.issued ∙ ap (λ cs. ended_commands t.earlier ++ cs) leaves.of_commands.commands
+            ∙ sym (append_assoc (ended_commands t.earlier) (ended_in t.account) t.controller.waiting);
         ended = omega (arith, ended, more);
         causes = is.causes;
       }

@@ -9,7 +9,7 @@ use Rattle.osdp_controller.specs.States.{is_closed}
 use Rattle.osdp_reader.specs.declared.handler.Answer.{Answer}
 use Rattle.osdp_link_laws.specs.Link.{Delivery}
 use Rattle.osdp_link_laws.specs.Peers.{IsPlainlySaid}
-use Rattle.osdp_link_laws.specs.Sessions.{LastsOrLeaves}
+use Rattle.osdp_link_laws.specs.Sessions.{LastsOrLeaves, ended_commands}
 use Rattle.osdp_shared_line.specs.Addresses.{IsSetUp, NetMovesFit}
 use Rattle.osdp_shared_line.specs.Line as line
 use Rattle.osdp_shared_line.specs.Line.{Net, NetMove, run, site_at}
@@ -63,10 +63,12 @@ module _ {H : Type 0} where
 
   -- ---- a simulation and its sites
 
-  -- a reader is that of a site, and its account holds what the sessions of the site came to: each has ended once, or each but the last
+  -- a reader is that of a site, and its account holds what the sessions of the site came to: each has ended once, or each but the last; the commands of a
+  -- session are those after the ones that the sessions before it settled or told unsettled
   pub record IsSiteOf (u : ReaderSite H) (t : line.Site H) : Type 0 where
     pub reader : u.reader ≡ t.reader
     pub tells : IsOf u.account t.account t.earlier
+    pub issued : u.account.issued ≡ ended_commands t.earlier ++ t.account.issued
     pub ended : length u.account.ends + 1 ≡ length u.account.sessions + count (is_closed t.controller.session.state)
     pub causes : AllByRecursion IsNoRefusal u.account.ends
 

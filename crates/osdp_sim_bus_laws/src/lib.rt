@@ -49,7 +49,8 @@ pub fn each_account_holds_once<H: Handler>()
     schedules_are_moves::<H>();
     osdp_shared_line::each_is_a_link::<H>();
     osdp_link_laws::holds_once::<H>();
-    osdp_link_laws::answers_of_one_handler::<H>();
+    osdp_link_ledger::ledger_tells_accounts::<H>();
+    osdp_link_ledger::acts_have_answers_of_one_handler::<H>();
     osdp_link_laws::ordinary_runs_are_undisturbed::<H>();
     osdp_sim_bus::laws::has_an_account_each::<H>();
 }

@@ -13,7 +13,7 @@ use Rattle.osdp_reader.specs.declared.kind.Kind.{Kind}
 use Rattle.osdp_reader.specs.declared.kind.Kind.TheVariants as kind
 use Rattle.osdp_link_laws.specs.Link as link
 use Rattle.osdp_link_laws.specs.Refusals as refusals
-use Rattle.osdp_link_laws.specs.Sessions.{ended_commands, ended_in, in_all}
+use Rattle.osdp_link_laws.specs.Sessions.{in_all}
 use Rattle.osdp_link_laws.proofs.Lines.{each_append}
 use Rattle.osdp_link_laws.proofs.Stages.{Each}
 use Rattle.osdp_sim.specs.Account.{Account, lengths_of, taken_by, taken_command, with_report, with_session, with_taken}
@@ -114,7 +114,7 @@ none_earlier a t (u ∷ earlier) h one = absurd (omega (arith, h.sessions, one))
 pub tells_issued : (command : Command) (a : Account) (t : link.Account) (earlier : List link.Account) → IsOf a t earlier
     → IsOf (record a { issued = a.issued ++ command ∷ [] }) (record t { issued = t.issued ++ command ∷ [] }) earlier
 tells_issued command a t earlier h = record {
-  issued = later a.issued (ended_commands earlier) t.issued (command ∷ []) h.issued;
+  issued = λ none. ap (λ cs. cs ++ command ∷ []) (h.issued none);
   queued = h.queued;
   sessions = h.sessions;
   taken = h.taken;
@@ -135,12 +135,12 @@ tells_queued event a t earlier h = record {
   reported = h.reported;
 }
 
--- a session begins with the commands that the one before has left
+-- a session begins again
 pub tells_session : (a : Account) (t : link.Account) (waiting : List Command) (events : List Event) (earlier : List link.Account)
-    → t.issued ≡ ended_in t ++ waiting → IsOf a t earlier → IsOf (with_session a) (link.new_account waiting events) (t ∷ earlier)
-tells_session a t waiting events earlier left h = record {
+    → IsOf a t earlier → IsOf (with_session a) (link.new_account waiting events) (t ∷ earlier)
+tells_session a t waiting events earlier h = record {
   sessions = omega (arith, length-append a.sessions (lengths_of a ∷ []), h.sessions);
-  issued = h.issued ∙ ap (λ cs. ended_commands earlier ++ cs) left ∙ sym (append_assoc (ended_commands earlier) (ended_in t) waiting);
+  issued = λ none. absurd (let e = none in cc);
   queued = λ none. absurd (let e = none in cc);
   taken = h.taken ∙ sym (append-nil (in_all (λ t. t.taken) (t ∷ earlier)));
   settled = h.settled ∙ sym (append-nil (in_all (λ t. t.settled) (t ∷ earlier)));

@@ -17,6 +17,7 @@ use Rattle.osdp_sim_laws.specs.Progress.{AnswerRecovers, IsDone, Recovers, clear
 use Rattle.osdp_sim_laws.proofs.Begun.{none_reopen}
 use Rattle.osdp_sim_laws.proofs.Clearing.{losses_within}
 use Rattle.osdp_sim_laws.proofs.Coming.{rounds_within}
+use Rattle.osdp_link_laws.proofs.Clean.{as_many}
 
 none_more : {A : Type 0} (xs : List A) → length xs ≤ 0 → xs ≡ []
 none_more [] few = refl
@@ -27,10 +28,6 @@ whole : {A : Type 0} (xs ys rest : List A) → ys ≡ xs ++ rest → length rest
 whole xs ys rest is few = is ∙ ap (λ l. xs ++ l) (none_more rest few) ∙ append-nil xs
 
 module _ {H : Type 0} (answer_of : H → Command → Answer) (after : H → Command → H) where
-  as_many : (config : ReaderConfig) (handler : H) (commands : List Command) → length (with_answers answer_of after config handler commands) ≡ length commands
-  as_many config handler [] = refl
-  as_many config handler (c ∷ commands) = ap suc (as_many config (answer_to answer_of after config handler c).handler commands)
-
   -- what is settled and reported is all, where it is as much
   pub all_done : (config : ReaderConfig) (handler : H) (a : Account) → IsOnce answer_of after config handler a
       → length a.issued + length a.queued ≤ done a → IsDone answer_of after config handler a
@@ -39,7 +36,7 @@ module _ {H : Type 0} (answer_of : H → Command → Answer) (after : H → Comm
       let answers = once.settled in
       let events = once.reported in
       let issued = ap length commands.1 ∙ length-append a.taken commands.0 in
-      let settled = sym (as_many config handler a.taken) ∙ ap length answers.1 ∙ length-append a.settled answers.0 in
+      let settled = sym (as_many answer_of after config handler a.taken) ∙ ap length answers.1 ∙ length-append a.settled answers.0 in
       let queued = ap length events.1 ∙ length-append a.reported events.0 in
       let taken = whole a.taken a.issued commands.0 commands.1 (omega (arith, issued, settled, queued, enough)) in
       record {

@@ -19,7 +19,6 @@ use Rattle.osdp_link_laws.specs.Link as link
 use Rattle.osdp_link_laws.specs.Link.{Link}
 use Rattle.osdp_link_laws.specs.Refusals as refusals
 use Rattle.osdp_link_laws.specs.Sessions as sessions
-use Rattle.osdp_link_laws.specs.Sessions.{ended_in}
 use Rattle.osdp_link_laws.proofs.Lines.{each_append}
 use Rattle.osdp_link_laws.proofs.Stages.{Each}
 use Rattle.osdp_sim.specs.Account.{Account}
@@ -148,26 +147,22 @@ module _ {H : Type 0} where
 
   -- ---- sessions
 
-  -- the last session's commands are those that have ended and those that wait
-  abbrev pub HasLeft : Link H → Type 0
-  HasLeft l = l.account.issued ≡ ended_in l.account ++ l.controller.waiting
-
   -- a session begins again where nothing is on the line and the one before has ended
-  begins_again : (l : Link H) (clock : ℕ) (a : Account) → HasLeft l → ArePackets l → IsOf a l.account l.earlier
+  begins_again : (l : Link H) (clock : ℕ) (a : Account) → ArePackets l → IsOf a l.account l.earlier
       → IsCarried (steps.reopened (in_bytes l clock a)) (link.reopens None [] [] clock l) clock a [] [] []
-  begins_again l clock a left packets tells = record {
+  begins_again l clock a packets tells = record {
     state = refl;
     packets = record { to_reader = packets.to_reader; to_controller = packets.to_controller };
-    tells = tells_session a l.account l.controller.waiting l.reader.queue.events l.earlier left tells;
+    tells = tells_session a l.account l.controller.waiting l.reader.queue.events l.earlier tells;
     issued = sym (append-nil a.issued);
     queued = sym (append-nil a.queued);
     causes = λ told well. well;
   }
 
   pub reopening : (ps qs : List Packet) (refusal : Option ControllerFault) (l : Link H) (clock : ℕ) (a : Account) → ps ≡ [] → qs ≡ [] → refusal ≡ None
-      → HasLeft l → ArePackets l → IsOf a l.account l.earlier
+      → ArePackets l → IsOf a l.account l.earlier
       → IsCarried (steps.reopened (in_bytes l clock a)) (link.reopens refusal ps qs clock l) clock a [] [] []
-  reopening [] [] None l clock a here there well left packets tells = begins_again l clock a left packets tells
-  reopening [] [] (Some fault) l clock a here there well left packets tells = absurd cc
-  reopening [] (q ∷ qs) refusal l clock a here there well left packets tells = absurd cc
-  reopening (p ∷ ps) qs refusal l clock a here there well left packets tells = absurd cc
+  reopening [] [] None l clock a here there well packets tells = begins_again l clock a packets tells
+  reopening [] [] (Some fault) l clock a here there well packets tells = absurd cc
+  reopening [] (q ∷ qs) refusal l clock a here there well packets tells = absurd cc
+  reopening (p ∷ ps) qs refusal l clock a here there well packets tells = absurd cc

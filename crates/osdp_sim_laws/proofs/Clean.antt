@@ -323,14 +323,13 @@ module _ {H : Type 0} (answer_of : H → Command → Answer) (after : H → Comm
       let well = well_on (after_step answer_of after) fault_of orders more start is.well in
       let fits = holds_on (after_step answer_of after) (StepFits answer_of after) orders more start is.fits in
       let device = is.settings.controller.config_in_range.address in
-      let from = goes_from_first answer_of after given config handler device in
-      let first = schedule_follows answer_of after given.reads orders l 0 no_account from well.0 fits.0 in
+      let first = schedule_follows answer_of after given.reads orders l 0 no_account (goes_from_first answer_of after config handler) well.0 fits.0 in
       let ms = moves_of orders 0 in
       let are_moves = orders_are H orders 0 are in
       let later = link.run answer_of after ms l in
       let before = run answer_of after orders start in
       let there : before ≡ in_bytes later 0 before.account = first.carried.state ∙ ap (λ c. in_bytes later c before.account) are_moves.1 in
-      let then_ = schedule_follows answer_of after given.reads more later 0 before.account (goes_from answer_of after before ms l (clock_after orders 0) no_account from first)
+      let then_ = schedule_follows answer_of after given.reads more later 0 before.account (goes_from answer_of after before ms l (clock_after orders 0) no_account first)
       (subst (λ s. is_well answer_of after more s ≡ true) there well.1) (subst (FitAlong answer_of after more) there fits.1) in
       let ns = moves_of more 0 in
       let end = run answer_of after more before in
@@ -372,9 +371,9 @@ module _ {H : Type 0} (answer_of : H → Command → Answer) (after : H → Comm
       in_turn config handler orders n a t m many accepted lists turn none = record {
         issued = accepted.0;
         queued = accepted.1;
-        taken = lists.taken ∙ turn.taken ∙ ap (λ k. take k t.issued) many ∙ ap (take n) (sym lists.issued);
+        taken = lists.taken ∙ turn.taken ∙ ap (λ k. take k t.issued) many ∙ ap (take n) (sym (lists.issued refl));
         settled = lists.settled ∙ turn.settled ∙ ap (λ k. with_answers answer_of after config.reader handler (take k t.issued)) many
-            ∙ ap (λ cs. with_answers answer_of after config.reader handler (take n cs)) (sym lists.issued);
+            ∙ ap (λ cs. with_answers answer_of after config.reader handler (take n cs)) (sym (lists.issued refl));
         reported = lists.reported ∙ turn.reported ∙ ap (λ k. take (k - length t.settled) t.queued) many
             ∙ ap (λ ps. take (n - length ps) t.queued) (sym lists.settled)
             ∙ ap (take (n - length a.settled)) (sym (lists.queued refl));

@@ -145,7 +145,7 @@ module _ {H : Type 0} (answer_of : H → Command → Answer) (after : H → Comm
       record {
         settled = ap length only.settled;
         reported = ap length only.reported;
-        issued = only.issued;
+        issued = only.issued refl;
         queued = ap length (only.queued refl);
         kept = so.0.kept;
       }
@@ -173,8 +173,7 @@ module _ {H : Type 0} (answer_of : H → Command → Answer) (after : H → Comm
       let start = set_up config handler in
       let well = well_on (after_step answer_of after) fault_of steps more start is.well in
       let fits = holds_on (after_step answer_of after) (StepFits answer_of after) steps more start is.fits in
-      let from = goes_from_first answer_of after given config handler is.settings.controller.config_in_range.address in
-      let first = schedule_follows answer_of after given.reads steps l 0 no_account from well.0 fits.0 in
+      let first = schedule_follows answer_of after given.reads steps l 0 no_account (goes_from_first answer_of after config handler) well.0 fits.0 in
       let ms = moves_of steps 0 in
       let clock = clock_after steps 0 in
       let before = run answer_of after steps start in
@@ -182,7 +181,7 @@ module _ {H : Type 0} (answer_of : H → Command → Answer) (after : H → Comm
       record {
         first = first;
         next = schedule_follows answer_of after given.reads more (link.run answer_of after ms l) clock before.account
-            (goes_from answer_of after before ms l clock no_account from first)
+            (goes_from answer_of after before ms l clock no_account first)
             (subst (λ s. is_well answer_of after more s ≡ true) there well.1) (subst (FitAlong answer_of after more) there fits.1);
       }
 

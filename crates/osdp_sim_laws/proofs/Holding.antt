@@ -7,13 +7,14 @@ use Rattle.osdp_reader.specs.declared.handler.Answer.{Answer}
 use Rattle.osdp_link_laws.specs.Headline as link_once
 use Rattle.osdp_link_laws.specs.Headline.{Begins, IsBeginning}
 use Rattle.osdp_link_laws.specs.Link as link
-use Rattle.osdp_link_laws.specs.OneHandler.{AreItsAnswers, with_answers}
+use Rattle.osdp_link_laws.specs.OneHandler.{with_answers}
 use Rattle.osdp_link_laws.specs.Ordinary.{AreUndisturbed, IsUndisturbed}
 use Rattle.osdp_link_laws.specs.Refusals as refusals
 use Rattle.osdp_link_laws.proofs.Lines.{each_all, each_of}
 use Rattle.osdp_link_laws.proofs.Ordinary.{moves_so}
 use Rattle.osdp_link_laws.proofs.OrdinaryRuns.{begins_so, keep_reader, steady_handler, steady_ordinary}
 use Rattle.osdp_link_laws.specs.Ends.{count}
+use Rattle.osdp_link_ledger.proofs.Answered.{HaveAnswers, sessions_have_answers}
 use Rattle.osdp_sim.specs.Account.{Account, empty_account, lists_of, with_session}
 use Rattle.osdp_sim.specs.Runs.{FitAlong, Stops, run, steps_done}
 use Rattle.osdp_sim.specs.State.{set_up}
@@ -35,7 +36,7 @@ abbrev pub no_account : Account
 no_account = with_session empty_account
 
 pub tells_nothing : IsOf no_account (link.new_account [] []) []
-tells_nothing = record { sessions = refl; issued = refl; queued = λ none. refl; taken = refl; settled = refl; unsettled = refl; reported = refl }
+tells_nothing = record { sessions = refl; issued = λ none. refl; queued = λ none. refl; taken = refl; settled = refl; unsettled = refl; reported = refl }
 
 -- so an only session begins, and that of each reader of several
 pub begins : {H : Type 0} (config : SimConfig) (handler : H) → config.controller.address < 127 → Begins (first_link config handler)
@@ -51,19 +52,14 @@ begins config handler device = record {
 
 module _ {H : Type 0} (answer_of : H → Command → Answer) (after : H → Command → H) where
   -- a schedule goes on from where the first session has begun
-  pub goes_from_first : OneLink answer_of after → (config : SimConfig) (handler : H) → config.controller.address < 127
-      → GoesFrom answer_of after (first_link config handler) no_account
-  goes_from_first given config handler device = record {
-    packets = record { to_reader = tt; to_controller = tt };
-    tells = tells_nothing;
-    leave = λ ms moves. given.sessions.last (first_link config handler) ms (begins config handler device) moves;
-  }
+  pub goes_from_first : (config : SimConfig) (handler : H) → GoesFrom answer_of after (first_link config handler) no_account
+  goes_from_first config handler = record { packets = record { to_reader = tt; to_controller = tt }; tells = tells_nothing }
 
   pub schedule_is_moves : OneLink answer_of after → ScheduleIsMoves answer_of after
   schedule_is_moves given config handler steps settings well fits =
       let device = settings.controller.config_in_range.address in
       let follows = schedule_follows answer_of after given.reads steps (first_link config handler) 0 no_account
-      (goes_from_first given config handler device) well fits in
+      (goes_from_first config handler) well fits in
       record {
         begins = begins config handler device;
         fit = follows.moves;
@@ -79,7 +75,7 @@ module _ {H : Type 0} (answer_of : H → Command → Answer) (after : H → Comm
     pub lists : IsOf a last earlier
     pub undisturbed : AreUndisturbed (last ∷ earlier)
     pub once : link_once.EachIsOnce (last ∷ earlier)
-    pub answers : AreItsAnswers answer_of after config handler (last ∷ earlier)
+    pub answers : HaveAnswers answer_of after config handler (last ∷ earlier)
     pub ends : EndOnce a
 
   pub last_one : (closed : Bool) (a : Account) → length a.ends + 1 ≡ length a.sessions + count closed
@@ -92,7 +88,7 @@ module _ {H : Type 0} (answer_of : H → Command → Answer) (after : H → Comm
   has_sessions given config handler steps is =
       let l = first_link config handler in
       let device = is.settings.controller.config_in_range.address in
-      let follows = schedule_follows answer_of after given.reads steps l 0 no_account (goes_from_first given config handler device) is.well is.fits in
+      let follows = schedule_follows answer_of after given.reads steps l 0 no_account (goes_from_first config handler) is.well is.fits in
       let begun = begins config handler device in
       let ms = moves_of steps 0 in
       let later = link.run answer_of after ms l in
@@ -108,7 +104,7 @@ module _ {H : Type 0} (answer_of : H → Command → Answer) (after : H → Comm
         lists = tells;
         undisturbed = so;
         once = once;
-        answers = given.answers l ms begun moves (steady_handler answer_of after ms l follows.ordinary);
+        answers = sessions_have_answers answer_of after given.once given.tells given.acts l ms begun moves (steady_handler answer_of after ms l follows.ordinary);
         ends = record {
           count = last_one (is_closed s.controller.session.state) a (run_ended answer_of after given.told steps (set_up config handler) is.well refl);
           causes = each_all IsNoRefusal a.ends
@@ -126,13 +122,13 @@ module _ {H : Type 0} (answer_of : H → Command → Answer) (after : H → Comm
       by_count (inr ended) = omega (arith, ended, one)
 
   of_session : (config : ReaderConfig) (handler : H) (a : Account) (t : link.Account) (earlier : List link.Account) → earlier ≡ [] → length a.sessions ≡ 1
-      → IsOf a t earlier → IsUndisturbed t → link_once.IsOnce t → AreItsAnswers answer_of after config handler (t ∷ earlier) → EndOnce a → IsOnce answer_of after config handler a
+      → IsOf a t earlier → IsUndisturbed t → link_once.IsOnce t → HaveAnswers answer_of after config handler (t ∷ earlier) → EndOnce a → IsOnce answer_of after config handler a
   of_session config handler a t (u ∷ earlier) none one lists so held its ends = absurd cc
   of_session config handler a t [] none one lists so held its ends = record {
-    taken = subst (λ cs. IsBeginning cs a.issued) (sym lists.taken) (subst (IsBeginning t.taken) (sym lists.issued) held.taken);
+    taken = subst (λ cs. IsBeginning cs a.issued) (sym lists.taken) (subst (IsBeginning t.taken) (sym (lists.issued refl)) held.taken);
     settled = (
       held.settled.0,
-      ap (with_answers answer_of after config handler) lists.taken ∙ sym its.0 ∙ held.settled.1 ∙ ap (λ l. l ++ held.settled.0) (sym lists.settled),
+      ap (with_answers answer_of after config handler) lists.taken ∙ sym its ∙ held.settled.1 ∙ ap (λ l. l ++ held.settled.0) (sym lists.settled),
       held.settled.2,
     );
     reported = subst (λ es. IsBeginning es a.queued) (sym lists.reported) (subst (IsBeginning t.reported) (so.kept ∙ sym (lists.queued refl)) held.reported);

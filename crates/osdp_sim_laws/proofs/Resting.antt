@@ -100,7 +100,7 @@ module _ {H : Type 0} (answer_of : H → Command → Answer) (after : H → Comm
       → Follows answer_of after (run answer_of after steps (set_up config handler)) (moves_of steps 0) (first_link config handler) (clock_after steps 0) no_account
   follows_all given config handler steps is =
       schedule_follows answer_of after given.reads steps (first_link config handler) 0 no_account
-      (goes_from_first answer_of after given config handler is.settings.controller.config_in_range.address) is.well is.fits
+      (goes_from_first answer_of after config handler) is.well is.fits
 
   pub clears_the_line : OneLink answer_of after → ClearsTheLine answer_of after
   clears_the_line given config handler steps is =

@@ -14,7 +14,7 @@ use Rattle.osdp_link_laws.specs.Link.{Link, after_move}
 use Rattle.osdp_link_laws.specs.Ordinary.{IsSteady}
 use Rattle.osdp_link_laws.specs.Refusals as refusals
 use Rattle.osdp_link_laws.specs.Refusals.{reports, told_by}
-use Rattle.osdp_link_laws.specs.Sessions.{LastsOrLeaves, all_queued, all_submitted, queued, submitted}
+use Rattle.osdp_link_laws.specs.Sessions.{all_queued, all_submitted, queued, submitted}
 use Rattle.osdp_link_laws.proofs.Lines.{each_append, each_front, each_rest}
 use Rattle.osdp_link_laws.proofs.Stages.{Each}
 use Rattle.osdp_sim.specs.Account.{Account}
@@ -29,7 +29,7 @@ use Rattle.osdp_sim.specs.declared.step.SimStep.TheVariants.{Issue, Queue, Busy,
 use Rattle.osdp_sim_laws.specs.Accounts.{IsOf}
 use Rattle.osdp_sim_laws.specs.OneLink.{ReadsPackets}
 use Rattle.osdp_sim_laws.specs.Moves.{clock_after, step_clock, in_bytes, move_of, moves_of}
-use Rattle.osdp_sim_laws.proofs.Carrying.{ArePackets, HasLeft, IsCarried, is_quiet, issuing, nothing, queueing, reopening, setting_busy, ticking}
+use Rattle.osdp_sim_laws.proofs.Carrying.{ArePackets, IsCarried, is_quiet, issuing, nothing, queueing, reopening, setting_busy, ticking}
 use Rattle.osdp_sim_laws.proofs.Delivering.{says_what_fits, to_controller, to_reader}
 use Rattle.osdp_sim.proofs.Schedules.{first_well}
 
@@ -50,34 +50,18 @@ module _ {H : Type 0} (answer_of : H → Command → Answer) (after : H → Comm
   moves_both [] ns l first next = next
   moves_both (m ∷ ms) ns l first next = (first.0, moves_both ms ns (after_move answer_of after m l) first.1 next)
 
-  -- wherever moves lead, the last session lasts, or leaves what a next one would begin with
-  abbrev pub AllLeave : Link H → Type 0
-  AllLeave l = (ms : List (link.Move H)) → MovesFit answer_of after ms l
-      → let later = link.run answer_of after ms l in LastsOrLeaves later.controller.session.state later
-
-  leave_after : (ms : List (link.Move H)) (l : Link H) → MovesFit answer_of after ms l → AllLeave l → AllLeave (link.run answer_of after ms l)
-  leave_after ms l moves all ns more =
-      subst (λ m. LastsOrLeaves m.controller.session.state m) (run_both ms ns l) (all (ms ++ ns) (moves_both ms ns l moves more))
-
   -- what a schedule goes on from
   pub record GoesFrom (l : Link H) (a : Account) : Type 0 where
     pub packets : ArePackets l
     pub tells : IsOf a l.account l.earlier
-    pub leave : AllLeave l
 
   -- .. and where it has come to
-  pub goes_from : (s : SimState H) (ms : List (link.Move H)) (l : Link H) (later : ℕ) (a : Account) → GoesFrom l a → Follows s ms l later a
+  pub goes_from : (s : SimState H) (ms : List (link.Move H)) (l : Link H) (later : ℕ) (a : Account) → Follows s ms l later a
       → GoesFrom (link.run answer_of after ms l) s.account
-  goes_from s ms l later a from follows = record {
+  goes_from s ms l later a follows = record {
     packets = follows.carried.packets;
     tells = follows.carried.tells;
-    leave = leave_after ms l follows.moves from.leave;
   }
-
-  -- where the controller is closed its session leaves what the next one begins with
-  has_left : (state : State) (l : Link H) → controllers.refused_unless_closed state ≡ None → LastsOrLeaves state l → HasLeft l
-  has_left Closed l may leaves = leaves.of_commands.commands
-  has_left _ l may leaves = absurd cc
 
   -- a step with a reader that is there or isn't
   by_number : (there : Bool) (new : SimState H) (m : link.Move H) (l : Link H) (clock : ℕ) (a : Account) → ArePackets l → IsOf a l.account l.earlier
@@ -135,8 +119,7 @@ module _ {H : Type 0} (answer_of : H → Command → Answer) (after : H → Comm
       by_number (number == 1) _ (link.Reopen clock) l clock a from.packets from.tells (λ there.
       let quiet = is_quiet l.to_reader l.to_controller l.controller.session.state (there_well (number == 1) (not (steps.is_quiet (in_bytes l clock a))) NotQuiet well there) in
       record {
-        carried = reopening l.to_reader l.to_controller (controllers.begin_refusal l.controller) l clock a quiet.0 quiet.1 quiet.2
-            (has_left l.controller.session.state l quiet.2 (from.leave [] tt)) from.packets from.tells;
+        carried = reopening l.to_reader l.to_controller (controllers.begin_refusal l.controller) l clock a quiet.0 quiet.1 quiet.2 from.packets from.tells;
         moves = (tt, tt);
         ordinary = (tt, tt);
       })
@@ -212,7 +195,7 @@ module _ {H : Type 0} (answer_of : H → Command → Answer) (after : H → Comm
       let now = step_clock step clock in
       let later = link.run answer_of after (move_of step clock) l in
       let is = first.carried.state in
-      let rest = schedule_follows reads steps later now next.account (goes_from next (move_of step clock) l now a from first)
+      let rest = schedule_follows reads steps later now next.account (goes_from next (move_of step clock) l now a first)
       (subst (λ t. is_well answer_of after steps t ≡ true) is both.1) (subst (FitAlong answer_of after steps) is fits.1) in
       goes_on next (run answer_of after steps next) (move_of step clock) (moves_of steps now) l now (clock_after steps now) a first
       (subst (λ t. Follows (run answer_of after steps t) (moves_of steps now) later (clock_after steps now) next.account) (sym is) rest)

@@ -8,7 +8,7 @@ use Rattle.osdp_link_laws.specs.Headline.{IsBeginning}
 use Rattle.osdp_link_laws.specs.Link as link
 use Rattle.osdp_link_laws.specs.OneHandler.{with_answers}
 use Rattle.osdp_link_laws.specs.Refusals.{IsOtherCause}
-use Rattle.osdp_link_laws.specs.Sessions.{ended_commands, in_all}
+use Rattle.osdp_link_laws.specs.Sessions.{in_all}
 use Rattle.osdp_sim.specs.Account.{Account, lists_of}
 use Rattle.osdp_sim.specs.Runs.{FitAlong, RunEnds, steps_done}
 use Rattle.osdp_sim.specs.State.{set_up}
@@ -25,11 +25,11 @@ use Rattle.osdp_sim.specs.declared.step.SimStep.TheVariants.{Reopen}
 abbrev pub no_lengths : Lengths
 no_lengths = record { issued = 0; taken = 0; settled = 0; unsettled = 0; queued = 0; reported = 0; ends = 0 }
 
--- the account holds what these sessions came to, the last of them first: as many have begun; the commands of a session are those after the ones that
--- the sessions before it settled or told unsettled; and the events of an only session are those queued
+-- the account holds what these sessions came to, the last of them first: as many have begun; the commands and events of an only session are those
+-- issued and queued
 pub record IsOf (a : Account) (t : link.Account) (earlier : List link.Account) : Type 0 where
   pub sessions : length a.sessions ≡ length earlier + 1
-  pub issued : a.issued ≡ ended_commands earlier ++ t.issued
+  pub issued : earlier ≡ [] → a.issued ≡ t.issued
   pub queued : earlier ≡ [] → a.queued ≡ t.queued
   pub taken : a.taken ≡ in_all (λ t. t.taken) (t ∷ earlier)
   pub settled : a.settled ≡ in_all (λ t. t.settled) (t ∷ earlier)

@@ -1,4 +1,4 @@
--- What the laws of accounts stand on: how packets are read, and the theory of one link.
+-- What the laws of accounts stand on: how packets are read, the theory of one link, and its ledger.
 use Rattle.std.specs.Prelude.{◌≡◌, ℕ, [], ◌∷◌}
 use Rattle.osdp_frame.specs.Items.{packets_in}
 use Rattle.osdp_frame.specs.Packet.{IsPacket, Packet}
@@ -8,9 +8,9 @@ use Rattle.osdp_controller.specs.declared.session.Session.{Session}
 use Rattle.osdp_controller_laws.specs.Commands.{TellsEnds}
 use Rattle.osdp_reader.specs.declared.handler.Answer.{Answer}
 use Rattle.osdp_link_laws.specs.Headline.{HoldsOnce}
-use Rattle.osdp_link_laws.specs.OneHandler.{GivesItsAnswers}
 use Rattle.osdp_link_laws.specs.Refusals.{RefusesNoNumberWithoutRestart}
-use Rattle.osdp_link_laws.specs.Sessions.{SessionsInARow}
+use Rattle.osdp_link_ledger.specs.Accounts.{LedgerTellsAccounts}
+use Rattle.osdp_link_ledger.specs.Answers.{ActsHaveAnswersOfOneHandler}
 
 -- a packet that goes over the line is read as it is, and where nothing comes through nothing is read
 pub record ReadsPackets : Type 0 where
@@ -24,7 +24,7 @@ EndsAreTold = (now : ℕ) (s : Session) → TellsEnds now s
 pub record OneLink {H : Type 0} (answer_of : H → Command → Answer) (after : H → Command → H) : Type 0 where
   pub reads : ReadsPackets
   pub once : HoldsOnce answer_of after
-  pub answers : GivesItsAnswers answer_of after
-  pub sessions : SessionsInARow answer_of after
+  pub tells : LedgerTellsAccounts answer_of after
+  pub acts : ActsHaveAnswersOfOneHandler answer_of after
   pub causes : RefusesNoNumberWithoutRestart answer_of after
   pub told : EndsAreTold

@@ -12,15 +12,15 @@ ghost use Rattle.osdp_sim_laws.specs.Resting.{ClearsTheLine, EachRoundBringsOneM
 
 use osdp_reader::Handler;
 
-/// What the laws of accounts stand on: a packet is read as it is spelled, and the theory of one link.
+/// What the laws of accounts stand on: a packet is read as it is spelled, the theory of one link, and its ledger.
 fn stands_on_one_link<H: Handler>()
     ensures { OneLink H.answer_of H.after }
 {
     osdp_frame_laws::reads_packets();
     osdp_frame_laws::one_spelling();
     osdp_link_laws::holds_once::<H>();
-    osdp_link_laws::answers_of_one_handler::<H>();
-    osdp_link_laws::sessions_in_a_row::<H>();
+    osdp_link_ledger::ledger_tells_accounts::<H>();
+    osdp_link_ledger::acts_have_answers_of_one_handler::<H>();
     osdp_link_laws::refuses_no_number::<H>();
     osdp_controller_laws::endings_are_told();
 }

@@ -78,7 +78,7 @@ module _ {H : Type 0} (answer_of : H → Command → Answer) (after : H → Comm
           events = held.1;
           told = told l ms (each_all IsOrdinary ms (steady_ordinary ms steady));
           once = once l ms m.begins m.fit;
-          answers = acts l ms m.begins m.fit (steady_handler answer_of after ms l steady);
+          answers = acts l ms (steady_handler answer_of after ms l steady);
           lists = m.follows.tells;
           issued = m.issued;
           queued_so = m.queued;

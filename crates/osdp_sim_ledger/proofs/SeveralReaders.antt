@@ -85,9 +85,9 @@ module _ {H : Type 0} (answer_of : H → Command → Answer) (after : H → Comm
               events = kept.events;
               told = told l mine (each_all IsOrdinary mine (steady_ordinary mine steady));
               once = subst (λ (v : Link H). EachIsOnce (v.account ∷ v.earlier)) (sym same) (once l mine begins its.fits);
-              answers = acts l mine begins its.fits (steady_handler answer_of after mine l steady);
+              answers = acts l mine (steady_handler answer_of after mine l steady);
               lists = t.2.tells;
-              issued = t.2.tells.issued ∙ ap (λ (v : Link H). ended_commands v.earlier ++ v.account.issued) same ∙ sym (places l mine begins its.fits);
+              issued = t.2.issued ∙ ap (λ (v : Link H). ended_commands v.earlier ++ v.account.issued) same ∙ sym (places l mine begins its.fits);
               queued_so = found.2 ∙ sym (in_link answer_of after queued own k moves n0 first heard done.fits from) ∙ sym (events_counted answer_of after mine l);
             }),
       )

@@ -9,8 +9,8 @@ returns g c = record {
     none = c.reads_packets.ensures.none;
   };
   once = c.holds_once.ensures;
-  answers = c.answers_of_one_handler.ensures;
-  sessions = c.sessions_in_a_row.ensures;
+  tells = c.ledger_tells_accounts.ensures;
+  acts = c.acts_have_answers_of_one_handler.ensures;
   causes = c.refuses_no_number.ensures.never;
   told = c.endings_are_told.ensures;
 }
