@@ -45,10 +45,10 @@ refuse_each() {
   [ ! -e "$work/mark" ] || fail "$2: there is a request $number"
 }
 
-# What waits in a reader or a controller are two requests: for the sizes, and for the bytes.
+# What waits in a reader or a controller are two requests: for the sizes, and for the bytes. What a reader answers to CAP is one before these.
 machines=osdp_machine_tests
 for test in an_event_is_told_until_the_next_number damage::no_changed_byte_stops_a_reader; do
-  refuse_each $machines tests::reader::out_of_memory_is_told 2 "tests::reader::$test" '[12]'
+  refuse_each $machines tests::reader::out_of_memory_is_told 3 "tests::reader::$test" '[1-3]'
 done
 for test in a_session numbers_take_turns another_address; do
   refuse_each $machines tests::controller::out_of_memory_is_told 2 "tests::controller::$test" '[12]'
@@ -58,9 +58,9 @@ refuse_each osdp_port_tests bus::reservations::out_of_memory_is_told 10 bus::tur
 for test in two_devices_take_turns a_pause_holds_the_line; do
   refuse_each osdp_port_tests bus::reservations::out_of_memory_is_told 10 bus::turns::$test '[1-9]|10'
 done
-# Twenty requests to set up: two for each list of messages, and settled commands are two such lists. Six by the steps.
+# Twenty requests to set up: two for each list of messages, and settled commands are two such lists. Six by the steps. The reader answers nothing to CAP.
 refuse_each osdp_sim_tests tests::refusals::out_of_memory_is_told 26 tests::refusals::memory_is_needed '.*'
 refuse_each osdp_sim_tests tests::scripts::out_of_memory_is_told 26 tests::scripts::memory_is_needed '.*'
-# The first request is the test's own, for the list of readers.
-refuse_each osdp_sim_tests tests::buses::refusals::out_of_memory_is_told 60 tests::buses::refusals::memory_is_needed '.*'
+# The first request is the test's own, for the list of readers. Each of the two readers answers something to CAP.
+refuse_each osdp_sim_tests tests::buses::refusals::out_of_memory_is_told 62 tests::buses::refusals::memory_is_needed '.*'
 exit "$failed"

@@ -5,8 +5,8 @@ ghost use Rattle.osdp_msg.specs.declared.nak.NakReason.TheVariants.{RecordNotPro
 ghost use Rattle.osdp_reader.specs.declared.handler.Answer.TheVariants.{Done, Refuse};
 
 use osdp_controller::{Controller, ControllerConfig};
-use osdp_frame::{Address, CheckKind, FrameView, Header, Seq};
-use osdp_msg::{Command, NakReason, Room, Spelling};
+use osdp_frame::{Address, Burst, CheckKind, FrameView, Header, Seq};
+use osdp_msg::{Command, NakReason, Room};
 use osdp_reader::{Answer, Handler, Reader};
 use osdp_script::script_config;
 use std::alloc::Global;
@@ -23,7 +23,7 @@ impl Handler for Device {
 
     ghost after = { λ device command. device };
 
-    fn answer<'a>(&mut self, _command: &Command<'_>, _place: &'a mut Spelling) -> Answer<'a> {
+    fn answer<'a>(&mut self, _command: &Command<'_>, _place: &'a mut Burst) -> Answer<'a> {
         if self.is_on {
             Answer::Done
         } else {

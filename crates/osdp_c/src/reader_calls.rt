@@ -12,29 +12,16 @@ use osdp_c_values::{
 };
 use osdp_device::{Ages, Device, Expired, ProgramAnswers};
 use osdp_frame::{Address, Burst, CheckKind, FrameView, Header, Seq, is_time};
-use osdp_msg::{Capability, Event, MAX_DATA, MakerMessage, MsgFault, Records, Reply, Room, States};
-use osdp_reader::{Answer, Kind, Reader, ReaderConfig, ReaderFault};
+use osdp_msg::{Event, MAX_DATA, MakerMessage, MsgFault, PdCap, Reply, Room, States};
+use osdp_reader::{Answer, Kind, Reader, ReaderFault, ReaderParts};
 use std::alloc::Global;
 
-/// These records in a list of their own.
-fn own_caps(records: Records<'_, Capability>) -> ArrayVec<Capability, 477>
-    requires { length records ≤ 477 }
-    ensures { result.items ≡ records.entry }
-{
-    let mut caps = ArrayVec::new();
-    let mut left = records;
-    'records: while let Some(capability) = left.next() {
-        caps.try_push(capability).unwrap();
-    }
-    caps
-}
-
 /// What a reader answers to CAP, by the data of that reply.
-fn read_caps(body: &[u8]) -> Result<ArrayVec<Capability, 477>, MsgFault>
-    ensures { result ≡ caps_of body.now }
+fn read_caps(body: &[u8]) -> Result<PdCap<'_>, MsgFault>
+    ensures { result_map_both (λ caps. caps.capabilities) (λ fault. fault) result ≡ caps_of body.now }
 {
     match Reply::read(0x46, body) {
-        Ok(Reply::PdCap(caps)) => Ok(own_caps(caps.capabilities())),
+        Ok(Reply::PdCap(caps)) => Ok(caps),
         Ok(_) => Err(MsgFault::Length),
         Err(fault) => Err(fault),
     }
@@ -52,9 +39,9 @@ fn new_machine(
     alloc: Global,
     room: Option<Room>,
     settings: &ReaderSettings,
-    caps: ArrayVec<Capability, 477>,
+    caps: &PdCap<'_>,
 ) -> Result<Box<ReaderMachine>, ReaderFault>
-    ensures { MadeWith room settings.now caps (result_map_both (λ b. b.value) (λ fault. fault) result) }
+    ensures { MadeWith room settings.now caps.now.capabilities (result_map_both (λ b. b.value) (λ fault. fault) result) }
 {
     let Some(room) = room else {
         return Err(ReaderFault::OutOfRange);
@@ -65,21 +52,18 @@ fn new_machine(
     let Some(address) = Address::new(settings.address as u8) else {
         return Err(ReaderFault::OutOfRange);
     };
-    let config = ReaderConfig {
-        address,
-        id: settings.to_id(),
-        caps,
-    };
     let Ok(ages) = Ages::new(alloc, room.messages) else {
         return Err(ReaderFault::NoMemory);
     };
-    let reader = match Reader::new(alloc, config, ProgramAnswers::new(), room) {
-        Ok(reader) => reader,
+    let parts = match ReaderParts::new(alloc, address, settings.to_id(), caps, room) {
+        Ok(parts) => parts,
         Err(fault) => return Err(fault),
     };
-    let Some(device) = Device::with_ages(reader, ages, settings.gap) else {
-        return Err(ReaderFault::OutOfRange);
-    };
+    let device = Device::with_ages(
+        Reader::with(parts, ProgramAnswers::new()),
+        ages,
+        settings.gap,
+    );
     let clock = Clock::new(settings.clock_limit());
     let sent = Place::new(Burst::new());
     match Box::new(
@@ -108,7 +92,7 @@ pub(crate) fn new_box(
         Ok(caps) => caps,
         Err(fault) => return Err(Status::Message(fault)),
     };
-    match new_machine(alloc, room, settings, caps) {
+    match new_machine(alloc, room, settings, &caps) {
         Ok(machine) => Ok(machine),
         Err(fault) => Err(Status::Reader(fault)),
     }

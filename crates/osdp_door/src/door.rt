@@ -8,9 +8,8 @@ ghost use Rattle.osdp_door.specs.DoorRules.{after_time, bit, closed_door, color_
 ghost use Rattle.osdp_door.specs.Outputs.{is_on};
 
 use crate::output::DoorOutput;
-use osdp_msg::{
-    Command, LedRecord, MAX_DATA, MAX_MESSAGE, NakReason, OutputRecord, Records, Room, Spelling,
-};
+use osdp_frame::Burst;
+use osdp_msg::{Command, LedRecord, MAX_DATA, MAX_MESSAGE, NakReason, OutputRecord, Records, Room};
 use osdp_reader::{Answer, Handler, Reader, ReaderConfig, ReaderFault, lend};
 use osdp_script::are_known;
 use std::alloc::Global;
@@ -127,7 +126,7 @@ fn bit(is_so: bool) -> u8
 }
 
 /// For each output the byte that tells whether it is on, put in place of what stands in `place`.
-fn put_states(outputs: &[DoorOutput], place: &mut Spelling)
+fn put_states(outputs: &[DoorOutput], place: &mut Burst)
     requires { length outputs.now ≤ MAX_DATA }
     ensures { place.new.items ≡ map (λ o. bit (is_on o)) outputs.now }
 {
@@ -138,7 +137,7 @@ fn put_states(outputs: &[DoorOutput], place: &mut Spelling)
 }
 
 /// The answer that tells it.
-fn tell_states<'a>(outputs: &[DoorOutput], place: &'a mut Spelling) -> Answer<'a>
+fn tell_states<'a>(outputs: &[DoorOutput], place: &'a mut Burst) -> Answer<'a>
     requires { length outputs.now ≤ MAX_DATA }
     ensures { result ≡ answer.List (record { items = map (λ o. bit (is_on o)) outputs.now }) }
 {
@@ -151,7 +150,7 @@ impl Handler for Door {
 
     ghost after = { door_after };
 
-    fn answer<'a>(&mut self, command: &Command<'_>, place: &'a mut Spelling) -> Answer<'a> {
+    fn answer<'a>(&mut self, command: &Command<'_>, place: &'a mut Burst) -> Answer<'a> {
         match command {
             Command::LocalStatus => Answer::Local(bit(self.is_tampered), bit(self.has_no_power)),
             Command::InputStatus => Answer::list(lend(&self.inputs, place)),

@@ -3,8 +3,8 @@
 use arrayvec::ArrayVec;
 use osdp_device::{
     Address, Burst, Capability, Command, Device, Event, Heard, Keypad, MAX_DATA, Order,
-    OutputRecord, PdId, ProgramAnswers, Raw, Reader, ReaderConfig, Room, Settled, Spelling, States,
-    Unsent, lend, order_of, ordered,
+    OutputRecord, PdId, ProgramAnswers, Raw, Reader, ReaderConfig, Room, Settled, States, Unsent,
+    lend, order_of, ordered,
 };
 use std::alloc::Global;
 
@@ -106,7 +106,7 @@ pub fn input_was_switched(device: &mut Device<ProgramAnswers>, input: usize, on:
     if let Some(state) = inputs.get_mut(input) {
         *state = u8::from(on);
     }
-    let mut place = Spelling::new();
+    let mut place = Burst::new();
     if let Some(states) = States::new(lend(inputs.as_slice(), &mut place)) {
         let _ = device.submit_event(&Event::Inputs(states), now);
     }

@@ -3,7 +3,8 @@
 ghost use Rattle.std.specs.Prelude.{◌≡◌};
 ghost use Rattle.osdp_machine_tests.specs.Bench.{answer_given};
 
-use osdp_msg::{Command, MakerMessage, NakReason, Spelling};
+use osdp_frame::Burst;
+use osdp_msg::{Command, MakerMessage, NakReason};
 use osdp_reader::{Answer, Handler, lend};
 use std::mem;
 
@@ -24,7 +25,7 @@ pub enum Given {
 
 impl Given {
     /// The answer, with its bytes in `place`.
-    fn answer<'a>(self, place: &'a mut Spelling) -> Answer<'a>
+    fn answer<'a>(self, place: &'a mut Burst) -> Answer<'a>
         ensures { result ≡ answer_given self }
     {
         match self {
@@ -54,7 +55,7 @@ impl Handler for Bench {
 
     ghost after = { λ bench command. record { first = Done } };
 
-    fn answer<'a>(&mut self, _command: &Command<'_>, place: &'a mut Spelling) -> Answer<'a> {
+    fn answer<'a>(&mut self, _command: &Command<'_>, place: &'a mut Burst) -> Answer<'a> {
         mem::replace(&mut self.first, Given::Done).answer(place)
     }
 }

@@ -1,6 +1,7 @@
 //! A handler of one of two types.
 
-use osdp_msg::{Command, Spelling};
+use osdp_frame::Burst;
+use osdp_msg::Command;
 use osdp_reader::{Answer, Handler};
 
 /// What a device does whose handler is of one of two types. So devices with handlers of different types stand on one line: a third type is one more `EitherHandler`.
@@ -18,7 +19,7 @@ impl<A: Handler, B: Handler> Handler for EitherHandler<A, B> {
 
     ghost after = { after_either A.after B.after };
 
-    fn answer<'a>(&mut self, command: &Command<'_>, place: &'a mut Spelling) -> Answer<'a> {
+    fn answer<'a>(&mut self, command: &Command<'_>, place: &'a mut Burst) -> Answer<'a> {
         match self {
             EitherHandler::First(handler) => handler.answer(command, place),
             EitherHandler::Second(handler) => handler.answer(command, place),

@@ -5,7 +5,8 @@ ghost use Rattle.osdp_script.specs.Handler.{answer_to_maker, new_handler};
 
 use crate::known::are_known;
 use crate::outputs::switch_all;
-use osdp_msg::{Command, MakerMessage, NakReason, Spelling};
+use osdp_frame::Burst;
+use osdp_msg::{Command, MakerMessage, NakReason};
 use osdp_reader::{Answer, Handler, lend};
 
 /// The maker's code of a script's readers.
@@ -29,7 +30,7 @@ impl ScriptReader {
 }
 
 /// The maker's own reply has the bytes of the command, which are put into `place`. Another maker's command is refused.
-fn answer_to_maker<'a>(message: &MakerMessage<'_>, place: &'a mut Spelling) -> Answer<'a>
+fn answer_to_maker<'a>(message: &MakerMessage<'_>, place: &'a mut Burst) -> Answer<'a>
     ensures { result ≡ answer_to_maker message.now }
 {
     let vendor = message.vendor();
@@ -47,7 +48,7 @@ impl Handler for ScriptReader {
 
     ghost after = { handler_after };
 
-    fn answer<'a>(&mut self, command: &Command<'_>, place: &'a mut Spelling) -> Answer<'a> {
+    fn answer<'a>(&mut self, command: &Command<'_>, place: &'a mut Burst) -> Answer<'a> {
         match command {
             Command::LocalStatus => Answer::Local(0, 0),
             Command::InputStatus | Command::ReaderStatus => Answer::list(&[0]),
