@@ -342,7 +342,7 @@ module _ {H : Type 0} (answer_of : H → Command → Answer) (after : H → Comm
       (one_session answer_of after config handler (orders ++ more) (each_append IsInSession orders more inside (clean_within n))) in
       let all_none = subst (λ s. Each SetsNoAddress s.account.issued) ended none in
       let first_lists = same_lists config handler before ms (clock_after orders 0) first (one_session answer_of after config handler orders inside) in
-      let none_before = subst (Each SetsNoAddress) first_lists.issued
+      let none_before = subst (Each SetsNoAddress) (first_lists.issued refl)
       (each_front SetsNoAddress before.account.issued (all_submitted answer_of after ns later) (subst (Each SetsNoAddress) next.carried.issued all_none)) in
       let opening = moment_after 400 0 in
       let moments = moments_of n 50 opening in
