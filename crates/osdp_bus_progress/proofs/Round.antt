@@ -27,11 +27,11 @@ use Rattle.osdp_link_laws.proofs.Due.{closed_rests}
 use Rattle.osdp_link_laws.proofs.Numbers.{is_true}
 use Rattle.osdp_shared_line.specs.Addresses.{NetMovesFit}
 use Rattle.osdp_shared_line.specs.Line as line
-use Rattle.osdp_shared_line.specs.Line.{Net, NetMove, Tick, ToPanel, address_of, after_net, run, site_at}
+use Rattle.osdp_shared_line.specs.Line.{Net, NetMove, Tick, ToPanel, address_of, run, site_at}
 use Rattle.osdp_shared_line.specs.Progress.{IsEmpty, all_read, net_round}
 use Rattle.osdp_shared_line.specs.Views.{view}
 use Rattle.osdp_shared_line.proofs.Apart.{Apart, reader_address}
-use Rattle.osdp_shared_line.proofs.Rounds.{IsRound, at_length, fits_first, fits_then, one_round}
+use Rattle.osdp_shared_line.proofs.Rounds.{IsRound, at_length, fits_first, one_round}
 use Rattle.osdp_shared_line.proofs.Sites.{some_same}
 use Rattle.osdp_bus_links.specs.Links.{device_of, one_ticks, who_ticks}
 use Rattle.osdp_bus_links.proofs.Devices.{get_device, get_none}
@@ -75,7 +75,6 @@ sited k [] few = absurd (omega (arith, few))
 sited zero (t ∷ ss) few = (t, refl)
 sited (suc k) (t ∷ ss) few = sited k ss (omega (arith, few))
 
-module _ {H : Type 0} (answer_of : H → Command → Answer) (after : H → Command → H) where
 module _ {H : Type 0} where
   abbrev pub IsOpen : Link H → Type 0
   IsOpen l = l.controller.session.state ≡ Closed → ⊥

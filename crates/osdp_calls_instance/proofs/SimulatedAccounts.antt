@@ -13,8 +13,8 @@ use Rattle.osdp_bus.specs.Machine.{after_next_report, submit_refusal_at}
 use Rattle.osdp_bus.specs.Ticking.{bus_ticks}
 use Rattle.osdp_bus.specs.declared.fault.BusFault.{BusFault}
 use Rattle.osdp_bus_laws.specs.Calls as bus
-use Rattle.osdp_bus_laws.specs.Reports.{TellsEachOnce, taken_along, taken_in, told_along}
-use Rattle.osdp_link_laws.proofs.Lines.{each_all, each_of}
+use Rattle.osdp_bus_laws.specs.Reports.{TellsEachOnce, taken_along, told_along}
+use Rattle.osdp_link_laws.proofs.Lines.{each_of}
 use Rattle.osdp_link_laws.proofs.Stages.{Each}
 use Rattle.osdp_reader.specs.declared.handler.Answer.{Answer}
 use Rattle.osdp_reader.specs.Queue.{lacks_room}

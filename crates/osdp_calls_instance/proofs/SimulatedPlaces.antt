@@ -14,7 +14,7 @@ use Rattle.osdp_reader.specs.declared.handler.Answer.{Answer}
 use Rattle.osdp_reader.specs.Queue.{lacks_room}
 use Rattle.osdp_shared_line.specs.Line.{site_at}
 use Rattle.osdp_shared_line.proofs.Sites.{at_changed, at_other, some_same}
-use Rattle.osdp_calls.specs.Calls.{Call, Next, OfPanel, Pending, SetBusy, SetHandler, Silence, Step, SubmitEvent, Take, TickDevice, after_call, after_calls, after_next, answers, by_device, changes_at, first_answered, last_of, nexts, on_station, queues, read_by, read_up_to, WithdrawEvent}
+use Rattle.osdp_calls.specs.Calls.{Call, Next, OfPanel, Pending, SetBusy, SetHandler, Silence, Step, SubmitEvent, Take, TickDevice, after_call, after_calls, after_next, by_device, changes_at, first_answered, last_of, nexts, on_station, queues, read_by, read_up_to, WithdrawEvent}
 use Rattle.osdp_calls.specs.Ends.{GoByTheirOwn, Held, device_after, held_by}
 use Rattle.osdp_calls.specs.Lines.{Burst, InUse, Opening, Station, is_before, is_past_for_device, is_past_for_panel}
 use Rattle.osdp_calls.specs.Premises.{AreInOrder, AreNotPast, InOrder, IsOfOthers, NextInOrder, QuietOpening}

@@ -28,11 +28,11 @@ use Rattle.osdp_reader.specs.declared.kind.Kind.{Kind}
 use Rattle.osdp_reader.specs.declared.kind.Kind.TheVariants as kind
 use Rattle.osdp_ledger.specs.History.{End, Forgotten, GivenBack, History, InDoubt, Settled, ends_at_restart, new_history, runs, steps_on}
 use Rattle.osdp_ledger.specs.Ledger as ledger
-use Rattle.osdp_ledger.specs.Ledger.{Card, Doubt, Ledger, NoOffer, Offer, Order, RestartPanel, Settle, new_ledger}
+use Rattle.osdp_ledger.specs.Ledger.{Card, Doubt, Ledger, Order, RestartPanel, Settle, new_ledger}
 use Rattle.osdp_link_laws.proofs.Lines.{both, each_append}
 use Rattle.osdp_link_laws.proofs.Stages.{Each}
 use Rattle.osdp_link_ledger.specs.Accounts.{doubted_as, settled_as}
-use Rattle.osdp_link_ledger.specs.Steps.{acts, acts_at_zero, acts_on, after_steps, leaves, leaving, offered_at, offers, order_at, queued_before, queues, submits, told, withdraws, withdraws_event}
+use Rattle.osdp_link_ledger.specs.Steps.{acts, acts_at_zero, acts_on, after_steps, leaves, leaving, offers, queued_before, queues, submits, told, withdraws, withdraws_event}
 use Rattle.osdp_shared_line.specs.Line.{site_at}
 use Rattle.osdp_calls.specs.Calls as calls
 use Rattle.osdp_calls.specs.Calls.{Call, NewDevice, NewPanel, Next, OfPanel, Pending, SetHandler, Silence, Step, SubmitEvent, Take, TickDevice, WithdrawEvent, after_call, asked_at, first_answered, read_up_to}

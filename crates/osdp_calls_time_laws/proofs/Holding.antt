@@ -1,8 +1,7 @@
 -- Call after call each packet is read in time, so each opening is quiet.
-use Rattle.std.proofs.Common.{◌≡◌, ◌+◌, ◌<◌, ◌≤◌, ℕ, Bool, true, false, List, [], ◌∷◌, length, refl, sym, subst, ap, ◌∙◌, arith, ◌++◌}
+use Rattle.std.proofs.Common.{◌≡◌, ◌+◌, ◌<◌, ◌≤◌, ℕ, List, [], ◌∷◌, length, refl, sym, subst, ap, ◌∙◌, arith, ◌++◌}
 use Rattle.std.specs.Prelude.{◌^◌, map, slice_get}
 use Rattle.osdp_msg.specs.declared.command.Command.{Command}
-use Rattle.osdp_msg.specs.declared.event.Event.{Event}
 use Rattle.osdp_bus.specs.Buses.{BusState}
 use Rattle.osdp_bus.specs.Entries.{address_of}
 use Rattle.osdp_bus.specs.Settings.{IsBusConfig}

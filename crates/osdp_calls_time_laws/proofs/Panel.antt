@@ -1,5 +1,5 @@
 -- The panel's calls, on a line whose packets are read in time.
-use Rattle.std.proofs.Common.{◌≡◌, ◌≢◌, ◌+◌, ◌≤◌, ℕ, max, Bool, true, false, ◌<◌, List, Option, Some, None, refl, sym, subst, ap, ◌∙◌, inl, inr, arith}
+use Rattle.std.proofs.Common.{◌≡◌, ◌+◌, ◌≤◌, ℕ, max, Bool, true, false, ◌<◌, List, Option, Some, None, refl, sym, subst, ap, ◌∙◌, inl, inr, arith}
 use Rattle.std.proofs.lemmas.Bool.Decides.{eqb_tells}
 use Rattle.std.specs.Prelude.{◌^◌, ◌||◌, option_map, slice_get}
 use Rattle.osdp_frame.specs.Packet.{Packet}
@@ -27,7 +27,7 @@ use Rattle.osdp_reader.specs.declared.handler.Answer.{Answer}
 use Rattle.osdp_shared_line.specs.Line.{Net, site_at}
 use Rattle.osdp_shared_line.proofs.Apart.{Apart}
 use Rattle.osdp_shared_line.proofs.Running.{apart_all}
-use Rattle.osdp_shared_line.proofs.Sites.{at_changed, at_other, some_same}
+use Rattle.osdp_shared_line.proofs.Sites.{at_changed, some_same}
 use Rattle.osdp_calls.specs.Calls.{OfPanel, after_call, all_hear, asked_at, begun_of, change_at, changes_at, is_to_begin, issues, last_of, noted, panel_says, read_by, takes_back, withdrawn}
 use Rattle.osdp_calls.specs.Handing.{hears_all, told_by_all}
 use Rattle.osdp_calls.specs.Lines.{InUse, Station}

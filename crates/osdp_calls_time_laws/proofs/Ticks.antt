@@ -15,7 +15,7 @@ use Rattle.osdp_link_laws.proofs.Stages.{Each}
 use Rattle.osdp_reader.specs.declared.handler.Answer.{Answer}
 use Rattle.osdp_shared_line.specs.Line.{Net, site_at}
 use Rattle.osdp_shared_line.proofs.Apart.{Apart}
-use Rattle.osdp_shared_line.proofs.Sites.{at_changed, at_other, some_same}
+use Rattle.osdp_shared_line.proofs.Sites.{at_changed, some_same}
 use Rattle.osdp_calls.specs.Calls.{all_hear, begins_session, begins_with, begun_of, change_at, changes_at, panel_says, waiting_of, said_for}
 use Rattle.osdp_calls.specs.Lines.{Burst, InUse, Station, concerns}
 use Rattle.osdp_calls.proofs.Agreed.{ticks_to}

@@ -18,8 +18,8 @@ use Rattle.osdp_reader.specs.declared.handler.Answer.{Answer}
 use Rattle.osdp_link_laws.specs.Link.{outstanding_command}
 use Rattle.osdp_shared_line.specs.Line.{site_at}
 use Rattle.osdp_shared_line.proofs.Sites.{some_same}
-use Rattle.osdp_calls.specs.Calls.{Call, NewDevice, NewPanel, Next, OfPanel, Pending, SetBusy, SetHandler, Silence, SubmitEvent, Take, TickDevice, WithdrawEvent, after_call, after_next, asked_at, last_of, noted}
-use Rattle.osdp_calls.specs.Lines.{InUse, Station, bus_with}
+use Rattle.osdp_calls.specs.Calls.{Call, NewDevice, NewPanel, Next, OfPanel, Pending, SetBusy, SetHandler, Silence, SubmitEvent, Take, TickDevice, WithdrawEvent, after_call, asked_at, last_of, noted}
+use Rattle.osdp_calls.specs.Lines.{InUse, bus_with}
 use Rattle.osdp_calls.specs.Premises.{InRange, PanelInRange}
 use Rattle.osdp_calls.proofs.Ends.{next_bus, said_bus}
 use Rattle.osdp_calls.proofs.Sayings.{adds_make_the_bus}
