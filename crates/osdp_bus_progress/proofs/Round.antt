@@ -258,7 +258,7 @@ module _ {H : Type 0} (answer_of : H → Command → Answer) (after : H → Comm
       fits_round : NetMovesFit answer_of after (net_round count (at, now)) n
       fits_round =
           let rest = moves_of answer_of after (rounds m wait) s3 in
-          fits_first answer_of after answer_of after (net_round count (at, now)) rest n (subst (λ ms. NetMovesFit answer_of after ms n) (moves_are rest) fits)
+          fits_first answer_of after (net_round count (at, now)) rest n (subst (λ ms. NetMovesFit answer_of after ms n) (moves_are rest) fits)
 
       follows3 : FollowsSites s3 (round_net count at now n)
       follows3 = subst (λ ms. FollowsSites s3 (run answer_of after ms n)) round_is goes
