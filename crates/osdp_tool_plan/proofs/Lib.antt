@@ -1,3 +1,5 @@
+mod InTurn
 mod OneLine
 mod OneSetting
 mod Ranges
+mod Refused

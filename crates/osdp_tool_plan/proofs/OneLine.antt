@@ -18,7 +18,7 @@ use Rattle.osdp_tool_plan.proofs.Ranges.{planned_in_range}
 abbrev plan_in : Planned → Plan
 plan_in planned = planned.plan
 
-one_plan : (given : List (List ℕ)) (a b : Plan) → ArePlan given a → ArePlan given b → a ≡ b
+pub one_plan : (given : List (List ℕ)) (a b : Plan) → ArePlan given a → ArePlan given b → a ≡ b
 one_plan given a b (settings, give, is) (others, gave, are) =
     let alike : settings ≡ others = given_once given settings others give gave in
     ap plan_in (some_same (record { plan = a }) (record { plan = b }) (sym is ∙ ap (λ (l : List PlanSetting). after put l defaults) alike ∙ are))
@@ -27,7 +27,7 @@ one_text : (given : List (List ℕ)) (start one other : List ℕ) → Prints giv
 one_text given start one other h g =
     h.text ∙ ap (λ (p : Plan). start ++ plan_text p) (one_plan given h.plan g.plan h.planned.are g.planned.are) ∙ sym g.text
 
-none_short : (p : Plan) (short : Option TooShort) → IsLongEnough p → Judges p short → short ≡ None
+pub none_short : (p : Plan) (short : Option TooShort) → IsLongEnough p → Judges p short → short ≡ None
 none_short p None h judges = refl
 none_short p (Some (PacketPasses time)) h judges = absurd (omega (arith, h.packet, judges.0))
 none_short p (Some (AnswerComes time)) h judges = absurd (omega (arith, h.answer, judges.1))

@@ -9,7 +9,7 @@ use Rattle.osdp_tool_plan.specs.Ending.{Plans}
 use Rattle.osdp_tool_plan.specs.declared.setting.Planned.{Planned}
 use Rattle.osdp_tool_plan.specs.declared.setting.PlanSetting.{PlanSetting}
 use Rattle.osdp_tool_plan.specs.declared.setting.PlanSetting.TheVariants.{Check, Readers, Rate, Longest, Answer, Hold, Late, Orders, PollBetweenOrders, ReplyWait, PollInterval, Sends, BusyWait, BusyLimit, QuietWait}
-use Rattle.osdp_tool_plan.specs.Settings.{AreInRange, defaults, entry, put, with_setting}
+use Rattle.osdp_tool_plan.specs.Settings.{AreInRange, ArePlan, defaults, entry, put, with_setting}
 
 pub set_in_range : (s : PlanSetting) (p : Plan) → SettingFits entry s → IsPlan p → IsPlan (with_setting s p)
 set_in_range (Check kind) p fits h = record { readers = h.readers; rate = h.rate; longest = h.longest; answer = h.answer; hold = h.hold; late = h.late; orders = h.orders; reply_wait = h.reply_wait; poll_interval = h.poll_interval; sends = h.sends; busy_wait = h.busy_wait; busy_limit = h.busy_limit; quiet_wait = h.quiet_wait }
@@ -38,5 +38,8 @@ kept : (settings : List PlanSetting) (config last : Planned) → AllByRecursion 
 kept [] config last fits h is = subst AreInRange (some_same config last is) h
 kept (s ∷ settings) config last fits h is = kept settings (record { plan = with_setting s config.plan }) last fits.1 (set_in_range s config.plan fits.0 h) is
 
+pub are_in_range : (given : List (List ℕ)) (p : Plan) → ArePlan given p → IsPlan p
+are_in_range given p (settings, give, is) = kept settings defaults (record { plan = p }) give.fit default_in_range is
+
 pub planned_in_range : (given : List (List ℕ)) (p : Plan) → Plans given p → IsPlan p
-planned_in_range given p h = let (settings, give, is) = h.are in kept settings defaults (record { plan = p }) give.fit default_in_range is
+planned_in_range given p h = are_in_range given p h.are

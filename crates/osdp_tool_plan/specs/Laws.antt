@@ -1,10 +1,16 @@
--- What follows where words plan a line.
-use Rattle.std.specs.Prelude.{◌≡◌, ℕ, List, Option, Some, None}
+-- What follows where words plan a line, and where they don't.
+use Rattle.std.specs.Prelude.{◌≡◌, ◌⊎◌, ◌↔◌, ℕ, Bool, true, false, List, ◌++◌, Option, Some, None, OnOk, Result, Ok, Err}
 use Rattle.osdp_plan.specs.declared.judging.TooShort.{TooShort}
 use Rattle.osdp_plan.specs.declared.plan.Plan.{Plan}
 use Rattle.osdp_plan.specs.Judging.{Judges}
 use Rattle.osdp_plan.specs.Plans.{IsPlan}
-use Rattle.osdp_tool_plan.specs.Ending.{Plans, Prints}
+use Rattle.osdp_settings.specs.Laws.{AreAlike}
+use Rattle.osdp_tool_plan.specs.declared.command.WrongPlan.{WrongPlan}
+use Rattle.osdp_tool_plan.specs.declared.command.WrongPlan.TheVariants.{Setting}
+use Rattle.osdp_tool_plan.specs.Ending.{Ends, Plans, PlansNone, Prints, RefusesWords}
+use Rattle.osdp_tool_plan.specs.Text.{plan_text}
+use Rattle.osdp_tool_streams.specs.declared.fault.ToolFault.{ToolFault}
+use Rattle.osdp_tool_streams.specs.declared.fault.ToolFault.TheVariants.{BadWords, WriteFailed, NoMemory}
 
 -- the words plan one line, within its ranges; no setting of it is told to be too short; and one text is printed of it
 pub record ArePlannedOnce (given : List (List ℕ)) : Type 0 where
@@ -16,3 +22,47 @@ pub record ArePlannedOnce (given : List (List ℕ)) : Type 0 where
 -- .. whatever the words are
 abbrev pub PlansOnce : Type 0
 PlansOnce = (given : List (List ℕ)) → ArePlannedOnce given
+
+-- the same is told
+abbrev pub AreSameRefusal : WrongPlan → WrongPlan → Type 0
+AreSameRefusal (Setting a) (Setting b) = AreAlike a b
+AreSameRefusal a b = a ≡ b
+
+-- the words are refused for one thing at most, and for none where they plan a line
+pub record AreRefusedOnce (given : List (List ℕ)) : Type 0 where
+  pub one : (a b : WrongPlan) → RefusesWords given a → RefusesWords given b → AreSameRefusal a b
+  pub not_both : (wrong : WrongPlan) (p : Plan) → RefusesWords given wrong → Plans given p → ⊥
+
+abbrev pub RefusesOnce : Type 0
+RefusesOnce = (given : List (List ℕ)) → AreRefusedOnce given
+
+-- what the command may answer
+abbrev pub IsAnswer : Result (Unit {0}) ToolFault → Type 0
+IsAnswer (Ok done) = Unit {0}
+IsAnswer (Err BadWords) = Unit {0}
+IsAnswer (Err WriteFailed) = Unit {0}
+IsAnswer (Err NoMemory) = Unit {0}
+IsAnswer _ = ⊥
+
+-- a beginning of the figures of the line that the words plan
+pub record IsBegun (given : List (List ℕ)) (start now : List ℕ) : Type 0 where
+  pub plan : Plan
+  pub planned : Plans given plan
+  pub rest : List ℕ
+  pub whole : start ++ plan_text plan ≡ now ++ rest
+
+-- Words that plan no line are refused, and no others, unless a write failed before. A failed write is told exactly where there was one. All of the figures are printed where the work is
+-- done, nothing without memory, and else nothing or a beginning of them.
+pub record IsToldInTurn (given : List (List ℕ)) (start now : List ℕ) (failed : Bool) (result : Result (Unit {0}) ToolFault) : Type 0 where
+  pub answer : IsAnswer result
+  pub refused : (result ≡ Err BadWords) ↔ (PlansNone given × (failed ≡ false))
+  pub write : (result ≡ Err WriteFailed) ↔ (failed ≡ true)
+  pub done : (p : Plan) → Plans given p → OnOk result (now ≡ start ++ plan_text p)
+  pub memory : result ≡ Err NoMemory → now ≡ start
+  pub printed : (now ≡ start) ⊎ IsBegun given start now
+
+-- however it ends
+abbrev pub EndsInTurn : Type 0
+EndsInTurn =
+    (given : List (List ℕ)) (start now : List ℕ) (failed : Bool) (result : Result (Unit {0}) ToolFault)
+    → Ends given (Some start) (Some now) failed result → IsToldInTurn given start now failed result

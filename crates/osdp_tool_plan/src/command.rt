@@ -1,8 +1,8 @@
 //! The command `plan`.
 
-ghost use Rattle.std.specs.Prelude.{IfErr, IfOk, OnOk, false, string_bytes, ◌≡◌};
+ghost use Rattle.std.specs.Prelude.{IfErr, IfOk, false, string_bytes, ◌≡◌};
 ghost use Rattle.osdp_plan.specs.Plans.{IsPlan};
-ghost use Rattle.osdp_tool_plan.specs.Ending.{Plans, Prints, RefusesPlan};
+ghost use Rattle.osdp_tool_plan.specs.Ending.{Ends, Plans, RefusesPlan, RefusesWords};
 ghost use Rattle.osdp_tool_streams.specs.Watched.{has_failed, inner_of};
 ghost use Rattle.osdp_words.specs.Word.{texts};
 
@@ -45,9 +45,11 @@ fn told<'a>(plan: &Plan, short: TooShort) -> WrongPlan<'a>
     }
 }
 
-/// What the words plan, where they are settings, of which none is too short for the line.
+/// What the words plan, where they are settings, of which none is too short for the line. Else the first words that are no settings, or the first setting that is
+/// too short.
 pub fn planned<'a>(words: &'a [&'a str]) -> Result<Plan, WrongPlan<'a>>
-    ensures { IfOk result (λ plan. Plans (texts words.now) plan) }
+    ensures planned { IfOk result (λ plan. Plans (texts words.now) plan) }
+    ensures refused { IfErr result (λ wrong. RefusesWords (texts words.now) wrong) }
 {
     let plan = match read_plan(words) {
         Ok(planned) => planned.plan,
@@ -61,7 +63,7 @@ pub fn planned<'a>(words: &'a [&'a str]) -> Result<Plan, WrongPlan<'a>>
 
 /// Prints the figures of what the words plan.
 fn print<W: Write>(alloc: Global, words: &[&str], output: &mut Watched<W>) -> Result<(), ToolFault>
-    ensures { OnOk result (Prints (texts words.now) (W.contents (inner_of output.old)) (W.contents (inner_of output.new))) }
+    ensures { has_failed output.old ≡ false → Ends (texts words.now) (W.contents (inner_of output.old)) (W.contents (inner_of output.new)) (has_failed output.new) result }
 {
     let Ok(plan) = planned(words) else {
         return Err(ToolFault::BadWords);
@@ -72,14 +74,13 @@ fn print<W: Write>(alloc: Global, words: &[&str], output: &mut Watched<W>) -> Re
     }
 }
 
-/// Prints how long a line takes that is planned by these words. Any other words are `BadWords`, and then nothing is printed.
+/// Prints how long a line takes that is planned by these words. Words that plan no line are `BadWords`, and then nothing is printed.
 pub fn plan<W: Write>(
     alloc: Global,
     words: &[&str],
     output: &mut Watched<W>,
 ) -> Result<(), ToolFault>
-    ensures printed { OnOk result (Prints (texts words.now) (W.contents (inner_of output.old)) (W.contents (inner_of output.new))) }
-    ensures failed { OnOk result (has_failed output.new ≡ false) }
+    ensures { Ends (texts words.now) (W.contents (inner_of output.old)) (W.contents (inner_of output.new)) (has_failed output.new) result }
 {
     if output.failed() {
         return Err(ToolFault::WriteFailed);

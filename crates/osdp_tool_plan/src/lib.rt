@@ -7,6 +7,6 @@ mod setting;
 mod text;
 
 pub use command::{WrongPlan, plan, planned};
-pub use laws::plans_once;
+pub use laws::{ends_in_turn, plans_once, refuses_once};
 pub use setting::{PlanSetting, Planned, read_plan};
 pub use text::plan_text;
