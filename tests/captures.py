@@ -142,6 +142,9 @@ def judge_traces():
         paths = [Path(folder) / name for name in ("a.osdpcap", "b.osdpcap")]
         for path, part in zip(paths, (found[:100], found[100:])):
             path.write_text("".join(osdpcap(*each) for each in part))
+        alone = run(["check", "--osdpcap", str(paths[0])], "")
+        if alone[0] != run(["check"], "".join(digits(*each) for each in found[:100]))[0]:
+            tell("one file has no heading", "", alone)
         got = run(["check", "--osdpcap", *map(str, paths)], "")
         parts = [run(["check"], "".join(digits(*each) for each in part))[0] for part in (found[:100], found[100:])]
         if got[0] != f"# {paths[0]}\n{parts[0]}# {paths[1]}\n{parts[1]}" or got[1]:

@@ -34,6 +34,7 @@ pub fn size_of_next(framer: &mut Framer) -> usize {
     }
 }
 CODE
+  : >"$copy/said"
   (cd "$copy/crates/lending" && exec timeout 600 rt lib) >"$copy/said" 2>&1 &
   while kill -0 $! 2>/dev/null && ! grep -q "$2" "$copy/said"; do sleep 1; done
   kill $! 2>/dev/null
