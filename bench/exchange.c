@@ -239,7 +239,7 @@ int main(int count, char **words)
         return 0;
     }
     print_line("osdp_panel_new and add", panel_depth, 6000);
-    print_line("osdp_device_new", reader_depth, 10500);
+    print_line("osdp_device_new", reader_depth, 4096);
     exchange();
     print_depths();
     return 0;

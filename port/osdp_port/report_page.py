@@ -8,7 +8,7 @@ COLUMNS = 600  # of a timeline: packets of one column are one mark
 MOST = 200  # so many accusations have their packets
 ROWS = (("polls", "#9db4c8"), ("answers", "#3b7a57"), ("repeats", "#d08700"), ("orders", "#1f5fbf"), ("cards and keys", "#7b3fb5"), ("damage", "#b3261e"), ("accused", "#000000"))
 STYLE = """body{font:15px/1.5 sans-serif;max-width:70em;margin:2em auto;padding:0 1em;color:#1a1a1a}
-table{border-collapse:collapse;margin:.7em 0;font-size:13px}td,th{border:1px solid #c8c8c8;padding:.25em .5em;text-align:right}
+table{border-collapse:collapse;margin:.7em 0;font-size:13px}td,th{border:1px solid #c8c8c8;padding:.25em .5em;text-align:right;vertical-align:top}
 td.text,th.text{text-align:left}td.text{white-space:nowrap}code,pre{font-size:13px}svg{display:block;margin:.4em 0 1.2em}"""
 
 

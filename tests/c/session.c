@@ -88,7 +88,7 @@ static void new_reader(int i, uint32_t address)
         before = bytes_given;
         status = osdp_device_new(&readers[i], &config, capabilities, 6);
     }
-    demand(status == OSDP_OK && bytes_given - before == counted(11008 + 6 + 2 * 1443));
+    demand(status == OSDP_OK && bytes_given - before == counted(11000 + 6 + 2 * 1443));
     demand(osdp_device_new(&readers[i], &config, capabilities, 6) == OSDP_IN_USE);
     demand(osdp_device_set_outputs(&readers[i], states, 2) == OSDP_OK);
     demand(osdp_device_set_inputs(&readers[i], states, 2) == OSDP_OK);

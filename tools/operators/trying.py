@@ -171,6 +171,11 @@ def sample(tools, words):
         place = words.index("--minutes")
         minutes = float(words[place + 1])
         del words[place:place + 2]
+    proved = None
+    if "--proved" in words:
+        place = words.index("--proved")
+        proved = words[place + 1]
+        del words[place:place + 2]
     crates, seed = changed_crates(words[0] if words else None)
     crates = [it for it in crates if it in tools.USES and not it.endswith("_tests")]
     random.Random(seed).shuffle(crates)
@@ -180,7 +185,8 @@ def sample(tools, words):
         if budget.left() <= 0:
             break
         one = Budget(max(share, min(120, budget.left())))
-        counts = try_crate(tools, crate, 40, seed, one)
+        # what the gate has proved just before isn't proved again without any edit
+        counts = try_crate(tools, crate, 40, seed, one, proved=proved if proved and proved_in(proved, crate) else None)
         failed += counts.get(SURVIVED, 0) if known_equal(crate)[1] else 0
     print(f"{len(crates)} crates changed; {failed} edits survived in those whose edits were all tried")
     return 1 if failed else 0

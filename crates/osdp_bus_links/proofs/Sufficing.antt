@@ -18,7 +18,7 @@ use Rattle.osdp_shared_line.specs.Views.{EachMoveIsItsOwn, OpensQuietly, move_of
 use Rattle.osdp_shared_line.proofs.Changing.{none_beside, or_false}
 use Rattle.osdp_shared_line.proofs.Linking.{move_fits}
 use Rattle.osdp_shared_line.proofs.Sites.{own_first, own_rest, some_same}
-use Rattle.osdp_bus_links.specs.Premises.{AllOthersFit, BusSuffices, IsScheduled, NoneIsKept, OthersFit}
+use Rattle.osdp_bus_links.specs.Premises.{AllOthersFit, BusSuffices, IsScheduled, NothingIsKept, OthersFit}
 use Rattle.osdp_bus_links.proofs.Keeping.{before, moves_may}
 use Rattle.osdp_bus_links.proofs.Leading.{starts}
 use Rattle.osdp_bus_links.proofs.Linked.{AreLinked, IsLinked, OfALink, linked_after}
@@ -132,15 +132,15 @@ module _ {H : Type 0} (answer_of : H → Command → Answer) (after : H → Comm
         (linked_after answer_of after given k old.site (move_of k old.site move n) n next (linked k old.site old.there)
         (move_fits answer_of after move k old.site n old.there fit) may.0 may.1 moved (ap (λ (u : Site H). u.reserved) (sym same) ∙ old.reserved))
 
-    linked_first : (n : Net H) → IsSetUp n → NoneIsKept n → AreLinked answer_of after n
+    linked_first : (n : Net H) → IsSetUp n → NothingIsKept n → AreLinked answer_of after n
     linked_first n up none k s is = record {
       first = view k s n;
       moves = [];
       led = record { begins = up.begins k s is; fits = tt; usual = tt; leads = refl };
-      keeps = subst (λ r. Keeps r (view k s n)) (sym (none k s is)) (starts answer_of after (view k s n) (record {
+      keeps = subst (λ r. Keeps r (view k s n)) (sym (none.addresses k s is)) (starts answer_of after (view k s n) (record {
         begins = up.begins k s is;
         together = up.together k s is;
-        stored = up.stored k s is;
+        stored = none.replies k s is;
         waiting = up.waiting k s is;
       }));
     }
@@ -172,7 +172,7 @@ module _ {H : Type 0} (answer_of : H → Command → Answer) (after : H → Comm
         (linked_all first (ms ++ move ∷ []) moves up (fits_both answer_of after ms (move ∷ []) first along (fit.0, tt)) scheduled.1
         (subst (NetMovesFit answer_of after moves) (sym same) fit.1) (subst (AreLinked answer_of after) (sym same) next))
 
-    pub all_linked : (first : Net H) (moves : List (NetMove H)) → IsSetUp first → NoneIsKept first → Each IsScheduled moves
+    pub all_linked : (first : Net H) (moves : List (NetMove H)) → IsSetUp first → NothingIsKept first → Each IsScheduled moves
         → NetMovesFit answer_of after moves first → AreLinked answer_of after (run answer_of after moves first)
     all_linked first moves up none scheduled fit = linked_all first [] moves up tt scheduled fit (linked_first first up none)
 

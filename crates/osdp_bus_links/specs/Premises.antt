@@ -29,9 +29,10 @@ module _ {H : Type 0} where
   IsScheduled (ToPanel how now) = Unit {0}
   IsScheduled (Reopen k now) = Unit {0}
 
-  -- no address is kept for a COMSET yet
-  abbrev pub NoneIsKept : Net H → Type 0
-  NoneIsKept n = (k : ℕ) (s : Site H) → site_at k n.sites ≡ Some s → s.reserved ≡ None
+  -- no address is kept for a COMSET yet, and no device stores a reply of sessions before
+  pub record NothingIsKept (n : Net H) : Type 0 where
+    pub addresses : (k : ℕ) (s : Site H) → site_at k n.sites ≡ Some s → s.reserved ≡ None
+    pub replies : (k : ℕ) (s : Site H) → site_at k n.sites ≡ Some s → s.reader.stored ≡ None
 
   module _ (answer_of : H → Command → Answer) (after : H → Command → H) where
     -- what is asked beside addresses: fields are in their ranges, and sessions begin again on a quiet line
@@ -46,5 +47,5 @@ module _ {H : Type 0} where
     AllOthersFit (move ∷ moves) n = OthersFit move n × AllOthersFit moves (after_net answer_of after move n)
 
     abbrev pub BusSuffices : Type 0
-    BusSuffices = (n : Net H) (moves : List (NetMove H)) → IsSetUp n → NoneIsKept n → All IsScheduled moves → AllOthersFit moves n
+    BusSuffices = (n : Net H) (moves : List (NetMove H)) → IsSetUp n → NothingIsKept n → All IsScheduled moves → AllOthersFit moves n
         → NetMovesFit answer_of after moves n

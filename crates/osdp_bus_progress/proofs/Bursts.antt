@@ -39,7 +39,7 @@ use Rattle.osdp_sim_bus.specs.State.{Given, LineState, ReaderSite, set_up}
 use Rattle.osdp_sim_bus.specs.Steps.{StepFits, after_step, all_hear_each, fault_of, hears_run, is_there, issued, report_told, site_says, waited}
 use Rattle.osdp_sim_laws.specs.OneLink.{ReadsPackets}
 use Rattle.osdp_sim_bus_laws.specs.Moves.{FollowsSites, SchedulesAreMoves, SitesOf, moves_of}
-use Rattle.osdp_sim_bus_laws.proofs.Beginning.{first_net, follows_first, is_set_up, none_is_kept}
+use Rattle.osdp_sim_bus_laws.proofs.Beginning.{first_net, follows_first, is_set_up, nothing_is_kept}
 use Rattle.osdp_bus_progress.specs.SeveralLinks.{LinkLaws}
 
 pub at_each : {A : Type 0} (P : A → Type 0) (k : ℕ) (x : A) (xs : List A) → Each P xs → site_at k xs ≡ Some x → P x
@@ -205,7 +205,7 @@ module _ {H : Type 0} (answer_of : H → Command → Answer) (after : H → Comm
         let first = first_net config readers in
         let up : IsSetUp first = is_set_up config readers settings in
         let begun = set_up config readers in
-        let its = schedules come.done begun first up (none_is_kept config readers) (follows_first config readers) come.taken.well come.taken.along in
+        let its = schedules come.done begun first up (nothing_is_kept config readers) (follows_first config readers) come.taken.well come.taken.along in
         let n = line.run answer_of after (moves_of answer_of after come.done begun) first in
         let heard = by_own n (apart_all answer_of after laws.known (moves_of answer_of after come.done begun) first its.fits (apart_first first up)) in
         handed_over reads move s n well heard (subst (λ (t : LineState H). FollowsSites t n) (sym come.taken.here) its.follows)

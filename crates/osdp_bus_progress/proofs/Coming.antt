@@ -49,7 +49,7 @@ use Rattle.osdp_sim_laws.proofs.Coming.{rounds_within}
 use Rattle.osdp_sim.proofs.Schedules.{holds_on, runs_on, well_on}
 use Rattle.osdp_sim_bus_laws.specs.Moves.{AreItsMoves, FollowsSites, moves_of}
 use Rattle.osdp_sim_bus_laws.specs.Accounts.{IsRun}
-use Rattle.osdp_sim_bus_laws.proofs.Beginning.{first_net, first_site, follows_first, has_site, is_set_up, none_is_kept}
+use Rattle.osdp_sim_bus_laws.proofs.Beginning.{first_net, first_site, follows_first, has_site, is_set_up, nothing_is_kept}
 use Rattle.osdp_sim_bus_laws.proofs.Begun.{sessions_counted}
 use Rattle.osdp_sim_bus_laws.proofs.Places.{unmapped, within as get_within}
 use Rattle.osdp_sim_bus_laws.proofs.Scheduling.{moves_more}
@@ -64,6 +64,7 @@ use Rattle.osdp_bus_progress.proofs.Round.{AtRest, sited}
 use Rattle.osdp_bus_progress.proofs.Rounds.{HasRounds, all_rounds, all_turns}
 use Rattle.osdp_bus_progress.proofs.Turns.{IsAway, IsTurn, once_around, some_turn}
 use Rattle.osdp_shared_line.proofs.Rounds.{at_length, fits_first, fits_then, net_more}
+use Rattle.osdp_shared_line.proofs.Storing.{keeps_own}
 
 -- ---- lists
 
@@ -153,7 +154,7 @@ module _ {H : Type 0} (answer_of : H → Command → Answer) (after : H → Comm
       done : (r : ℕ) → r ≤ m → AreItsMoves answer_of after (steps ++ rounds r wait) start first
       done r few =
           let before = fewer r few in
-          schedules (steps ++ rounds r wait) start first up (none_is_kept config readers) (follows_first config readers) before.well before.fits
+          schedules (steps ++ rounds r wait) start first up (nothing_is_kept config readers) (follows_first config readers) before.well before.fits
 
       no_rounds : moves_of answer_of after (steps ++ rounds 0 wait) start ≡ moves_of answer_of after steps start
       no_rounds = ap (λ l. moves_of answer_of after l start) (append-nil steps)
@@ -295,6 +296,9 @@ module _ {H : Type 0} (answer_of : H → Command → Answer) (after : H → Comm
             leads = l.moved;
           };
           clear = λ i u there unended. clear_at i u there;
+          stored = λ i u there.
+              let l = link_at i u there in
+              keeps_own answer_of after laws.known (moves_of answer_of after steps start) first fits (apart_first first up) i (first_site config l.given) u l.begins there tt;
           lasts = none_before_rounds answer_of after k m wait s none;
           there = (t, at);
           count_is = sites_count;

@@ -33,6 +33,8 @@ use Rattle.osdp_shared_line.specs.Views.{view}
 use Rattle.osdp_shared_line.proofs.Apart.{Apart, reader_address}
 use Rattle.osdp_shared_line.proofs.Rounds.{IsRound, at_length, fits_first, one_round}
 use Rattle.osdp_shared_line.proofs.Sites.{some_same}
+use Rattle.osdp_shared_line.proofs.Readers.{IsNoAddress, StoresFrom}
+use Rattle.osdp_shared_line.proofs.Storing.{keeps_own}
 use Rattle.osdp_bus_links.specs.Links.{device_of, one_ticks, who_ticks}
 use Rattle.osdp_bus_links.proofs.Devices.{get_device, get_none}
 use Rattle.osdp_sim.specs.Line.{handed}
@@ -99,6 +101,7 @@ module _ {H : Type 0} (answer_of : H → Command → Answer) (after : H → Comm
     pub empty : IsEmpty n
     pub led : (i : ℕ) (t : line.Site H) → site_at i n.sites ≡ Some t → IsLed answer_of after (view i t n)
     pub clear : (i : ℕ) (t : line.Site H) → site_at i n.sites ≡ Some t → IsOpen (view i t n) → progress.IsClear (view i t n)
+    pub stored : (i : ℕ) (t : line.Site H) → site_at i n.sites ≡ Some t → StoresFrom IsNoAddress t.reader
     pub lasts : NoEnd k s
     pub there : (t : line.Site H) × (site_at k n.sites ≡ Some t)
     pub count_is : length n.sites ≡ count
@@ -272,7 +275,7 @@ module _ {H : Type 0} (answer_of : H → Command → Answer) (after : H → Comm
 
       round : (i : ℕ) (t : line.Site H) → site_at i n.sites ≡ Some t → IsRound answer_of after laws.known count i at now t n (round_net count at now n)
       round i t there =
-          one_round answer_of after laws.known count i at now t n there (together i t there) h.apart h.empty
+          one_round answer_of after laws.known count i at now t n there (λ e. (together i t there e, h.stored i t there)) h.apart h.empty
           (λ j u is. let under = at_length j u n.sites is in let same = h.count_is in omega (arith, under, same)) fits_round
 
       mine : IsRound answer_of after laws.known count at at now its_site.0 n (round_net count at now n)
@@ -334,6 +337,11 @@ module _ {H : Type 0} (answer_of : H → Command → Answer) (after : H → Comm
           subst (IsLed answer_of after) (sym was.2)
           (led_on answer_of after (cond (eqb at i) (progress.round now) []) (view i was.0 n) (h.led i was.0 was.1) (round i was.0 was.1).fits)
 
+      stored_after : (i : ℕ) (t : line.Site H) → site_at i (round_net count at now n).sites ≡ Some t → StoresFrom IsNoAddress t.reader
+      stored_after i t there =
+          let was = view_after i t there in
+          keeps_own answer_of after laws.known (net_round count (at, now)) n fits_round h.apart i was.0 t was.1 there (h.stored i was.0 was.1)
+
       free_after : (i : ℕ) (d : Entry) → slice_get s3.bus.devices.entries i ≡ Some d → holds d ≡ false
       free_after i d there = by_site (site_there s3 (round_net count at now n) follows3 i d there)
         where
@@ -391,6 +399,7 @@ module _ {H : Type 0} (answer_of : H → Command → Answer) (after : H → Comm
               empty = mine.empty;
               led = led_after;
               clear = clear_after;
+              stored = stored_after;
               lasts = lasts;
               there = (own.seen.site, own.seen.there);
               count_is = count_sites;

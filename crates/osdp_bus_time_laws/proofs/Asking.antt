@@ -1,31 +1,24 @@
 -- An exchange of an entry takes the command that waits at the front.
-use Rattle.std.proofs.Common.{◌≡◌, ◌∙◌, ap, sym, subst, ℕ, ◌+◌, true, false, max, List, [], ◌∷◌, Option, Some, None, refl}
-use Rattle.std.specs.Prelude.{nat_le, nat_lt}
+use Rattle.std.proofs.Common.{◌≡◌, ◌∙◌, ap, sym, subst, ℕ, true, false, max, List, [], ◌∷◌, Some, refl}
+use Rattle.std.specs.Prelude.{nat_le}
 use Rattle.osdp_frame.specs.Packet.{Packet, next_sequence}
 use Rattle.osdp_msg.specs.declared.command.Command.{Command}
-use Rattle.osdp_msg.specs.declared.command_fields.Communication.{Communication}
-use Rattle.osdp_msg.specs.declared.reply.Reply.{Reply}
-use Rattle.osdp_msg.specs.declared.reply_fields.PdId.{PdId}
-use Rattle.osdp_controller.specs.declared.exchange.Exchange.{Exchange}
-use Rattle.osdp_controller.specs.declared.exchange.Exchange.TheVariants.{Opening, Polling, Asking}
-use Rattle.osdp_controller.specs.declared.exchange.Outstanding.{Outstanding}
+use Rattle.osdp_controller.specs.declared.exchange.Exchange.TheVariants.{Polling}
 use Rattle.osdp_controller.specs.declared.meaning.ReplyMeaning.{ReplyMeaning}
-use Rattle.osdp_controller.specs.declared.meaning.ReplyMeaning.TheVariants.{NotTaken, Damaged, NumberRefused, Plain, Unreadable}
-use Rattle.osdp_controller.specs.declared.report.LostCause.TheVariants as causes
 use Rattle.osdp_controller.specs.declared.session.Session.{Session}
 use Rattle.osdp_controller.specs.declared.state.State.{State}
 use Rattle.osdp_controller.specs.declared.state.State.TheVariants.{Closed, Quiet, Idle, Waiting, Pausing}
 use Rattle.osdp_controller.specs.Answers.{meaning_of}
-use Rattle.osdp_controller.specs.Hearing.{Heard, answered, answered_unread, com_of, command_answered, comset_of, hears, hears_busy, loses, moved_by, opening_answered, pausing_hears, pd_id_of, waiting_hears}
+use Rattle.osdp_controller.specs.Hearing.{Heard, hears}
 use Rattle.osdp_controller.specs.Machine.{acts, is_outstanding}
 use Rattle.osdp_controller.specs.Private.{numbered_in}
-use Rattle.osdp_controller.specs.Sessions.{later, seen}
+use Rattle.osdp_controller.specs.Sessions.{seen}
 use Rattle.osdp_controller.specs.States.{is_idle}
 use Rattle.osdp_controller.specs.Ticking.{Ticked, begins, idle_ticks, stays, ticks_in}
 use Rattle.osdp_controller.proofs.Choices.{either_way}
 use Rattle.osdp_controller_laws.specs.Commands.{command_of}
 use Rattle.osdp_controller_laws.specs.Laws.{exchange_in}
-use Rattle.osdp_controller_laws.proofs.Frames.{either_frame}
+use Rattle.osdp_controller_laws.proofs.Frames.{OfEach, either_frame, of_pause, of_wait}
 use Rattle.osdp_controller_laws.proofs.Ticks.{takes_front}
 use Rattle.osdp_time_laws.specs.Laws.{is_quiet}
 use Rattle.osdp_time_laws.specs.Orders.{is_under_way}
@@ -47,47 +40,12 @@ use Rattle.osdp_bus_time_laws.proofs.Places.{asking_place, one_device}
 abbrev NotQuiet : Heard → Type 0
 NotQuiet h = is_quiet h.session.state ≡ false
 
-busy_on : (o : Outstanding) (s : Session) → NotQuiet (hears_busy o s)
-busy_on o s =
-    either_way NotQuiet (nat_lt s.config.busy_limit (o.busies + 1)) (loses causes.TooBusy o s)
-    (record { session = record s { state = Pausing (later s.config.busy_wait s) (record o { busies = o.busies + 1 }) }; report = None })
-    (λ b. refl) (λ b. refl)
-
-opening_on : (id : Option PdId) (s : Session) → is_quiet s.state ≡ false → NotQuiet (opening_answered id s)
-opening_on None s on = on
-opening_on (Some id) s on = refl
-
-command_on : (moved : Option Communication) (command : Command) (reply : Reply) (s : Session) → NotQuiet (command_answered moved command reply s)
-command_on None command reply s = refl
-command_on (Some d) command reply s = refl
-
-answered_on : (x : Exchange) (reply : Reply) (s : Session) → is_quiet s.state ≡ false → NotQuiet (answered x reply s)
-answered_on Opening reply s on = opening_on (pd_id_of reply) s on
-answered_on Polling reply s on = refl
-answered_on (Asking command) reply s on = command_on (moved_by (comset_of command) (com_of reply)) command reply s
-
-unread_on : (x : Exchange) (code : ℕ) (s : Session) → is_quiet s.state ≡ false → NotQuiet (answered_unread x code s)
-unread_on Opening code s on = on
-unread_on Polling code s on = refl
-unread_on (Asking command) code s on = refl
-
-waiting_on : (a : ReplyMeaning) (sends : ℕ) (o : Outstanding) (s : Session) → is_quiet s.state ≡ false → NotQuiet (waiting_hears a sends o s)
-waiting_on NotTaken sends o s on = busy_on o s
-waiting_on Damaged sends o s on = refl
-waiting_on NumberRefused sends o s on = refl
-waiting_on (Plain reply) sends o s on = answered_on o.exchange reply s on
-waiting_on (Unreadable code) sends o s on = unread_on o.exchange code s on
-
-pausing_on : (a : ReplyMeaning) (o : Outstanding) (s : Session) → is_quiet s.state ≡ false → NotQuiet (pausing_hears a o s)
-pausing_on NotTaken o s on = on
-pausing_on Damaged o s on = on
-pausing_on NumberRefused o s on = refl
-pausing_on (Plain reply) o s on = answered_on o.exchange reply s on
-pausing_on (Unreadable code) o s on = unread_on o.exchange code s on
+each_on : (s : Session) → is_quiet s.state ≡ false → OfEach NotQuiet s
+each_on s on = record { ignored = on; rested = λ told. refl; moved = λ d command. refl; lost = λ cause o. refl }
 
 numbered_on : (state : State) (a : ReplyMeaning) (s : Session) → is_quiet s.state ≡ false → NotQuiet (numbered_in state a s)
-numbered_on (Waiting until sends o) a s on = waiting_on a sends o s on
-numbered_on (Pausing until o) a s on = pausing_on a o s on
+numbered_on (Waiting until sends o) a s on = of_wait NotQuiet s (each_on s on) a sends o refl refl
+numbered_on (Pausing until o) a s on = of_pause NotQuiet s (each_on s on) a o
 numbered_on _ a s on = on
 
 heard_on : (p : Packet) (now : ℕ) (s : Session) → is_quiet s.state ≡ false → NotQuiet (hears p now s)

@@ -24,7 +24,7 @@ use Rattle.osdp_bus.specs.Entries.{entry_hears, holds, is_entry_due, told_of}
 use Rattle.osdp_bus.specs.Hearing.{ends_run, hears_items, hears_with}
 use Rattle.osdp_bus.specs.Machine.{entry_submits, entry_withdraws}
 use Rattle.osdp_bus.specs.Ticking.{bus_ticks, next_due}
-use Rattle.osdp_bus_laws.specs.Calls.{Call, Add, Begin, Submit, Withdraw, Retarget, OnBytes, OnSilence, Tick, NextReport, after_call}
+use Rattle.osdp_bus_laws.specs.Calls.{Call, Begin, OnBytes, OnSilence, Tick, after_call}
 use Rattle.osdp_bus_laws.specs.Exchanges.{IsOutstandingAt}
 use Rattle.osdp_bus_laws.specs.Fairness.{Begins}
 use Rattle.osdp_bus_laws.specs.Turns.{IsBefore, IsDueEntry, IsFree, asking, judged}
@@ -214,14 +214,7 @@ tick_of (Tick now) b ends = (now, refl, untold (has_report b) ends)
     untold : (t : Bool) → not t ≡ true → t ≡ false
     untold true h = cc
     untold false h = refl
-tick_of (Add address) b ends = cc
-tick_of (Begin at now) b ends = cc
-tick_of (Submit at command) b ends = cc
-tick_of (Withdraw at) b ends = cc
-tick_of (Retarget at address) b ends = cc
-tick_of (OnBytes bytes now) b ends = cc
-tick_of (OnSilence now) b ends = cc
-tick_of NextReport b ends = cc
+tick_of _ b ends = cc
 
 pub stays_ready : (from least own : ℕ) (call : Call) (b : BusState) → Well b → AtPlace own (Ready from least) b.devices → (Begins call own b → ⊥)
     → AtPlace own (Ready from least) (after_call call b).devices

@@ -1,5 +1,5 @@
 -- A line as it is set up is a net whose panel has just been made anew.
-use Rattle.std.proofs.Common.{◌≡◌, ◌≢◌, ◌≤◌, ◌<◌, ℕ, zero, suc, ◌+◌, List, [], ◌∷◌, ◌++◌, length, map, All, Option, Some, None, IfSome, refl, sym, subst, ap, ◌∙◌, arith, inl, inr}
+use Rattle.std.proofs.Common.{◌≡◌, ◌≢◌, ◌⊎◌, ◌≤◌, ◌<◌, ℕ, zero, suc, true, ◌+◌, List, [], ◌∷◌, ◌++◌, length, map, All, Option, Some, None, IfSome, refl, sym, subst, ap, ◌∙◌, arith, inl, inr}
 use Rattle.osdp_msg.specs.declared.limits.Room.{Room}
 use Rattle.osdp_frame.specs.Packet.{Packet}
 use Rattle.osdp_msg.specs.declared.command.Command.{Command}
@@ -12,6 +12,7 @@ use Rattle.osdp_bus.specs.Settings.{controller_config}
 use Rattle.osdp_bus.specs.declared.config.BusConfig.{BusConfig}
 use Rattle.osdp_link_laws.specs.Link.{new_account}
 use Rattle.osdp_reader.specs.declared.handler.Answer.{Answer}
+use Rattle.osdp_reader_laws.specs.Storing.{StoresItsOwn}
 use Rattle.osdp_shared_line.specs.Addresses as addresses
 use Rattle.osdp_shared_line.specs.Addresses.{IsNameOf}
 use Rattle.osdp_shared_line.specs.Line.{Net, RestartPanel, Site, after_net, all_restart, restarts, site_at}
@@ -22,6 +23,12 @@ use Rattle.osdp_calls.proofs.Controllers.{equal_same}
 use Rattle.osdp_calls.proofs.Matching.{And, Done, Match}
 use Rattle.osdp_calls.proofs.Powers.{address_at, are_settings, settings_of}
 use Rattle.osdp_calls.proofs.Same.{Controls, IsNetOf, IsRightly, IsSiteOf}
+
+-- what is stored is a reply
+as_reply : (o : Option Packet) (here : ℕ) → IfSome o (λ (p : Packet). (p.reply ≡ true) × ((p.address ≡ here) ⊎ (p.address ≡ 127)))
+    → IfSome o (λ (p : Packet). p.reply ≡ true)
+as_reply None here is = tt
+as_reply (Some p) here is = is.0
 
 module _ {H : Type 0} where
   abbrev pub address_of : Station H → ℕ
@@ -65,7 +72,7 @@ module _ {H : Type 0} where
 
   -- a station that is as at set-up
   pub record IsFresh (t : Station H) : Type 0 where
-    pub stored : t.reader.stored ≡ None
+    pub stored : IfSome t.reader.stored (λ (p : Packet). p.reply ≡ true)
     pub place : t.place ≡ 0
     pub begun : t.begun ≡ None
     pub account : t.account ≡ new_account [] t.reader.queue.events
@@ -93,7 +100,7 @@ module _ {H : Type 0} where
           account = sym f.account;
           earlier = sym f.earlier;
           place = subst (λ p. p ≤ length said) (sym f.place) (omega arith);
-          stored = subst (λ o. IfSome o (λ (p : Packet). p.reply ≡ Rattle.std.proofs.Common.true)) (sym f.stored) tt;
+          stored = f.stored;
         })
         (made_first config others settings os said (suc i) ts none (λ k u is. ap settings (let e : suc i + k ≡ i + suc k = omega arith in e) ∙ set_so (suc k) u is)
         (λ k u is. fresh (suc k) u is))
@@ -124,7 +131,8 @@ module _ {H : Type 0} where
             });
         together = λ k s is. let t = first_from up.config k s l.stations is in
             ap (λ (u : Site H). u.reader.config.address) t.2 ∙ sym (ap (λ (u : Site H). u.controller.session.config.address) t.2);
-        stored = λ k s is. let t = first_from up.config k s l.stations is in ap (λ (u : Site H). u.reader.stored) t.2 ∙ up.stored k t.0 t.1;
+        stored = λ k s is. let t = first_from up.config k s l.stations is in
+            subst (λ (u : Site H). StoresItsOwn u.reader) (sym t.2) (up.stored k t.0 t.1);
         waiting = λ k s is. let t = first_from up.config k s l.stations is in
             subst (λ (u : Site H). All Rattle.osdp_link_laws.specs.Progress.NoComset u.controller.waiting) (sym t.2)
             (Rattle.osdp_link_laws.proofs.Lines.each_all Rattle.osdp_link_laws.specs.Progress.NoComset [] tt);
@@ -142,7 +150,7 @@ module _ {H : Type 0} where
             (λ k t is. ap (settings_of up.config (map address_of l.stations)) (let e : 0 + k ≡ k = omega arith in e)
             ∙ ap (λ a. (controller_config a up.config, up.config.room)) (address_there k t l.stations is))
             (λ k t is. record {
-              stored = up.stored k t is;
+              stored = as_reply t.reader.stored t.reader.config.address (up.stored k t is);
               place = (up.place k t is).0;
               begun = (up.place k t is).1;
               account = (up.account k t is).0;

@@ -17,6 +17,7 @@ use Rattle.osdp_device.specs.Telling.{items_of}
 use Rattle.osdp_link_laws.specs.Link.{new_account}
 use Rattle.osdp_reader.specs.Table.{hears}
 use Rattle.osdp_reader.specs.declared.handler.Answer.{Answer}
+use Rattle.osdp_reader_laws.specs.Storing.{StoresItsOwn}
 use Rattle.osdp_shared_line.specs.Addresses.{Sets, SetsReader, Somewhere, asked_in}
 use Rattle.osdp_shared_line.specs.Line.{site_at}
 use Rattle.osdp_calls.specs.Calls.{Call, Next, NewDevice, NewPanel, OfPanel, Step, after_call, read_by, read_up_to}
@@ -121,7 +122,8 @@ module _ {H : Type 0} where
 
   -- ---- 4. Set-up
 
-  -- entries are added at different addresses, each with its reader there and no reply stored, before anything is said
+  -- Entries are added at different addresses, each with its device there, before anything is said. A device may have had sessions before: what it
+  -- stores is a reply from its own address or from 127, as every reader keeps it, and the events that wait in it count as the first ones.
   pub record IsSetUp (l : InUse H) : Type 0 where
     pub config : BusConfig
     pub settings : IsBusConfig config
@@ -130,7 +132,7 @@ module _ {H : Type 0} where
     pub devices : (k : ℕ) (t : Station H) → site_at k l.stations ≡ Some t → t.reader.config.address < 127
     pub apart : (j k : ℕ) (s t : Station H) → j ≢ k → site_at j l.stations ≡ Some s → site_at k l.stations ≡ Some t
         → s.reader.config.address ≢ t.reader.config.address
-    pub stored : (k : ℕ) (t : Station H) → site_at k l.stations ≡ Some t → t.reader.stored ≡ None
+    pub stored : (k : ℕ) (t : Station H) → site_at k l.stations ≡ Some t → StoresItsOwn t.reader
     pub place : (k : ℕ) (t : Station H) → site_at k l.stations ≡ Some t → (t.place ≡ 0) × (t.begun ≡ None)
     pub account : (k : ℕ) (t : Station H) → site_at k l.stations ≡ Some t
         → (t.account ≡ new_account [] t.reader.queue.events) × (t.earlier ≡ [])

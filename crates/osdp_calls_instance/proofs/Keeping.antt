@@ -7,6 +7,7 @@ use Rattle.osdp_msg.specs.CommandTable.{command_of, command_fault, command_at}
 use Rattle.osdp_msg.specs.declared.command.Command.{Command}
 use Rattle.osdp_reader.specs.declared.handler.Answer.{Answer}
 use Rattle.osdp_link_laws.proofs.Lines.{each_all}
+use Rattle.osdp_reader_laws.specs.Storing.{StoresItsOwn}
 use Rattle.osdp_calls.specs.Lines.{Burst, InUse, Station, is_past_for_device, is_past_for_panel}
 use Rattle.osdp_bus.specs.Machine.{new_device}
 use Rattle.osdp_reader.specs.State.{new_reader}
@@ -95,7 +96,7 @@ module _ {H : Type 0} where
     bus = refl;
     devices = one_station handler (λ t. t.reader.config.address < 127) (omega arith);
     apart = λ j k s t other at there e. other ((only (station handler) j s at).0 ∙ sym (only (station handler) k t there).0);
-    stored = one_station handler (λ t. t.reader.stored ≡ None) refl;
+    stored = one_station handler (λ t. StoresItsOwn t.reader) tt;
     place = one_station handler (λ t. (t.place ≡ 0) × (t.begun ≡ None)) (refl, refl);
     account = one_station handler (λ t. (t.account ≡ new_account [] t.reader.queue.events) × (t.earlier ≡ [])) (refl, refl);
     said = refl;

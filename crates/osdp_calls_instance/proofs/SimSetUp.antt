@@ -10,6 +10,7 @@ use Rattle.osdp_shared_line.specs.Line.{site_at}
 use Rattle.osdp_shared_line.proofs.Sites.{some_same}
 use Rattle.osdp_sim_bus.specs.Runs.{are_apart, is_at, is_reader_in_range}
 use Rattle.osdp_sim_bus.specs.State.{Given, address_of}
+use Rattle.osdp_reader_laws.specs.Storing.{StoresItsOwn}
 use Rattle.osdp_calls.specs.Lines.{Station, bus_with}
 use Rattle.osdp_calls_instance.specs.SimulatedBus.{RunsFromASetUp, new_station}
 
@@ -90,7 +91,7 @@ module _ {H : Type 0} where
             let other = station_from gap k t readers there in
             λ e. apart j k one.0 other.0 readers parts.1 differ one.1 other.1
             (ap (λ (x : Station H). x.reader.config.address) one.2 ∙ e ∙ sym (ap (λ (x : Station H). x.reader.config.address) other.2));
-        stored = λ k t at. let from = station_from gap k t readers at in subst (λ (x : Station H). x.reader.stored ≡ None) from.2 refl;
+        stored = λ k t at. let from = station_from gap k t readers at in subst (λ (x : Station H). StoresItsOwn x.reader) from.2 tt;
         place = λ k t at.
             let from = station_from gap k t readers at in subst (λ (x : Station H). (x.place ≡ 0) × (x.begun ≡ None)) from.2 (refl, refl);
         account = λ k t at.

@@ -1,5 +1,5 @@
 -- A burst comes to the readers, or to the panel: the calls by which it is read keep order and quiet openings.
-use Rattle.std.proofs.Common.{◌≡◌, ◌⊎◌, ◌≤◌, ◌+◌, ℕ, suc, true, false, List, [], ◌∷◌, ◌++◌, length, map, Option, Some, None, IfSome, refl, sym, subst, ap, ◌∙◌, arith, append-nil, inl, inr}
+use Rattle.std.proofs.Common.{◌≡◌, ◌⊎◌, ◌<◌, ◌≤◌, ◌+◌, ℕ, suc, true, false, List, [], ◌∷◌, ◌++◌, length, map, Option, Some, None, IfSome, refl, sym, subst, ap, ◌∙◌, arith, append-nil, inl, inr}
 use Rattle.std.proofs.lemmas.Bool.Decides.{eqb_tells}
 use Rattle.std.specs.Prelude.{option_to_list}
 use Rattle.osdp_frame.specs.Bytes.{AreBytes}
@@ -19,7 +19,7 @@ use Rattle.osdp_shared_line.specs.Line as line
 use Rattle.osdp_shared_line.specs.Line.{Net, Site, address_of, after_net, first_gets, run, site_at, tagged}
 use Rattle.osdp_shared_line.proofs.Apart.{Apart, IsAway, IsKept, IsToDevice, reader_address}
 use Rattle.osdp_shared_line.proofs.Hearing.{for_reader}
-use Rattle.osdp_shared_line.proofs.Readers.{reads_well}
+use Rattle.osdp_shared_line.proofs.Readers.{IsForAll, IsFrom, reads_well}
 use Rattle.osdp_shared_line.proofs.Sites.{map_from}
 use Rattle.osdp_sim.proofs.Bursts.{no_packets}
 use Rattle.osdp_sim.specs.Line.{handed}
@@ -50,10 +50,10 @@ use Rattle.osdp_calls_instance.specs.SimulatedBus.{HearsRun, SimCall, all_hear, 
 module _ {H : Type 0} (answer_of : H → Command → Answer) (after : H → Command → H) where
   -- ---- what the readers say to a packet that was said for one of them
 
-  -- each that hears it answers from its address, and nobody else hears it
-  reply_away : (j address k : ℕ) (q : ℕ × Packet) (rest : List (ℕ × Packet)) (s : Site H) (n : Net H) → site_at k n.sites ≡ Some s → Apart n
+  -- each that hears it answers from its address, or from none of an entry, and nobody else hears it
+  reply_away : (j address k : ℕ) → address < 127 → (q : ℕ × Packet) (rest : List (ℕ × Packet)) (s : Site H) (n : Net H) → site_at k n.sites ≡ Some s → Apart n
       → s.coming ≡ q ∷ rest → IsAwayFrom j address q → Each (IsAwayFrom j address) (says_by answer_of after Delivered k q.1 s)
-  reply_away j address k q rest s n at apart coming away =
+  reply_away j address k below q rest s n at apart coming away =
       elim (for_reader s.reader q.1 devices.0) [
         | inl here ↦ heard here
         | inr silent ↦ subst (λ o. Each (IsAwayFrom j address) (tagged k (option_to_list o))) (sym (ap (λ x. (outcome answer_of after x s.reader q.1).reply) silent)) tt
@@ -71,24 +71,30 @@ module _ {H : Type 0} (answer_of : H → Command → Answer) (after : H → Comm
       heard : q.1.address ≡ s.reader.config.address → Each (IsAwayFrom j address) (says_by answer_of after Delivered k q.1 s)
       heard here =
           elim (eqb_tells q.0 k) [
-            | inl mine ↦ by_reply (hears answer_of after s.reader q.1).reply (reads_well answer_of after s.reader q.1 here kept.stored).said mine.1
+            | inl mine ↦ by_reply (hears answer_of after s.reader q.1).reply (reads_well IsForAll answer_of after s.reader q.1 here kept.stored).said mine.1
             | inr other ↦ absurd (others.0 other.1 (sym here))
           ]
         where
-          by_reply : (o : Option Packet) → IfSome o (λ (r : Packet). r.address ≡ s.reader.config.address) → q.0 ≡ k
+          by_reply : (o : Option Packet) → IfSome o (IsFrom IsForAll s.reader.config.address) → q.0 ≡ k
               → Each (IsAwayFrom j address) (tagged k (option_to_list o))
           by_reply None said mine = tt
-          by_reply (Some r) said mine = ((λ same. away.0 (mine ∙ same), λ same. away.1 (here ∙ sym said ∙ same)), tt)
+          by_reply (Some r) said mine = (
+            (
+              λ same. away.0 (mine ∙ same),
+              λ same. elim said [ inl own ↦ away.1 (here ∙ sym own ∙ same) | inr all ↦ omega (arith, below, all, same) ],
+            ),
+            tt,
+          )
 
-  replies_away : (j address : ℕ) (q : ℕ × Packet) (rest : List (ℕ × Packet)) (n : Net H) → Apart n → IsAwayFrom j address q → (k : ℕ) (ts : List (Site H))
+  replies_away : (j address : ℕ) → address < 127 → (q : ℕ × Packet) (rest : List (ℕ × Packet)) (n : Net H) → Apart n → IsAwayFrom j address q → (k : ℕ) (ts : List (Site H))
       → ((m i : ℕ) (s : Site H) → i ≡ k + m → site_at m ts ≡ Some s → (site_at i n.sites ≡ Some s) × (s.coming ≡ q ∷ rest))
       → Each (IsAwayFrom j address) (said_from answer_of after Delivered k q.1 ts)
-  replies_away j address q rest n apart away k [] all = tt
-  replies_away j address q rest n apart away k (t ∷ ts) all =
+  replies_away j address below q rest n apart away k [] all = tt
+  replies_away j address below q rest n apart away k (t ∷ ts) all =
       let first = all 0 k t (omega arith) refl in
       each_append (IsAwayFrom j address) (says_by answer_of after Delivered k q.1 t) (said_from answer_of after Delivered (suc k) q.1 ts)
-      (reply_away j address k q rest t n first.0 apart first.1 away)
-      (replies_away j address q rest n apart away (suc k) ts (λ m i s is at. all (suc m) i s (omega (arith, is)) at))
+      (reply_away j address k below q rest t n first.0 apart first.1 away)
+      (replies_away j address below q rest n apart away (suc k) ts (λ m i s is at. all (suc m) i s (omega (arith, is)) at))
 
   -- ---- two ways to say what the readers answer
 
@@ -192,7 +198,7 @@ module _ {H : Type 0} (answer_of : H → Command → Answer) (after : H → Comm
           stands = stands_devices answer_of after f.place (said_from answer_of after Delivered 0 q.1 n.sites) pending asked_at (Hearing s bytes) w n m l h.stands read coming back sites asked
               ahead less
               (λ k t at away.
-              replies_away k (address_of t) q rest n h.apart (subst (Each (IsAwayFrom k (address_of t))) front away).0 0 n.sites
+              replies_away k (address_of t) (h.apart.kept k t at).device q rest n h.apart (subst (Each (IsAwayFrom k (address_of t))) front away).0 0 n.sites
               (λ j i u is there. let same : i ≡ j = omega (arith, is) in (ap (λ x. site_at x n.sites) same ∙ there, h.stands.coming j u there ∙ front)));
         }
 

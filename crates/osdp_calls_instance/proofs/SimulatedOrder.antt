@@ -4,7 +4,7 @@ use Rattle.std.specs.Prelude.{◌==◌}
 use Rattle.std.proofs.lemmas.List.{map-append}
 use Rattle.osdp_msg.specs.declared.command.Command.{Command}
 use Rattle.osdp_bus_links.specs.Links.{IsBusOf, tick_moves}
-use Rattle.osdp_bus_links.specs.Premises.{NoneIsKept}
+use Rattle.osdp_bus_links.specs.Premises.{NothingIsKept}
 use Rattle.osdp_link_laws.specs.Peers.{ReadsWhatIsAsked}
 use Rattle.osdp_link_laws.proofs.Lines.{each_of}
 use Rattle.osdp_reader.specs.declared.handler.Answer.{Answer}
@@ -133,7 +133,7 @@ module _ {H : Type 0} (answer_of : H → Command → Answer) (after : H → Comm
 
     -- ---- a schedule
 
-    module _ (schedules : SchedulesAreMoves answer_of after) (s0 : LineState H) (first : Net H) (up : IsSetUp first) (none : NoneIsKept first)
+    module _ (schedules : SchedulesAreMoves answer_of after) (s0 : LineState H) (first : Net H) (up : IsSetUp first) (none : NothingIsKept first)
         (starts : FollowsSites s0 first) where
       -- what is left of a schedule, as steps that keep order and quiet openings
       record Ordered (steps : List SimStep) (s : LineState H) (w : Here answer_of after) (l : InUse H) : Type 0 where

@@ -23,6 +23,7 @@ use Rattle.osdp_reader.specs.declared.handler.Answer.{Answer}
 use Rattle.osdp_shared_line.specs.Addresses.{Sets, SetsReader, Somewhere}
 use Rattle.osdp_shared_line.specs.Line.{site_at}
 use Rattle.osdp_shared_line.proofs.Sites.{some_same}
+use Rattle.osdp_reader_laws.specs.Storing.{StoresItsOwn}
 use Rattle.osdp_calls.specs.Lines.{InUse, Station, ahead_of_device, is_past_for_device, is_past_for_panel}
 use Rattle.osdp_calls.specs.Premises.{IsAsked, IsNoOthers, IsSaid, IsSetUp, IsThere, unended_of}
 use Rattle.osdp_calls_instance.specs.Instance.{four, settings, station_at}
@@ -109,7 +110,7 @@ module _ {H : Type 0} where
     bus = refl;
     devices = two_stations handler (λ t. t.reader.config.address < 127) (omega arith) (omega arith);
     apart = two_apart handler;
-    stored = two_stations handler (λ t. t.reader.stored ≡ None) refl refl;
+    stored = two_stations handler (λ t. StoresItsOwn t.reader) tt tt;
     place = two_stations handler (λ t. (t.place ≡ 0) × (t.begun ≡ None)) (refl, refl) (refl, refl);
     account = two_stations handler (λ t. (t.account ≡ new_account [] t.reader.queue.events) × (t.earlier ≡ [])) (refl, refl) (refl, refl);
     said = refl;

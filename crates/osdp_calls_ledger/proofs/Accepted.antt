@@ -29,8 +29,8 @@ use Rattle.osdp_link_ledger.specs.Steps.{after_steps, queues, submits, withdraws
 use Rattle.osdp_link_ledger.proofs.Lists.{commands, events}
 use Rattle.osdp_shared_line.specs.Line.{site_at}
 use Rattle.osdp_calls.specs.Accepted.{accepted_by, accepted_by_panel, all_accepted, all_queued, queued_at, queued_by}
-use Rattle.osdp_calls.specs.Calls as calls
-use Rattle.osdp_calls.specs.Calls.{Call, NewDevice, NewPanel, Next, OfPanel, Pending, SetHandler, Silence, Step, SubmitEvent, Take, TickDevice, WithdrawEvent, after_call, asked_at, first_answered, read_up_to}
+use Rattle.osdp_calls.specs.Calls.{Call, NewDevice, NewPanel, Next, OfPanel, Step, SubmitEvent, WithdrawEvent, after_call, asked_at, first_answered, read_up_to}
+use Rattle.osdp_calls.specs.Ends.{is_of_device}
 use Rattle.osdp_calls.specs.Handing.{heard}
 use Rattle.osdp_calls.specs.Lines.{InUse, Station}
 use Rattle.osdp_link_ledger.proofs.Plain.{IsDone}
@@ -119,6 +119,21 @@ restarts_none (Some d) = (tt, tt)
 
 -- ---- what the panel's calls accept
 
+-- no order
+abbrev IsNoSubmit : bus.Call → Type 0
+IsNoSubmit (bus.Submit i command) = ⊥
+IsNoSubmit _ = Unit {0}
+
+panel_none : (k : ℕ) (call : bus.Call) (b : BusState) (g : Ledger) → IsNoSubmit call → Each AcceptsNone (panel_steps k call b g)
+panel_none k (bus.Submit i command) b g other = absurd other
+panel_none k (bus.Withdraw i) b g other =
+    both (Each AcceptsNone) (i == k) (withdraws (given_back (withdrawal_at i b)) g) [] (withdraws_none (given_back (withdrawal_at i b)) g) tt
+panel_none k (bus.Tick now) b g other =
+    let sends = opening k (asked_at now b) (bus_ticks now b).sent (device_of k (heard (bus.Tick now) now b)) in
+    each_append AcceptsNone (reported k (told_in (bus.Tick now) b) g) sends (reported_none k (told_in (bus.Tick now) b) g)
+    (opening_none k (asked_at now b) (bus_ticks now b).sent (device_of k (heard (bus.Tick now) now b)))
+panel_none k call b g other = reported_none k (told_in call b) g
+
 panel_commands : (k : ℕ) (call : bus.Call) (b : BusState) (g : Ledger) → commands_in (panel_steps k call b g) ≡ accepted_by_panel k call b
 panel_commands k (bus.Submit i command) b g = by_test (i == k) (submit_refusal_at i command b)
   where
@@ -127,20 +142,7 @@ panel_commands k (bus.Submit i command) b g = by_test (i == k) (submit_refusal_a
     by_test false f = refl
     by_test true None = refl
     by_test true (Some fault) = refl
-panel_commands k (bus.Withdraw i) b g =
-    no_commands (panel_steps k (bus.Withdraw i) b g)
-    (both (Each AcceptsNone) (i == k) (withdraws (given_back (withdrawal_at i b)) g) [] (withdraws_none (given_back (withdrawal_at i b)) g) tt)
-panel_commands k (bus.Tick now) b g =
-    let sends = opening k (asked_at now b) (bus_ticks now b).sent (device_of k (heard (bus.Tick now) now b)) in
-    no_commands (panel_steps k (bus.Tick now) b g)
-    (each_append AcceptsNone (reported k (told_in (bus.Tick now) b) g) sends (reported_none k (told_in (bus.Tick now) b) g)
-    (opening_none k (asked_at now b) (bus_ticks now b).sent (device_of k (heard (bus.Tick now) now b))))
-panel_commands k (bus.OnBytes bytes now) b g = no_commands (reported k (told_in (bus.OnBytes bytes now) b) g) (reported_none k (told_in (bus.OnBytes bytes now) b) g)
-panel_commands k (bus.OnSilence now) b g = no_commands (reported k (told_in (bus.OnSilence now) b) g) (reported_none k (told_in (bus.OnSilence now) b) g)
-panel_commands k (bus.Add address) b g = refl
-panel_commands k (bus.Begin i now) b g = refl
-panel_commands k (bus.Retarget i address) b g = refl
-panel_commands k bus.NextReport b g = refl
+panel_commands k call b g = no_commands (panel_steps k call b g) (panel_none k call b g tt)
 
 panel_events : (k : ℕ) (call : bus.Call) (b : BusState) (g : Ledger) → events_in (panel_steps k call b g) ≡ []
 panel_events k (bus.Submit i command) b g = by_test (i == k) (submit_refusal_at i command b)
@@ -149,20 +151,7 @@ panel_events k (bus.Submit i command) b g = by_test (i == k) (submit_refusal_at 
     by_test false f = refl
     by_test true None = refl
     by_test true (Some fault) = refl
-panel_events k (bus.Withdraw i) b g =
-    no_events (panel_steps k (bus.Withdraw i) b g)
-    (both (Each AcceptsNone) (i == k) (withdraws (given_back (withdrawal_at i b)) g) [] (withdraws_none (given_back (withdrawal_at i b)) g) tt)
-panel_events k (bus.Tick now) b g =
-    let sends = opening k (asked_at now b) (bus_ticks now b).sent (device_of k (heard (bus.Tick now) now b)) in
-    no_events (panel_steps k (bus.Tick now) b g)
-    (each_append AcceptsNone (reported k (told_in (bus.Tick now) b) g) sends (reported_none k (told_in (bus.Tick now) b) g)
-    (opening_none k (asked_at now b) (bus_ticks now b).sent (device_of k (heard (bus.Tick now) now b))))
-panel_events k (bus.OnBytes bytes now) b g = no_events (reported k (told_in (bus.OnBytes bytes now) b) g) (reported_none k (told_in (bus.OnBytes bytes now) b) g)
-panel_events k (bus.OnSilence now) b g = no_events (reported k (told_in (bus.OnSilence now) b) g) (reported_none k (told_in (bus.OnSilence now) b) g)
-panel_events k (bus.Add address) b g = refl
-panel_events k (bus.Begin i now) b g = refl
-panel_events k (bus.Retarget i address) b g = refl
-panel_events k bus.NextReport b g = refl
+panel_events k call b g = no_events (panel_steps k call b g) (panel_none k call b g tt)
 
 module _ {H : Type 0} (answer_of : H → Command → Answer) (after : H → Command → H) where
   gets_accept : (o : Option Packet) (r : ReaderState H) (g : Ledger) → Each AcceptsNone (answered answer_of after o r g)
@@ -178,50 +167,46 @@ module _ {H : Type 0} (answer_of : H → Command → Answer) (after : H → Comm
   queues_commands true event g = refl
   queues_commands false event g = refl
 
-  -- a call at the station of its entry
-  at_commands : (call : Call H) (k : ℕ) (b : Bool) (o : Option (Station H)) (g : Ledger)
-      → ((t : Station H) → commands_in (device_steps answer_of after call t g) ≡ []) → commands_in (cond b (steps_at answer_of after call o g) []) ≡ []
-  at_commands call k false o g none = refl
-  at_commands call k true None g none = refl
-  at_commands call k true (Some t) g none = none t
-
-  at_events : (call : Call H) (k : ℕ) (b : Bool) (o : Option (Station H)) (g : Ledger)
-      → ((t : Station H) → events_in (device_steps answer_of after call t g) ≡ []) → events_in (cond b (steps_at answer_of after call o g) []) ≡ []
-  at_events call k false o g none = refl
-  at_events call k true None g none = refl
-  at_events call k true (Some t) g none = none t
+  queues_at : (i : ℕ) (event : Event) (b : Bool) (o : Option (Station H)) (g : Ledger) → commands_in (cond b (steps_at answer_of after (SubmitEvent i event) o g) []) ≡ []
+  queues_at i event false o g = refl
+  queues_at i event true None g = refl
+  queues_at i event true (Some t) g = queues_commands (lacks_room event t.reader.queue) event g
 
   queue_at : (i : ℕ) (event : Event) (o : Option (Station H)) (g : Ledger) → events_in (steps_at answer_of after (SubmitEvent i event) o g) ≡ queued_at o event
   queue_at i event None g = refl
   queue_at i event (Some t) g = queues_events (lacks_room event t.reader.queue) event g
 
-  device_accepts : (call : Call H) (t : Station H) (g : Ledger) → commands_in (device_steps answer_of after call t g) ≡ []
-  device_accepts (SubmitEvent i event) t g = queues_commands (lacks_room event t.reader.queue) event g
-  device_accepts (WithdrawEvent i) t g =
-      no_commands (withdraws_event (never_offered t.reader.queue) t.reader.queue.ever_offered g) (withdraws_event_none (never_offered t.reader.queue) t.reader.queue.ever_offered g)
-  device_accepts (Next i) t g =
-      let o = first_answered t.reader (read_up_to t.reader (items_of t.line.held)) in
-      no_commands (answered answer_of after o t.reader g) (gets_accept o t.reader g)
-  device_accepts _ t g = refl
+  -- neither an order nor an event
+  abbrev IsNeither : Call H → Type 0
+  IsNeither (OfPanel call) = ⊥
+  IsNeither (SubmitEvent i event) = ⊥
+  IsNeither _ = Unit {0}
+
+  device_none : (call : Call H) (t : Station H) (g : Ledger) → IsNeither call → Each AcceptsNone (device_steps answer_of after call t g)
+  device_none (OfPanel call) t g other = absurd other
+  device_none (SubmitEvent i event) t g other = absurd other
+  device_none (WithdrawEvent i) t g other = withdraws_event_none (never_offered t.reader.queue) t.reader.queue.ever_offered g
+  device_none (Next i) t g other = gets_accept (first_answered t.reader (read_up_to t.reader (items_of t.line.held))) t.reader g
+  device_none (NewDevice i config handler room gap) t g other = (tt, tt)
+  device_none _ t g other = tt
+
+  at_none : (call : Call H) (b : Bool) (o : Option (Station H)) (g : Ledger) → IsNeither call → Each AcceptsNone (cond b (steps_at answer_of after call o g) [])
+  at_none call false o g other = tt
+  at_none call true None g other = tt
+  at_none call true (Some t) g other = device_none call t g other
+
+  call_none : (k : ℕ) (call : Call H) (l : InUse H) (g : Ledger) → IsNeither call → Each AcceptsNone (steps_of answer_of after k call l g)
+  call_none k (OfPanel call) l g other = absurd other
+  call_none k (NewPanel config xs) l g other = restarts_none (device_of k l.bus)
+  call_none k call l g other = at_none call (is_of_device k call) (site_at k l.stations) g other
 
   pub call_commands : (k : ℕ) (call : Call H) (l : InUse H) (g : Ledger) → commands_in (steps_of answer_of after k call l g) ≡ accepted_by k call l
   call_commands k (OfPanel call) l g = panel_commands k call l.bus g
-  call_commands k (NewPanel config xs) l g = no_commands (panel_restarts (device_of k l.bus)) (restarts_none (device_of k l.bus))
-  call_commands k (SubmitEvent i event) l g = at_commands (SubmitEvent i event) k (i == k) (site_at k l.stations) g (λ t. device_accepts (SubmitEvent i event) t g)
-  call_commands k (calls.SetBusy i busy) l g = at_commands (calls.SetBusy i busy) k (i == k) (site_at k l.stations) g (λ t. refl)
-  call_commands k (SetHandler i handler) l g = at_commands (SetHandler i handler) k (i == k) (site_at k l.stations) g (λ t. refl)
-  call_commands k (WithdrawEvent i) l g = at_commands (WithdrawEvent i) k (i == k) (site_at k l.stations) g (λ t. device_accepts (WithdrawEvent i) t g)
-  call_commands k (Take i bytes now) l g = at_commands (Take i bytes now) k (i == k) (site_at k l.stations) g (λ t. refl)
-  call_commands k (TickDevice i now) l g = at_commands (TickDevice i now) k (i == k) (site_at k l.stations) g (λ t. refl)
-  call_commands k (Silence i now) l g = at_commands (Silence i now) k (i == k) (site_at k l.stations) g (λ t. refl)
-  call_commands k (Next i) l g = at_commands (Next i) k (i == k) (site_at k l.stations) g (λ t. device_accepts (Next i) t g)
-  call_commands k (Pending i) l g = at_commands (Pending i) k (i == k) (site_at k l.stations) g (λ t. refl)
-  call_commands k (NewDevice i config handler room gap) l g =
-      at_commands (NewDevice i config handler room gap) k (i == k) (site_at k l.stations) g (λ t. refl)
+  call_commands k (SubmitEvent i event) l g = queues_at i event (i == k) (site_at k l.stations) g
+  call_commands k call l g = no_commands (steps_of answer_of after k call l g) (call_none k call l g tt)
 
   pub call_events : (k : ℕ) (call : Call H) (l : InUse H) (g : Ledger) → events_in (steps_of answer_of after k call l g) ≡ queued_by k call l
   call_events k (OfPanel call) l g = panel_events k call l.bus g
-  call_events k (NewPanel config xs) l g = no_events (panel_restarts (device_of k l.bus)) (restarts_none (device_of k l.bus))
   call_events k (SubmitEvent i event) l g = elim (eqb_tells i k) [
     | inl equal ↦
         ap (λ b. events_in (cond b (steps_at answer_of after (SubmitEvent i event) (site_at k l.stations) g) [])) equal.0
@@ -232,21 +217,7 @@ module _ {H : Type 0} (answer_of : H → Command → Answer) (after : H → Comm
         ap (λ b. events_in (cond b (steps_at answer_of after (SubmitEvent i event) (site_at k l.stations) g) [])) differs.0
         ∙ sym (ap (λ b. cond b (queued_at (site_at i l.stations) event) []) differs.0)
   ]
-  call_events k (calls.SetBusy i busy) l g = at_events (calls.SetBusy i busy) k (i == k) (site_at k l.stations) g (λ t. refl)
-  call_events k (SetHandler i handler) l g = at_events (SetHandler i handler) k (i == k) (site_at k l.stations) g (λ t. refl)
-  call_events k (WithdrawEvent i) l g =
-      at_events (WithdrawEvent i) k (i == k) (site_at k l.stations) g
-      (λ t. no_events (withdraws_event (never_offered t.reader.queue) t.reader.queue.ever_offered g) (withdraws_event_none (never_offered t.reader.queue) t.reader.queue.ever_offered g))
-  call_events k (Take i bytes now) l g = at_events (Take i bytes now) k (i == k) (site_at k l.stations) g (λ t. refl)
-  call_events k (TickDevice i now) l g = at_events (TickDevice i now) k (i == k) (site_at k l.stations) g (λ t. refl)
-  call_events k (Silence i now) l g = at_events (Silence i now) k (i == k) (site_at k l.stations) g (λ t. refl)
-  call_events k (Next i) l g =
-      at_events (Next i) k (i == k) (site_at k l.stations) g (λ t.
-      let o = first_answered t.reader (read_up_to t.reader (items_of t.line.held)) in
-      no_events (answered answer_of after o t.reader g) (gets_accept o t.reader g))
-  call_events k (Pending i) l g = at_events (Pending i) k (i == k) (site_at k l.stations) g (λ t. refl)
-  call_events k (NewDevice i config handler room gap) l g =
-      at_events (NewDevice i config handler room gap) k (i == k) (site_at k l.stations) g (λ t. refl)
+  call_events k call l g = no_events (steps_of answer_of after k call l g) (call_none k call l g tt)
 
   -- ---- lists of calls
 

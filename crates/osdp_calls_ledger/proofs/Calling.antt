@@ -3,7 +3,7 @@ use Rattle.std.proofs.Common.{◌≡◌, ℕ, max, Bool, cond, List, [], ◌∷�
 use Rattle.std.specs.Prelude.{◌==◌}
 use Rattle.osdp_msg.specs.declared.command.Command.{Command}
 use Rattle.osdp_bus.specs.Buses.{device_of, seen as seen_by_bus}
-use Rattle.osdp_bus.specs.Machine.{changed_unless, submit_refusal_at}
+use Rattle.osdp_bus.specs.Machine.{changed_unless}
 use Rattle.osdp_bus.specs.Ticking.{bus_ticks, ticks_at}
 use Rattle.osdp_bus_laws.specs.Calls as bus
 use Rattle.osdp_bus_laws.specs.Reports.{told_by_ticking, told_in}
@@ -16,9 +16,10 @@ use Rattle.osdp_link_laws.specs.Link as link
 use Rattle.osdp_link_laws.proofs.Lines.{each_of}
 use Rattle.osdp_link_ledger.specs.Steps.{after_steps, queues, submits, withdraws, withdraws_event}
 use Rattle.osdp_shared_line.specs.Line as line
-use Rattle.osdp_shared_line.specs.Line.{Net, NetMove, Queue, RestartPanel, RestartReader, Retarget, SetBusy, Submit, Withdraw, site_at}
+use Rattle.osdp_shared_line.specs.Line.{Net, NetMove, Queue, RestartReader, Retarget, SetBusy, Submit, Withdraw, site_at}
 use Rattle.osdp_calls.specs.Calls as calls
-use Rattle.osdp_calls.specs.Calls.{Call, NewDevice, NewPanel, Next, OfPanel, Pending, SetHandler, Silence, SubmitEvent, Take, TickDevice, WithdrawEvent, after_call, all_hear, asked_at, last_of, panel_says, read_by}
+use Rattle.osdp_calls.specs.Calls.{Call, NewDevice, NewPanel, Next, OfPanel, SetHandler, SubmitEvent, WithdrawEvent, after_call, all_hear, asked_at, last_of, panel_says, read_by}
+use Rattle.osdp_calls.specs.Ends.{is_of_device}
 use Rattle.osdp_calls.specs.Handing.{told_by_all}
 use Rattle.osdp_calls.specs.Lines.{InUse, Station}
 use Rattle.osdp_calls.specs.Premises.{Addresses, InOrder, InRange, QuietOpening}
@@ -199,22 +200,10 @@ module _ {H : Type 0} (answer_of : H → Command → Answer) (after : H → Comm
         by_moves (WithdrawEvent i) places order quiet addresses range (λ moves are. are)
         (of_device answer_of after i (WithdrawEvent i) (line.WithdrawEvent i) link.WithdrawEvent l n h (λ k s. refl)
         (λ k s t g is. ap (λ (r : ReaderState H). withdraws_event (never_offered r.queue) r.queue.ever_offered g) is))
-    call_shows (Take i bytes now) places order quiet addresses range =
-        by_moves (Take i bytes now) places order quiet addresses range (λ moves are. are)
-        (λ k g. sym (quiet_at (Take i bytes now) (λ t q. refl) (i == k) (site_at k l.stations) g))
-    call_shows (TickDevice i now) places order quiet addresses range =
-        by_moves (TickDevice i now) places order quiet addresses range (λ moves are. are)
-        (λ k g. sym (quiet_at (TickDevice i now) (λ t q. refl) (i == k) (site_at k l.stations) g))
-    call_shows (Silence i now) places order quiet addresses range =
-        by_moves (Silence i now) places order quiet addresses range (λ moves are. are)
-        (λ k g. sym (quiet_at (Silence i now) (λ t q. refl) (i == k) (site_at k l.stations) g))
     call_shows (Next i) places order quiet addresses range =
         by_made answer_of after (call_shown (Next i) l) (IsNextOf answer_of after i (site_at i l.stations) n) n (after_call answer_of after (Next i) places l)
         (λ moves next whole k g own. next_of_shows answer_of after i (site_at i l.stations) l n moves refl next whole k g)
         (nexting answer_of after i places l n h order quiet range)
-    call_shows (Pending i) places order quiet addresses range =
-        by_moves (Pending i) places order quiet addresses range (λ moves are. are)
-        (λ k g. sym (quiet_at (Pending i) (λ t q. refl) (i == k) (site_at k l.stations) g))
     call_shows (NewDevice i config handler room gap) places order quiet addresses range =
         by_moves (NewDevice i config handler room gap) places order quiet addresses range (λ moves are. are)
         (of_device answer_of after i (NewDevice i config handler room gap) (RestartReader i config handler room) (link.RestartReader config handler room) l n h
@@ -223,3 +212,6 @@ module _ {H : Type 0} (answer_of : H → Command → Answer) (after : H → Comm
         let s = one_call answer_of after (NewPanel config xs) places l n h order quiet addresses range in
         by_steps (NewPanel config xs) l n (after_call answer_of after (NewPanel config xs) places l) s
         (λ k. call_keeps k answer_of after (NewPanel config xs) places l) (λ k g own. ap (λ ms. seen answer_of after k ms n g) s.made.1 ∙ of_power answer_of after s.made.0 l n h k g own)
+    call_shows call places order quiet addresses range =
+        by_moves call places order quiet addresses range (λ moves are. are)
+        (λ k g. sym (quiet_at call (λ t q. refl) (is_of_device k call) (site_at k l.stations) g))

@@ -4,9 +4,7 @@ use Rattle.std.proofs.lemmas.Grind.{flat_map-append}
 use Rattle.std.proofs.lemmas.List.{append-nil, map-append}
 use Rattle.std.specs.Prelude.{◌==◌}
 use Rattle.osdp_frame.specs.Packet.{Packet}
-use Rattle.osdp_msg.specs.Events.{event_in}
 use Rattle.osdp_msg.specs.declared.command.Command.{Command}
-use Rattle.osdp_msg.specs.declared.command.Command.TheVariants.{Id, Poll}
 use Rattle.osdp_msg.specs.declared.event.Event.{Event}
 use Rattle.osdp_msg.specs.declared.reply.Reply.{Reply}
 use Rattle.osdp_msg.specs.declared.reply.Reply.TheVariants as reply
@@ -22,25 +20,23 @@ use Rattle.osdp_bus_laws.specs.Reports.{told_in}
 use Rattle.osdp_device.specs.Telling.{items_of}
 use Rattle.osdp_reader.specs.Queue.{lacks_room, never_offered}
 use Rattle.osdp_reader.specs.State.{ReaderState}
-use Rattle.osdp_reader.specs.Table.{hears, kind_of}
 use Rattle.osdp_reader.specs.declared.handler.Answer.{Answer}
-use Rattle.osdp_reader.specs.declared.kind.Kind.{Kind}
-use Rattle.osdp_reader.specs.declared.kind.Kind.TheVariants as kind
 use Rattle.osdp_ledger.specs.History.{End, Forgotten, GivenBack, History, InDoubt, Settled, ends_at_restart, new_history, runs, steps_on}
 use Rattle.osdp_ledger.specs.Ledger as ledger
 use Rattle.osdp_ledger.specs.Ledger.{Card, Doubt, Ledger, Order, RestartPanel, Settle, new_ledger}
-use Rattle.osdp_link_laws.proofs.Lines.{both, each_append}
+use Rattle.osdp_link_laws.proofs.Lines.{both}
 use Rattle.osdp_link_laws.proofs.Stages.{Each}
 use Rattle.osdp_link_ledger.specs.Accounts.{doubted_as, settled_as}
-use Rattle.osdp_link_ledger.specs.Steps.{acts, acts_at_zero, acts_on, after_steps, leaves, leaving, offers, queued_before, queues, submits, told, withdraws, withdraws_event}
+use Rattle.osdp_link_ledger.specs.Steps.{after_steps, queued_before, queues, submits, told, withdraws, withdraws_event}
 use Rattle.osdp_shared_line.specs.Line.{site_at}
-use Rattle.osdp_calls.specs.Calls as calls
-use Rattle.osdp_calls.specs.Calls.{Call, NewDevice, NewPanel, Next, OfPanel, Pending, SetHandler, Silence, Step, SubmitEvent, Take, TickDevice, WithdrawEvent, after_call, asked_at, first_answered, read_up_to}
+use Rattle.osdp_calls.specs.Calls.{Call, NewDevice, NewPanel, Next, OfPanel, Step, SubmitEvent, WithdrawEvent, after_call, asked_at, first_answered, read_up_to}
+use Rattle.osdp_calls.specs.Ends.{is_of_device}
 use Rattle.osdp_calls.specs.Handing.{heard}
 use Rattle.osdp_calls.specs.Lines.{InUse, Station}
 use Rattle.osdp_calls_ledger.specs.Reports.{Told, TellsReports, all_told, nothing_told, told_by, told_in_history, with_report, with_reports}
 use Rattle.osdp_calls_ledger.specs.Steps.{answered, device_steps, given_back, opening, panel_restarts, panel_steps, reported, steps_along, steps_at, steps_of}
 use Rattle.osdp_calls_ledger.proofs.Allowing.{opening_open}
+use Rattle.osdp_link_ledger.proofs.Plain.{gets_each}
 use Rattle.osdp_link_ledger.proofs.Tallies.{command_at, offered_event}
 
 -- ---- what a step tells
@@ -153,31 +149,6 @@ restarts_silent : (q : Option Entry) → Each IsSilent (panel_restarts q)
 restarts_silent None = tt
 restarts_silent (Some d) = (tt, tt)
 
-leaves_silent : (es : List Event) (g : Ledger) → Each IsSilent (leaves es g)
-leaves_silent [] g = tt
-leaves_silent (e ∷ es) g = (tt, tt)
-
-offers_silent : (e : Option Event) (g : Ledger) → Each IsSilent (offers e g)
-offers_silent None g = tt
-offers_silent (Some e) g = (tt, tt)
-
-acts_on_silent : (c : Command) (answer : Reply) (g : Ledger) → Each IsSilent (acts_on c answer g)
-acts_on_silent Poll answer g = offers_silent (event_in answer) g
-acts_on_silent c answer g = (tt, tt)
-
-acts_at_zero_silent : (c : Command) (answer : Reply) (g : Ledger) → Each IsSilent (acts_at_zero c answer g)
-acts_at_zero_silent (Id kept) answer g = tt
-acts_at_zero_silent c answer g = (tt, tt)
-
-acts_silent : (k : Kind) (c : Option Command) (said : Option Reply) (g : Ledger) → Each IsSilent (acts k c said g)
-acts_silent kind.Taken (Some c) (Some answer) g = acts_on_silent c answer g
-acts_silent kind.Taken (Some c) None g = tt
-acts_silent kind.Taken None said g = tt
-acts_silent kind.Zero (Some c) (Some answer) g = acts_at_zero_silent c answer g
-acts_silent kind.Zero (Some c) None g = tt
-acts_silent kind.Zero None said g = tt
-acts_silent _ c said g = tt
-
 -- ---- a report
 
 report_tells : (r : Report) (g : Ledger) (y : Told) → with_steps (told (Some r) g) y ≡ with_report r y
@@ -225,18 +196,12 @@ module _ (k : ℕ) where
       ∙ silent opens (with_steps (reported k all g) y)
       (opening_open IsSilent tt k (asked_at now b) (bus_ticks now b).sent (device_of k (heard (bus.Tick now) now b)))
       ∙ reports_tell all g y
-  panel_tells (bus.OnBytes bytes now) b g y = reports_tell (told_in (bus.OnBytes bytes now) b) g y
-  panel_tells (bus.OnSilence now) b g y = reports_tell (told_in (bus.OnSilence now) b) g y
-  panel_tells _ b g y = refl
+  panel_tells call b g y = reports_tell (told_in call b) g y
 
   module _ {H : Type 0} (answer_of : H → Command → Answer) (after : H → Command → H) where
     gets_silent : (o : Option Packet) (r : ReaderState H) (g : Ledger) → Each IsSilent (answered answer_of after o r g)
     gets_silent None r g = tt
-    gets_silent (Some p) r g =
-        let o = hears answer_of after r p in
-        let left = leaves (leaving (kind_of r p) r.queue) g in
-        each_append IsSilent left (acts (kind_of r p) o.command o.said (after_steps left g))
-        (leaves_silent (leaving (kind_of r p) r.queue) g) (acts_silent (kind_of r p) o.command o.said (after_steps left g))
+    gets_silent (Some p) r g = gets_each IsSilent (λ order answer. tt) (λ card. tt) (λ card. tt) answer_of after p r g
 
     device_silent : (call : Call H) (t : Station H) (g : Ledger) → Each IsSilent (device_steps answer_of after call t g)
     device_silent (SubmitEvent i e) t g = queues_silent (lacks_room e t.reader.queue) e g
@@ -249,25 +214,16 @@ module _ (k : ℕ) where
     at_silent call None g = tt
     at_silent call (Some t) g = device_silent call t g
 
-    of_device : (i : ℕ) (call : Call H) (l : InUse H) (g : Ledger) (y : Told)
-        → with_steps (cond (i == k) (steps_at answer_of after call (site_at k l.stations) g) []) y ≡ y
-    of_device i call l g y =
+    of_device : (call : Call H) (l : InUse H) (g : Ledger) (y : Told)
+        → with_steps (cond (is_of_device k call) (steps_at answer_of after call (site_at k l.stations) g) []) y ≡ y
+    of_device call l g y =
         let steps = steps_at answer_of after call (site_at k l.stations) g in
-        silent (cond (i == k) steps []) y (if_own i steps (at_silent call (site_at k l.stations) g))
+        silent (cond (is_of_device k call) steps []) y (both (Each IsSilent) (is_of_device k call) steps [] (at_silent call (site_at k l.stations) g) tt)
 
     call_tells : (call : Call H) (l : InUse H) (g : Ledger) (y : Told) → with_steps (steps_of answer_of after k call l g) y ≡ with_reports k (told_by call l) y
     call_tells (OfPanel call) l g y = panel_tells call l.bus g y
     call_tells (NewPanel config addresses) l g y = silent (panel_restarts (device_of k l.bus)) y (restarts_silent (device_of k l.bus))
-    call_tells (SubmitEvent i e) l g y = of_device i (SubmitEvent i e) l g y
-    call_tells (WithdrawEvent i) l g y = of_device i (WithdrawEvent i) l g y
-    call_tells (Next i) l g y = of_device i (Next i) l g y
-    call_tells (NewDevice i config handler room gap) l g y = of_device i (NewDevice i config handler room gap) l g y
-    call_tells (calls.SetBusy i busy) l g y = of_device i (calls.SetBusy i busy) l g y
-    call_tells (SetHandler i handler) l g y = of_device i (SetHandler i handler) l g y
-    call_tells (Take i bytes now) l g y = of_device i (Take i bytes now) l g y
-    call_tells (TickDevice i now) l g y = of_device i (TickDevice i now) l g y
-    call_tells (Silence i now) l g y = of_device i (Silence i now) l g y
-    call_tells (Pending i) l g y = of_device i (Pending i) l g y
+    call_tells call l g y = of_device call l g y
 
     along_tells : (steps : List (Step H)) (l : InUse H) (g : Ledger) (y : Told)
         → with_steps (steps_along answer_of after k steps l g) y ≡ with_reports k (all_told answer_of after steps l) y

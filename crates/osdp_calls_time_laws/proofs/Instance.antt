@@ -13,6 +13,7 @@ use Rattle.osdp_link_laws.specs.Link.{new_account}
 use Rattle.osdp_reader.specs.declared.handler.Answer.{Answer}
 use Rattle.osdp_shared_line.specs.Line.{site_at}
 use Rattle.osdp_shared_line.specs.Programs.{Note}
+use Rattle.osdp_reader_laws.specs.Storing.{StoresItsOwn}
 use Rattle.osdp_calls.specs.Calls.{OfPanel, Step, after_call, after_calls}
 use Rattle.osdp_calls.specs.Lines.{InUse, Station}
 use Rattle.osdp_calls.specs.Premises.{AllKeep, IsSetUp}
@@ -20,7 +21,7 @@ use Rattle.osdp_calls.specs.Programs.{first_notes, notes_after}
 use Rattle.osdp_premises.specs.Deciding.{has_addresses, is_in_order, is_quiet}
 use Rattle.osdp_premises.specs.Exactly.{AllInRange}
 use Rattle.osdp_premises.specs.Ruling.{keeps_rule}
-use Rattle.osdp_premises.specs.LongDay.{answers, calls, first_line, long_day, station_at}
+use Rattle.osdp_premises.specs.LongDay.{answers, calls, line_in_the_morning, long_day, station_at}
 use Rattle.osdp_premises.proofs.Exactly.{exact}
 use Rattle.osdp_premises.proofs.Ruling.{rule_exact}
 use Rattle.osdp_premises.proofs.LongDay.{AllRanges, all_range, day_keeps, id_fits, is_the_one, keep_at, no_bytes, room_fits}
@@ -66,7 +67,7 @@ module _ {H : Type 0} where
     bus = refl;
     devices = one handler (λ t. t.reader.config.address < 127) (omega arith);
     apart = λ j k s t other at there e. none_beside handler j k s t other at there;
-    stored = one handler (λ t. t.reader.stored ≡ None) refl;
+    stored = one handler (λ t. StoresItsOwn t.reader) tt;
     place = one handler (λ t. (t.place ≡ 0) × (t.begun ≡ None)) (refl, refl);
     account = one handler (λ t. (t.account ≡ new_account [] t.reader.queue.events) × (t.earlier ≡ [])) (refl, refl);
     said = refl;
@@ -127,9 +128,9 @@ module _ {H : Type 0} where
         record {
           up = day.up;
           waits = let fits : 398 < 400 = omega arith in fits;
-          timely = all_timely answer_of after 199 (timed 0 (long_day handler other)) (clock_at 0) (first_line handler) refl;
-          keep = else_of 0 (long_day handler other) (first_line handler) day.keep;
-          rule = rule_else 106 0 (long_day handler other) (first_line handler) (first_notes (first_line handler)) refl day.keep;
+          timely = all_timely answer_of after 199 (timed 0 (long_day handler other)) (clock_at 0) (line_in_the_morning handler) refl;
+          keep = else_of 0 (long_day handler other) (line_in_the_morning handler) day.keep;
+          rule = rule_else 106 0 (long_day handler other) (line_in_the_morning handler) (first_notes (line_in_the_morning handler)) refl day.keep;
         }
 
     held_ranges : (handler : H) → AllRanges answer_of after (held_day handler) (one_line handler)

@@ -9,6 +9,7 @@ use Rattle.osdp_device.specs.Saying.{speaks}
 use Rattle.osdp_device.specs.Telling.{items_of}
 use Rattle.osdp_bus.specs.Entries.{address_of}
 use Rattle.osdp_bus.specs.declared.entry.Entry.{Entry}
+use Rattle.osdp_link_laws.proofs.Numbers.{is_false}
 use Rattle.osdp_link_laws.proofs.Stages.{Each}
 use Rattle.osdp_reader.specs.State.{ReaderState}
 use Rattle.osdp_reader.specs.Table.{hears, kind_by_number, kind_of}
@@ -16,12 +17,12 @@ use Rattle.osdp_reader.specs.declared.handler.Answer.{Answer}
 use Rattle.osdp_reader.specs.declared.kind.Kind.TheVariants as kind
 use Rattle.osdp_shared_line.specs.Line.{Net, changed, site_at}
 use Rattle.osdp_shared_line.proofs.Apart.{Apart, IsAway, IsToDevice, reader_address}
-use Rattle.osdp_shared_line.proofs.Readers.{StoresOwn, reads_well}
+use Rattle.osdp_shared_line.proofs.Readers.{IsForAll, IsFrom, StoresOwn, reads_well}
 use Rattle.osdp_shared_line.proofs.Sites.{some_same}
 use Rattle.osdp_calls.specs.Calls.{answers, begun_of, by_device, after_next, first_answered, nexts, read_up_to, reply_to}
 use Rattle.osdp_calls.specs.Lines.{Burst, InUse, Station, concerns, is_ahead_of_device, is_past_for_device, those}
 use Rattle.osdp_calls.specs.Premises.{AreInOrder, NextInOrder}
-use Rattle.osdp_calls.proofs.Agreeing.{begun_changed}
+use Rattle.osdp_calls.proofs.Agreeing.{address_same, begun_changed}
 use Rattle.osdp_calls.proofs.Nexts.{each_at}
 use Rattle.osdp_calls.proofs.Replying.{silent_to_replies}
 use Rattle.osdp_calls.proofs.Same.{IsNetOf, IsRightly}
@@ -178,6 +179,19 @@ module _ {H : Type 0} where
         is_ahead x past from i by le none =
             ap (λ y. y && (nat_le from i && not past)) by ∙ ap (λ y. y && not past) (le-leb from i le) ∙ ap not none
 
+    -- an entry with a session that was begun is at the address of a device
+    entry_below : (e : ℕ) (d : Entry) (began : ℕ) (o : Option (Station H)) → site_at e l.stations ≡ o → slice_get l.bus.devices.entries e ≡ Some d
+        → begun_of o ≡ Some began → address_of d < 127
+    entry_below e d began None at entry begun = absurd (let is = begun in cc)
+    entry_below e d began (Some v) at entry begun =
+        let s = of_station e v l n h at in
+        subst (λ (x : Entry). address_of x < 127) (some_same s.device d (sym s.entry ∙ entry))
+        (subst (λ a. a < 127) (address_same e s.device l v s.site s.is) (apart.kept e s.site s.at).device)
+
+    or_first : (a b c : Bool) → b ≡ false → (a || b) ≡ true → (a || c) ≡ true
+    or_first true b c none is = refl
+    or_first false b c none is = absurd (let e = sym none ∙ is in cc)
+
     -- so its answer is in time
     in_time : (k : ℕ) (u : Station H) (ps : List Packet) (places : List ℕ) → site_at k l.stations ≡ Some u → AreInOrder (IsUnanswered u.reader) l.said ps places u.place
         → Each (ReadAt w t.at c.said) places → (o : Option Packet) → first_answered u.reader ps ≡ o → (e : ℕ) (d : Entry) (began : ℕ)
@@ -189,12 +203,18 @@ module _ {H : Type 0} where
         let x = is_own k u p ps places at all read first in
         let said = says_of k j b (option_to_list (hears answer_of after u.reader p).reply) there in
         let answer = one_of j said.0 (hears answer_of after u.reader p).reply said.1 in
-        let well = reads_well answer_of after u.reader p x.address x.stored in
-        let from : said.0.address ≡ u.reader.config.address = subst (λ o. IfSome o (λ q. q.address ≡ u.reader.config.address)) answer well.said in
-        let same : said.0.address ≡ x.burst.packet.address = from ∙ sym x.address ∙ sym (ap (λ (q : Packet). q.address) x.is) in
+        let well = reads_well IsForAll answer_of after u.reader p x.address x.stored in
+        let from : IsFrom IsForAll u.reader.config.address said.0 = subst (λ o. IfSome o (IsFrom IsForAll u.reader.config.address)) answer well.said in
+        let device = entry_below e d began (site_at e l.stations) refl entry begun in
         let here : ((k == e) || (said.0.address == address_of d)) ≡ true = subst (λ (y : Burst). concerns (of_entry e (address_of d)) y ≡ true) (sym said.2) con in
         let asked : concerns (of_entry e (address_of d)) x.burst ≡ true =
-        (λ i. (x.entry i == e) || (sym same i == address_of d)) ∙ here in
+        elim from [
+          | inl own ↦ (λ i. (x.entry i == e) || (sym (own ∙ sym x.address ∙ sym (ap (λ (q : Packet). q.address) x.is)) i == address_of d)) ∙ here
+          | inr all ↦
+              ap (λ y. (y == e) || (x.burst.packet.address == address_of d)) x.entry
+              ∙ or_first (k == e) (said.0.address == address_of d) (x.burst.packet.address == address_of d)
+              (is_false said.0.address (address_of d) (λ same. omega (arith, device, all, same))) here
+        ] in
         let inside = at_length x.place x.burst l.said x.there in
         let stamps = r.stamps in
         let m = there_is x.place c.said (omega (arith, inside, stamps)) in

@@ -10,7 +10,7 @@ use Rattle.osdp_calls.specs.Calls.{Call, NewDevice, Next, OfPanel, Silence, Step
 use Rattle.osdp_calls.specs.Lines.{InUse, bus_with}
 use Rattle.osdp_calls.specs.Premises.{AllKeep, IsSetUp}
 use Rattle.osdp_calls.specs.Programs.{first_notes}
-use Rattle.osdp_premises.specs.LongDay.{answers, asks, calls, device_at, first_line, four, long_day, station_at}
+use Rattle.osdp_premises.specs.LongDay.{answers, asks, calls, device_at, line_in_the_morning, four, long_day, station_at}
 use Rattle.osdp_calls_time_laws.specs.Laws.{steps_of}
 use Rattle.osdp_calls_time_laws.specs.Moments.{AllKeepElse, AllKeepRuleElse, AllTimely, Timed, WaitsTwice, clock_at}
 
@@ -73,11 +73,11 @@ module _ {H : Type 0} where
     -- The long day: no packet is held for longer than 199 ms, and the quiet wait is 400 ms. Up to the call by which a device comes back elsewhere its programs keep
     -- to the rule, too: two COMSETs, a `retarget` and a restart of a device are among these calls.
     pub record LongDayIsTimely (handler other : H) : Type 0 where
-      pub up : IsSetUp (first_line handler)
-      pub waits : WaitsTwice 199 (first_line handler).bus.config
-      pub timely : AllTimely answer_of after 199 (timed 0 (long_day handler other)) (clock_at 0) (first_line handler)
-      pub keep : AllKeepElse answer_of after (timed 0 (long_day handler other)) (first_line handler)
-      pub rule : AllKeepRuleElse answer_of after (timed 0 (take 106 (long_day handler other))) (first_line handler) (first_notes (first_line handler))
+      pub up : IsSetUp (line_in_the_morning handler)
+      pub waits : WaitsTwice 199 (line_in_the_morning handler).bus.config
+      pub timely : AllTimely answer_of after 199 (timed 0 (long_day handler other)) (clock_at 0) (line_in_the_morning handler)
+      pub keep : AllKeepElse answer_of after (timed 0 (long_day handler other)) (line_in_the_morning handler)
+      pub rule : AllKeepRuleElse answer_of after (timed 0 (take 106 (long_day handler other))) (line_in_the_morning handler) (first_notes (line_in_the_morning handler))
 
     -- With a quiet wait of exactly twice the time for which packets are held, and all other premises, the opening is not quiet: the answer from before it
     -- comes after the opening ID, in the same millisecond.

@@ -7,17 +7,8 @@ use std::process::Abort;
 /// A POLL to address 0 with a checksum.
 const POLL: [u8; 7] = [0x53, 0x00, 0x07, 0x00, 0x00, 0x60, 0x46];
 
-/// A POLL to address 0 with a CRC.
-const POLL_CRC: [u8; 8] = [0x53, 0x00, 0x08, 0x00, 0x04, 0x60, 0xeb, 0xaa];
-
 /// An ACK from address 0 with sequence number 1 and a CRC.
 const ACK_CRC: [u8; 8] = [0x53, 0x80, 0x08, 0x00, 0x05, 0x40, 0x68, 0x9f];
-
-/// An ID to address 5.
-const ID: [u8; 8] = [0x53, 0x05, 0x08, 0x00, 0x00, 0x61, 0x00, 0x3f];
-
-/// An ACK from the configuration address.
-const ACK_CONFIGURATION: [u8; 7] = [0x53, 0xff, 0x07, 0x00, 0x00, 0x40, 0x67];
 
 /// A packet with a security block, and one with a reserved bit.
 const BLOCK: [u8; 9] = [0x53, 0x00, 0x09, 0x00, 0x08, 0x02, 0x15, 0x60, 0x25];
@@ -114,30 +105,12 @@ fn is_spelled(rt: &impl Abort, fields: &Fields<'_>, bytes: &[u8]) {
 }
 
 #[test]
-fn commands_are_spelled(rt: HostRuntime) {
-    let mut fields = plain(&[0x60]);
-    is_spelled(&rt, &fields, &POLL);
-    fields.check = CheckKind::Crc;
-    is_spelled(&rt, &fields, &POLL_CRC);
-    let mut fields = plain(&[0x61, 0x00]);
-    fields.address = 5;
-    is_spelled(&rt, &fields, &ID);
-}
-
-#[test]
-fn replies_are_spelled(rt: HostRuntime) {
+fn packets_are_spelled(rt: HostRuntime) {
     let mut fields = plain(&[0x40]);
     fields.reply = true;
-    fields.address = 127;
-    is_spelled(&rt, &fields, &ACK_CONFIGURATION);
-    fields.address = 0;
     fields.seq = 1;
     fields.check = CheckKind::Crc;
     is_spelled(&rt, &fields, &ACK_CRC);
-}
-
-#[test]
-fn blocks_and_reserved_bits_are_spelled(rt: HostRuntime) {
     let mut fields = plain(&[0x02, 0x15, 0x60]);
     fields.block = true;
     is_spelled(&rt, &fields, &BLOCK);
@@ -146,93 +119,82 @@ fn blocks_and_reserved_bits_are_spelled(rt: HostRuntime) {
     is_spelled(&rt, &fields, &RESERVED);
 }
 
+/// The number of an address. None where it is no address.
+fn address_of(number: u8) -> Option<u8> {
+    Some(Address::new(number)?.get())
+}
+
+/// A sequence number, and the one after it. None where it is no sequence number.
+fn seq_of(number: u8) -> Option<(u8, u8)> {
+    let seq = Seq::new(number)?;
+    Some((seq.get(), seq.next().get()))
+}
+
 #[test]
 fn numbers_within_their_ranges(rt: HostRuntime) {
-    assert_eq!(rt; Address::new(127).map(|address| address.get()), Some(127));
-    assert!(rt; Address::new(128).is_none());
-    assert_eq!(rt; Seq::new(3).map(|seq| seq.get()), Some(3));
-    assert!(rt; Seq::new(4).is_none());
-    for (number, after) in [(0, 1), (1, 2), (2, 3), (3, 1)] {
-        assert_eq!(rt; Seq::new(number).map(|seq| seq.next().get()), Some(after));
-    }
+    assert!(rt; address_of(127) == Some(127) && address_of(128).is_none());
+    assert!(rt; seq_of(0) == Some((0, 1)) && seq_of(1) == Some((1, 2)));
+    assert!(rt; seq_of(2) == Some((2, 3)) && seq_of(3) == Some((3, 1)));
+    assert!(rt; seq_of(4).is_none());
+}
+
+/// How many bytes these fields come to as a packet with a body of its own, and as one whose body is lent. 0 where there is none.
+fn sizes_of(rt: &impl Abort, fields: &Fields<'_>) -> (usize, usize) {
+    let own = made(rt, fields).map_or(0, |it| it.encode().len());
+    let lent = lent(rt, fields).map_or(0, |it| it.encode().len());
+    (own, lent)
+}
+
+/// A packet with such a check, so many bytes in its body and these reserved bits comes to so many bytes. 0 where there is none.
+fn has_size(rt: &impl Abort, check: CheckKind, count: usize, reserved: u8, size: usize) {
+    let bytes = [0u8; 1434];
+    let mut fields = plain(bytes.get(..count).expect(rt, "so many bytes"));
+    fields.check = check;
+    fields.reserved = reserved;
+    assert!(rt; sizes_of(rt, &fields) == (size, size));
 }
 
 #[test]
 fn packets_have_room(rt: HostRuntime) {
-    let bytes = [0u8; 1434];
-    let mut fields = plain(&bytes);
-    let largest = made(&rt, &fields).expect(&rt, "1434 bytes with a checksum");
-    assert_eq!(rt; largest.encode().len(), 1440);
-    fields.check = CheckKind::Crc;
-    assert!(rt; made(&rt, &fields).is_none());
-    assert!(rt; lent(&rt, &fields).is_none());
-    fields.body = &bytes[..1433];
-    let largest = made(&rt, &fields).expect(&rt, "1433 bytes with a CRC");
-    assert_eq!(rt; largest.encode().len(), 1440);
-    fields.body = &[];
-    assert!(rt; made(&rt, &fields).is_none());
-    assert!(rt; lent(&rt, &fields).is_none());
-    fields.body = &[0x60];
-    fields.reserved = 15;
-    assert!(rt; made(&rt, &fields).is_some());
-    assert!(rt; lent(&rt, &fields).is_some());
-    fields.reserved = 16;
-    assert!(rt; made(&rt, &fields).is_none());
-    assert!(rt; lent(&rt, &fields).is_none());
+    has_size(&rt, CheckKind::Sum, 1434, 0, 1440);
+    has_size(&rt, CheckKind::Crc, 1434, 0, 0);
+    has_size(&rt, CheckKind::Crc, 1433, 0, 1440);
+    has_size(&rt, CheckKind::Sum, 0, 0, 0);
+    has_size(&rt, CheckKind::Sum, 1, 15, 7);
+    has_size(&rt, CheckKind::Sum, 1, 16, 0);
 }
 
-fn is_refused(rt: &impl Abort, run: &[u8], fault: FrameFault) {
-    assert!(rt; !run.is_empty());
-    match read_at(run, 0) {
-        ReadItem::Refused(met) => assert_eq!(rt; met, fault),
+/// Which other bytes are refused, and why, stands in rows of `tests/rows/captures.txt`.
+#[test]
+fn an_ended_run_is_refused(rt: HostRuntime) {
+    match read_at(&POLL[..6], 0) {
+        ReadItem::Refused(met) => assert!(rt; met == FrameFault::Ended),
         ReadItem::Packet(_) | ReadItem::Skipped(_) => assert!(rt; false, "not refused"),
     }
 }
 
-#[test]
-fn lengths_are_refused(rt: HostRuntime) {
-    let short = FrameFault::TooShort;
-    is_refused(&rt, &[0x53, 0x00, 0x06, 0x00, 0x00, 0x60, 0x47], short);
-    is_refused(&rt, &[0x53, 0x00, 0x07, 0x00, 0x04, 0x60, 0x42], short);
-    is_refused(&rt, &[0x53, 0x00, 0xa1, 0x05, 0x00], FrameFault::TooLong);
-}
-
-#[test]
-fn ended_runs_are_refused(rt: HostRuntime) {
-    is_refused(
-        &rt,
-        &[0x53, 0x00, 0x07, 0x00, 0x00, 0x60],
-        FrameFault::Ended,
-    );
-    is_refused(&rt, &[0x53], FrameFault::Ended);
-    is_refused(&rt, &[0x53, 0x00, 0x00, 0x00], FrameFault::Ended);
-}
-
-#[test]
-fn bad_checks_are_refused(rt: HostRuntime) {
-    let bad = FrameFault::BadCheck;
-    is_refused(&rt, &[0x53, 0x00, 0x07, 0x00, 0x00, 0x60, 0x47], bad);
-    is_refused(&rt, &[0x53, 0x00, 0x08, 0x00, 0x04, 0x60, 0xaa, 0xeb], bad);
+/// So many of these bytes decide what stands in front.
+fn decide(rt: &impl Abort, bytes: &[u8], count: usize) {
+    assert!(rt; deciding_count(bytes) == count);
 }
 
 #[test]
 fn so_many_bytes_decide(rt: HostRuntime) {
-    let long = [0x53, 0x00, 0xa0, 0x05, 0x00, 0x60];
-    assert_eq!(rt; deciding_count(&[]), 0);
-    assert_eq!(rt; deciding_count(&[0xff, 0x53]), 1);
-    assert_eq!(rt; deciding_count(&POLL[..4]), 4);
-    assert_eq!(rt; deciding_count(&[0x53, 0x00, 0x07, 0x00, 0x04, 0x60]), 5);
-    assert_eq!(rt; deciding_count(&[0x53, 0x00, 0xa1, 0x05, 0x00, 0x60]), 5);
-    assert_eq!(rt; deciding_count(&long), 6);
-    assert_eq!(rt; deciding_count(&ACK_CONFIGURATION), 7);
-    assert_eq!(rt; deciding_count(&BLOCK), 9);
+    decide(&rt, &[], 0);
+    decide(&rt, &[0xff, 0x53], 1);
+    decide(&rt, &POLL[..4], 4);
+    decide(&rt, &[0x53, 0x00, 0x07, 0x00, 0x04, 0x60], 5);
+    decide(&rt, &[0x53, 0x00, 0xa1, 0x05, 0x00, 0x60], 5);
+    decide(&rt, &[0x53, 0x00, 0xa0, 0x05, 0x00, 0x60], 6);
+    decide(&rt, &POLL, 7);
+    decide(&rt, &BLOCK, 9);
 }
 
 #[test]
 fn bytes_before_a_packet(rt: HostRuntime) {
-    assert_eq!(rt; skipped_count(&[0xff, 0x54, 0x53, 0x53]), 2);
-    assert_eq!(rt; skipped_count(&POLL), 0);
-    assert_eq!(rt; skipped_count(&POLL[1..]), 6);
+    let (first, later) = (skipped_count(&POLL), skipped_count(&POLL[1..]));
+    let between = skipped_count(&[0xff, 0x54, 0x53, 0x53]);
+    assert!(rt; (first, later, between) == (0, 6, 2));
 }
 
 /// What is shown is the POLL, and nothing beside it.
@@ -246,16 +208,22 @@ fn is_poll(rt: &impl Abort, framer: &Framer) {
     }
 }
 
+/// A POLL in two pieces is shown once both have come.
+fn is_shown_in_pieces(rt: &impl Abort, front: &[u8], back: &[u8]) {
+    let mut framer = Framer::new();
+    assert!(rt; framer.push(front) == front.len());
+    assert!(rt; framer.next().is_none() != back.is_empty());
+    assert!(rt; framer.push(back) == back.len());
+    is_poll(rt, &framer);
+    framer.advance();
+    assert!(rt; framer.next().is_none());
+}
+
 #[test]
 fn pieces_cut_anywhere(rt: HostRuntime) {
-    for cut in 1..=POLL.len() {
-        let mut framer = Framer::new();
-        assert_eq!(rt; framer.push(&POLL[..cut]), cut);
-        assert_eq!(rt; framer.next().is_none(), cut < POLL.len());
-        assert_eq!(rt; framer.push(&POLL[cut..]), POLL.len() - cut);
-        is_poll(&rt, &framer);
-        framer.advance();
-        assert!(rt; framer.next().is_none());
+    for cut in 1..8 {
+        let (front, back) = POLL.split_at(cut);
+        is_shown_in_pieces(&rt, front, back);
     }
 }
 

@@ -1,4 +1,4 @@
-//! Published packets, and what the program doesn't show. The tables of messages row by row stand in `tests/rows/`.
+//! What the program doesn't show of messages. Published packets, and the tables of messages row by row, stand in `tests/rows/`.
 use osdp_msg::*;
 use std::alloc::{AllocError, Global};
 use std::fmt;
@@ -10,7 +10,6 @@ mod options;
 mod placed;
 mod reasons;
 mod refusals;
-mod vectors;
 
 /// The words of a text: what stands between its spaces.
 fn words_of<'a>(rt: &impl Abort, alloc: Global, text: &'a str) -> Vec<&'a str> {
@@ -21,11 +20,6 @@ fn words_of<'a>(rt: &impl Abort, alloc: Global, text: &'a str) -> Vec<&'a str> {
 /// The bytes of digits.
 fn bytes_of(rt: &impl Abort, alloc: Global, digits: &str) -> Vec<u8> {
     hex::decode(alloc, digits).ok().expect(rt, "digits")
-}
-
-/// The number that a word says.
-fn number(rt: &impl Abort, word: &str) -> usize {
-    word.parse::<usize>().ok().expect(rt, "a number")
 }
 
 /// The text that was printed is this one.
@@ -66,31 +60,4 @@ fn is_command(
 ) {
     is_spelled(rt, command.write().as_slice(), code, data);
     prints(rt, alloc, command, text);
-}
-
-/// A reply has this code and data, and is printed as this text.
-fn is_reply(rt: &impl Abort, alloc: Global, reply: &Reply<'_>, code: u8, data: &[u8], text: &str) {
-    is_spelled(rt, reply.write().as_slice(), code, data);
-    prints(rt, alloc, reply, text);
-}
-
-/// A code and data are read as the message of this table and text, and the words of the text as that of this code
-/// and data.
-fn is_message(rt: &impl Abort, alloc: Global, table: &str, code: u8, data: &[u8], text: &str) {
-    let words = words_of(rt, alloc, text);
-    let words = words.as_slice();
-    let mut place = Spelling::new();
-    if table == "command" {
-        let read = Command::read(code, data).ok().expect(rt, text);
-        let parsed = Command::parse(words, &mut place).ok().expect(rt, text);
-        is_command(rt, alloc, &read, code, data, text);
-        is_command(rt, alloc, &parsed, code, data, text);
-        is_command(rt, alloc, &parsed.copy(), code, data, text);
-    } else {
-        let read = Reply::read(code, data).ok().expect(rt, text);
-        let parsed = Reply::parse(words, &mut place).ok().expect(rt, text);
-        is_reply(rt, alloc, &read, code, data, text);
-        is_reply(rt, alloc, &parsed, code, data, text);
-        is_reply(rt, alloc, &parsed.copy(), code, data, text);
-    }
 }

@@ -1,15 +1,28 @@
 -- What a frame brings about, by the tests of its table.
-use Rattle.std.proofs.Common.{◌≡◌, ap, sym, subst, ℕ, Bool, true, false, refl}
-use Rattle.std.specs.Prelude.{if◌then◌else◌}
+use Rattle.std.proofs.Common.{◌≡◌, ap, sym, subst, ℕ, ◌+◌, Bool, true, false, Option, Some, None, refl}
+use Rattle.std.specs.Prelude.{if◌then◌else◌, nat_lt}
 use Rattle.osdp_frame.specs.Packet.{Packet}
+use Rattle.osdp_msg.specs.declared.command.Command.{Command}
+use Rattle.osdp_msg.specs.declared.command_fields.Communication.{Communication}
+use Rattle.osdp_msg.specs.declared.reply.Reply.{Reply}
+use Rattle.osdp_msg.specs.declared.reply_fields.PdId.{PdId}
+use Rattle.osdp_msg.specs.Events.{event_in}
+use Rattle.osdp_controller.specs.declared.exchange.Exchange.{Exchange}
+use Rattle.osdp_controller.specs.declared.exchange.Exchange.TheVariants.{Opening, Polling, Asking}
+use Rattle.osdp_controller.specs.declared.exchange.Outstanding.{Outstanding}
 use Rattle.osdp_controller.specs.declared.meaning.ReplyMeaning.{ReplyMeaning}
+use Rattle.osdp_controller.specs.declared.meaning.ReplyMeaning.TheVariants.{NotTaken, Damaged, NumberRefused, Plain, Unreadable}
+use Rattle.osdp_controller.specs.declared.report.LostCause.{LostCause}
+use Rattle.osdp_controller.specs.declared.report.LostCause.TheVariants as causes
+use Rattle.osdp_controller.specs.declared.report.Report.{Report}
+use Rattle.osdp_controller.specs.declared.report.Report.TheVariants.{Opened, Settled, Moved, Unread}
 use Rattle.osdp_controller.specs.declared.session.Session.{Session}
 use Rattle.osdp_controller.specs.declared.state.State.{State}
 use Rattle.osdp_controller.specs.declared.state.State.TheVariants.{Waiting, Pausing}
 use Rattle.osdp_controller.specs.Answers.{meaning_of}
-use Rattle.osdp_controller.specs.Hearing.{Heard, hears, hears_in, ignores, is_from_reader, is_numbered}
+use Rattle.osdp_controller.specs.Hearing.{Heard, answered, answered_unread, com_of, command_answered, comset_of, hears, hears_in, ignores, is_from_reader, is_numbered, loses, moved_by, opening_answered, pausing_hears, pd_id_of, poll_told, rests, waiting_hears}
 use Rattle.osdp_controller.specs.Private.{numbered_in}
-use Rattle.osdp_controller.specs.Sessions.{seen}
+use Rattle.osdp_controller.specs.Sessions.{closed, later, seen}
 use Rattle.osdp_controller.proofs.Choices.{either_way}
 
 either_same : {A : Type 0} (b : Bool) (x : A) → x ≡ (if b then x else x)
@@ -41,3 +54,49 @@ either_frame P p now s numbered others =
     (λ from. either_way P (is_numbered p.sequence (meaning_of p) s) (numbered_in s.state (meaning_of p) (seen now s)) (ignores (seen now s))
     (λ k. numbered from k) (λ k. others))
     (λ from. others))
+
+-- ---- what holds whatever an answer brings about
+
+-- where the answer is ignored or ends the exchange, where the device moves, and where the session is lost
+pub record OfEach (P : Heard → Type 0) (s : Session) : Type 0 where
+  pub ignored : P (ignores s)
+  pub rested : (told : Option Report) → P (rests told s)
+  pub moved : (d : Communication) (command : Command)
+      → P (record { session = closed (record s { config = record s.config { address = d.address } }); report = Some (Moved command d) })
+  pub lost : (cause : LostCause) (o : Outstanding) → P (loses cause o s)
+
+module _ (P : Heard → Type 0) (s : Session) (each : OfEach P s) where
+  of_opening : (id : Option PdId) → P (opening_answered id s)
+  of_opening None = each.ignored
+  of_opening (Some id) = each.rested (Some (Opened id))
+
+  of_command : (to : Option Communication) (command : Command) (reply : Reply) → P (command_answered to command reply s)
+  of_command None command reply = each.rested (Some (Settled command reply))
+  of_command (Some d) command reply = each.moved d command
+
+  pub of_answer : (x : Exchange) (reply : Reply) → P (answered x reply s)
+  of_answer Opening reply = of_opening (pd_id_of reply)
+  of_answer Polling reply = each.rested (poll_told reply (event_in reply))
+  of_answer (Asking command) reply = of_command (moved_by (comset_of command) (com_of reply)) command reply
+
+  pub of_unread : (x : Exchange) (code : ℕ) → P (answered_unread x code s)
+  of_unread Opening code = each.ignored
+  of_unread Polling code = each.rested (Some (Unread None code))
+  of_unread (Asking command) code = each.rested (Some (Unread (Some command) code))
+
+  pub of_pause : (a : ReplyMeaning) (o : Outstanding) → P (pausing_hears a o s)
+  of_pause NumberRefused o = each.lost causes.NumberRefused o
+  of_pause (Plain reply) o = of_answer o.exchange reply
+  of_pause (Unreadable code) o = of_unread o.exchange code
+  of_pause _ o = each.ignored
+
+  -- after a NAK 1 the next tick repeats, and after a BUSY a pause begins
+  pub of_wait : (a : ReplyMeaning) (sends : ℕ) (o : Outstanding) → P (ignores (record s { state = Waiting s.greatest sends o }))
+      → P (ignores (record s { state = Pausing (later s.config.busy_wait s) (record o { busies = o.busies + 1 }) })) → P (waiting_hears a sends o s)
+  of_wait NotTaken sends o repeats pauses =
+      either_way P (nat_lt s.config.busy_limit (o.busies + 1)) (loses causes.TooBusy o s)
+      (ignores (record s { state = Pausing (later s.config.busy_wait s) (record o { busies = o.busies + 1 }) })) (λ b. each.lost causes.TooBusy o) (λ b. pauses)
+  of_wait Damaged sends o repeats pauses = repeats
+  of_wait NumberRefused sends o repeats pauses = each.lost causes.NumberRefused o
+  of_wait (Plain reply) sends o repeats pauses = of_answer o.exchange reply
+  of_wait (Unreadable code) sends o repeats pauses = of_unread o.exchange code

@@ -7,18 +7,13 @@ use Rattle.osdp_frame.specs.declared.check_kind.CheckKind.TheVariants.{Sum, Crc}
 use Rattle.osdp_frame.specs.Check.{check_size}
 use Rattle.osdp_frame.specs.Packet.{IsPacket, Packet, next_sequence}
 use Rattle.osdp_msg.specs.declared.command.Command.{Command}
-use Rattle.osdp_msg.specs.declared.command_fields.Communication.{Communication}
-use Rattle.osdp_msg.specs.declared.reply.Reply.{Reply}
-use Rattle.osdp_msg.specs.declared.reply_fields.PdId.{PdId}
 use Rattle.osdp_msg.specs.CommandTable.{CommandFits, command_code, command_data}
 use Rattle.osdp_msg_laws.proofs.CommandLaws.{command_laws}
 use Rattle.osdp_controller.specs.declared.meaning.ReplyMeaning.{ReplyMeaning}
-use Rattle.osdp_controller.specs.declared.meaning.ReplyMeaning.TheVariants.{NotTaken, Damaged, NumberRefused, Plain, Unreadable}
 use Rattle.osdp_controller.specs.declared.exchange.Exchange.{Exchange}
 use Rattle.osdp_controller.specs.declared.exchange.Exchange.TheVariants.{Opening, Polling, Asking}
 use Rattle.osdp_controller.specs.declared.exchange.Outstanding.{Outstanding}
 use Rattle.osdp_controller.specs.declared.fault.ControllerFault.{ControllerFault}
-use Rattle.osdp_controller.specs.declared.report.LostCause.TheVariants as causes
 use Rattle.osdp_controller.specs.declared.session.Session.{Session}
 use Rattle.osdp_controller.specs.declared.state.State.{State}
 use Rattle.osdp_controller.specs.declared.state.State.TheVariants.{Closed, Quiet, Idle, Waiting, Pausing}
@@ -26,7 +21,7 @@ use Rattle.osdp_controller.specs.Answers.{meaning_of}
 use Rattle.osdp_controller_laws.specs.Calls.{ComesDue, IsInRange, SendsPackets, StaysInRange, latest, longest_wait}
 use Rattle.osdp_controller_laws.specs.Commands.{command_of}
 use Rattle.osdp_controller.specs.Exchanges.{exchange_command, submitted_command}
-use Rattle.osdp_controller.specs.Hearing.{Heard, answered, answered_unread, com_of, command_answered, comset_of, hears, hears_busy, loses, moved_by, opening_answered, pausing_hears, pd_id_of, waiting_hears}
+use Rattle.osdp_controller.specs.Hearing.{Heard, hears}
 use Rattle.osdp_controller.specs.Private.{numbered_in}
 use Rattle.osdp_controller_laws.specs.Laws.{exchange_in}
 use Rattle.osdp_controller.specs.Machine.{Machine, acts, after_begin, after_retarget, after_submit, changed_unless, refused_unless_closed, retarget_refusal, submit_refusal}
@@ -34,7 +29,7 @@ use Rattle.osdp_controller_laws.specs.Runs.{Call, Submit, Begin, Retarget, Withd
 use Rattle.osdp_controller.specs.Sessions.{frame_of, later, seen}
 use Rattle.osdp_controller.specs.Ticking.{Ticked, begins, gives_up, sends_frame, stays, ticks_in, tries_again}
 use Rattle.osdp_controller.proofs.Choices.{either_way}
-use Rattle.osdp_controller_laws.proofs.Frames.{either_frame}
+use Rattle.osdp_controller_laws.proofs.Frames.{OfEach, either_frame, of_pause, of_wait}
 use Rattle.osdp_controller_laws.proofs.Stepwise.{sends_its_frame}
 use Rattle.osdp_controller_laws.proofs.Well.{keeps_each}
 
@@ -152,57 +147,14 @@ tick_near (Pausing until o) s w near same =
 abbrev FrameNear : Heard → Type 0
 FrameNear h = Near h.session.state h.session.number (latest h.session)
 
-rest_near : (s : Session) → s.number < 4 → Near (Idle (later s.config.poll_interval s)) s.number (latest s)
-rest_near s below = (below, poll_soon s)
-
-busy_near : (o : Outstanding) (s : Session) → s.number < 4 → (o.exchange ≢ Opening → 0 < s.number) → FrameNear (hears_busy o s)
-busy_near o s below above =
-    either_way FrameNear (nat_lt s.config.busy_limit (o.busies + 1)) (loses causes.TooBusy o s)
-    (record { session = record s { state = Pausing (later s.config.busy_wait s) (record o { busies = o.busies + 1 }) }; report = None })
-    (λ b. below) (λ b. (below, busy_soon s, above))
-
-opening_near : (id : Option PdId) (s : Session) → s.number < 4 → Near s.state s.number (latest s) → FrameNear (opening_answered id s)
-opening_near None s below same = same
-opening_near (Some id) s below same = rest_near s below
-
-command_near : (moved : Option Communication) (command : Command) (reply : Reply) (s : Session) → s.number < 4
-    → FrameNear (command_answered moved command reply s)
-command_near None command reply s below = rest_near s below
-command_near (Some d) command reply s below = below
-
-answer_near : (x : Exchange) (reply : Reply) (s : Session) → s.number < 4 → Near s.state s.number (latest s)
-    → FrameNear (answered x reply s)
-answer_near Opening reply s below same = opening_near (pd_id_of reply) s below same
-answer_near Polling reply s below same = rest_near s below
-answer_near (Asking command) reply s below same =
-    command_near (moved_by (comset_of command) (com_of reply)) command reply s below
-
-unread_near : (x : Exchange) (code : ℕ) (s : Session) → s.number < 4 → Near s.state s.number (latest s)
-    → FrameNear (answered_unread x code s)
-unread_near Opening code s below same = same
-unread_near Polling code s below same = rest_near s below
-unread_near (Asking command) code s below same = rest_near s below
-
-waiting_near : (a : ReplyMeaning) (sends : ℕ) (o : Outstanding) (s : Session) → s.number < 4 → (o.exchange ≢ Opening → 0 < s.number)
-    → Near s.state s.number (latest s) → FrameNear (waiting_hears a sends o s)
-waiting_near NotTaken sends o s below above same = busy_near o s below above
-waiting_near Damaged sends o s below above same = (below, now_soon s, above)
-waiting_near NumberRefused sends o s below above same = below
-waiting_near (Plain reply) sends o s below above same = answer_near o.exchange reply s below same
-waiting_near (Unreadable code) sends o s below above same = unread_near o.exchange code s below same
-
-pausing_near : (a : ReplyMeaning) (o : Outstanding) (s : Session) → s.number < 4 → Near s.state s.number (latest s)
-    → FrameNear (pausing_hears a o s)
-pausing_near NotTaken o s below same = same
-pausing_near Damaged o s below same = same
-pausing_near NumberRefused o s below same = below
-pausing_near (Plain reply) o s below same = answer_near o.exchange reply s below same
-pausing_near (Unreadable code) o s below same = unread_near o.exchange code s below same
+each_near : (s : Session) → s.number < 4 → Near s.state s.number (latest s) → OfEach FrameNear s
+each_near s below same = record { ignored = same; rested = λ told. (below, poll_soon s); moved = λ d command. below; lost = λ cause o. below }
 
 numbered_near : (state : State) (a : ReplyMeaning) (s : Session) → Near state s.number (latest s) → Near s.state s.number (latest s)
     → FrameNear (numbered_in state a s)
-numbered_near (Waiting until sends o) a s near same = waiting_near a sends o s near.0 near.2 same
-numbered_near (Pausing until o) a s near same = pausing_near a o s near.0 same
+numbered_near (Waiting until sends o) a s near same =
+    of_wait FrameNear s (each_near s near.0 same) a sends o (near.0, now_soon s, near.2) (near.0, busy_soon s, near.2)
+numbered_near (Pausing until o) a s near same = of_pause FrameNear s (each_near s near.0 same) a o
 numbered_near _ a s near same = same
 
 frame_near : (p : Packet) (now : ℕ) (s : Session) → Near s.state s.number (latest s) → FrameNear (hears p now s)

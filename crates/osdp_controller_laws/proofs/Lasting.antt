@@ -4,29 +4,22 @@ use Rattle.std.specs.Prelude.{All, nat_lt, nat_le, option_to_list}
 use Rattle.std.proofs.lemmas.List.Elements.{All-nil, All-cons}
 use Rattle.osdp_frame.specs.Packet.{Packet, next_sequence}
 use Rattle.osdp_msg.specs.declared.command.Command.{Command}
-use Rattle.osdp_msg.specs.declared.command_fields.Communication.{Communication}
-use Rattle.osdp_msg.specs.declared.reply.Reply.{Reply}
-use Rattle.osdp_msg.specs.declared.reply_fields.PdId.{PdId}
 use Rattle.osdp_controller.specs.declared.meaning.ReplyMeaning.{ReplyMeaning}
-use Rattle.osdp_controller.specs.declared.meaning.ReplyMeaning.TheVariants.{NotTaken, Damaged, NumberRefused, Plain, Unreadable}
 use Rattle.osdp_controller.specs.declared.config.ControllerConfig.{ControllerConfig}
-use Rattle.osdp_controller.specs.declared.exchange.Exchange.{Exchange}
-use Rattle.osdp_controller.specs.declared.exchange.Exchange.TheVariants.{Opening, Polling, Asking}
-use Rattle.osdp_controller.specs.declared.exchange.Outstanding.{Outstanding}
+use Rattle.osdp_controller.specs.declared.exchange.Exchange.TheVariants.{Opening, Polling}
 use Rattle.osdp_controller.specs.declared.fault.ControllerFault.{ControllerFault}
-use Rattle.osdp_controller.specs.declared.report.LostCause.TheVariants as causes
 use Rattle.osdp_controller.specs.declared.session.Session.{Session}
 use Rattle.osdp_controller.specs.declared.state.State.{State}
 use Rattle.osdp_controller.specs.declared.state.State.TheVariants.{Closed, Quiet, Idle, Waiting, Pausing}
 use Rattle.osdp_controller.specs.Answers.{meaning_of}
-use Rattle.osdp_controller.specs.Hearing.{Heard, answered, answered_unread, com_of, command_answered, comset_of, hears, hears_busy, loses, moved_by, opening_answered, pausing_hears, pd_id_of, waiting_hears}
+use Rattle.osdp_controller.specs.Hearing.{Heard, hears}
 use Rattle.osdp_controller.specs.Private.{numbered_in}
 use Rattle.osdp_controller.specs.Machine.{Machine, after_begin, after_retarget, after_submit, changed_unless, is_outstanding, or_no_device, refused_unless_closed, sent_in, submit_refusal}
 use Rattle.osdp_controller_laws.specs.Runs.{Call, Submit, Begin, Retarget, Withdraw, Tick, Hear, Lasts, ResendsTheSame, after_call, frames, sent_by}
-use Rattle.osdp_controller.specs.Sessions.{frame_of, later, seen}
+use Rattle.osdp_controller.specs.Sessions.{frame_of, seen}
 use Rattle.osdp_controller.specs.Ticking.{Ticked, begins, gives_up, sends_frame, stays, ticks_in, tries_again}
 use Rattle.osdp_controller.proofs.Choices.{either_way}
-use Rattle.osdp_controller_laws.proofs.Frames.{either_frame}
+use Rattle.osdp_controller_laws.proofs.Frames.{OfEach, either_frame, of_pause, of_wait}
 
 -- where an exchange is outstanding: this is its packet, it has sent so many frames, and the settings are these
 abbrev pub Holds : Packet → ControllerConfig → ℕ → State → Session → Type 0
@@ -67,57 +60,13 @@ holds_ticks p c n _ s w h at same = cc
 abbrev HoldsHeard : Packet → ControllerConfig → ℕ → Heard → Type 0
 HoldsHeard p c n h = Holds p c n h.session.state h.session
 
-abbrev Out : Packet → ControllerConfig → ℕ → Outstanding → Session → Type 0
-Out p c n o s = (frame_of o.exchange s ≡ p) × (o.sent ≡ n) × (s.config ≡ c)
-
-holds_busy : (p : Packet) (c : ControllerConfig) (n : ℕ) (o : Outstanding) (s : Session) → Out p c n o s → HoldsHeard p c n (hears_busy o s)
-holds_busy p c n o s at =
-    either_way (HoldsHeard p c n) (nat_lt s.config.busy_limit (o.busies + 1)) (loses causes.TooBusy o s)
-    (record { session = record s { state = Pausing (later s.config.busy_wait s) (record o { busies = o.busies + 1 }) }; report = None })
-    (λ b. tt) (λ b. at)
-
-holds_opening : (p : Packet) (c : ControllerConfig) (n : ℕ) (id : Option PdId) (s : Session) → Holds p c n s.state s → HoldsHeard p c n (opening_answered id s)
-holds_opening p c n None s same = same
-holds_opening p c n (Some id) s same = tt
-
-holds_command : (p : Packet) (c : ControllerConfig) (n : ℕ) (moved : Option Communication) (command : Command) (reply : Reply) (s : Session)
-    → HoldsHeard p c n (command_answered moved command reply s)
-holds_command p c n None command reply s = tt
-holds_command p c n (Some d) command reply s = tt
-
-holds_answered : (p : Packet) (c : ControllerConfig) (n : ℕ) (x : Exchange) (reply : Reply) (s : Session) → Holds p c n s.state s
-    → HoldsHeard p c n (answered x reply s)
-holds_answered p c n Opening reply s same = holds_opening p c n (pd_id_of reply) s same
-holds_answered p c n Polling reply s same = tt
-holds_answered p c n (Asking command) reply s same =
-    holds_command p c n (moved_by (comset_of command) (com_of reply)) command reply s
-
-holds_unread : (p : Packet) (c : ControllerConfig) (n : ℕ) (x : Exchange) (code : ℕ) (s : Session) → Holds p c n s.state s
-    → HoldsHeard p c n (answered_unread x code s)
-holds_unread p c n Opening code s same = same
-holds_unread p c n Polling code s same = tt
-holds_unread p c n (Asking command) code s same = tt
-
-holds_waiting : (p : Packet) (c : ControllerConfig) (n : ℕ) (a : ReplyMeaning) (sends : ℕ) (o : Outstanding) (s : Session) → Out p c n o s
-    → Holds p c n s.state s → HoldsHeard p c n (waiting_hears a sends o s)
-holds_waiting p c n NotTaken sends o s at same = holds_busy p c n o s at
-holds_waiting p c n Damaged sends o s at same = at
-holds_waiting p c n NumberRefused sends o s at same = tt
-holds_waiting p c n (Plain reply) sends o s at same = holds_answered p c n o.exchange reply s same
-holds_waiting p c n (Unreadable code) sends o s at same = holds_unread p c n o.exchange code s same
-
-holds_pausing : (p : Packet) (c : ControllerConfig) (n : ℕ) (a : ReplyMeaning) (o : Outstanding) (s : Session) → Holds p c n s.state s
-    → HoldsHeard p c n (pausing_hears a o s)
-holds_pausing p c n NotTaken o s same = same
-holds_pausing p c n Damaged o s same = same
-holds_pausing p c n NumberRefused o s same = tt
-holds_pausing p c n (Plain reply) o s same = holds_answered p c n o.exchange reply s same
-holds_pausing p c n (Unreadable code) o s same = holds_unread p c n o.exchange code s same
+holds_each : (p : Packet) (c : ControllerConfig) (n : ℕ) (s : Session) → Holds p c n s.state s → OfEach (HoldsHeard p c n) s
+holds_each p c n s same = record { ignored = same; rested = λ told. tt; moved = λ d command. tt; lost = λ cause o. tt }
 
 holds_numbered : (p : Packet) (c : ControllerConfig) (n : ℕ) (state : State) (a : ReplyMeaning) (s : Session) → Holds p c n state s
     → Holds p c n s.state s → HoldsHeard p c n (numbered_in state a s)
-holds_numbered p c n (Waiting until sends o) a s at same = holds_waiting p c n a sends o s at same
-holds_numbered p c n (Pausing until o) a s at same = holds_pausing p c n a o s same
+holds_numbered p c n (Waiting until sends o) a s at same = of_wait (HoldsHeard p c n) s (holds_each p c n s same) a sends o at at
+holds_numbered p c n (Pausing until o) a s at same = of_pause (HoldsHeard p c n) s (holds_each p c n s same) a o
 holds_numbered p c n _ a s at same = same
 
 -- a moment that is seen changes none of it

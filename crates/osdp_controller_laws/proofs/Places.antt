@@ -4,21 +4,15 @@ use Rattle.std.specs.Prelude.{if◌then◌else◌, ◌&&◌, ◌==◌, nat_lt, n
 use Rattle.std.proofs.lemmas.Bool.{ne_eqb}
 use Rattle.osdp_frame.specs.Packet.{Packet, next_sequence}
 use Rattle.osdp_msg.specs.declared.command.Command.{Command}
-use Rattle.osdp_msg.specs.declared.command_fields.Communication.{Communication}
-use Rattle.osdp_msg.specs.declared.reply.Reply.{Reply}
-use Rattle.osdp_msg.specs.declared.reply_fields.PdId.{PdId}
 use Rattle.osdp_controller.specs.declared.meaning.ReplyMeaning.{ReplyMeaning}
-use Rattle.osdp_controller.specs.declared.meaning.ReplyMeaning.TheVariants.{NotTaken, Damaged, NumberRefused, Plain, Unreadable}
-use Rattle.osdp_controller.specs.declared.exchange.Exchange.{Exchange}
-use Rattle.osdp_controller.specs.declared.exchange.Exchange.TheVariants.{Opening, Polling, Asking}
+use Rattle.osdp_controller.specs.declared.exchange.Exchange.TheVariants.{Opening, Polling}
 use Rattle.osdp_controller.specs.declared.exchange.Outstanding.{Outstanding}
 use Rattle.osdp_controller.specs.declared.fault.ControllerFault.{ControllerFault}
-use Rattle.osdp_controller.specs.declared.report.LostCause.TheVariants as causes
 use Rattle.osdp_controller.specs.declared.session.Session.{Session}
 use Rattle.osdp_controller.specs.declared.state.State.{State}
 use Rattle.osdp_controller.specs.declared.state.State.TheVariants.{Closed, Quiet, Idle, Waiting, Pausing}
 use Rattle.osdp_controller.specs.Answers.{meaning_of}
-use Rattle.osdp_controller.specs.Hearing.{Heard, answered, answered_unread, com_of, command_answered, comset_of, hears, hears_busy, loses, moved_by, opening_answered, pausing_hears, pd_id_of, waiting_hears}
+use Rattle.osdp_controller.specs.Hearing.{Heard, hears}
 use Rattle.osdp_controller.specs.Private.{numbered_in}
 use Rattle.osdp_controller.specs.Machine.{Machine, after_begin, after_retarget, after_submit, changed_unless, is_outstanding, refused_unless_closed, retarget_refusal, sent_in, submit_refusal}
 use Rattle.osdp_controller_laws.specs.Runs.{Call, Submit, Begin, Retarget, Withdraw, Tick, Hear, HasNumberOfPlace, NumbersByPlace, after_call, after_calls, count_after, count_from, exchanges_begun, sent_by}
@@ -26,7 +20,7 @@ use Rattle.osdp_controller.specs.Sessions.{later, seen}
 use Rattle.osdp_controller.specs.States.{is_closed}
 use Rattle.osdp_controller.specs.Ticking.{Ticked, begins, gives_up, sends_frame, stays, ticks_in, tries_again}
 use Rattle.osdp_controller.proofs.Choices.{either_way}
-use Rattle.osdp_controller_laws.proofs.Frames.{either_frame}
+use Rattle.osdp_controller_laws.proofs.Frames.{OfEach, either_frame, of_pause, of_wait}
 use Rattle.osdp_controller_laws.proofs.Ticks.{numbers_turn}
 
 -- by the state: the latest of so many exchanges has this number, and an outstanding one has sent a frame
@@ -81,55 +75,13 @@ placed_ticks count (Pausing until o) s w at same =
 abbrev PlacedIn : ℕ → Heard → Type 0
 PlacedIn count h = Placed count h.session.state h.session.number
 
-placed_busy : (count : ℕ) (o : Outstanding) (s : Session) → 1 ≤ o.sent → HasNumberOfPlace count s.number → PlacedIn count (hears_busy o s)
-placed_busy count o s some at =
-    either_way (PlacedIn count) (nat_lt s.config.busy_limit (o.busies + 1)) (loses causes.TooBusy o s)
-    (record { session = record s { state = Pausing (later s.config.busy_wait s) (record o { busies = o.busies + 1 }) }; report = None })
-    (λ b. tt) (λ b. (some, at))
-
-placed_opening : (count : ℕ) (id : Option PdId) (s : Session) → HasNumberOfPlace count s.number → Placed count s.state s.number
-    → PlacedIn count (opening_answered id s)
-placed_opening count None s at same = same
-placed_opening count (Some id) s at same = at
-
-placed_command : (count : ℕ) (moved : Option Communication) (command : Command) (reply : Reply) (s : Session) → HasNumberOfPlace count s.number
-    → PlacedIn count (command_answered moved command reply s)
-placed_command count None command reply s at = at
-placed_command count (Some d) command reply s at = tt
-
-placed_answered : (count : ℕ) (x : Exchange) (reply : Reply) (s : Session) → HasNumberOfPlace count s.number → Placed count s.state s.number
-    → PlacedIn count (answered x reply s)
-placed_answered count Opening reply s at same = placed_opening count (pd_id_of reply) s at same
-placed_answered count Polling reply s at same = at
-placed_answered count (Asking command) reply s at same =
-    placed_command count (moved_by (comset_of command) (com_of reply)) command reply s at
-
-placed_unread : (count : ℕ) (x : Exchange) (code : ℕ) (s : Session) → HasNumberOfPlace count s.number → Placed count s.state s.number
-    → PlacedIn count (answered_unread x code s)
-placed_unread count Opening code s at same = same
-placed_unread count Polling code s at same = at
-placed_unread count (Asking command) code s at same = at
-
-placed_waiting : (count : ℕ) (a : ReplyMeaning) (sends : ℕ) (o : Outstanding) (s : Session) → 1 ≤ o.sent → HasNumberOfPlace count s.number
-    → Placed count s.state s.number → PlacedIn count (waiting_hears a sends o s)
-placed_waiting count NotTaken sends o s some at same = placed_busy count o s some at
-placed_waiting count Damaged sends o s some at same = (some, at)
-placed_waiting count NumberRefused sends o s some at same = tt
-placed_waiting count (Plain reply) sends o s some at same = placed_answered count o.exchange reply s at same
-placed_waiting count (Unreadable code) sends o s some at same = placed_unread count o.exchange code s at same
-
-placed_pausing : (count : ℕ) (a : ReplyMeaning) (o : Outstanding) (s : Session) → HasNumberOfPlace count s.number → Placed count s.state s.number
-    → PlacedIn count (pausing_hears a o s)
-placed_pausing count NotTaken o s at same = same
-placed_pausing count Damaged o s at same = same
-placed_pausing count NumberRefused o s at same = tt
-placed_pausing count (Plain reply) o s at same = placed_answered count o.exchange reply s at same
-placed_pausing count (Unreadable code) o s at same = placed_unread count o.exchange code s at same
+placed_each : (count : ℕ) (s : Session) → HasNumberOfPlace count s.number → Placed count s.state s.number → OfEach (PlacedIn count) s
+placed_each count s at same = record { ignored = same; rested = λ told. at; moved = λ d command. tt; lost = λ cause o. tt }
 
 placed_numbered : (count : ℕ) (state : State) (a : ReplyMeaning) (s : Session) → Placed count state s.number → Placed count s.state s.number
     → PlacedIn count (numbered_in state a s)
-placed_numbered count (Waiting until sends o) a s at same = placed_waiting count a sends o s at.0 at.1 same
-placed_numbered count (Pausing until o) a s at same = placed_pausing count a o s at.1 same
+placed_numbered count (Waiting until sends o) a s at same = of_wait (PlacedIn count) s (placed_each count s at.1 same) a sends o at at
+placed_numbered count (Pausing until o) a s at same = of_pause (PlacedIn count) s (placed_each count s at.1 same) a o
 placed_numbered count _ a s at same = same
 
 placed_hears : (count : ℕ) (p : Packet) (now : ℕ) (s : Session) → Placed count s.state s.number → PlacedIn count (hears p now s)

@@ -4,20 +4,15 @@ use Rattle.std.specs.Prelude.{if◌then◌else◌, is_some, min, nat_le, nat_lt}
 use Rattle.std.proofs.lemmas.Bool.{le-ltb}
 use Rattle.osdp_frame.specs.Packet.{Packet, next_sequence}
 use Rattle.osdp_msg.specs.declared.command.Command.{Command}
-use Rattle.osdp_msg.specs.declared.command_fields.Communication.{Communication}
-use Rattle.osdp_msg.specs.declared.reply.Reply.{Reply}
-use Rattle.osdp_msg.specs.declared.reply_fields.PdId.{PdId}
 use Rattle.osdp_controller.specs.declared.meaning.ReplyMeaning.{ReplyMeaning}
-use Rattle.osdp_controller.specs.declared.meaning.ReplyMeaning.TheVariants.{NotTaken, Damaged, NumberRefused, Plain, Unreadable}
-use Rattle.osdp_controller.specs.declared.exchange.Exchange.{Exchange}
-use Rattle.osdp_controller.specs.declared.exchange.Exchange.TheVariants.{Opening, Polling, Asking}
+use Rattle.osdp_controller.specs.declared.exchange.Exchange.TheVariants.{Opening, Polling}
 use Rattle.osdp_controller.specs.declared.exchange.Outstanding.{Outstanding}
 use Rattle.osdp_controller.specs.declared.report.LostCause.TheVariants as causes
 use Rattle.osdp_controller.specs.declared.session.Session.{Session}
 use Rattle.osdp_controller.specs.declared.state.State.{State}
 use Rattle.osdp_controller.specs.declared.state.State.TheVariants.{Closed, Quiet, Idle, Waiting, Pausing}
 use Rattle.osdp_controller.specs.Answers.{meaning_of}
-use Rattle.osdp_controller.specs.Hearing.{Heard, answered, answered_unread, com_of, command_answered, comset_of, hears, hears_busy, loses, moved_by, opening_answered, pausing_hears, pd_id_of, waiting_hears}
+use Rattle.osdp_controller.specs.Hearing.{Heard, hears, hears_busy, loses}
 use Rattle.osdp_controller.specs.Machine.{Machine, acts, after_begin, changed_unless, is_outstanding, refused_unless_closed}
 use Rattle.osdp_controller.specs.Private.{numbered_in}
 use Rattle.osdp_controller.specs.Sessions.{later, seen}
@@ -26,7 +21,7 @@ use Rattle.osdp_controller.specs.Ticking.{Ticked, begins, gives_up, sends_frame,
 use Rattle.osdp_controller.proofs.Choices.{either_way}
 use Rattle.osdp_controller_laws.specs.Runs.{Hear, Tick, after_call}
 use Rattle.osdp_controller_laws.specs.Waits.{IsDueAfter, WaitsAsSet, so_long_after}
-use Rattle.osdp_controller_laws.proofs.Frames.{either_frame}
+use Rattle.osdp_controller_laws.proofs.Frames.{OfEach, either_frame, of_pause, of_wait}
 use Rattle.osdp_controller_laws.proofs.Stepwise.{frames_in_steps}
 
 -- where one branch sends or tells something and the other doesn't, the test says which
@@ -92,49 +87,14 @@ not_idle : (state : State) → is_outstanding state ≡ true → is_idle state �
 not_idle Closed out idle = cc
 not_idle _ out idle = cc
 
-opening_waits : (id : Option PdId) (s : Session) → is_outstanding s.state ≡ true → RestWaits s.config.poll_interval (opening_answered id s)
-opening_waits (Some id) s out = λ idle. refl
-opening_waits None s out = λ idle. absurd (not_idle s.state out idle)
-
-command_waits : (moved : Option Communication) (command : Command) (reply : Reply) (s : Session)
-    → RestWaits s.config.poll_interval (command_answered moved command reply s)
-command_waits (Some answered) command reply s = λ idle. cc
-command_waits None command reply s = λ idle. refl
-
-answered_waits : (x : Exchange) (reply : Reply) (s : Session) → is_outstanding s.state ≡ true → RestWaits s.config.poll_interval (answered x reply s)
-answered_waits Opening reply s out = opening_waits (pd_id_of reply) s out
-answered_waits Polling reply s out = λ idle. refl
-answered_waits (Asking command) reply s out = command_waits (moved_by (comset_of command) (com_of reply)) command reply s
-
-unread_waits : (x : Exchange) (code : ℕ) (s : Session) → is_outstanding s.state ≡ true → RestWaits s.config.poll_interval (answered_unread x code s)
-unread_waits Opening code s out = λ idle. absurd (not_idle s.state out idle)
-unread_waits Polling code s out = λ idle. refl
-unread_waits (Asking command) code s out = λ idle. refl
-
-busy_waits : (o : Outstanding) (s : Session) → RestWaits s.config.poll_interval (hears_busy o s)
-busy_waits o s =
-    either_way (RestWaits s.config.poll_interval) (nat_lt s.config.busy_limit (o.busies + 1)) (loses causes.TooBusy o s)
-    (record { session = record s { state = Pausing (later s.config.busy_wait s) (record o { busies = o.busies + 1 }) }; report = None })
-    (λ b idle. cc) (λ b idle. cc)
-
-waiting_waits : (a : ReplyMeaning) (sends : ℕ) (o : Outstanding) (s : Session) → is_outstanding s.state ≡ true
-    → RestWaits s.config.poll_interval (waiting_hears a sends o s)
-waiting_waits NotTaken sends o s out = busy_waits o s
-waiting_waits Damaged sends o s out = λ idle. cc
-waiting_waits NumberRefused sends o s out = λ idle. cc
-waiting_waits (Plain reply) sends o s out = answered_waits o.exchange reply s out
-waiting_waits (Unreadable code) sends o s out = unread_waits o.exchange code s out
-
-pausing_waits : (a : ReplyMeaning) (o : Outstanding) (s : Session) → is_outstanding s.state ≡ true → RestWaits s.config.poll_interval (pausing_hears a o s)
-pausing_waits NotTaken o s out = λ idle. absurd (not_idle s.state out idle)
-pausing_waits Damaged o s out = λ idle. absurd (not_idle s.state out idle)
-pausing_waits NumberRefused o s out = λ idle. cc
-pausing_waits (Plain reply) o s out = answered_waits o.exchange reply s out
-pausing_waits (Unreadable code) o s out = unread_waits o.exchange code s out
+each_waits : (s : Session) → is_outstanding s.state ≡ true → OfEach (RestWaits s.config.poll_interval) s
+each_waits s out =
+    record { ignored = λ idle. absurd (not_idle s.state out idle); rested = λ told idle. refl; moved = λ d command idle. cc; lost = λ cause o idle. cc }
 
 numbered_waits : (state : State) (a : ReplyMeaning) (s : Session) → is_outstanding s.state ≡ true → RestWaits s.config.poll_interval (numbered_in state a s)
-numbered_waits (Waiting until sends o) a s out = waiting_waits a sends o s out
-numbered_waits (Pausing until o) a s out = pausing_waits a o s out
+numbered_waits (Waiting until sends o) a s out =
+    of_wait (RestWaits s.config.poll_interval) s (each_waits s out) a sends o (λ idle. cc) (λ idle. cc)
+numbered_waits (Pausing until o) a s out = of_pause (RestWaits s.config.poll_interval) s (each_waits s out) a o
 numbered_waits _ a s out = λ idle. absurd (not_idle s.state out idle)
 
 rest_waits : (p : Packet) (now : ℕ) (s : Session) → is_outstanding s.state ≡ true → RestWaits s.config.poll_interval (hears p now s)

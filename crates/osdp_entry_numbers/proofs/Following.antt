@@ -18,7 +18,7 @@ use Rattle.osdp_reader.specs.declared.handler.Answer.{Answer}
 use Rattle.osdp_link_laws.specs.Link.{outstanding_command}
 use Rattle.osdp_shared_line.specs.Line.{site_at}
 use Rattle.osdp_shared_line.proofs.Sites.{some_same}
-use Rattle.osdp_calls.specs.Calls.{Call, NewDevice, NewPanel, Next, OfPanel, Pending, SetBusy, SetHandler, Silence, SubmitEvent, Take, TickDevice, WithdrawEvent, after_call, asked_at, last_of, noted}
+use Rattle.osdp_calls.specs.Calls.{Call, NewPanel, Next, OfPanel, after_call, asked_at, last_of, noted}
 use Rattle.osdp_calls.specs.Lines.{InUse, bus_with}
 use Rattle.osdp_calls.specs.Premises.{InRange, PanelInRange}
 use Rattle.osdp_calls.proofs.Ends.{next_bus, said_bus}
@@ -240,30 +240,12 @@ module _ {H : Type 0} where
       };
       shown = λ k g e at. restarts_same (device_of (a.numbers.own k) a.bus) (device_of k a.line.bus) e at (own_line_under a f k);
     }
-    still_follows (SubmitEvent i event) ps ordered n a f keeps =
-        record { follows = by_device (record { call = SubmitEvent i event; places = ps; ordered = ordered; numbers = n }) a f refl refl refl; shown = λ k g e at. refl }
-    still_follows (SetBusy i busy) ps ordered n a f keeps =
-        record { follows = by_device (record { call = SetBusy i busy; places = ps; ordered = ordered; numbers = n }) a f refl refl refl; shown = λ k g e at. refl }
-    still_follows (SetHandler i handler) ps ordered n a f keeps =
-        record { follows = by_device (record { call = SetHandler i handler; places = ps; ordered = ordered; numbers = n }) a f refl refl refl; shown = λ k g e at. refl }
-    still_follows (WithdrawEvent i) ps ordered n a f keeps =
-        record { follows = by_device (record { call = WithdrawEvent i; places = ps; ordered = ordered; numbers = n }) a f refl refl refl; shown = λ k g e at. refl }
-    still_follows (Take i bytes now) ps ordered n a f keeps =
-        record { follows = by_device (record { call = Take i bytes now; places = ps; ordered = ordered; numbers = n }) a f refl refl refl; shown = λ k g e at. refl }
-    still_follows (TickDevice i now) ps ordered n a f keeps =
-        record { follows = by_device (record { call = TickDevice i now; places = ps; ordered = ordered; numbers = n }) a f refl refl refl; shown = λ k g e at. refl }
-    still_follows (Silence i now) ps ordered n a f keeps =
-        record { follows = by_device (record { call = Silence i now; places = ps; ordered = ordered; numbers = n }) a f refl refl refl; shown = λ k g e at. refl }
     still_follows (Next i) ps ordered n a f keeps = record {
       follows = by_device (record { call = Next i; places = ps; ordered = ordered; numbers = n }) a f refl refl (next_bus answer_of after i ps (site_at i a.line.stations) (turned (Next i) a));
       shown = λ k g e at. refl;
     }
-    still_follows (Pending i) ps ordered n a f keeps =
-        record { follows = by_device (record { call = Pending i; places = ps; ordered = ordered; numbers = n }) a f refl refl refl; shown = λ k g e at. refl }
-    still_follows (NewDevice i config handler room gap) ps ordered n a f keeps = record {
-      follows = by_device (record { call = NewDevice i config handler room gap; places = ps; ordered = ordered; numbers = n }) a f refl refl refl;
-      shown = λ k g e at. refl;
-    }
+    still_follows call ps ordered n a f keeps =
+        record { follows = by_device (record { call = call; places = ps; ordered = ordered; numbers = n }) a f refl refl refl; shown = λ k g e at. refl }
 
   pub does_the_same : (a : OwnLine H) → Follows a → DoesTheSame a
   does_the_same a f =

@@ -1,5 +1,5 @@
 -- Calls that keep the premises of any calls keep these: the line beside the panel's own bus differs by the turn alone.
-use Rattle.std.proofs.Common.{◌≡◌, ◌≢◌, ◌⊎◌, ℕ, true, false, cond, is_some, List, [], ◌∷◌, ◌++◌, append-nil, map, option_map, Option, Some, None, refl, sym, subst, ap, ◌∙◌, inl, inr}
+use Rattle.std.proofs.Common.{◌≡◌, ◌⊎◌, ℕ, true, false, cond, is_some, List, [], ◌∷◌, ◌++◌, append-nil, map, option_map, Option, Some, None, refl, sym, subst, ap, ◌∙◌, inl, inr}
 use Rattle.std.specs.Option.{option_map_or}
 use Rattle.osdp_frame.specs.Packet.{Packet}
 use Rattle.osdp_msg.specs.declared.command.Command.{Command}
@@ -14,7 +14,7 @@ use Rattle.osdp_link_laws.proofs.Lines.{each_of}
 use Rattle.osdp_link_laws.proofs.Stages.{Each}
 use Rattle.osdp_reader.specs.declared.handler.Answer.{Answer}
 use Rattle.osdp_shared_line.specs.Line.{changed, site_at}
-use Rattle.osdp_calls.specs.Calls.{Call, NewDevice, NewPanel, Next, OfPanel, Pending, SetBusy, SetHandler, Silence, Step, SubmitEvent, Take, TickDevice, WithdrawEvent, after_call, after_next, after_panel, all_hear, asked_at, begins_with, begun_of, change_at, changes_at, is_to_begin, issues, last_of, noted, panel_says, read_by, said_at, said_for, takes_back, withdrawn}
+use Rattle.osdp_calls.specs.Calls.{Call, NewDevice, NewPanel, Next, OfPanel, Step, after_call, after_next, after_panel, all_hear, asked_at, begins_with, begun_of, change_at, changes_at, is_to_begin, issues, last_of, noted, panel_says, read_by, said_at, said_for, takes_back, withdrawn}
 use Rattle.osdp_calls.specs.Ends.{CanStand}
 use Rattle.osdp_calls.specs.Lines.{Burst, InUse, Station}
 use Rattle.osdp_calls.specs.Premises.{AllKeep, AreInOrder, IsAsked, IsFreeFor, IsNoOthers, IsOfOthers, IsSaid, IsThere, Keeps, MayBeAt, PanelInRange}
@@ -318,20 +318,6 @@ module _ {H : Type 0} where
       same = refl;
       sound = new_sound config xs xs as_they_stand (same_panel config xs stands);
     }
-    one_step (SubmitEvent i event) ps first l sound stands k =
-        by_device (SubmitEvent i event) ps first l sound (record { keeps = record { in_order = tt; quiet_opening = tt; addresses = tt; in_range = tt }; fits = tt; leaves = tt }) refl refl
-    one_step (SetBusy i busy) ps first l sound stands k =
-        by_device (SetBusy i busy) ps first l sound (record { keeps = record { in_order = tt; quiet_opening = tt; addresses = tt; in_range = tt }; fits = tt; leaves = tt }) refl refl
-    one_step (SetHandler i handler) ps first l sound stands k =
-        by_device (SetHandler i handler) ps first l sound (record { keeps = record { in_order = tt; quiet_opening = tt; addresses = tt; in_range = tt }; fits = tt; leaves = tt }) refl refl
-    one_step (WithdrawEvent i) ps first l sound stands k =
-        by_device (WithdrawEvent i) ps first l sound (record { keeps = record { in_order = tt; quiet_opening = tt; addresses = tt; in_range = tt }; fits = tt; leaves = tt }) refl refl
-    one_step (Take i bytes now) ps first l sound stands k =
-        by_device (Take i bytes now) ps first l sound (record { keeps = record { in_order = tt; quiet_opening = tt; addresses = tt; in_range = tt }; fits = tt; leaves = tt }) refl refl
-    one_step (TickDevice i now) ps first l sound stands k =
-        by_device (TickDevice i now) ps first l sound (record { keeps = record { in_order = tt; quiet_opening = tt; addresses = tt; in_range = tt }; fits = tt; leaves = tt }) refl refl
-    one_step (Silence i now) ps first l sound stands k =
-        by_device (Silence i now) ps first l sound (record { keeps = record { in_order = tt; quiet_opening = tt; addresses = tt; in_range = tt }; fits = tt; leaves = tt }) refl refl
     one_step (Next i) ps first l sound stands k =
         let o = site_at i l.stations in
         by_device (Next i) ps first l sound (record {
@@ -347,8 +333,6 @@ module _ {H : Type 0} where
         by_station (Some t) order =
             order_so (IsOfOthers l) (IsOfOthers (on_turn first l)) (of_others first l) l.said
             (Rattle.osdp_calls.specs.Calls.read_up_to t.reader (Rattle.osdp_device.specs.Telling.items_of t.line.held)) ps t.place order
-    one_step (Pending i) ps first l sound stands k =
-        by_device (Pending i) ps first l sound (record { keeps = record { in_order = tt; quiet_opening = tt; addresses = tt; in_range = tt }; fits = tt; leaves = tt }) refl refl
     one_step (NewDevice i config handler room gap) ps first l sound stands k =
         by_device (NewDevice i config handler room gap) ps first l sound (record {
           keeps = record { in_order = tt; quiet_opening = tt; addresses = λ t at. by_place t (k.addresses t at); in_range = k.in_range };
@@ -360,6 +344,8 @@ module _ {H : Type 0} where
             → (t.reader.config.address ≡ config.address) ⊎ IsFreeFor i config.address t (on_turn first l)
         by_place t (inl there) = inl there
         by_place t (inr free) = inr (record { entries = free.entries; devices = no_others first i config.address l free.devices; said = free.said })
+    one_step call ps first l sound stands k =
+        by_device call ps first l sound (record { keeps = record { in_order = tt; quiet_opening = tt; addresses = tt; in_range = tt }; fits = tt; leaves = tt }) refl refl
 
     all_beside : (steps : List (Step H)) (first : ℕ) (l : InUse H) → SoundBus l.bus → Each (λ (step : Step H). CanStand step.call) steps → AllKeep answer_of after steps l
         → AllOwnKeep answer_of after (map same_step steps) (beside first l)

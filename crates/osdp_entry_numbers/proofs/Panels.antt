@@ -227,6 +227,13 @@ module _ (n : Numbers) (are : AreNumbers n) where
         let more = retarget_more k address d first ms b es u fault (sym (ap (λ o. retarget_refusal_of k address o b) at) ∙ is) in
         (more.0, ap (λ o. retarget_refusal_of (n.ordered k) address o (like b es first ms)) (here k d at) ∙ more.1))
 
+    -- one after which both are the same still
+    of_same : (call also : bus.Call) (whole : BusState) (said told : List (ℕ × Report)) → bus.after_call also (like b es first ms) ≡ whole
+        → SameBus n first ms whole (bus.after_call call b) said told
+        → ((k : ℕ) (g : Ledger) → panel_steps k also (like b es first ms) g ≡ panel_steps (n.own k) call b g) → SamePanel n call also (like b es first ms) b
+    of_same call also whole said told is x shown =
+        record { devices = x.devices; first = first; memory = ms; under = x.under; same = is ∙ x.same; shown = shown }
+
     -- one that names an entry that the panel has, or none
     pub panel_same : (call : bus.Call) → IsNoAdd call → HasTurn n call first b → Leaves n call (like b es first ms) b → IsPresent (named call) b
         → SamePanel n call (renumbered n.ordered call) (like b es first ms) b
@@ -235,71 +242,35 @@ module _ (n : Numbers) (are : AreNumbers n) where
         let refusal : begin_refusal_at (n.ordered k) (like b es first ms) ≡ begin_refusal_at k b = ap begin_refusal_of (here k d at ∙ sym at) in
         let x = unless_under (begin_refusal_at k b) first ms b (after_begin_at k now b) (after_begin_at (n.ordered k) now (like b es first ms)) es u
         (changes_under k d (entry_begins (max b.greatest now)) first ms (seen now b) es u at) in
-        record {
-          devices = x.devices;
-          first = first;
-          memory = ms;
-          under = x.under;
-          same = ap (λ f. changed_unless f (like b es first ms) (after_begin_at (n.ordered k) now (like b es first ms))) refusal ∙ x.same;
-          shown = λ i g. refl;
-        }
+        of_same (bus.Begin k now) (bus.Begin (n.ordered k) now) _ [] []
+        (ap (λ f. changed_unless f (like b es first ms) (after_begin_at (n.ordered k) now (like b es first ms))) refusal) x (λ i g. refl)
     panel_same (bus.Submit k command) added turn leaves (d, at) =
         let alike = submit_alike k command d at leaves in
         let x = unless_under (submit_refusal_at k command b) first ms b (after_submit_at k command b) (after_submit_at (n.ordered k) command (like b es first ms)) es u
         (changes_under k d (entry_submits command) first ms b es u at) in
-        record {
-          devices = x.devices;
-          first = first;
-          memory = ms;
-          under = x.under;
-          same = unless_alike (submit_refusal_at (n.ordered k) command (like b es first ms)) (submit_refusal_at k command b) (like b es first ms)
-              (after_submit_at (n.ordered k) command (like b es first ms)) alike ∙ x.same;
-          shown = λ i g. (λ j. cond (number_test n are k i j) (unless_alike (submit_refusal_at (n.ordered k) command (like b es first ms)) (submit_refusal_at k command b)
-              [] (submits None command g) alike j) []);
-        }
+        of_same (bus.Submit k command) (bus.Submit (n.ordered k) command) _ [] []
+        (unless_alike (submit_refusal_at (n.ordered k) command (like b es first ms)) (submit_refusal_at k command b) (like b es first ms)
+        (after_submit_at (n.ordered k) command (like b es first ms)) alike) x
+        (λ i g. (λ j. cond (number_test n are k i j)
+        (unless_alike (submit_refusal_at (n.ordered k) command (like b es first ms)) (submit_refusal_at k command b) [] (submits None command g) alike j) []))
     panel_same (bus.Withdraw k) added turn leaves (d, at) =
-        let x = changes_under k d entry_withdraws first ms b es u at in
-        record {
-          devices = x.devices;
-          first = first;
-          memory = ms;
-          under = x.under;
-          same = x.same;
-          shown = λ i g. (λ j. cond (number_test n are k i j) (withdraws (given_back (withdrawal_of ((here k d at ∙ sym at) j))) g) []);
-        }
+        of_same (bus.Withdraw k) (bus.Withdraw (n.ordered k)) _ [] [] refl (changes_under k d entry_withdraws first ms b es u at)
+        (λ i g. (λ j. cond (number_test n are k i j) (withdraws (given_back (withdrawal_of ((here k d at ∙ sym at) j))) g) []))
     panel_same (bus.Retarget k address) added turn leaves (d, at) =
         let alike = retarget_alike k address d at leaves in
         let x = unless_under (retarget_refusal_at k address b) first ms b (after_retarget_at k address b) (after_retarget_at (n.ordered k) address (like b es first ms)) es u
         (changes_under k d (entry_retargets address) first ms b es u at) in
-        record {
-          devices = x.devices;
-          first = first;
-          memory = ms;
-          under = x.under;
-          same = unless_alike (retarget_refusal_at (n.ordered k) address (like b es first ms)) (retarget_refusal_at k address b) (like b es first ms)
-              (after_retarget_at (n.ordered k) address (like b es first ms)) alike ∙ x.same;
-          shown = λ i g. refl;
-        }
+        of_same (bus.Retarget k address) (bus.Retarget (n.ordered k) address) _ [] []
+        (unless_alike (retarget_refusal_at (n.ordered k) address (like b es first ms)) (retarget_refusal_at k address b) (like b es first ms)
+        (after_retarget_at (n.ordered k) address (like b es first ms)) alike) x (λ i g. refl)
     panel_same (bus.OnBytes bytes now) added turn leaves there =
         let x = bytes_same n are ms first bytes now b es sound u in
-        record {
-          devices = x.devices;
-          first = first;
-          memory = ms;
-          under = x.under;
-          same = x.same;
-          shown = λ i g. ap (λ all. reported i all g) x.told ∙ reported_under i (told_in (bus.OnBytes bytes now) b) g;
-        }
+        of_same (bus.OnBytes bytes now) (bus.OnBytes bytes now) _ _ _ refl x
+        (λ i g. ap (λ all. reported i all g) x.told ∙ reported_under i (told_in (bus.OnBytes bytes now) b) g)
     panel_same (bus.OnSilence now) added turn leaves there =
         let x = end_same n are ms first (seen now b) es (sound_seen now (like b es first ms) sound) u in
-        record {
-          devices = x.devices;
-          first = first;
-          memory = ms;
-          under = x.under;
-          same = x.same;
-          shown = λ i g. ap (λ all. reported i all g) x.told ∙ reported_under i (told_in (bus.OnSilence now) b) g;
-        }
+        of_same (bus.OnSilence now) (bus.OnSilence now) _ _ _ refl x
+        (λ i g. ap (λ all. reported i all g) x.told ∙ reported_under i (told_in (bus.OnSilence now) b) g)
     panel_same (bus.Tick now) added turn leaves there =
         let x = tick_same n are ms first now b es sound u turn in
         let asked = asked_same n are ms first now b es sound u turn in
@@ -328,47 +299,34 @@ module _ (n : Numbers) (are : AreNumbers n) where
       shown = λ i g. refl;
     }
 
+    -- one that changes nothing
+    unchanged : (call : bus.Call) → b ≡ bus.after_call call b
+        → ((k : ℕ) (g : Ledger) → panel_steps k (bus.OnBytes [] 0) (like b es first ms) g ≡ panel_steps (n.own k) call b g)
+        → SamePanel n call (bus.OnBytes [] 0) (like b es first ms) b
+    unchanged call stays shown = record {
+      devices = es;
+      first = first;
+      memory = ms;
+      under = subst (λ (c : BusState). UnderDevices n c.devices es) stays u;
+      same = moment_stays ∙ ap (λ c. like c es first ms) stays;
+      shown = shown;
+    }
+
     -- one that names an entry that the panel doesn't have changes nothing
     pub panel_none : (call : bus.Call) (k : ℕ) → named call ≡ Some k → device_of k b ≡ None → SamePanel n call (bus.OnBytes [] 0) (like b es first ms) b
     panel_none (bus.Begin i now) k is none =
         let nobody : device_of i b ≡ None = ap (λ j. device_of j b) (let e : i ≡ k = cc in e) ∙ none in
-        record {
-          devices = es;
-          first = first;
-          memory = ms;
-          under = subst (λ (c : BusState). UnderDevices n c.devices es) (λ j. changed_unless (begin_refusal_of (sym nobody j)) b (after_begin_at i now b)) u;
-          same = moment_stays ∙ (λ j. like (changed_unless (begin_refusal_of (sym nobody j)) b (after_begin_at i now b)) es first ms);
-          shown = λ x g. refl;
-        }
+        unchanged (bus.Begin i now) (λ j. changed_unless (begin_refusal_of (sym nobody j)) b (after_begin_at i now b)) (λ x g. refl)
     panel_none (bus.Submit i command) k is none =
         let nobody : device_of i b ≡ None = ap (λ j. device_of j b) (let e : i ≡ k = cc in e) ∙ none in
-        record {
-          devices = es;
-          first = first;
-          memory = ms;
-          under = subst (λ (c : BusState). UnderDevices n c.devices es) (λ j. changed_unless (submit_refusal_of i command (sym nobody j) b) b (after_submit_at i command b)) u;
-          same = moment_stays ∙ (λ j. like (changed_unless (submit_refusal_of i command (sym nobody j) b) b (after_submit_at i command b)) es first ms);
-          shown = λ x g. sym (ap (λ o. cond (i == n.own x) (changed_unless (submit_refusal_of i command o b) [] (submits None command g)) []) nobody ∙ nothing (i == n.own x));
-        }
+        unchanged (bus.Submit i command) (λ j. changed_unless (submit_refusal_of i command (sym nobody j) b) b (after_submit_at i command b))
+        (λ x g. sym (ap (λ o. cond (i == n.own x) (changed_unless (submit_refusal_of i command o b) [] (submits None command g)) []) nobody ∙ nothing (i == n.own x)))
     panel_none (bus.Withdraw i) k is none =
         let nobody : device_of i b ≡ None = ap (λ j. device_of j b) (let e : i ≡ k = cc in e) ∙ none in
         let after : Option Entry → BusState = λ o. option_map_or (λ (d : Entry). record b { devices = record b.devices { entries = slice_set b.devices.entries i (entry_withdraws d) } }) o b in
-        record {
-          devices = es;
-          first = first;
-          memory = ms;
-          under = subst (λ (c : BusState). UnderDevices n c.devices es) (λ j. after (sym nobody j)) u;
-          same = moment_stays ∙ (λ j. like (after (sym nobody j)) es first ms);
-          shown = λ x g. sym (ap (λ o. cond (i == n.own x) (withdraws (given_back (withdrawal_of o)) g) []) nobody ∙ nothing (i == n.own x));
-        }
+        unchanged (bus.Withdraw i) (λ j. after (sym nobody j))
+        (λ x g. sym (ap (λ o. cond (i == n.own x) (withdraws (given_back (withdrawal_of o)) g) []) nobody ∙ nothing (i == n.own x)))
     panel_none (bus.Retarget i address) k is none =
         let nobody : device_of i b ≡ None = ap (λ j. device_of j b) (let e : i ≡ k = cc in e) ∙ none in
-        record {
-          devices = es;
-          first = first;
-          memory = ms;
-          under = subst (λ (c : BusState). UnderDevices n c.devices es) (λ j. changed_unless (retarget_refusal_of i address (sym nobody j) b) b (after_retarget_at i address b)) u;
-          same = moment_stays ∙ (λ j. like (changed_unless (retarget_refusal_of i address (sym nobody j) b) b (after_retarget_at i address b)) es first ms);
-          shown = λ x g. refl;
-        }
+        unchanged (bus.Retarget i address) (λ j. changed_unless (retarget_refusal_of i address (sym nobody j) b) b (after_retarget_at i address b)) (λ x g. refl)
     panel_none _ k is none = absurd (let e = is in cc)

@@ -1,5 +1,5 @@
 -- What the steps of a device's ledger accept, read off the panel's own bus: the commands and events of the calls. By none of them an event lapses.
-use Rattle.std.proofs.Common.{◌≡◌, ℕ, ◌+◌, Bool, true, false, cond, List, [], ◌∷◌, ◌++◌, Option, Some, None, refl, ◌∙◌}
+use Rattle.std.proofs.Common.{◌≡◌, ℕ, ◌+◌, Bool, true, false, List, [], ◌∷◌, ◌++◌, Option, Some, None, refl, ◌∙◌}
 use Rattle.std.specs.Prelude.{All, ◌==◌}
 use Rattle.std.proofs.lemmas.List.Elements.{All-nil}
 use Rattle.osdp_msg.specs.declared.command.Command.{Command}
@@ -24,7 +24,8 @@ use Rattle.osdp_reader.specs.Queue.{lacks_room, never_offered}
 use Rattle.osdp_reader.specs.declared.handler.Answer.{Answer}
 use Rattle.osdp_shared_line.specs.Line.{site_at}
 use Rattle.osdp_calls.specs.Accepted.{queued_by}
-use Rattle.osdp_calls.specs.Calls.{Call, NewDevice, NewPanel, Next, OfPanel, Pending, SetBusy, SetHandler, Silence, SubmitEvent, Take, TickDevice, WithdrawEvent, asked_at, first_answered, read_up_to}
+use Rattle.osdp_calls.specs.Calls.{Call, NewDevice, NewPanel, Next, OfPanel, SubmitEvent, WithdrawEvent, asked_at, first_answered, read_up_to}
+use Rattle.osdp_calls.specs.Ends.{is_of_device}
 use Rattle.osdp_calls.specs.Handing.{heard}
 use Rattle.osdp_calls.specs.Lines.{InUse, Station}
 use Rattle.osdp_calls_ledger.specs.Promises.{LeftSo}
@@ -86,9 +87,7 @@ panel_none k (bus.Tick now) b g =
     let opens = opening k (asked_at now b) (bus_ticks now b).sent (device_of k (heard (bus.Tick now) now b)) in
     each_append NoLapse reports opens (done_none reports (reported_done k (told_in (bus.Tick now) b) g))
     (opening_open NoLapse tt k (asked_at now b) (bus_ticks now b).sent (device_of k (heard (bus.Tick now) now b)))
-panel_none k (bus.OnBytes bytes now) b g = done_none (reported k (told_in (bus.OnBytes bytes now) b) g) (reported_done k (told_in (bus.OnBytes bytes now) b) g)
-panel_none k (bus.OnSilence now) b g = done_none (reported k (told_in (bus.OnSilence now) b) g) (reported_done k (told_in (bus.OnSilence now) b) g)
-panel_none k _ b g = tt
+panel_none k call b g = done_none (reported k (told_in call b) g) (reported_done k (told_in call b) g)
 
 module _ {H : Type 0} (answer_of : H → Command → Answer) (after : H → Command → H) (k : ℕ) where
   -- ---- of a device
@@ -105,11 +104,6 @@ module _ {H : Type 0} (answer_of : H → Command → Answer) (after : H → Comm
   at_none : (call : Call H) (o : Option (Station H)) (g : Ledger) → Each NoLapse (steps_at answer_of after call o g)
   at_none call None g = tt
   at_none call (Some t) g = device_none call t g
-
-  if_none : (i : ℕ) (call : Call H) (a : OwnLine H) (g : Ledger)
-      → Each NoLapse (cond (i == k) (steps_at answer_of after call (site_at k a.line.stations) g) [])
-  if_none i call a g =
-      both (Each NoLapse) (i == k) (steps_at answer_of after call (site_at k a.line.stations) g) [] (at_none call (site_at k a.line.stations) g) tt
 
   -- ---- of any call
 
@@ -132,55 +126,10 @@ module _ {H : Type 0} (answer_of : H → Command → Answer) (after : H → Comm
     queued = no_events (device_of (a.numbers.own k) a.bus);
     none = restarts_none (device_of (a.numbers.own k) a.bus);
   }
-  reads (SubmitEvent i event) a g = record {
-    accepted = call_commands answer_of after k (SubmitEvent i event) a.line g;
-    queued = call_events answer_of after k (SubmitEvent i event) a.line g;
-    none = if_none i (SubmitEvent i event) a g;
-  }
-  reads (SetBusy i busy) a g = record {
-    accepted = call_commands answer_of after k (SetBusy i busy) a.line g;
-    queued = call_events answer_of after k (SetBusy i busy) a.line g;
-    none = if_none i (SetBusy i busy) a g;
-  }
-  reads (SetHandler i handler) a g = record {
-    accepted = call_commands answer_of after k (SetHandler i handler) a.line g;
-    queued = call_events answer_of after k (SetHandler i handler) a.line g;
-    none = if_none i (SetHandler i handler) a g;
-  }
-  reads (WithdrawEvent i) a g = record {
-    accepted = call_commands answer_of after k (WithdrawEvent i) a.line g;
-    queued = call_events answer_of after k (WithdrawEvent i) a.line g;
-    none = if_none i (WithdrawEvent i) a g;
-  }
-  reads (Take i bytes now) a g = record {
-    accepted = call_commands answer_of after k (Take i bytes now) a.line g;
-    queued = call_events answer_of after k (Take i bytes now) a.line g;
-    none = if_none i (Take i bytes now) a g;
-  }
-  reads (TickDevice i now) a g = record {
-    accepted = call_commands answer_of after k (TickDevice i now) a.line g;
-    queued = call_events answer_of after k (TickDevice i now) a.line g;
-    none = if_none i (TickDevice i now) a g;
-  }
-  reads (Silence i now) a g = record {
-    accepted = call_commands answer_of after k (Silence i now) a.line g;
-    queued = call_events answer_of after k (Silence i now) a.line g;
-    none = if_none i (Silence i now) a g;
-  }
-  reads (Next i) a g = record {
-    accepted = call_commands answer_of after k (Next i) a.line g;
-    queued = call_events answer_of after k (Next i) a.line g;
-    none = if_none i (Next i) a g;
-  }
-  reads (Pending i) a g = record {
-    accepted = call_commands answer_of after k (Pending i) a.line g;
-    queued = call_events answer_of after k (Pending i) a.line g;
-    none = if_none i (Pending i) a g;
-  }
-  reads (NewDevice i config handler room gap) a g = record {
-    accepted = call_commands answer_of after k (NewDevice i config handler room gap) a.line g;
-    queued = call_events answer_of after k (NewDevice i config handler room gap) a.line g;
-    none = if_none i (NewDevice i config handler room gap) a g;
+  reads call a g = record {
+    accepted = call_commands answer_of after k call a.line g;
+    queued = call_events answer_of after k call a.line g;
+    none = both (Each NoLapse) (is_of_device k call) (steps_at answer_of after call (site_at k a.line.stations) g) [] (at_none call (site_at k a.line.stations) g) tt;
   }
 
   -- ---- of a list of calls

@@ -1,5 +1,5 @@
 -- What holds of the commands: of their places, of those acted on, and of those that have ended.
-use Rattle.std.proofs.Common.{◌≡◌, ◌≤◌, ◌<◌, ◌+◌, ◌⊎◌, ℕ, Bool, true, false, List, [], ◌∷◌, ◌++◌, length, Option, Some, None, refl, sym, subst, ap, ◌∙◌, inl, inr, arith}
+use Rattle.std.proofs.Common.{◌≡◌, ◌≤◌, ◌<◌, ◌+◌, ◌⊎◌, ℕ, Bool, true, false, List, [], ◌∷◌, ◌++◌, length, Option, Some, None, refl, sym, subst, ap, inl, inr, arith}
 use Rattle.std.proofs.lemmas.List.Elements.{All-weaker, Contains-append_left}
 use Rattle.std.specs.Prelude.{All, AllPairs, Contains, map, drop}
 use Rattle.osdp_msg.specs.declared.reply.Reply.{Reply}
@@ -116,26 +116,17 @@ answered_more done more ended h =
 
 pub none_acted : (acted : Option Reply) (ahead : List Order) (done : List (Order × Reply)) → FrontIs acted false ahead done → acted ≡ None
 none_acted None ahead done f = refl
-none_acted (Some answer) ahead done f = absurd (cc' f.0)
-  where
-    cc' : false ≡ true → ⊥
-    cc' e = cc
+none_acted (Some answer) ahead done f = cc
 
 pub closed_comes : (acted : Option Reply) (ahead : List Order) (done : List (Order × Reply)) (a : Order × Reply) → FrontIs acted false ahead done
     → Comes acted ahead a → ⊥
-closed_comes acted ahead done a f comes = some_none acted (none_acted acted ahead done f) comes.0
-  where
-    some_none : (o : Option Reply) → o ≡ None → o ≡ Some a.1 → ⊥
-    some_none o e w = cc
+closed_comes acted ahead done a f comes = let none : acted ≡ None = none_acted acted ahead done f in cc
 
 pub same_reply : (x y : Reply) → Some x ≡ Some y → x ≡ y
 same_reply x y e = cc
 
 pub same_front : (x y : Order) (ahead : List Order) → is_in_front x ahead → is_in_front y ahead → x ≡ y
-same_front x y ahead f g = heads x y f.0 g.0 (sym f.1 ∙ g.1)
-  where
-    heads : (x y : Order) (xs ys : List Order) → x ∷ xs ≡ y ∷ ys → x ≡ y
-    heads x y xs ys e = cc
+same_front x y ahead f g = cc
 
 pub front_pushed : (acted : Option Reply) (is_open : Bool) (ahead : List Order) (o : Order) (done : List (Order × Reply))
     → FrontIs acted is_open ahead done → FrontIs acted is_open (ahead ++ o ∷ []) done

@@ -2,14 +2,14 @@
 use Rattle.std.proofs.Common.{◌≡◌, ◌≤◌, ◌<◌, ◌+◌, ◌==◌, ℕ, Bool, true, false, not, List, [], ◌∷◌, ◌++◌, length, refl, sym, subst, ap, ◌∙◌, inl, inr, arith}
 use Rattle.std.specs.Prelude.{All, Contains, map, drop, if◌then◌else◌, slice_index_or}
 use Rattle.std.proofs.lemmas.Bool.{eqb-true, eqb-false}
-use Rattle.std.proofs.lemmas.List.{length-append}
+use Rattle.std.proofs.lemmas.List.{length-append, map-append}
 use Rattle.std.proofs.lemmas.List.Elements.{All-append, All-cons, All-filter, All-head, All-push, All-tail, All-weaker, All-nil, Contains-push, Contains-append_left}
 use Rattle.std.proofs.lemmas.List.Quantifiers.{all_pairs_push}
-use Rattle.osdp_ledger.specs.Ledger.{Card, May, MayFollow, NoOffer, Offer, Reported, Unreported, Step, Submit, Withdraw, Open, Act, Settle, Doubt, Close, Queue, Offers, Report, Leave, WithdrawEvent, Lapse, RestartDevice, RestartPanel, acted_on, panel_restarted}
+use Rattle.osdp_ledger.specs.Ledger.{Card, May, MayFollow, NoOffer, Offer, Reported, Unreported, Step, Open, Act, Queue, Offers, Report, Leave, WithdrawEvent, Lapse, RestartDevice, RestartPanel, acted_on, panel_restarted}
 use Rattle.osdp_ledger.specs.History.{AfterReport, AreAllowed, Exit, History, Lapsed, Left, TakenBack, ThrownAway, new_history, runs, steps_on}
 use Rattle.osdp_ledger.specs.Laws.{CountsFrom, EventsHold, Follows, KeepsEvents, times}
 use Rattle.osdp_ledger.proofs.Known.{Known, keeps_known, none_known}
-use Rattle.osdp_ledger.proofs.Waiting.{EventsAre, Beyond, Events, IsAtMost, IsUpTo, LeftNow, NeverReported, NoLater, OfferIs, Rising, Told, WasReported, beyond_all, beyond_filter, beyond_push, contains_times, left_all, left_places, none_left, none_of_it, offer_fewer, offer_left, one_time, others_stay, places, rising_above, rising_filter, rising_less, rising_push, times_all, times_left, times_queued, without}
+use Rattle.osdp_ledger.proofs.Waiting.{EventsAre, Beyond, Events, IsAtMost, IsUpTo, LeftNow, NeverReported, NoLater, OfferIs, Rising, Told, WasReported, beyond_all, beyond_filter, beyond_push, contains_times, left_places, none_left, none_of_it, offer_fewer, offer_left, one_time, others_stay, places, rising_above, rising_filter, rising_less, rising_push, times_all, times_left, times_queued, without}
 
 -- ---- each step
 
@@ -50,6 +50,27 @@ queued c h is i =
     counts_card n [] c h e = (omega (arith, e), tt)
     counts_card n (x ∷ xs) c h e = (h.0, counts_card (n + 1) xs c h.1 (omega (arith, e)))
 
+-- what is reported before an event has no later place
+at_most : (c : Card) (sessions : ℕ) (a : Told) → Follows a (sessions, c) → IsAtMost c a
+at_most c sessions a (inl less) = inl less
+at_most c sessions a (inr same) = inr same.0
+
+at_most_le : (c : Card) (a : Told) → IsAtMost c a → a.1.place ≤ c.place
+at_most_le c a (inl less) = omega (arith, less)
+at_most_le c a (inr is) = let e = ap (λ (x : Card). x.place) is in omega (arith, e)
+
+-- what waits with this event or after it follows what was reported up to it, in the next session
+offer_after : (c : Card) (sessions shown : ℕ) (cards : List Card) (reports : List Told) → All (λ (a : Told). (a.1.place < shown) × (a.0 ≤ sessions)) reports
+    → All (IsAtMost c) reports → All (IsUpTo c) cards → All (λ (d : Card). All (λ (a : Told). Follows a (sessions + 1, d)) reports) cards
+offer_after c sessions shown cards reports told most up =
+    All-weaker (IsUpTo c) (λ (d : Card). All (λ (a : Told). Follows a (sessions + 1, d)) reports)
+    (λ d is k x less. later d (slice_index_or reports k x) is (most k x less) (told k x less).1) cards up
+  where
+    later : (d : Card) (a : Told) → IsUpTo c d → IsAtMost c a → a.0 ≤ sessions → Follows a (sessions + 1, d)
+    later d a (inl same) (inl less) le = inl (subst (λ (x : Card). a.1.place < x.place) same less)
+    later d a (inl same) (inr is) le = inr (is ∙ same, omega (arith, le))
+    later d a (inr before) most le = let before_c = at_most_le c a most in inl (omega (arith, before_c, before))
+
 -- a session begins: what was offered in the one before may be offered once more
 offer_again : (offer : Offer) (sessions shown : ℕ) (cards : List Card) (reports : List Told) (left : List Left)
     → All (λ (a : Told). (a.1.place < shown) × (a.0 ≤ sessions)) reports
@@ -62,27 +83,8 @@ offer_again NoOffer sessions shown cards reports left told h =
     later d a (inl less) = inl less
     later d a (inr same) = inr (same.0, omega (arith, same.1))
 offer_again (Unreported c) sessions shown cards reports left told h =
-    All-weaker (IsUpTo c) (λ (d : Card). All (λ (a : Told). Follows a (sessions + 1, d)) reports)
-    (λ d up. All-weaker (λ (a : Told). Follows a (sessions, c)) (λ (a : Told). Follows a (sessions + 1, d)) (λ a f. later d a up f) reports h.1) cards h.2
-  where
-    later : (d : Card) (a : Told) → IsUpTo c d → Follows a (sessions, c) → Follows a (sessions + 1, d)
-    later d a (inl same) (inl less) = inl (subst (λ (x : Card). a.1.place < x.place) same less)
-    later d a (inl same) (inr told) = inr (told.0 ∙ same, omega (arith, told.1))
-    later d a (inr before) (inl less) = inl (omega (arith, less, before))
-    later d a (inr before) (inr told) = inl (subst (λ (x : Card). x.place < d.place) (sym told.0) before)
-offer_again (Reported c) sessions shown cards reports left told h =
-    All-weaker (IsUpTo c) (λ (d : Card). All (λ (a : Told). Follows a (sessions + 1, d)) reports)
-    (λ d up. both d up reports told h.1) cards h.2
-  where
-    later : (d : Card) (a : Told) → IsUpTo c d → IsAtMost c a → a.0 ≤ sessions → Follows a (sessions + 1, d)
-    later d a (inl same) (inl less) le = inl (subst (λ (x : Card). a.1.place < x.place) same less)
-    later d a (inl same) (inr is) le = inr (is ∙ same, omega (arith, le))
-    later d a (inr before) (inl less) le = inl (omega (arith, less, before))
-    later d a (inr before) (inr is) le = inl (subst (λ (x : Card). x.place < d.place) (sym is) before)
-
-    both : (d : Card) → IsUpTo c d → (ts : List Told) → All (λ (a : Told). (a.1.place < shown) × (a.0 ≤ sessions)) ts → All (IsAtMost c) ts
-        → All (λ (a : Told). Follows a (sessions + 1, d)) ts
-    both d up ts all most k x less = later d (slice_index_or ts k x) up (most k x less) (all k x less).1
+    offer_after c sessions shown cards reports told (All-weaker (λ (a : Told). Follows a (sessions, c)) (IsAtMost c) (at_most c sessions) reports h.1) h.2
+offer_again (Reported c) sessions shown cards reports left told h = offer_after c sessions shown cards reports told h.1 h.2
 
 begun : (h : History) → Events h → Events (steps_on Open h)
 begun h i = record {
@@ -108,11 +110,7 @@ offer_front : (offer : Offer) (sessions shown : ℕ) (c : Card) (cs : List Card)
 offer_front NoOffer sessions shown c cs reports left may h = All-head (λ (d : Card). All (λ (a : Told). Follows a (sessions, d)) reports) c cs h
 offer_front (Unreported b) sessions shown c cs reports left may h = absurd may
 offer_front (Reported b) sessions shown c cs reports left may h =
-    All-weaker (IsAtMost b) (λ (a : Told). Follows a (sessions, c)) (λ a most. inl (less a most)) reports h.1
-  where
-    less : (a : Told) → IsAtMost b a → a.1.place < c.place
-    less a (inl before) = omega (arith, before, may)
-    less a (inr is) = subst (λ (x : Card). x.place < c.place) (sym is) may
+    All-weaker (IsAtMost b) (λ (a : Told). Follows a (sessions, c)) (λ a most. let le = at_most_le b a most in inl (omega (arith, le, may))) reports h.1
 
 offered_front : (c : Card) (cs : List Card) (count shown : ℕ) (offer : Offer) (sessions : ℕ) (queued : List Card) (reports : List Told) (left : List Left) → MayFollow offer c
     → EventsAre count (c ∷ cs) shown offer sessions queued reports left
@@ -132,7 +130,7 @@ offered_front c cs count shown offer sessions queued reports left may i =
       below = i.below;
       beyond = above;
       shown_is = omega (arith, bounded);
-      told = both reports i.told follow;
+      told = λ k x less. let a = slice_index_or reports k x in let le = at_most_le c a (at_most c sessions a (follow k x less)) in (omega (arith, le), (i.told k x less).1);
       in_turn = i.in_turn;
       offer_is = (
         refl,
@@ -144,14 +142,6 @@ offered_front c cs count shown offer sessions queued reports left may i =
       withdrawn = i.withdrawn;
       no_later = i.no_later;
     }
-  where
-    up : (a : Told) → Follows a (sessions, c) → a.1.place < c.place + 1
-    up a (inl less) = omega (arith, less)
-    up a (inr same) = subst (λ (x : Card). x.place < c.place + 1) (sym same.0) (omega arith)
-
-    both : (ts : List Told) → All (λ (a : Told). (a.1.place < shown) × (a.0 ≤ sessions)) ts → All (λ (a : Told). Follows a (sessions, c)) ts
-        → All (λ (a : Told). (a.1.place < c.place + 1) × (a.0 ≤ sessions)) ts
-    both ts all follow k x less = (up (slice_index_or ts k x) (follow k x less), (all k x less).1)
 
 offered : (c : Card) (h : History) → May (Offers c) h.ledger → Events h → Events (steps_on (Offers c) h)
 offered c h may i =
@@ -177,7 +167,7 @@ report_offered c count cards shown sessions queued reports left i =
       in_turn = all_pairs_push Follows reports (sessions, c) i.in_turn o.1;
       offer_is = (
         o.0,
-        All-push (IsAtMost c) reports (sessions, c) (All-weaker (λ (a : Told). Follows a (sessions, c)) (IsAtMost c) (λ a f. most a f) reports o.1) (inr refl),
+        All-push (IsAtMost c) reports (sessions, c) (All-weaker (λ (a : Told). Follows a (sessions, c)) (IsAtMost c) (at_most c sessions) reports o.1) (inr refl),
         o.2,
         (sessions, Contains-push reports (sessions, c)),
       );
@@ -186,10 +176,6 @@ report_offered c count cards shown sessions queued reports left i =
       no_later = both (NoLater reports) (LeftNow sessions c) (NoLater (reports ++ (sessions, c) ∷ [])) (λ w none now. none_yet w none now) left i.no_later o.3;
     }
   where
-    most : (a : Told) → Follows a (sessions, c) → IsAtMost c a
-    most a (inl less) = inl less
-    most a (inr same) = inr same.0
-
     still : (w : Left) → (session : ℕ) × Contains reports (session, w.card) → (session : ℕ) × Contains (reports ++ (sessions, c) ∷ []) (session, w.card)
     still w was = (was.0, Contains-append_left reports ((sessions, c) ∷ []) (was.0, w.card) was.1)
 
@@ -270,12 +256,8 @@ after_reported : (c : Card) (cs : List Card) (sessions : ℕ) (reports : List To
     → All (λ (d : Card). All (λ (a : Told). Follows a (sessions, d)) reports) cs
 after_reported c cs sessions reports most rising =
     All-weaker (λ (d : Card). c.place + 1 ≤ d.place) (λ (d : Card). All (λ (a : Told). Follows a (sessions, d)) reports)
-    (λ d le. All-weaker (IsAtMost c) (λ (a : Told). Follows a (sessions, d)) (λ a m. inl (less d a le m)) reports most)
+    (λ d le. All-weaker (IsAtMost c) (λ (a : Told). Follows a (sessions, d)) (λ a m. let up = at_most_le c a m in inl (omega (arith, up, le))) reports most)
     cs (rising_above (c.place + 1) cs rising)
-  where
-    less : (d : Card) (a : Told) → c.place + 1 ≤ d.place → IsAtMost c a → a.1.place < d.place
-    less d a le (inl before) = omega (arith, before, le)
-    less d a le (inr is) = subst (λ (x : Card). x.place < d.place) (sym is) (omega (arith, le))
 
 left_reported : (c : Card) (h : History) → May (Leave c) h.ledger → Events h → Events (steps_on (Leave c) h)
 left_reported c h may i =
@@ -283,42 +265,29 @@ left_reported c h may i =
     (by_offer (subst (λ offer. EventsAre h.ledger.queued (c ∷ may.0.0) h.ledger.shown offer h.sessions h.queued h.reports h.left) may.1
     (subst (λ cards. EventsAre h.ledger.queued cards h.ledger.shown h.ledger.offer h.sessions h.queued h.reports h.left) may.0.1 i)))
   where
-    other : AfterReport ≡ TakenBack → ⊥
-    other e = cc
-
     by_offer : EventsAre h.ledger.queued (c ∷ may.0.0) h.ledger.shown (Reported c) h.sessions h.queued h.reports h.left
         → EventsAre h.ledger.queued may.0.0 h.ledger.shown NoOffer h.sessions h.queued h.reports (h.left ++ gone h.sessions c AfterReport ∷ [])
     by_offer i =
         front_leaves c may.0.0 AfterReport NoOffer h.ledger.queued h.ledger.shown (Reported c) h.sessions h.queued h.reports h.left
         (after_reported c may.0.0 h.sessions h.reports i.offer_is.1 i.rising.1)
         (λ why. i.offer_is.3)
-        (λ why. absurd (other why))
+        (λ why. cc)
         i
-
--- what leaves now, and wasn't taken back
-now_but_taken : (sessions : ℕ) (c d : Card) (why : Exit) → (why ≡ TakenBack → ⊥) → LeftNow sessions c (gone sessions d why)
-now_but_taken sessions c d why other same = (refl, other)
 
 lapsed : (c : Card) (h : History) → May (Lapse c) h.ledger → Events h → Events (steps_on (Lapse c) h)
 lapsed c h may i =
     subst (λ cards. EventsAre h.ledger.queued (drop 1 cards) h.ledger.shown h.ledger.offer h.sessions h.queued h.reports (h.left ++ gone h.sessions c Lapsed ∷ [])) (sym may.0.1)
     (front (subst (λ cards. EventsAre h.ledger.queued cards h.ledger.shown h.ledger.offer h.sessions h.queued h.reports h.left) may.0.1 i))
   where
-    not_taken : Lapsed ≡ TakenBack → ⊥
-    not_taken e = cc
-
-    not_reported : Lapsed ≡ AfterReport → ⊥
-    not_reported e = cc
-
     front : EventsAre h.ledger.queued (c ∷ may.0.0) h.ledger.shown h.ledger.offer h.sessions h.queued h.reports h.left
         → EventsAre h.ledger.queued may.0.0 h.ledger.shown h.ledger.offer h.sessions h.queued h.reports (h.left ++ gone h.sessions c Lapsed ∷ [])
     front i =
         front_leaves c may.0.0 Lapsed h.ledger.offer h.ledger.queued h.ledger.shown h.ledger.offer h.sessions h.queued h.reports h.left
         (offer_left h.ledger.offer h.sessions h.ledger.shown may.0.0 h.reports h.left (gone h.sessions c Lapsed ∷ [])
-        (λ d is. one (LeftNow h.sessions d) (gone h.sessions c Lapsed) (now_but_taken h.sessions d c Lapsed not_taken))
+        (λ d is. one (LeftNow h.sessions d) (gone h.sessions c Lapsed) (λ same. (refl, (λ e. cc))))
         (offer_fewer h.ledger.offer h.sessions h.ledger.shown (c ∷ may.0.0) may.0.0 h.reports h.left (λ P. All-tail P c may.0.0) i.offer_is))
-        (λ why. absurd (not_reported why))
-        (λ why. absurd (not_taken why))
+        (λ why. cc)
+        (λ why. cc)
         i
 
 withdrawn_event : (c : Card) (h : History) → May (WithdrawEvent c) h.ledger → Events h → Events (steps_on (WithdrawEvent c) h)
@@ -329,21 +298,15 @@ withdrawn_event c h may i =
     (rising_filter (λ d. not (d.place == c.place)) 0 h.ledger.cards i.rising)
     (beyond_filter (λ d. not (d.place == c.place)) h.ledger.shown h.ledger.cards i.beyond)
     (offer_left h.ledger.offer h.sessions h.ledger.shown (without c h.ledger.cards) h.reports h.left (gone h.sessions c TakenBack ∷ [])
-    (λ d is. one (LeftNow h.sessions d) (gone h.sessions c TakenBack) (λ same. absurd (apart d is same)))
+    (λ d is. one (LeftNow h.sessions d) (gone h.sessions c TakenBack) (λ same. absurd (omega (arith, is, same, may.1))))
     (offer_fewer h.ledger.offer h.sessions h.ledger.shown h.ledger.cards (without c h.ledger.cards) h.reports h.left
     (λ P. All-filter (λ d. not (d.place == c.place)) P h.ledger.cards) i.offer_is))
-    (one (WasReported h.reports) (gone h.sessions c TakenBack) (λ why. absurd (other why)))
+    (one (WasReported h.reports) (gone h.sessions c TakenBack) (λ why. cc))
     (one (NeverReported h.reports) (gone h.sessions c TakenBack) (λ why.
     All-weaker (λ (a : Told). (a.1.place < h.ledger.shown) × (a.0 ≤ h.sessions)) (λ (a : Told). a.1.place ≡ c.place → ⊥) (λ a t same. omega (arith, t.0, may.1, same)) h.reports i.told))
     (one (λ (w : Left). w.session ≡ h.sessions) (gone h.sessions c TakenBack) refl)
     i
   where
-    other : TakenBack ≡ AfterReport → ⊥
-    other e = cc
-
-    apart : (d : Card) → d.place + 1 ≡ h.ledger.shown → c.place ≡ d.place → ⊥
-    apart d is same = omega (arith, is, same, may.1)
-
     each : (p : ℕ) → times p (left_places h.left) + times p (places h.ledger.cards) ≡ times p (places h.queued) → times p (places h.queued) ≤ 1
         → times p (left_places (h.left ++ gone h.sessions c TakenBack ∷ [])) + times p (places (without c h.ledger.cards)) ≡ times p (places h.queued)
     each p sum most = by_test (c.place == p) refl
@@ -381,37 +344,25 @@ restarted_device h i =
     tt
     tt
     (offer_left h.ledger.offer h.sessions h.ledger.shown [] h.reports h.left (thrown h.sessions h.ledger.cards)
-    (λ d is. all_thrown h.sessions (LeftNow h.sessions d) (λ c same. (refl, not_taken)) h.ledger.cards)
+    (λ d is. all_thrown h.sessions (LeftNow h.sessions d) (λ c same. (refl, (λ e. cc))) h.ledger.cards)
     (offer_fewer h.ledger.offer h.sessions h.ledger.shown h.ledger.cards [] h.reports h.left (λ P all. All-nil P) i.offer_is))
-    (all_thrown h.sessions (WasReported h.reports) (λ c why. absurd (not_reported why)) h.ledger.cards)
-    (all_thrown h.sessions (NeverReported h.reports) (λ c why. absurd (not_taken why)) h.ledger.cards)
+    (all_thrown h.sessions (WasReported h.reports) (λ c why. cc) h.ledger.cards)
+    (all_thrown h.sessions (NeverReported h.reports) (λ c why. cc) h.ledger.cards)
     (all_thrown h.sessions (λ (w : Left). w.session ≡ h.sessions) (λ c. refl) h.ledger.cards)
     i
   where
-    not_taken : ThrownAway ≡ TakenBack → ⊥
-    not_taken e = cc
-
-    not_reported : ThrownAway ≡ AfterReport → ⊥
-    not_reported e = cc
-
     split : (p : ℕ) → times p (left_places (h.left ++ thrown h.sessions h.ledger.cards)) ≡ times p (left_places h.left) + times p (places h.ledger.cards)
-    split p = ap (times p) (left_all h.left (thrown h.sessions h.ledger.cards)) ∙ times_all p (left_places h.left) (left_places (thrown h.sessions h.ledger.cards))
+    split p =
+        ap (times p) (map-append (λ (w : Left). w.card.place) h.left (thrown h.sessions h.ledger.cards))
+        ∙ times_all p (left_places h.left) (left_places (thrown h.sessions h.ledger.cards))
         ∙ ap (λ ps. times p (left_places h.left) + times p ps) (thrown_places h.sessions h.ledger.cards)
 
 -- ---- all steps
 
 pub keeps : (step : Step) (h : History) → May step h.ledger → Events h → Events (steps_on step h)
-keeps (Submit o) h may i = i
-keeps (Withdraw o) h may i = i
 keeps Open h may i = begun h i
-keeps (Act o answer) h may i = by_state h.ledger.is_open i
-  where
-    by_state : (b : Bool) → Events h → (let l = acted_on b answer h.ledger in EventsAre l.queued l.cards l.shown l.offer h.sessions h.queued h.reports h.left)
-    by_state true i = i
-    by_state false i = i
-keeps (Settle o answer) h may i = i
-keeps (Doubt o) h may i = i
-keeps Close h may i = i
+keeps (Act o answer) h may i =
+    elim h.ledger.is_open as (λ b. (let l = acted_on b answer h.ledger in EventsAre l.queued l.cards l.shown l.offer h.sessions h.queued h.reports h.left)) [ true ↦ i | false ↦ i ]
 keeps (Queue c) h may i = queued c h may i
 keeps (Offers c) h may i = offered c h may i
 keeps (Report c) h may i = reported_now c h may i
@@ -419,40 +370,31 @@ keeps (Leave c) h may i = left_reported c h may i
 keeps (WithdrawEvent c) h may i = withdrawn_event c h may i
 keeps (Lapse c) h may i = lapsed c h may i
 keeps RestartDevice h may i = restarted_device h i
-keeps (RestartPanel on_wire) h may i = by_state h.ledger.is_open i
-  where
-    by_state : (b : Bool) → Events h → (let l = panel_restarted on_wire b h.ledger in EventsAre l.queued l.cards l.shown l.offer h.sessions h.queued h.reports h.left)
-    by_state true i = i
-    by_state false i = i
+keeps (RestartPanel on_wire) h may i =
+    elim h.ledger.is_open as (λ b. (let l = panel_restarted on_wire b h.ledger in EventsAre l.queued l.cards l.shown l.offer h.sessions h.queued h.reports h.left))
+    [ true ↦ i | false ↦ i ]
+keeps _ h may i = i
 
 upto : (c d : Card) → IsUpTo c d → c.place ≤ d.place
 upto c d (inl same) = let e = ap (λ (x : Card). x.place) same in omega (arith, e)
 upto c d (inr less) = omega (arith, less)
+
+passed_by : (c : Card) (cards : List Card) (reports : List Told) → All (IsAtMost c) reports → All (IsUpTo c) cards
+    → All (λ (d : Card). All (λ (a : Told). a.1.place ≤ d.place) reports) cards
+passed_by c cards reports most up =
+    All-weaker (IsUpTo c) (λ (d : Card). All (λ (a : Told). a.1.place ≤ d.place) reports)
+    (λ d is. All-weaker (IsAtMost c) (λ (a : Told). a.1.place ≤ d.place)
+    (λ a m. let le = upto c d is in let before = at_most_le c a m in omega (arith, le, before)) reports most) cards up
 
 -- what waits was queued with or after all that is reported
 passed_none : (offer : Offer) (sessions shown : ℕ) (cards : List Card) (reports : List Told) (left : List Left) → OfferIs offer sessions shown cards reports left
     → All (λ (d : Card). All (λ (a : Told). a.1.place ≤ d.place) reports) cards
 passed_none NoOffer sessions shown cards reports left h =
     All-weaker (λ (d : Card). All (λ (a : Told). Follows a (sessions, d)) reports) (λ (d : Card). All (λ (a : Told). a.1.place ≤ d.place) reports)
-    (λ d all. All-weaker (λ (a : Told). Follows a (sessions, d)) (λ (a : Told). a.1.place ≤ d.place) (λ a f. before d a f) reports all) cards h
-  where
-    before : (d : Card) (a : Told) → Follows a (sessions, d) → a.1.place ≤ d.place
-    before d a (inl less) = omega (arith, less)
-    before d a (inr same) = let e = ap (λ (x : Card). x.place) same.0 in omega (arith, e)
+    (λ d all. All-weaker (λ (a : Told). Follows a (sessions, d)) (λ (a : Told). a.1.place ≤ d.place) (λ a f. at_most_le d a (at_most d sessions a f)) reports all) cards h
 passed_none (Unreported c) sessions shown cards reports left h =
-    All-weaker (IsUpTo c) (λ (d : Card). All (λ (a : Told). a.1.place ≤ d.place) reports)
-    (λ d up. All-weaker (λ (a : Told). Follows a (sessions, c)) (λ (a : Told). a.1.place ≤ d.place) (λ a f. before d a up f) reports h.1) cards h.2
-  where
-    before : (d : Card) (a : Told) → IsUpTo c d → Follows a (sessions, c) → a.1.place ≤ d.place
-    before d a up (inl less) = let le = upto c d up in omega (arith, less, le)
-    before d a up (inr same) = let le = upto c d up in let e = ap (λ (x : Card). x.place) same.0 in omega (arith, e, le)
-passed_none (Reported c) sessions shown cards reports left h =
-    All-weaker (IsUpTo c) (λ (d : Card). All (λ (a : Told). a.1.place ≤ d.place) reports)
-    (λ d up. All-weaker (IsAtMost c) (λ (a : Told). a.1.place ≤ d.place) (λ a most. before d a up most) reports h.1) cards h.2
-  where
-    before : (d : Card) (a : Told) → IsUpTo c d → IsAtMost c a → a.1.place ≤ d.place
-    before d a up (inl less) = let le = upto c d up in omega (arith, less, le)
-    before d a up (inr same) = let le = upto c d up in let e = ap (λ (x : Card). x.place) same in omega (arith, e, le)
+    passed_by c cards reports (All-weaker (λ (a : Told). Follows a (sessions, c)) (IsAtMost c) (at_most c sessions) reports h.1) h.2
+passed_none (Reported c) sessions shown cards reports left h = passed_by c cards reports h.1 h.2
 
 hold : (steps : List Step) (h : History) → AreAllowed steps h → Events h → Known h → EventsHold (runs steps h)
 hold [] h allowed i known = record {
@@ -480,15 +422,12 @@ at_first = record {
   beyond = tt;
   shown_is = omega arith;
   told = All-nil (λ (a : Told). (a.1.place < 0) × (a.0 ≤ 0));
-  in_turn = λ i j d less below. absurd (none_below j below);
+  in_turn = λ i j d less below. let none : j < 0 = below in absurd (omega arith);
   offer_is = All-nil (λ (d : Card). All (λ (a : Told). Follows a (0, d)) []);
   reported = All-nil (WasReported []);
   withdrawn = All-nil (NeverReported []);
   no_later = All-nil (NoLater []);
 }
-  where
-    none_below : (j : ℕ) → j < 0 → ⊥
-    none_below j below = omega (arith, below)
 
 pub keeps_events : KeepsEvents
 keeps_events steps allowed = hold steps new_history allowed at_first none_known

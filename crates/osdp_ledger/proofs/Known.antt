@@ -1,8 +1,8 @@
 -- What waits in the device's queue, what it offers, what has left and what is reported was queued.
-use Rattle.std.proofs.Common.{Bool, true, false, not, ◌==◌, List, [], ◌∷◌, ◌++◌, subst}
+use Rattle.std.proofs.Common.{true, false, not, ◌==◌, List, [], ◌∷◌, ◌++◌, subst}
 use Rattle.std.specs.Prelude.{All, Contains, drop, map}
 use Rattle.std.proofs.lemmas.List.Elements.{All-append, All-cons, All-contains, All-filter, All-head, All-nil, All-push, All-tail, All-weaker, Contains-push, Contains-append_left}
-use Rattle.osdp_ledger.specs.Ledger.{Card, May, NoOffer, Offer, Reported, Unreported, Step, Submit, Withdraw, Open, Act, Settle, Doubt, Close, Queue, Offers, Report, Leave, WithdrawEvent, Lapse, RestartDevice, RestartPanel, acted_on, is_in_front, panel_restarted}
+use Rattle.osdp_ledger.specs.Ledger.{Card, May, NoOffer, Offer, Reported, Unreported, Step, Open, Act, Queue, Offers, Report, Leave, WithdrawEvent, Lapse, RestartDevice, RestartPanel, acted_on, is_in_front, panel_restarted}
 use Rattle.osdp_ledger.specs.History.{History, Left, ThrownAway, new_history, steps_on}
 use Rattle.osdp_ledger.proofs.Waiting.{Told}
 
@@ -49,17 +49,9 @@ front_queued : (c : Card) (h : History) → is_in_front c h.ledger.cards → Kno
 front_queued c h front i = All-head (Contains h.queued) c front.0 (subst (All (Contains h.queued)) front.1 i.waiting)
 
 pub keeps_known : (step : Step) (h : History) → May step h.ledger → Known h → Known (steps_on step h)
-keeps_known (Submit o) h may i = i
-keeps_known (Withdraw o) h may i = i
 keeps_known Open h may i = record { waiting = i.waiting; offered = tt; gone = i.gone; told = i.told }
-keeps_known (Act o answer) h may i = by_state h.ledger.is_open i
-  where
-    by_state : (b : Bool) → Known h → (let l = acted_on b answer h.ledger in AreKnown l.cards l.offer h.queued h.left h.reports)
-    by_state true i = i
-    by_state false i = i
-keeps_known (Settle o answer) h may i = i
-keeps_known (Doubt o) h may i = i
-keeps_known Close h may i = i
+keeps_known (Act o answer) h may i =
+    elim h.ledger.is_open as (λ b. (let l = acted_on b answer h.ledger in AreKnown l.cards l.offer h.queued h.left h.reports)) [ true ↦ i | false ↦ i ]
 keeps_known (Queue c) h may i = queued_now c h.ledger.cards h.ledger.offer h.queued h.left h.reports i
 keeps_known (Offers c) h may i = record {
   waiting = i.waiting;
@@ -101,11 +93,9 @@ keeps_known RestartDevice h may i = record {
     thrown : (cards : List Card) → All (Contains h.queued) cards → All (HasLeft h.queued) (map (λ c. record { session = h.sessions; card = c; why = ThrownAway }) cards)
     thrown [] all = All-nil (HasLeft h.queued)
     thrown (c ∷ cs) all = All-cons (HasLeft h.queued) _ _ (All-head (Contains h.queued) c cs all) (thrown cs (All-tail (Contains h.queued) c cs all))
-keeps_known (RestartPanel on_wire) h may i = by_state h.ledger.is_open i
-  where
-    by_state : (b : Bool) → Known h → (let l = panel_restarted on_wire b h.ledger in AreKnown l.cards l.offer h.queued h.left h.reports)
-    by_state true i = i
-    by_state false i = i
+keeps_known (RestartPanel on_wire) h may i =
+    elim h.ledger.is_open as (λ b. (let l = panel_restarted on_wire b h.ledger in AreKnown l.cards l.offer h.queued h.left h.reports)) [ true ↦ i | false ↦ i ]
+keeps_known _ h may i = i
 
 pub none_known : Known new_history
 none_known = record { waiting = All-nil (Contains []); offered = tt; gone = All-nil (HasLeft []); told = All-nil (WasQueued []) }

@@ -1,11 +1,11 @@
 -- What holds of the commands after each step.
 use Rattle.std.proofs.Common.{◌≡◌, ◌≤◌, ◌<◌, ◌+◌, ℕ, Bool, true, false, List, [], ◌∷◌, ◌++◌, length, Option, Some, None, refl, sym, subst, ap, ◌∙◌, inl, inr, arith, append_assoc}
-use Rattle.std.proofs.lemmas.List.{append-nil, length-append}
+use Rattle.std.proofs.lemmas.List.{append-nil, length-append, map-append}
 use Rattle.std.proofs.lemmas.List.Elements.{All-append, All-cons, All-push, All-weaker, All-nil, Contains-push, Contains-append_right}
 use Rattle.std.proofs.lemmas.List.Quantifiers.{all_pairs_push}
 use Rattle.std.specs.Prelude.{All, AllPairs, Contains, map, drop}
 use Rattle.osdp_msg.specs.declared.reply.Reply.{Reply}
-use Rattle.osdp_ledger.specs.Ledger.{May, MayActOn, Order, Step, Submit, Withdraw, Open, Act, Settle, Doubt, Close, Queue, Offers, Report, Leave, WithdrawEvent, Lapse, RestartDevice, RestartPanel, acted_on, is_in_front, late_after, late_at_restart, panel_restarted}
+use Rattle.osdp_ledger.specs.Ledger.{May, MayActOn, Order, Step, Submit, Withdraw, Open, Act, Settle, Doubt, Close, RestartPanel, acted_on, is_in_front, late_after, late_at_restart, panel_restarted}
 use Rattle.osdp_ledger.specs.History.{AreAllowed, CutOff, End, Forgotten, GivenBack, History, InDoubt, Settled, ends_at_restart, new_history, runs, steps_on}
 use Rattle.osdp_ledger.specs.Laws.{CountsFrom, KeepsOrders, OrdersHold}
 use Rattle.osdp_ledger.proofs.Submitted.{were_submitted}
@@ -72,62 +72,44 @@ withdrawn o h may i =
     subst (λ acted. OrdersAre h.ledger.submitted (drop 1 h.ledger.ahead) h.ledger.is_open acted h.ledger.late h.accepted h.acted (h.ended ++ (o, GivenBack) ∷ []))
     (sym none)
     (ended_front o GivenBack h.ledger.is_open h.ledger.late h.ledger.submitted h.ledger.ahead h.ledger.is_open h.ledger.acted h.ledger.late h.accepted h.acted h.ended
-    may.1 (λ answer e. absurd (given_back answer e))
+    may.1 (λ answer e. cc)
     (λ a comes. absurd (closed_comes h.ledger.acted h.ledger.ahead h.acted a closed comes))
     (λ first is below late. late_more h.ledger.late h.ledger.is_open first (first + 1) h.ended ((o, GivenBack) ∷ []) h.acted (omega arith) late)
     i)
-  where
-    given_back : (answer : Reply) → GivenBack ≡ Settled answer → ⊥
-    given_back answer e = cc
 
 no_late : (late : Option Order) (is_open : Bool) (first : ℕ) (ended : List (Order × End)) (done : List (Order × Reply)) → is_open ≡ true
     → LateIs late is_open first ended done → late ≡ None
 no_late None is_open first ended done e h = refl
-no_late (Some o) is_open first ended done e h = absurd (both is_open e h.0)
-  where
-    both : (b : Bool) → b ≡ true → b ≡ false → ⊥
-    both b e w = cc
+no_late (Some o) is_open first ended done e h = cc
 
 settled : (o : Order) (answer : Reply) (h : History) → May (Settle o answer) h.ledger → Orders h → Orders (steps_on (Settle o answer) h)
 settled o answer h may i =
     ended_front o (Settled answer) h.ledger.is_open h.ledger.late h.ledger.submitted h.ledger.ahead h.ledger.is_open h.ledger.acted h.ledger.late h.accepted h.acted h.ended
     may.1
-    (λ r e. subst (λ x. Contains h.acted (o, x)) (settled_same answer r e) (was_acted h.ledger.acted may.2 i.front))
+    (λ r e. let same : answer ≡ r = cc in subst (λ x. Contains h.acted (o, x)) same (was_acted h.ledger.acted may.2 i.front))
     (λ a comes. inl (subst (λ (x : Order × Reply). Contains (h.ended ++ (o, Settled answer) ∷ []) (x.0, Settled x.1)) (same a comes)
     (Contains-push h.ended (o, Settled answer))))
     (λ first is below late. late_more h.ledger.late h.ledger.is_open first (first + 1) h.ended ((o, Settled answer) ∷ []) h.acted (omega arith) late)
     i
   where
-    settled_same : (x y : Reply) → Settled x ≡ Settled y → x ≡ y
-    settled_same x y e = cc
-
     was_acted : (acted : Option Reply) → acted ≡ Some answer → FrontIs acted h.ledger.is_open h.ledger.ahead h.acted → Contains h.acted (o, answer)
-    was_acted None e f = absurd (none_some None refl e)
-      where
-        none_some : (x : Option Reply) → x ≡ None → x ≡ Some answer → ⊥
-        none_some x e w = cc
+    was_acted None e f = cc
     was_acted (Some r) e f =
         subst (λ x. Contains h.acted (x, answer)) (same_front f.1.0 o h.ledger.ahead f.1.1 may.1)
         (subst (λ x. Contains h.acted (f.1.0, x)) (same_reply r answer e) f.1.2)
 
     same : (a : Order × Reply) → Comes h.ledger.acted h.ledger.ahead a → ◌≡◌ {A = Order × Reply} (o, answer) a
-    same a comes = pair o a.0 answer a.1 (same_front o a.0 h.ledger.ahead may.1 comes.1) (same_reply answer a.1 (sym may.2 ∙ comes.0))
-      where
-        pair : (x y : Order) (r s : Reply) → x ≡ y → r ≡ s → ◌≡◌ {A = Order × Reply} (x, r) (y, s)
-        pair x y r s e w = cc
+    same a comes = (λ j. (same_front o a.0 h.ledger.ahead may.1 comes.1 j, same_reply answer a.1 (sym may.2 ∙ comes.0) j))
 
 doubted : (o : Order) (h : History) → May (Doubt o) h.ledger → Orders h → Orders (steps_on (Doubt o) h)
 doubted o h may i =
     ended_front o InDoubt false (late_after h.ledger.acted o) h.ledger.submitted h.ledger.ahead h.ledger.is_open h.ledger.acted h.ledger.late h.accepted h.acted h.ended
     may.1
-    (λ answer e. absurd (in_doubt answer e))
+    (λ answer e. cc)
     (λ a comes. inr (inl (subst (λ x. Contains (h.ended ++ (o, InDoubt) ∷ []) (x, InDoubt)) (same_front o a.0 h.ledger.ahead may.1 comes.1) (Contains-push h.ended (o, InDoubt)))))
     (λ first is below late. late_is h.ledger.acted first is below)
     i
   where
-    in_doubt : (answer : Reply) → InDoubt ≡ Settled answer → ⊥
-    in_doubt answer e = cc
-
     late_is : (acted : Option Reply) (first : ℕ) → o.place ≡ first → Below (bound acted first) h.acted
         → LateIs (late_after acted o) false (first + 1) (h.ended ++ (o, InDoubt) ∷ []) h.acted
     late_is None first is below =
@@ -154,12 +136,9 @@ acted_in_front o answer h is_open front none i =
       answered = answered_more h.acted ((o, answer) ∷ []) h.ended i.answered;
       outcomes = All-push (Outcome h.ended (Some answer) h.ledger.ahead) h.acted (o, answer)
           (All-weaker (Outcome h.ended h.ledger.acted h.ledger.ahead) (Outcome h.ended (Some answer) h.ledger.ahead)
-          (λ a. outcome_kept h.ended h.ledger.acted h.ledger.ahead (Some answer) h.ledger.ahead a (λ comes. absurd (none_some h.ledger.acted a.1 none comes.0))) h.acted i.outcomes)
+          (λ a. outcome_kept h.ended h.ledger.acted h.ledger.ahead (Some answer) h.ledger.ahead a (λ comes. cc)) h.acted i.outcomes)
           (inr (inr (inr (refl, front))));
     }
-  where
-    none_some : (acted : Option Reply) (r : Reply) → acted ≡ None → acted ≡ Some r → ⊥
-    none_some acted r e w = cc
 
 acted_late : (o : Order) (answer : Reply) (h : History) → h.ledger.is_open ≡ false → h.ledger.late ≡ Some o → Orders h
     → OrdersAre h.ledger.submitted h.ledger.ahead h.ledger.is_open h.ledger.acted None h.accepted (h.acted ++ (o, answer) ∷ []) h.ended
@@ -190,27 +169,14 @@ acted_late o answer h closed late i =
     by_end (inl e) = inr (inl e)
     by_end (inr e) = inr (inr (inl e))
 
+-- once the device has acted, on a line that is open or not
+abbrev AfterAct : Order → Reply → History → Bool → Type 0
+AfterAct o answer h is_open =
+    (let l = acted_on is_open answer h.ledger in OrdersAre l.submitted l.ahead l.is_open l.acted l.late h.accepted (h.acted ++ (o, answer) ∷ []) h.ended)
+
 acted_upon : (o : Order) (answer : Reply) (h : History) → MayActOn o h.ledger → Orders h → Orders (steps_on (Act o answer) h)
-acted_upon o answer h (inl may) i = opened h.ledger.is_open may.0 (acted_in_front o answer h may.0 may.1 may.2 i)
-  where
-    opened : (b : Bool) → b ≡ true
-        → OrdersAre h.ledger.submitted h.ledger.ahead h.ledger.is_open (Some answer) h.ledger.late h.accepted (h.acted ++ (o, answer) ∷ []) h.ended
-        → (let l = acted_on b answer h.ledger in OrdersAre l.submitted l.ahead l.is_open l.acted l.late h.accepted (h.acted ++ (o, answer) ∷ []) h.ended)
-    opened true e i = i
-    opened false e i = absurd (false_true e)
-      where
-        false_true : false ≡ true → ⊥
-        false_true e = cc
-acted_upon o answer h (inr may) i = shut h.ledger.is_open may.0 (acted_late o answer h may.0 may.1 i)
-  where
-    shut : (b : Bool) → b ≡ false
-        → OrdersAre h.ledger.submitted h.ledger.ahead h.ledger.is_open h.ledger.acted None h.accepted (h.acted ++ (o, answer) ∷ []) h.ended
-        → (let l = acted_on b answer h.ledger in OrdersAre l.submitted l.ahead l.is_open l.acted l.late h.accepted (h.acted ++ (o, answer) ∷ []) h.ended)
-    shut false e i = i
-    shut true e i = absurd (true_false e)
-      where
-        true_false : true ≡ false → ⊥
-        true_false e = cc
+acted_upon o answer h (inl may) i = subst (AfterAct o answer h) (sym may.0) (acted_in_front o answer h may.0 may.1 may.2 i)
+acted_upon o answer h (inr may) i = subst (AfterAct o answer h) (sym may.0) (acted_late o answer h may.0 may.1 i)
 
 opened : (h : History) → h.ledger.is_open ≡ false → Orders h → Orders (steps_on Open h)
 opened h closed i =
@@ -256,16 +222,9 @@ orders_forgotten : (os : List Order) → map order_of (map as_forgotten os) ≡ 
 orders_forgotten [] = refl
 orders_forgotten (o ∷ os) = ap (λ xs. o ∷ xs) (orders_forgotten os)
 
-map_all : (xs ys : List (Order × End)) → map order_of (xs ++ ys) ≡ map order_of xs ++ map order_of ys
-map_all [] ys = refl
-map_all (x ∷ xs) ys = ap (λ os. x.0 ∷ os) (map_all xs ys)
-
 forgotten_answered : (done : List (Order × Reply)) (os : List Order) → All (Answered done) (map as_forgotten os)
 forgotten_answered done [] = All-nil (Answered done)
-forgotten_answered done (o ∷ os) = All-cons (Answered done) (o, Forgotten) (map as_forgotten os) (λ answer e. absurd (forgotten answer e)) (forgotten_answered done os)
-  where
-    forgotten : (answer : Reply) → Forgotten ≡ Settled answer → ⊥
-    forgotten answer e = cc
+forgotten_answered done (o ∷ os) = All-cons (Answered done) (o, Forgotten) (map as_forgotten os) (λ answer e. cc) (forgotten_answered done os)
 
 -- all that is ahead ends so
 power_lost : (more : List (Order × End)) (late : Option Order) (submitted : ℕ) (ahead : List Order) (was_open : Bool) (acted : Option Reply) (was_late : Option Order)
@@ -283,7 +242,7 @@ power_lost more late submitted ahead was_open acted was_late accepted done ended
   total = omega arith;
   whole = i.whole;
   count = i.count;
-  each = i.each ∙ ap (λ os. map order_of ended ++ os) (sym all) ∙ sym (map_all ended more) ∙ sym (append-nil (map order_of (ended ++ more)));
+  each = i.each ∙ ap (λ os. map order_of ended ++ os) (sym all) ∙ sym (map-append order_of ended more) ∙ sym (append-nil (map order_of (ended ++ more)));
   once = i.once;
   below = below_more (bound acted i.first) submitted done (bound_all acted i.front) i.below;
   front = tt;
@@ -313,22 +272,13 @@ restarted_open on_wire h is_open may i =
 
     answered : (on_wire : Bool) (ahead : List Order) → All (Answered h.acted) (ends_at_restart true on_wire ahead)
     answered true [] = All-nil (Answered h.acted)
-    answered true (o ∷ os) = All-cons (Answered h.acted) (o, CutOff) (map as_forgotten os) (λ answer e. absurd (cut_off answer e)) (forgotten_answered h.acted os)
-      where
-        cut_off : (answer : Reply) → CutOff ≡ Settled answer → ⊥
-        cut_off answer e = cc
+    answered true (o ∷ os) = All-cons (Answered h.acted) (o, CutOff) (map as_forgotten os) (λ answer e. cc) (forgotten_answered h.acted os)
     answered false ahead = forgotten_answered h.acted ahead
 
     comes : (on_wire : Bool) → May (RestartPanel on_wire) h.ledger → (ahead : List Order) (a : Order × Reply) → Comes h.ledger.acted ahead a
         → Outcome (h.ended ++ ends_at_restart true on_wire ahead) None [] a
-    comes false may ahead a c = absurd (none_some h.ledger.acted may c.0)
-      where
-        none_some : (x : Option Reply) → x ≡ None → x ≡ Some a.1 → ⊥
-        none_some x e w = cc
-    comes true may [] a c = absurd (empty a.0 c.1.0 c.1.1)
-      where
-        empty : (o : Order) (os : List Order) → [] ≡ o ∷ os → ⊥
-        empty o os e = cc
+    comes false may ahead a c = cc
+    comes true may [] a c = cc
     comes true may (o ∷ os) a c =
         inr (inr (inl (subst (λ x. Contains (h.ended ++ (o, CutOff) ∷ map as_forgotten os) (x, CutOff)) (same_front o a.0 (o ∷ os) (os, refl) c.1)
         (Contains-append_right h.ended ((o, CutOff) ∷ map as_forgotten os) (o, CutOff) (0, omega arith, refl)))))
@@ -336,15 +286,13 @@ restarted_open on_wire h is_open may i =
     is_late : (on_wire : Bool) (ahead : List Order) (acted : Option Reply) (first : ℕ) → first + length ahead ≡ h.ledger.submitted → CountsFrom first (places ahead)
         → Below (bound acted first) h.acted
         → LateIs (late_at_restart on_wire acted ahead) false h.ledger.submitted (h.ended ++ ends_at_restart true on_wire ahead) h.acted
-    is_late false ahead acted first total numbered below = tt
-    is_late true [] acted first total numbered below = tt
-    is_late true (o ∷ os) (Some answer) first total numbered below = tt
     is_late true (o ∷ os) None first total numbered below = (
       refl,
       omega (arith, numbered.0, total),
       below_more first o.place h.acted (omega (arith, numbered.0)) below,
       inr (Contains-append_right h.ended ((o, CutOff) ∷ map as_forgotten os) (o, CutOff) (0, omega arith, refl)),
     )
+    is_late on_wire ahead acted first total numbered below = tt
 
 restarted_closed : (on_wire : Bool) (h : History) → h.ledger.is_open ≡ false → Orders h
     → OrdersAre h.ledger.submitted [] h.ledger.is_open h.ledger.acted h.ledger.late h.accepted h.acted (h.ended ++ ends_at_restart false on_wire h.ledger.ahead)
@@ -353,17 +301,13 @@ restarted_closed on_wire h closed i =
     let none : h.ledger.acted ≡ None = none_acted h.ledger.acted h.ledger.ahead h.acted shut in
     subst (λ b. OrdersAre h.ledger.submitted [] b h.ledger.acted h.ledger.late h.accepted h.acted (h.ended ++ ends_at_restart false on_wire h.ledger.ahead)) (sym closed)
     (subst (λ acted. OrdersAre h.ledger.submitted [] false acted h.ledger.late h.accepted h.acted (h.ended ++ ends_at_restart false on_wire h.ledger.ahead)) (sym none)
-    (subst (λ more. OrdersAre h.ledger.submitted [] false None h.ledger.late h.accepted h.acted (h.ended ++ more)) (sym (waiting on_wire h.ledger.ahead))
     (power_lost (map as_forgotten h.ledger.ahead) h.ledger.late h.ledger.submitted h.ledger.ahead h.ledger.is_open h.ledger.acted h.ledger.late h.accepted h.acted h.ended
     (orders_forgotten h.ledger.ahead) (forgotten_answered h.acted h.ledger.ahead)
     (λ a comes. absurd (closed_comes h.ledger.acted h.ledger.ahead h.acted a shut comes))
     (λ first total numbered below late.
     subst (λ b. LateIs h.ledger.late b h.ledger.submitted (h.ended ++ map as_forgotten h.ledger.ahead) h.acted) closed
     (late_more h.ledger.late h.ledger.is_open first h.ledger.submitted h.ended (map as_forgotten h.ledger.ahead) h.acted (omega (arith, total)) late))
-    i)))
-  where
-    waiting : (on_wire : Bool) (ahead : List Order) → ends_at_restart false on_wire ahead ≡ map as_forgotten ahead
-    waiting on_wire ahead = refl
+    i))
 
 restarted : (on_wire : Bool) (h : History) → May (RestartPanel on_wire) h.ledger → Orders h → Orders (steps_on (RestartPanel on_wire) h)
 restarted on_wire h may i = by_state h.ledger.is_open refl
@@ -408,18 +352,11 @@ over_closed true sessions doubts i = record { once = i.once; before = all_before
 over_closed false sessions doubts i = i
 
 doubts_keep : (step : Step) (h : History) → May step h.ledger → Doubts h → Doubts (steps_on step h)
-doubts_keep (Submit o) h may i = i
-doubts_keep (Withdraw o) h may i = i
 doubts_keep Open h may i = record {
   once = i.once;
   before = subst (λ b. All (λ (m : ℕ). m < sessions_over b h.sessions) h.doubts) may i.before;
 }
-doubts_keep (Act o answer) h may i = by_state h.ledger.is_open i
-  where
-    by_state : (b : Bool) → Doubts h → DoubtsAre (acted_on b answer h.ledger).is_open h.sessions h.doubts
-    by_state true i = i
-    by_state false i = i
-doubts_keep (Settle o answer) h may i = i
+doubts_keep (Act o answer) h may i = elim h.ledger.is_open as (λ b. DoubtsAre (acted_on b answer h.ledger).is_open h.sessions h.doubts) [ true ↦ i | false ↦ i ]
 doubts_keep (Doubt o) h may i =
     let before : All (λ (m : ℕ). m < h.sessions) h.doubts = subst (λ b. All (λ (m : ℕ). m < sessions_over b h.sessions) h.doubts) may.0 i.before in
     record {
@@ -427,18 +364,12 @@ doubts_keep (Doubt o) h may i =
       before = All-push (λ (m : ℕ). m < h.sessions + 1) h.doubts h.sessions (all_before h.sessions (h.sessions + 1) h.doubts (omega arith) before) (omega arith);
     }
 doubts_keep Close h may i = over_closed h.ledger.is_open h.sessions h.doubts i
-doubts_keep (Queue c) h may i = i
-doubts_keep (Offers c) h may i = i
-doubts_keep (Report c) h may i = i
-doubts_keep (Leave c) h may i = i
-doubts_keep (WithdrawEvent c) h may i = i
-doubts_keep (Lapse c) h may i = i
-doubts_keep RestartDevice h may i = i
 doubts_keep (RestartPanel on_wire) h may i = by_state h.ledger.is_open refl
   where
     by_state : (b : Bool) → h.ledger.is_open ≡ b → DoubtsAre (panel_restarted on_wire b h.ledger).is_open h.sessions h.doubts
     by_state true e = over_closed h.ledger.is_open h.sessions h.doubts i
     by_state false e = i
+doubts_keep _ h may i = i
 
 -- ---- any steps
 
@@ -464,14 +395,11 @@ keeps_orders steps allowed = hold steps new_history allowed
       whole = tt;
       count = refl;
       each = refl;
-      once = λ i j d less below. absurd (none_below j below);
+      once = λ i j d less below. let none : j < 0 = below in absurd (omega arith);
       below = All-nil (λ (a : Order × Reply). a.0.place < 0);
       front = tt;
       late_is = tt;
       answered = All-nil (Answered []);
       outcomes = All-nil (Outcome [] None []);
     })
-    (record { once = λ i j d less below. absurd (none_below j below); before = All-nil (λ (m : ℕ). m < 1) })
-  where
-    none_below : (j : ℕ) → j < 0 → ⊥
-    none_below j below = omega (arith, below)
+    (record { once = λ i j d less below. let none : j < 0 = below in absurd (omega arith); before = All-nil (λ (m : ℕ). m < 1) })

@@ -3,7 +3,7 @@ use Rattle.std.proofs.Common.{◌≡◌, ◌≢◌, List, [], ◌∷◌, refl}
 use Rattle.std.specs.Prelude.{All}
 use Rattle.std.proofs.lemmas.List.Elements.{All-head, All-nil, All-push, All-tail}
 use Rattle.osdp_ledger.specs.Ledger.{Step, Withdraw, Settle, Doubt, Leave, WithdrawEvent, Lapse, RestartDevice, RestartPanel}
-use Rattle.osdp_ledger.specs.History.{AfterReport, End, History, Lapsed, Left, TakenBack, ThrownAway, new_history, runs, steps_on}
+use Rattle.osdp_ledger.specs.History.{AfterReport, End, History, Left, ThrownAway, new_history, runs, steps_on}
 use Rattle.osdp_ledger.specs.Ledger as ledger
 use Rattle.osdp_ledger.specs.Plain.{AllTold, EndsTold, IsPlain, KeepsPower, PlainStepsEndTold, ThrowsNoneAway}
 
@@ -37,24 +37,15 @@ plain_steps_end_told steps plain = runs_told steps new_history plain (record { e
 abbrev IsKept : Left → Type 0
 IsKept w = w.why ≢ ThrownAway
 
-reported_is : AfterReport ≢ ThrownAway
-reported_is e = cc
-
-taken_back_is : TakenBack ≢ ThrownAway
-taken_back_is e = cc
-
-lapsed_is : Lapsed ≢ ThrownAway
-lapsed_is e = cc
-
 runs_kept : (steps : List Step) (h : History) → All KeepsPower steps → All IsKept h.left → All IsKept (runs steps h).left
 runs_kept [] h keep is = is
 runs_kept (step ∷ steps) h keep is =
     runs_kept steps (steps_on step h) (All-tail KeepsPower step steps keep) (by_step step (All-head KeepsPower step steps keep))
   where
     by_step : (step : Step) → KeepsPower step → All IsKept (steps_on step h).left
-    by_step (Leave card) keeps = All-push IsKept h.left _ is reported_is
-    by_step (WithdrawEvent card) keeps = All-push IsKept h.left _ is taken_back_is
-    by_step (Lapse card) keeps = All-push IsKept h.left _ is lapsed_is
+    by_step (Leave card) keeps = All-push IsKept h.left _ is (λ e. cc)
+    by_step (WithdrawEvent card) keeps = All-push IsKept h.left _ is (λ e. cc)
+    by_step (Lapse card) keeps = All-push IsKept h.left _ is (λ e. cc)
     by_step RestartDevice keeps = absurd keeps
     by_step _ keeps = is
 

@@ -2,7 +2,7 @@
 use Rattle.std.proofs.Common.{◌≡◌, ◌≤◌, ◌<◌, ◌⊎◌, ℕ, Bool, true, false, not, ◌==◌, List, [], ◌∷◌, ◌++◌, refl, sym, subst, ap, ◌∙◌, inl, inr, arith, append-nil, append_assoc}
 use Rattle.std.specs.Prelude.{All, drop}
 use Rattle.std.proofs.lemmas.List.Elements.{All-filter, All-head, All-nil, All-push, All-tail}
-use Rattle.osdp_ledger.specs.Ledger.{Card, May, NoOffer, Offer, Reported, Unreported, Step, Submit, Withdraw, Open, Act, Settle, Doubt, Close, Queue, Offers, Report, Leave, WithdrawEvent, Lapse, RestartDevice, RestartPanel, acted_on, is_in_front, panel_restarted}
+use Rattle.osdp_ledger.specs.Ledger.{Card, May, NoOffer, Offer, Reported, Unreported, Step, Open, Act, Queue, Offers, Report, Leave, WithdrawEvent, Lapse, RestartDevice, RestartPanel, acted_on, is_in_front, panel_restarted}
 use Rattle.osdp_ledger.specs.History.{AreAllowed, History, new_history, runs, steps_on}
 use Rattle.osdp_ledger.specs.Restarts.{RestartReportsNoMore, RestartsCost}
 use Rattle.osdp_ledger.proofs.InTurn.{allowed_second, runs_then}
@@ -51,17 +51,9 @@ module _ (count session : ℕ) (old : Offer) (first : List Told) where
       record { counted = i.counted; waiting = waiting; offered = offered; more = i.more; reports_are = i.reports_are; told = i.told }
 
   keeps : (step : Step) (h : History) → May step h.ledger → SinceThen h → SinceThen (steps_on step h)
-  keeps (Submit o) h may i = i
-  keeps (Withdraw o) h may i = i
   keeps Open h may i = record { counted = i.counted; waiting = i.waiting; offered = tt; more = i.more; reports_are = i.reports_are; told = i.told }
-  keeps (Act o answer) h may i = by_state h.ledger.is_open
-    where
-      by_state : (b : Bool) → (let l = acted_on b answer h.ledger in Since l.queued l.cards l.offer h.sessions h.reports)
-      by_state true = i
-      by_state false = i
-  keeps (Settle o answer) h may i = i
-  keeps (Doubt o) h may i = i
-  keeps Close h may i = i
+  keeps (Act o answer) h may i =
+      elim h.ledger.is_open as (λ b. (let l = acted_on b answer h.ledger in Since l.queued l.cards l.offer h.sessions h.reports)) [ true ↦ i | false ↦ i ]
   keeps (Queue c) h may i = record {
     counted = let le = i.counted in omega (arith, le);
     waiting = All-push IsNew h.ledger.cards c i.waiting (let le = i.counted in omega (arith, le, may));
@@ -84,11 +76,9 @@ module _ (count session : ℕ) (old : Offer) (first : List Told) where
       leaves h _ h.ledger.offer (All-filter (λ d. not (d.place == c.place)) IsNew h.ledger.cards i.waiting) i.offered i
   keeps (Lapse c) h may i = leaves h (drop 1 h.ledger.cards) h.ledger.offer (but_front h.ledger.cards i.waiting) i.offered i
   keeps RestartDevice h may i = leaves h [] h.ledger.offer (All-nil IsNew) i.offered i
-  keeps (RestartPanel on_wire) h may i = by_state h.ledger.is_open
-    where
-      by_state : (b : Bool) → (let l = panel_restarted on_wire b h.ledger in Since l.queued l.cards l.offer h.sessions h.reports)
-      by_state true = i
-      by_state false = i
+  keeps (RestartPanel on_wire) h may i =
+      elim h.ledger.is_open as (λ b. (let l = panel_restarted on_wire b h.ledger in Since l.queued l.cards l.offer h.sessions h.reports)) [ true ↦ i | false ↦ i ]
+  keeps _ h may i = i
 
   hold : (steps : List Step) (h : History) → AreAllowed steps h → SinceThen h → SinceThen (runs steps h)
   hold [] h allowed i = i

@@ -2,6 +2,7 @@
 use Rattle.std.proofs.Common.{◌≡◌, ◌≤◌, ◌<◌, ◌+◌, ◌⊎◌, ◌==◌, ℕ, zero, suc, Bool, true, false, not, cond, List, [], ◌∷◌, ◌++◌, length, refl, sym, ap, ◌∙◌, arith}
 use Rattle.std.specs.Prelude.{All, AllPairs, Contains, map, filter, if◌then◌else◌, slice_index_or}
 use Rattle.std.proofs.lemmas.Bool.{eqb-true, eqb-false, eq-eqb, ne_eqb}
+use Rattle.std.proofs.lemmas.List.{map-append}
 use Rattle.std.proofs.lemmas.List.Elements.{All-append, All-cons, All-filter, All-head, All-push, All-tail, All-weaker, All-nil}
 use Rattle.osdp_ledger.specs.Ledger.{Card, NoOffer, Offer, Reported, Unreported}
 use Rattle.osdp_ledger.specs.History.{AfterReport, History, Left, TakenBack}
@@ -77,19 +78,11 @@ pub times_all : (place : ℕ) (xs ys : List ℕ) → times place (xs ++ ys) ≡ 
 times_all place [] ys = omega arith
 times_all place (x ∷ xs) ys = omega (arith, times_all place xs ys)
 
-pub places_all : (xs ys : List Card) → places (xs ++ ys) ≡ places xs ++ places ys
-places_all [] ys = refl
-places_all (x ∷ xs) ys = ap (λ ps. x.place ∷ ps) (places_all xs ys)
-
-pub left_all : (xs ys : List Left) → left_places (xs ++ ys) ≡ left_places xs ++ left_places ys
-left_all [] ys = refl
-left_all (x ∷ xs) ys = ap (λ ps. x.card.place ∷ ps) (left_all xs ys)
-
 pub times_queued : (place : ℕ) (cards : List Card) (c : Card) → times place (places (cards ++ c ∷ [])) ≡ times place (places cards) + times place (c.place ∷ [])
-times_queued place cards c = ap (times place) (places_all cards (c ∷ [])) ∙ times_all place (places cards) (c.place ∷ [])
+times_queued place cards c = ap (times place) (map-append (λ (d : Card). d.place) cards (c ∷ [])) ∙ times_all place (places cards) (c.place ∷ [])
 
 pub times_left : (place : ℕ) (left : List Left) (w : Left) → times place (left_places (left ++ w ∷ [])) ≡ times place (left_places left) + times place (w.card.place ∷ [])
-times_left place left w = ap (times place) (left_all left (w ∷ [])) ∙ times_all place (left_places left) (w.card.place ∷ [])
+times_left place left w = ap (times place) (map-append (λ (v : Left). v.card.place) left (w ∷ [])) ∙ times_all place (left_places left) (w.card.place ∷ [])
 
 -- what counts from n on has each place once, and none before
 pub no_time : (place n : ℕ) (xs : List ℕ) → CountsFrom n xs → place < n → times place xs ≡ 0

@@ -21,7 +21,7 @@ use Rattle.osdp_reader.specs.declared.kind.Kind.{Kind}
 use Rattle.osdp_reader.specs.declared.kind.Kind.TheVariants as kind
 use Rattle.osdp_ledger.specs.Plain.{IsPlain, PlainStepsEndTold}
 use Rattle.osdp_ledger.specs.Ledger as ledger
-use Rattle.osdp_ledger.specs.Ledger.{Act, Close, Doubt, Lapse, Leave, Ledger, Offers, Open, Report as Reports, RestartDevice, RestartPanel, Settle, Step, new_ledger}
+use Rattle.osdp_ledger.specs.Ledger.{Act, Card, Close, Doubt, Lapse, Leave, Ledger, Offers, Open, Order, Report as Reports, RestartDevice, RestartPanel, Settle, Step, new_ledger}
 use Rattle.osdp_link_laws.specs.Link as link
 use Rattle.osdp_link_laws.specs.Link.{Delivered, Delivery, Link, Lost, Move, Repeated, RestartController, RestartReader, Tick, ToController, ToReader, after_move}
 use Rattle.osdp_link_laws.specs.Ordinary.{IsOrdinary}
@@ -82,30 +82,36 @@ pub queues_plain : (full : Bool) (e : Event) (g : Ledger) → Each IsPlain (queu
 queues_plain true e g = tt
 queues_plain false e g = (tt, tt)
 
-leaves_done : (es : List Event) (g : Ledger) → Each IsDone (leaves es g)
-leaves_done [] g = tt
-leaves_done (e ∷ es) g = (tt, tt)
+module _ (P : Step → Type 0) (act : (order : Order) (answer : Reply) → P (Act order answer)) (offer : (card : Card) → P (Offers card))
+    (leave : (card : Card) → P (Leave card)) where
+  leaves_each : (es : List Event) (g : Ledger) → Each P (leaves es g)
+  leaves_each [] g = tt
+  leaves_each (e ∷ es) g = (leave _, tt)
 
-offers_done : (e : Option Event) (g : Ledger) → Each IsDone (offers e g)
-offers_done None g = tt
-offers_done (Some e) g = (tt, tt)
+  offers_each : (e : Option Event) (g : Ledger) → Each P (offers e g)
+  offers_each None g = tt
+  offers_each (Some e) g = (offer _, tt)
 
-acts_on_done : (c : Command) (answer : Reply) (g : Ledger) → Each IsDone (acts_on c answer g)
-acts_on_done Poll answer g = offers_done (event_in answer) g
-acts_on_done c answer g = (tt, tt)
+  acts_on_each : (c : Command) (answer : Reply) (g : Ledger) → Each P (acts_on c answer g)
+  acts_on_each Poll answer g = offers_each (event_in answer) g
+  acts_on_each c answer g = (act _ answer, tt)
 
-acts_at_zero_done : (c : Command) (answer : Reply) (g : Ledger) → Each IsDone (acts_at_zero c answer g)
-acts_at_zero_done (Id kept) answer g = tt
-acts_at_zero_done c answer g = (tt, tt)
+  acts_at_zero_each : (c : Command) (answer : Reply) (g : Ledger) → Each P (acts_at_zero c answer g)
+  acts_at_zero_each (Id kept) answer g = tt
+  acts_at_zero_each c answer g = (act _ answer, tt)
 
-acts_done : (k : Kind) (c : Option Command) (said : Option Reply) (g : Ledger) → Each IsDone (acts k c said g)
-acts_done kind.Taken (Some c) (Some answer) g = acts_on_done c answer g
-acts_done kind.Taken (Some c) None g = tt
-acts_done kind.Taken None said g = tt
-acts_done kind.Zero (Some c) (Some answer) g = acts_at_zero_done c answer g
-acts_done kind.Zero (Some c) None g = tt
-acts_done kind.Zero None said g = tt
-acts_done _ c said g = tt
+  acts_each : (k : Kind) (c : Option Command) (said : Option Reply) (g : Ledger) → Each P (acts k c said g)
+  acts_each kind.Taken (Some c) (Some answer) g = acts_on_each c answer g
+  acts_each kind.Zero (Some c) (Some answer) g = acts_at_zero_each c answer g
+  acts_each _ c said g = tt
+
+  pub gets_each : {H : Type 0} (answer_of : H → Command → Answer) (after : H → Command → H) (p : Packet) (r : ReaderState H) (g : Ledger)
+      → Each P (gets answer_of after p r g)
+  gets_each answer_of after p r g =
+      let o = hears answer_of after r p in
+      let left = leaves (leaving (kind_of r p) r.queue) g in
+      each_append P left (acts (kind_of r p) o.command o.said (after_steps left g))
+      (leaves_each (leaving (kind_of r p) r.queue) g) (acts_each (kind_of r p) o.command o.said (after_steps left g))
 
 -- ---- from the beginning
 
@@ -119,11 +125,7 @@ queued_plain place (e ∷ es) = (tt, queued_plain (place + 1) es)
 
 module _ {H : Type 0} (answer_of : H → Command → Answer) (after : H → Command → H) where
   pub gets_done : (p : Packet) (r : ReaderState H) (g : Ledger) → Each IsDone (gets answer_of after p r g)
-  gets_done p r g =
-      let o = hears answer_of after r p in
-      let left = leaves (leaving (kind_of r p) r.queue) g in
-      each_append IsDone left (acts (kind_of r p) o.command o.said (after_steps left g))
-      (leaves_done (leaving (kind_of r p) r.queue) g) (acts_done (kind_of r p) o.command o.said (after_steps left g))
+  gets_done p r g = gets_each IsDone (λ order answer. tt) (λ card. tt) (λ card. tt) answer_of after p r g
 
   to_reader_plain : (ps : List Packet) (how : Delivery) (r : ReaderState H) (g : Ledger) → Each IsPlain (to_reader answer_of after ps how r g)
   to_reader_plain [] how r g = tt

@@ -2,10 +2,8 @@
 use Rattle.std.proofs.Common.{◌≡◌, ◌≢◌, inl, inr, ℕ, Bool, true, false, cond, eqb, ◌&&◌, ◌||◌, not, List, [], ◌∷◌, Option, Some, None, Result, Ok, Err, refl, sym, subst, ap, ◌∙◌}
 use Rattle.std.proofs.lemmas.Bool.{and_from, and_parts, cases_Bool, cond_both, eqb-false, eqb-true, false≢true, not-true, not_from_false}
 use Rattle.std.proofs.lemmas.List.Elements.{All-cons, All-head, All-nil, All-tail}
-use Rattle.std.specs.Prelude.{is_some}
 use Rattle.osdp_frame.specs.Packet.{Packet, next_sequence}
 use Rattle.osdp_frame.specs.Reading.{RunItem, PacketItem, SkippedItem, RefusedItem}
-use Rattle.osdp_msg.specs.Fitting.{reply_fits}
 use Rattle.osdp_msg.specs.declared.command.Command.{Command}
 use Rattle.osdp_msg.specs.declared.fault.MsgFault.{MsgFault}
 use Rattle.osdp_msg.specs.declared.reply.Reply.{Reply}
@@ -18,7 +16,7 @@ use Rattle.osdp_monitor.specs.declared.said.Said.TheVariants.{Busy, Damage, Refu
 use Rattle.osdp_monitor.specs.Known.{Known}
 use Rattle.osdp_monitor.specs.Line.{Knowledge, after_item, after_items, after_packet, found_in, found_in_reply, found_in_sent, is_reply_judged, is_sent_judged, nothing_found, notice_if, notice_in_sent}
 use Rattle.osdp_monitor.specs.Panel.{after_another, after_copy, after_sent, is_doubt, is_first_doubt, is_missed, keeps_number, left_waiting, panel_accused, sent_after}
-use Rattle.osdp_monitor.specs.Reader.{answer_accused, fit_accused, is_doubtful, is_event_at_zero, is_one_more, is_owed, reading_accused, repeat_reply, reply_accused, taken_accused, turn_accused}
+use Rattle.osdp_monitor.specs.Reader.{answer_accused, fit_accused, is_doubtful, is_one_more, is_owed, reading_accused, repeat_reply, reply_accused, taken_accused, turn_accused}
 use Rattle.osdp_monitor.specs.Saying.{asked, is_damage, is_foreign, reply_told, said}
 use Rattle.osdp_monitor_laws.proofs.Agreeing.{none_some, same_some, sent_asked}
 use Rattle.osdp_monitor_laws.proofs.Late.{by_fate}
@@ -29,7 +27,7 @@ use Rattle.osdp_monitor_laws.proofs.Remembering.{after_one, at_remembered, item_
 use Rattle.osdp_rules.proofs.Comparing.{is_packet}
 use Rattle.osdp_monitor_laws.specs.Misses.{Each, IsCopyOrReply, IsRemembered, LeavesUnanswered, NothingForgotten, OfAddress, suspicion}
 use Rattle.osdp_monitor_laws.specs.Panels.{AccusesTheSender, IsDoubt, NamesPanels, PanelBreaks, TellsFirstDoubts, is_readers}
-use Rattle.osdp_rules.specs.Packets.{same_check, same_packet}
+use Rattle.osdp_rules.specs.Packets.{same_packet}
 
 -- ---- once answered, a packet stays answered
 
@@ -178,59 +176,46 @@ tells_first_doubts line a p items q to first nothing each next plain =
 
 -- ---- whose rule it is
 
-abbrev OfReaders : Option Accusation → Type 0
-OfReaders o = (x : Accusation) → o ≡ Some x → is_readers x ≡ true
+abbrev Of : Bool → Option Accusation → Type 0
+Of whose o = (x : Accusation) → o ≡ Some x → is_readers x ≡ whose
 
-readers : (y : Accusation) → is_readers y ≡ true → OfReaders (Some y)
-readers y is x same = subst (λ z. is_readers z ≡ true) (same_some y x same) is
+this : (whose : Bool) (y : Accusation) → is_readers y ≡ whose → Of whose (Some y)
+this whose y is x same = subst (λ z. is_readers z ≡ whose) (same_some y x same) is
 
-nobody : OfReaders None
-nobody x none = absurd (none_some x none)
+nobody : (whose : Bool) → Of whose None
+nobody whose x none = absurd (none_some x none)
 
-fit_of : (asks : Result Command MsgFault) (told : Reply) (number : ℕ) → OfReaders (fit_accused asks told number)
-fit_of (Err fault) told number = nobody
-fit_of (Ok c) told number =
-    cond_both (not (reply_fits c told)) (Some UnfitReply) (cond (is_event_at_zero c told number) (Some EventAtZero) None) OfReaders
-    (λ _. readers UnfitReply refl)
-    (λ _. cond_both (is_event_at_zero c told number) (Some EventAtZero) None OfReaders (λ _. readers EventAtZero refl) (λ _. nobody))
+either : (whose test : Bool) (o p : Option Accusation) → Of whose o → Of whose p → Of whose (cond test o p)
+either whose true o p first second = first
+either whose false o p first second = second
 
-reading_of : (tells : Result Reply MsgFault) (p : Packet) → OfReaders (reading_accused tells p)
+fit_of : (asks : Result Command MsgFault) (told : Reply) (number : ℕ) → Of true (fit_accused asks told number)
+fit_of (Err fault) told number = nobody true
+fit_of (Ok c) told number = either true _ _ _ (this true UnfitReply refl) (either true _ _ _ (this true EventAtZero refl) (nobody true))
+
+reading_of : (tells : Result Reply MsgFault) (p : Packet) → Of true (reading_accused tells p)
 reading_of (Ok told) p = fit_of (asked p) told p.sequence
-reading_of (Err fault) p = readers UnreadReply refl
+reading_of (Err fault) p = this true UnreadReply refl
 
-taken_of : (p r : Packet) → OfReaders (taken_accused p r)
-taken_of p r =
-    cond_both (same_check r.check p.check) (reading_accused (reply_told r) p) (Some AnotherCheck) OfReaders (λ _. reading_of (reply_told r) p)
-    (λ _. readers AnotherCheck refl)
+taken_of : (p r : Packet) → Of true (taken_accused p r)
+taken_of p r = either true _ _ _ (reading_of (reply_told r) p) (this true AnotherCheck refl)
 
-turn_of : (o : Option ℕ) (p r : Packet) → OfReaders (turn_accused o p r)
-turn_of None p r = cond_both (eqb p.sequence 0) (taken_accused p r) None OfReaders (λ _. taken_of p r) (λ _. nobody)
-turn_of (Some n) p r =
-    cond_both (eqb p.sequence 0 || eqb p.sequence (next_sequence n)) (taken_accused p r) (cond (eqb p.sequence n) None (Some TakenOutOfTurn)) OfReaders
-    (λ _. taken_of p r)
-    (λ _. cond_both (eqb p.sequence n) None (Some TakenOutOfTurn) OfReaders (λ _. nobody) (λ _. readers TakenOutOfTurn refl))
+turn_of : (o : Option ℕ) (p r : Packet) → Of true (turn_accused o p r)
+turn_of None p r = either true _ _ _ (taken_of p r) (nobody true)
+turn_of (Some n) p r = either true _ _ _ (taken_of p r) (either true _ _ _ (nobody true) (this true TakenOutOfTurn refl))
 
-answer_of : (o : Option Packet) (k : Known) (p r : Packet) → OfReaders (answer_accused o k p r)
-answer_of (Some stored) k p r =
-    cond_both (same_packet stored r) None (Some AnotherReply) OfReaders (λ _. nobody) (λ _. readers AnotherReply refl)
-answer_of None k p r =
-    cond_both (eqb r.sequence p.sequence) (turn_accused k.taken p r) (Some AnotherNumber) OfReaders (λ _. turn_of k.taken p r)
-    (λ _. readers AnotherNumber refl)
+answer_of : (o : Option Packet) (k : Known) (p r : Packet) → Of true (answer_accused o k p r)
+answer_of (Some stored) k p r = either true _ _ _ (nobody true) (this true AnotherReply refl)
+answer_of None k p r = either true _ _ _ (turn_of k.taken p r) (this true AnotherNumber refl)
 
-said_of : (s : Said) (k : Known) (p r : Packet) → OfReaders (reply_accused s k p r)
+said_of : (s : Said) (k : Known) (p r : Packet) → Of true (reply_accused s k p r)
 said_of Busy k p r =
-    cond_both (not (eqb r.sequence p.sequence || eqb r.sequence 0)) (Some AnotherNumber) (cond (not (same_check r.check p.check)) (Some AnotherCheck) (cond (is_some (repeat_reply k p)) (Some BusyToRepeat) None))
-    OfReaders (λ _. readers AnotherNumber refl)
-    (λ _. cond_both (not (same_check r.check p.check)) (Some AnotherCheck) (cond (is_some (repeat_reply k p)) (Some BusyToRepeat) None) OfReaders
-    (λ _. readers AnotherCheck refl)
-    (λ _. cond_both (is_some (repeat_reply k p)) (Some BusyToRepeat) None OfReaders (λ _. readers BusyToRepeat refl) (λ _. nobody)))
-said_of Damage k p r = nobody
+    either true _ _ _ (this true AnotherNumber refl)
+    (either true _ _ _ (this true AnotherCheck refl) (either true _ _ _ (this true BusyToRepeat refl) (nobody true)))
+said_of Damage k p r = nobody true
 said_of Refusal k p r =
-    cond_both (not (eqb r.sequence p.sequence)) (Some AnotherNumber) (cond (not (same_check r.check p.check)) (Some AnotherCheck) (cond (eqb p.sequence 0) (Some RefusedZero) None))
-    OfReaders (λ _. readers AnotherNumber refl)
-    (λ _. cond_both (not (same_check r.check p.check)) (Some AnotherCheck) (cond (eqb p.sequence 0) (Some RefusedZero) None) OfReaders
-    (λ _. readers AnotherCheck refl)
-    (λ _. cond_both (eqb p.sequence 0) (Some RefusedZero) None OfReaders (λ _. readers RefusedZero refl) (λ _. nobody)))
+    either true _ _ _ (this true AnotherNumber refl)
+    (either true _ _ _ (this true AnotherCheck refl) (either true _ _ _ (this true RefusedZero refl) (nobody true)))
 said_of Answer k p r = answer_of (repeat_reply k p) k p r
 
 -- NAK 1 is accused of nothing
@@ -250,7 +235,7 @@ by_reply (Some p) k r x =
     (λ certain. cond_both (is_one_more k r && not (is_owed k)) (Some SecondReply) (reply_accused (said r) k p r)
     (λ o. o ≡ Some x → (is_readers x ≡ true) × (is_reply_judged k p r ≡ true))
     (λ second is. (
-      readers SecondReply refl x is,
+      this true SecondReply refl x is,
       and_from (not (is_doubtful k p r)) (not (is_damage (said r))) (not_from_false (is_doubtful k p r) certain)
           (and_parts k.replied (not (is_damage (said r))) (and_parts (is_one_more k r) (not (is_owed k)) second).0).1,
     ))
@@ -260,24 +245,14 @@ by_reply (Some p) k r x =
           (not_from_false (is_damage (said r)) (harmless (said r) k p r x is)),
     )))
 
-abbrev OfPanels : Option Accusation → Type 0
-OfPanels o = (x : Accusation) → o ≡ Some x → is_readers x ≡ false
-
-panels : (y : Accusation) → is_readers y ≡ false → OfPanels (Some y)
-panels y is x same = subst (λ z. is_readers z ≡ false) (same_some y x same) is
-
-no_panel : OfPanels None
-no_panel x none = absurd (none_some x none)
-
-sent_of : (p : Packet) (answered : Bool) (q : Packet) → OfPanels (sent_after p answered q)
+sent_of : (p : Packet) (answered : Bool) (q : Packet) → Of false (sent_after p answered q)
 sent_of p answered q =
     let turn = cond (eqb q.sequence (next_sequence p.sequence)) (cond answered None (Some NotAnswered)) (Some SentOutOfTurn) in
-    cond_both (eqb q.sequence 0) None (cond (eqb q.sequence p.sequence) (cond (same_packet p q) None (Some AnotherPacket)) turn) OfPanels (λ _. no_panel)
-    (λ _. cond_both (eqb q.sequence p.sequence) (cond (same_packet p q) None (Some AnotherPacket)) turn OfPanels
-    (λ _. cond_both (same_packet p q) None (Some AnotherPacket) OfPanels (λ _. no_panel) (λ _. panels AnotherPacket refl))
-    (λ _. cond_both (eqb q.sequence (next_sequence p.sequence)) (cond answered None (Some NotAnswered)) (Some SentOutOfTurn) OfPanels
-    (λ _. cond_both answered None (Some NotAnswered) OfPanels (λ _. no_panel) (λ _. panels NotAnswered refl))
-    (λ _. panels SentOutOfTurn refl)))
+    either false (eqb q.sequence 0) None (cond (eqb q.sequence p.sequence) (cond (same_packet p q) None (Some AnotherPacket)) turn) (nobody false)
+    (either false (eqb q.sequence p.sequence) (cond (same_packet p q) None (Some AnotherPacket)) turn
+    (either false (same_packet p q) None (Some AnotherPacket) (nobody false) (this false AnotherPacket refl))
+    (either false (eqb q.sequence (next_sequence p.sequence)) (cond answered None (Some NotAnswered)) (Some SentOutOfTurn)
+    (either false answered None (Some NotAnswered) (nobody false) (this false NotAnswered refl)) (this false SentOutOfTurn refl)))
 
 by_sent : (o : Option Packet) (k : Known) (q : Packet) (x : Accusation) → panel_accused o k q ≡ Some x → (is_readers x ≡ false) × (is_sent_judged o k q ≡ true)
 by_sent None k q x = λ is. absurd (none_some x is)

@@ -1,6 +1,6 @@
 -- Any panel that keeps the rules, and a listener on two wires: what the listener knows fits the panel, whatever happens.
 use Rattle.std.proofs.Common.{◌≡◌, ◌≢◌, inl, inr, ◌+◌, Bool, true, false, cond, eqb, ◌||◌, List, [], ◌∷◌, ◌++◌, Option, Some, None, refl, sym, subst, ap, ◌∙◌}
-use Rattle.std.proofs.lemmas.Bool.{cond-false, cond-true, cond_both, eq-eqb, false≢true, ne_eqb}
+use Rattle.std.proofs.lemmas.Bool.{cond_both, eq-eqb, false≢true, ne_eqb}
 use Rattle.std.specs.Prelude.{nat_lt, option_to_list}
 use Rattle.osdp_frame.specs.declared.check_kind.CheckKind.TheVariants.{Sum}
 use Rattle.osdp_frame.specs.Packet.{Packet, next_sequence}
@@ -41,30 +41,31 @@ new_fits r reached k none q p is last = absurd (none_some p (sym none ∙ last))
 -- ---- what it may send
 
 zero_fine : (q : Packet) (answered : Bool) (p : Packet) → p.sequence ≡ 0 → sent_after q answered p ≡ None
-zero_fine q answered p zero = cond-true (eqb p.sequence 0) None _ (eq-eqb p.sequence 0 zero)
+zero_fine q answered p zero = rw (eq-eqb p.sequence 0 zero)
 
 next_fine : (q p : Packet) → p.sequence ≡ next_sequence q.sequence → sent_after q true p ≡ None
 next_fine q p next =
-    cond-false (eqb p.sequence 0) None _ (ne_eqb p.sequence 0 (λ zero. next_above_zero q.sequence (sym next ∙ zero)))
-    ∙ cond-false (eqb p.sequence q.sequence) (cond (same_packet q p) None (Some AnotherPacket)) _ (ne_eqb p.sequence q.sequence (λ same. next_differs q.sequence (sym next ∙ same)))
-    ∙ cond-true (eqb p.sequence (next_sequence q.sequence)) None (Some SentOutOfTurn) (eq-eqb p.sequence (next_sequence q.sequence) next)
+    rw (
+      ne_eqb p.sequence 0 (λ zero. next_above_zero q.sequence (sym next ∙ zero)),
+      ne_eqb p.sequence q.sequence (λ same. next_differs q.sequence (sym next ∙ same)),
+      eq-eqb p.sequence (next_sequence q.sequence) next,
+    )
 
 copy_fine : (p : Packet) (answered : Bool) → sent_after p answered p ≡ None
 copy_fine p answered =
     cond_both (eqb p.sequence 0) None (cond (eqb p.sequence p.sequence) (cond (same_packet p p) None (Some AnotherPacket)) (cond (eqb p.sequence (next_sequence p.sequence)) (cond answered None (Some NotAnswered)) (Some SentOutOfTurn)))
     (λ o. o ≡ None) (λ _. refl)
-    (λ _. cond-true (eqb p.sequence p.sequence) (cond (same_packet p p) None (Some AnotherPacket)) _ (eq-eqb p.sequence p.sequence refl)
-    ∙ cond-true (same_packet p p) None (Some AnotherPacket) (is_packet p))
+    (λ _. rw (is_packet p, eq-eqb p.sequence p.sequence refl))
 
 -- once it is in order, an answer changes nothing
 still_fine : (q : Packet) (before after : Bool) (p : Packet) → (before ≡ true → after ≡ true) → sent_after q before p ≡ None → sent_after q after p ≡ None
 still_fine q true after p stays = λ fine. subst (λ b. sent_after q b p ≡ None) (sym (stays refl)) fine
 still_fine q false true p stays =
     cond_both (eqb p.sequence 0) None (cond (eqb p.sequence q.sequence) (cond (same_packet q p) None (Some AnotherPacket)) (cond (eqb p.sequence (next_sequence q.sequence)) (Some NotAnswered) (Some SentOutOfTurn)))
-    (λ o. o ≡ None → sent_after q true p ≡ None) (λ zero _. cond-true (eqb p.sequence 0) None _ zero)
+    (λ o. o ≡ None → sent_after q true p ≡ None) (λ zero _. rw zero)
     (λ above. cond_both (eqb p.sequence q.sequence) (cond (same_packet q p) None (Some AnotherPacket)) (cond (eqb p.sequence (next_sequence q.sequence)) (Some NotAnswered) (Some SentOutOfTurn))
     (λ o. o ≡ None → sent_after q true p ≡ None)
-    (λ same fine. cond-false (eqb p.sequence 0) None _ above ∙ cond-true (eqb p.sequence q.sequence) _ _ same ∙ fine)
+    (λ same fine. rw (above, same) fine)
     (λ _. cond_both (eqb p.sequence (next_sequence q.sequence)) (Some NotAnswered) (Some SentOutOfTurn) (λ o. o ≡ None → sent_after q true p ≡ None)
     (λ _ none. absurd cc) (λ _ none. absurd cc)))
 still_fine q false false p stays = λ fine. fine

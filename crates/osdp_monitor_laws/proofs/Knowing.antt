@@ -1,6 +1,6 @@
 -- What a packet does to what is known of an address.
-use Rattle.std.proofs.Common.{◌≡◌, ◌≢◌, ℕ, true, false, cond, ◌||◌, eqb, Option, Some, None, refl, sym, subst, ap}
-use Rattle.std.proofs.lemmas.Bool.{cond-true, cond_both, eq-eqb, eqb-false, eqb-true, or_left}
+use Rattle.std.proofs.Common.{◌≡◌, ◌≢◌, ℕ, true, false, cond, ◌||◌, eqb, Option, Some, None, refl, sym, subst}
+use Rattle.std.proofs.lemmas.Bool.{cond_both, eq-eqb, eqb-false, eqb-true}
 use Rattle.osdp_frame.specs.Packet.{Packet}
 use Rattle.osdp_monitor.specs.Known.{Known, nothing_known}
 use Rattle.osdp_monitor.specs.Line.{Knowledge, after_answered, after_packet, after_reply_if, devices_after_reply, devices_after_sent, found_in, found_in_reply, found_in_sent, known_at, moves_to, no_knowledge, nothing_found}
@@ -52,7 +52,7 @@ module _ (Q : Known → Type 0) where
 
 -- a packet to or from 127 forgets everything
 pub at_all : (line : Knowledge) (p : Packet) → p.address ≡ 127 → (after_packet line p).devices ≡ no_knowledge.devices
-at_all line p all = cond-true (eqb p.address 127) _ _ (eq-eqb p.address 127 all)
+at_all line p all = rw (eq-eqb p.address 127 all)
 
 in_reply : (last : Option Packet) (k : Known) (q : Packet) → k.last ≡ last
     → ((old : Packet) → k.last ≡ Some old → reader_accused k old q ≡ None) → (found_in_reply last k q).accusation ≡ None
@@ -81,7 +81,4 @@ sent_in_order line p command fine =
 
 -- .. and whatever is said to or from 127
 pub all_in_order : (line : Knowledge) (p : Packet) → p.address ≡ 127 → (found_in line p).accusation ≡ None
-all_in_order line p all =
-    let k = line.devices p.address in
-    ap (λ f. f.accusation) (cond-true (eqb p.address 127 || is_foreign p) nothing_found (cond p.reply (found_in_reply k.last k p) (found_in_sent k p))
-    (or_left (eqb p.address 127) (is_foreign p) (eq-eqb p.address 127 all)))
+all_in_order line p all = rw (eq-eqb p.address 127 all)

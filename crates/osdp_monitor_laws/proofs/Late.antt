@@ -1,6 +1,6 @@
 -- What a reply does to what is known, by whether it comes late, whether its packet was heard, and its number.
 use Rattle.std.proofs.Common.{◌≡◌, ◌≢◌, inl, inr, ℕ, Bool, true, false, cond, eqb, not, ◌&&◌, ◌||◌, Some, None, refl, sym, ap, ◌∙◌}
-use Rattle.std.proofs.lemmas.Bool.{and_left, and_right, cases_Bool, cond-false, cond_both, eq-eqb, eqb-false, eqb-true, false≢true, ne_eqb, not_from_true, or_from, or_left, or_right}
+use Rattle.std.proofs.lemmas.Bool.{and_left, and_right, cases_Bool, cond_both, eq-eqb, eqb-false, eqb-true, false≢true, ne_eqb, not_from_true, or_from, or_left, or_right}
 use Rattle.osdp_frame.specs.Packet.{Packet, next_sequence}
 use Rattle.osdp_monitor.specs.Known.{Known, is_number, nothing_known}
 use Rattle.osdp_monitor.specs.Panel.{is_in_row}
@@ -37,9 +37,7 @@ no_stray k q says = and_left (has_no_number (said q) q.sequence) (is_owed k) (ap
 
 pub own_counts : (k : Known) (p q : Packet) → said q ≡ Answer → q.sequence ≡ p.sequence → after_reply k p q ≡ after_reply_of (said q) k p q
 own_counts k p q says number =
-    cond-false (is_late k p q || is_stray k q) k (cond (is_unheard k p q) nothing_known (after_reply_of (said q) k p q))
-    (or_from (is_late k p q) (is_stray k q) (own_in_time k p q number) (no_stray k q says))
-    ∙ cond-false (is_unheard k p q) nothing_known (after_reply_of (said q) k p q) (own_heard k p q number)
+    rw (own_in_time k p q number, no_stray k q says, own_heard k p q number)
 
 -- no reply may come any more to a packet before the last
 pub none_owed : (k : Known) (r : Packet) → k.settled ≡ true → k.earlier ≡ None → k.older ≡ None → has_earlier_number k r ≡ false

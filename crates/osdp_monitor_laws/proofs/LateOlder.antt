@@ -1,12 +1,11 @@
 -- An answer to a packet before the last one, of a reader that answers late.
-use Rattle.std.proofs.Common.{◌≡◌, ◌≢◌, ◌⊎◌, inl, inr, ℕ, Bool, true, false, cond, eqb, ◌&&◌, ◌||◌, not, List, [], ◌∷◌, Option, Some, None, refl, sym, subst, ap, ◌∙◌}
+use Rattle.std.proofs.Common.{◌≡◌, ◌≢◌, ◌⊎◌, inl, inr, ℕ, Bool, true, false, eqb, ◌||◌, not, List, [], ◌∷◌, Option, Some, None, refl, sym, subst, ap, ◌∙◌}
 use Rattle.std.proofs.lemmas.Bool.{and_from, and_right, cases_Bool, cond-true, eq-eqb, eqb-false, eqb-true, false≢true, ne_eqb, not_from_false, or_cases, or_left, or_right}
 use Rattle.std.specs.Prelude.{is_some}
 use Rattle.osdp_frame.specs.Packet.{Packet}
-use Rattle.osdp_monitor.specs.declared.accusation.Accusation.TheVariants.{SecondReply}
 use Rattle.osdp_monitor.specs.declared.said.Said.TheVariants.{Busy, Damage, Answer}
 use Rattle.osdp_monitor.specs.Known.{Known, is_number}
-use Rattle.osdp_monitor.specs.Reader.{after_answer, after_reply, after_reply_of, has_earlier_number, has_no_number, is_doubtful, is_late, is_one_more, is_owed, is_owed_number, is_stray, reader_accused, repeat_reply, reply_accused, tells_number}
+use Rattle.osdp_monitor.specs.Reader.{after_answer, after_reply, after_reply_of, has_earlier_number, is_late, is_owed, is_owed_number, is_stray, reader_accused, repeat_reply, tells_number}
 use Rattle.osdp_monitor.specs.Saying.{is_answer, said}
 use Rattle.osdp_monitor_laws.proofs.Agreeing.{none_some, same_some}
 use Rattle.osdp_monitor_laws.proofs.AnyReaders.{Stores}
@@ -64,21 +63,19 @@ pub is_late_by : (k : Known) (l : Packet) (w : Owed) → IsOwed k w.packet.seque
     → w.reply.sequence ≡ w.packet.sequence → w.packet.sequence ≢ l.sequence → is_late k l w.reply ≡ true
 is_late_by k l w owed says number other =
     let r = w.reply in
-    and_from (has_earlier_number k r) (not (eqb r.sequence l.sequence)) (earlier_by_number k w owed says number)
-    (not_from_false (eqb r.sequence l.sequence) (ne_eqb r.sequence l.sequence (λ same. other (sym number ∙ same))))
+    rw (earlier_by_number k w owed says number, ne_eqb r.sequence l.sequence (λ same. other (sym number ∙ same)))
 
 -- a BUSY with number 0: nobody can tell which packet it answers
 module _ (k : Known) (l r : Packet) (owed : is_owed k ≡ true) (busy : said r ≡ Busy) (zero : r.sequence ≡ 0) where
   strays : is_stray k r ≡ true
-  strays = and_from (has_no_number (said r) r.sequence) (is_owed k) (ap (λ s. has_no_number s r.sequence) busy ∙ eq-eqb r.sequence 0 zero) owed
+  strays = rw (busy, eq-eqb r.sequence 0 zero) owed
 
   busy_stays : after_reply k l r ≡ k
   busy_stays = left_alone k l r strays
 
   busy_innocent : repeat_reply k l ≡ None → reader_accused k l r ≡ None
   busy_innocent new =
-      cond-true (is_doubtful k l r) None (cond (is_one_more k r && not (is_owed k)) (Some SecondReply) (reply_accused (said r) k l r))
-      (busy_doubtful k l r (and_from (is_stray k r) (not (is_some (repeat_reply k l))) strays (not_from_false (is_some (repeat_reply k l)) (ap is_some new))))
+      rw (busy_doubtful k l r (and_from (is_stray k r) (not (is_some (repeat_reply k l))) strays (not_from_false (is_some (repeat_reply k l)) (ap is_some new))))
 
 module _ (a : ℕ) (k : Known) (from next : AnyReader) (last : Option Packet) (answered : Bool) (w : Owed) (ws owed : List Owed)
     (steps : Steps from w next) (stores : Stores steps.start)

@@ -61,14 +61,8 @@ own_number Acts r s p q stores goes says = goes.2.number
 own_number Repeats r s p q stores goes says =
     let kept = stores p.sequence goes.1 goes.0 in
     ap (λ (x : Packet). x.sequence) (same_some q kept.packet (sym goes.2 ∙ kept.stored)) ∙ kept.number
-own_number IsBusy r s p q stores goes says = absurd (no_busy (sym goes.2 ∙ says))
-  where
-    no_busy : Busy ≡ Answer → ⊥
-    no_busy e = cc
-own_number FindsDamage r s p q stores goes says = absurd (no_damage (sym goes.1 ∙ says))
-  where
-    no_damage : Damage ≡ Answer → ⊥
-    no_damage e = cc
+own_number IsBusy r s p q stores goes says = cc
+own_number FindsDamage r s p q stores goes says = cc
 own_number Refuses r s p q stores goes says = goes.3
 own_number IsSilent r s p q stores goes says = absurd goes
 
@@ -113,36 +107,11 @@ module _ (a : ℕ) (k : Known) (from next : AnyReader) (last : Option Packet) (a
 
     taken_then : (s : Said) → said r ≡ s → (answered || answers last r) ≡ true → IsTakenOr (after_reply k l r) l.sequence
     taken_then Answer says has = taken_own k l r says (number_own says)
-    taken_then Busy says has = taken_kept k l r l.sequence (λ answer. no_busy (sym says ∙ answer)) (so.taken (still Busy says refl has))
-      where
-        no_busy : Busy ≡ Answer → ⊥
-        no_busy e = cc
-
-        still : (s : Said) → said r ≡ s → is_answer s ≡ false → (answered || answers last r) ≡ true → answered ≡ true
-        still s says none has = elim (or_cases answered (answers last r) has) [
+    taken_then s says has =
+        taken_kept k l r l.sequence (λ answer. false≢true (ap is_answer (sym says ∙ answer))) (so.taken (elim (or_cases answered (answers last r) has) [
           | inl was ↦ was
-          | inr now ↦ absurd (false≢true (sym (no_answer s last r says none) ∙ now))
-        ]
-    taken_then Damage says has = taken_kept k l r l.sequence (λ answer. no_damage (sym says ∙ answer)) (so.taken (still Damage says refl has))
-      where
-        no_damage : Damage ≡ Answer → ⊥
-        no_damage e = cc
-
-        still : (s : Said) → said r ≡ s → is_answer s ≡ false → (answered || answers last r) ≡ true → answered ≡ true
-        still s says none has = elim (or_cases answered (answers last r) has) [
-          | inl was ↦ was
-          | inr now ↦ absurd (false≢true (sym (no_answer s last r says none) ∙ now))
-        ]
-    taken_then Refusal says has = taken_kept k l r l.sequence (λ answer. no_refusal (sym says ∙ answer)) (so.taken (still Refusal says refl has))
-      where
-        no_refusal : Refusal ≡ Answer → ⊥
-        no_refusal e = cc
-
-        still : (s : Said) → said r ≡ s → is_answer s ≡ false → (answered || answers last r) ≡ true → answered ≡ true
-        still s says none has = elim (or_cases answered (answers last r) has) [
-          | inl was ↦ was
-          | inr now ↦ absurd (false≢true (sym (no_answer s last r says none) ∙ now))
-        ]
+          | inr now ↦ absurd (false≢true (sym (no_answer s last r says refl) ∙ now))
+        ]))
 
     same_last : (x : Packet) → (after_reply k l r).last ≡ Some x → l ≡ x
     same_last x then = same_some l x (sym is ∙ sym (by_reply (λ j. j.last ≡ k.last) k l r refl (λ t. last_by t k l r) x then) ∙ then)

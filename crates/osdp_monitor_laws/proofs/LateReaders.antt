@@ -6,7 +6,7 @@ use Rattle.osdp_frame.specs.Packet.{Packet, next_sequence}
 use Rattle.osdp_monitor.specs.declared.accusation.Accusation.TheVariants.{SecondReply}
 use Rattle.osdp_monitor.specs.declared.said.Said.{Said}
 use Rattle.osdp_monitor.specs.declared.said.Said.TheVariants.{Busy, Damage, Refusal, Answer}
-use Rattle.osdp_monitor.specs.Known.{Known, is_number, nothing_known}
+use Rattle.osdp_monitor.specs.Known.{Known, nothing_known}
 use Rattle.osdp_monitor.specs.Panel.{after_another, after_copy, after_sent, keeps_number, left_waiting}
 use Rattle.osdp_monitor.specs.Reader.{after_answer, after_reply, after_reply_of, answer_accused, has_earlier_number, is_doubtful, is_late, is_one_more, is_owed, is_stray, reader_accused, repeat_reply, reply_accused}
 use Rattle.osdp_monitor.specs.Saying.{is_answer, is_damage, said}
@@ -74,10 +74,8 @@ reply_same k p q _ = refl
 -- one more reply where one is owed is judged as the first one
 same_accused : (k : Known) (p q : Packet) → (k.replied ≡ true → is_owed k ≡ true) → reader_accused (unreplied k) p q ≡ None → reader_accused k p q ≡ None
 same_accused k p q owes fine =
-    let judged = reply_accused (said q) k p q in
-    cond_both (is_doubtful k p q) None (cond (is_one_more k q && not (is_owed k)) (Some SecondReply) judged) (λ a. a ≡ None) (λ _. refl)
-    (λ certain. cond-false (is_one_more k q && not (is_owed k)) (Some SecondReply) judged (first (cases_Bool k.replied))
-    ∙ sym (reply_same k p q (said q)) ∙ sym (cond-false (is_doubtful k p q) None (reply_accused (said q) (unreplied k) p q) certain) ∙ fine)
+    cond_both (is_doubtful k p q) None (cond (is_one_more k q && not (is_owed k)) (Some SecondReply) (reply_accused (said q) k p q)) (λ a. a ≡ None) (λ _. refl)
+    (λ certain. rw (first (cases_Bool k.replied)) (sym (reply_same k p q (said q)) ∙ (rw certain at fine)))
   where
     first : (k.replied ≡ true) ⊎ (k.replied ≡ false) → (is_one_more k q && not (is_owed k)) ≡ false
     first (inl replied) = and_right (is_one_more k q) (not (is_owed k)) (not_from_true (is_owed k) (owes replied))
@@ -180,9 +178,7 @@ pub zero_follows : (k : Known) (r s : AnyReader) (p l q : Packet) (way : Way) �
     → Follows (after_reply k l q) s
 zero_follows k r s p l q Acts goes zero last says =
     let number : q.sequence ≡ l.sequence = goes.2.number ∙ zero ∙ sym last in
-    let new : repeat_reply k l ≡ None =
-    cond-false (not (eqb l.sequence 0) && is_number k.taken l.sequence) k.stored None
-    (and_left (not (eqb l.sequence 0)) (is_number k.taken l.sequence) (not_from_true (eqb l.sequence 0) (eq-eqb l.sequence 0 last))) in
+    let new : repeat_reply k l ≡ None = rw (eq-eqb l.sequence 0 last) in
     let agrees : Agrees (after_reply k l q) (Some l.sequence) s.stored =
     subst (λ j. Agrees j (Some l.sequence) s.stored) (sym (own_counts k l q says number ∙ ap (λ t. after_reply_of t k l q) says))
     (subst (λ o. Agrees (after_answer (is_some o) l.sequence k q) (Some l.sequence) s.stored) (sym new) (taking_agrees k l q s.stored (λ above. absurd (above last)))) in
@@ -192,14 +188,8 @@ zero_follows k r s p l q Acts goes zero last says =
           (subst (λ o. Agrees (after_reply k l q) o s.stored) (sym (ends.1 ∙ ap Some (zero ∙ sym last))) agrees)
     ]
 zero_follows k r s p l q Repeats goes zero last says = absurd (goes.0 zero)
-zero_follows k r s p l q IsBusy goes zero last says = absurd (busy_answers (sym goes.2 ∙ says))
-  where
-    busy_answers : Busy ≡ Answer → ⊥
-    busy_answers e = cc
-zero_follows k r s p l q FindsDamage goes zero last says = absurd (damage_answers (sym goes.1 ∙ says))
-  where
-    damage_answers : Damage ≡ Answer → ⊥
-    damage_answers e = cc
+zero_follows k r s p l q IsBusy goes zero last says = absurd cc
+zero_follows k r s p l q FindsDamage goes zero last says = absurd cc
 zero_follows k r s p l q Refuses goes zero last says = absurd (goes.0 zero)
 zero_follows k r s p l q IsSilent goes zero last says = absurd goes
 

@@ -1,24 +1,24 @@
 -- What the rules never miss.
 use Rattle.std.proofs.Common.{◌≡◌, ◌≢◌, ◌⊎◌, inl, inr, ℕ, Bool, true, false, cond, eqb, ◌&&◌, ◌||◌, not, ◌∷◌, ◌++◌, Option, Some, None, refl, sym, subst, ap, ◌∙◌}
-use Rattle.std.proofs.lemmas.Bool.{not_from_true, and_from, and_left, and_right, cond-false, cond-true, cond_both, eq-eqb, false≢true, false_from_ne_true, ne_eqb, not_from_false, or_from, or_right}
+use Rattle.std.proofs.lemmas.Bool.{not_from_true, and_from, and_left, and_right, cond-false, cond-true, cond_both, eq-eqb, false≢true, false_from_ne_true, ne_eqb, not_from_false, or_right}
 use Rattle.std.specs.Prelude.{is_some}
 use Rattle.osdp_frame.specs.Packet.{Packet, next_sequence}
 use Rattle.osdp_frame.specs.Reading.{PacketItem}
 use Rattle.osdp_monitor.specs.declared.accusation.Accusation.{Accusation}
-use Rattle.osdp_monitor.specs.declared.accusation.Accusation.TheVariants.{AnotherCheck, AnotherNumber, AnotherPacket, AnotherReply, BusyToRepeat, NotAnswered, SecondReply, SentOutOfTurn}
-use Rattle.osdp_monitor.specs.declared.found.Notice.TheVariants.{Unanswered, Unsure}
+use Rattle.osdp_monitor.specs.declared.accusation.Accusation.TheVariants.{AnotherCheck, AnotherNumber, AnotherPacket, AnotherReply, BusyToRepeat, NotAnswered, SecondReply}
+use Rattle.osdp_monitor.specs.declared.found.Notice.TheVariants.{Unsure}
 use Rattle.osdp_monitor.specs.declared.said.Said.{Said}
 use Rattle.osdp_monitor.specs.declared.said.Said.TheVariants.{Busy, Damage, Refusal, Answer}
 use Rattle.osdp_monitor.specs.Known.{Known, is_number}
-use Rattle.osdp_monitor.specs.Line.{Knowledge, after_items, after_packet, found_in, found_in_reply, found_in_sent, nothing_found, notice_if, notice_in_sent}
-use Rattle.osdp_monitor.specs.Panel.{after_another, after_copy, after_sent, is_doubt, is_first_doubt, is_missed, keeps_number, left_waiting, panel_accused, sent_after}
-use Rattle.osdp_monitor.specs.Reader.{after_answer, after_reply_of, answer_accused, has_earlier_number, is_doubtful, is_late, is_one_more, is_owed, is_owed_number, is_stray, is_unheard, reader_accused, repeat_reply, reply_accused, tells_number}
+use Rattle.osdp_monitor.specs.Line.{Knowledge, after_items, after_packet, found_in, found_in_reply, found_in_sent, notice_in_sent}
+use Rattle.osdp_monitor.specs.Panel.{after_another, after_copy, after_sent, is_doubt, is_first_doubt, keeps_number, left_waiting, panel_accused, sent_after}
+use Rattle.osdp_monitor.specs.Reader.{after_answer, after_reply_of, has_earlier_number, is_doubtful, is_late, is_one_more, is_owed, is_owed_number, is_stray, is_unheard, reader_accused, repeat_reply, reply_accused, tells_number}
 use Rattle.osdp_monitor.specs.Saying.{is_answer, is_foreign, said}
 use Rattle.osdp_monitor_laws.proofs.Agreeing.{none_some, same_some, sent_asked}
 use Rattle.osdp_monitor_laws.proofs.Late.{by_fate, by_number, certain, own_counts, own_heard, own_in_time}
 use Rattle.osdp_monitor_laws.proofs.Numbers.{next_above_zero, next_differs}
 use Rattle.osdp_monitor_laws.proofs.PanelLines.{last_by}
-use Rattle.osdp_monitor_laws.proofs.Remembering.{after_append, after_one, at_remembered, forgotten_append, items_keep}
+use Rattle.osdp_monitor_laws.proofs.Remembering.{after_append, after_one, at_remembered, forgotten_append, items_keep, sent_remembered}
 use Rattle.osdp_rules.proofs.Comparing.{packet_is}
 use Rattle.osdp_monitor_laws.specs.Misses.{IsCopyOrReply, IsFrom, IsRemembered, IsTo, LeavesUnanswered, MissesNoOtherPacket, MissesNoOtherReply, MissesNoUnanswered, RefusesNothing, SaysOther, TakesNothing}
 use Rattle.osdp_rules.specs.Packets.{same_check, same_packet}
@@ -29,28 +29,21 @@ pub sent_found : (line : Knowledge) (a : ℕ) (q : Packet) (accusation : Option 
     → panel_accused (line.devices a).last (line.devices a) q ≡ accusation → (found_in line q).accusation ≡ accusation
 sent_found line a q accusation to device plain accused =
     let k = line.devices q.address in
-    ap (λ f. f.accusation) (cond-false (eqb q.address 127 || is_foreign q) nothing_found (cond q.reply (found_in_reply k.last k q) (found_in_sent k q))
-    (or_from (eqb q.address 127) (is_foreign q) (ne_eqb q.address 127 (λ all. device (sym to.1 ∙ all))) plain))
-    ∙ ap (λ f. f.accusation) (cond-false q.reply (found_in_reply k.last k q) (found_in_sent k q) to.0)
-    ∙ subst (λ b. panel_accused (line.devices b).last (line.devices b) q ≡ accusation) (sym to.1) accused
+    rw (ne_eqb q.address 127 (λ all. device (sym to.1 ∙ all)), plain)
+    (ap (λ f. f.accusation) (cond-false q.reply (found_in_reply k.last k q) (found_in_sent k q) to.0)
+    ∙ subst (λ b. panel_accused (line.devices b).last (line.devices b) q ≡ accusation) (sym to.1) accused)
 
 pub reply_found : (line : Knowledge) (a : ℕ) (s p : Packet) (accusation : Accusation) → IsFrom a s → a ≢ 127 → is_foreign s ≡ false
     → (line.devices a).last ≡ Some p → reader_accused (line.devices a) p s ≡ Some accusation → (found_in line s).accusation ≡ Some accusation
 reply_found line a s p accusation from device plain last accused =
     let k = line.devices s.address in
-    ap (λ f. f.accusation) (cond-false (eqb s.address 127 || is_foreign s) nothing_found (cond s.reply (found_in_reply k.last k s) (found_in_sent k s))
-    (or_from (eqb s.address 127) (is_foreign s) (ne_eqb s.address 127 (λ all. device (sym from.1 ∙ all))) plain))
-    ∙ ap (λ f. f.accusation) (cond-true s.reply (found_in_reply k.last k s) (found_in_sent k s) from.0)
+    rw (ne_eqb s.address 127 (λ all. device (sym from.1 ∙ all)), plain)
+    (ap (λ f. f.accusation) (cond-true s.reply (found_in_reply k.last k s) (found_in_sent k s) from.0)
     ∙ subst (λ b. (found_in_reply (line.devices b).last (line.devices b) s).accusation ≡ Some accusation) (sym from.1)
-    (ap (λ o. (found_in_reply o (line.devices a) s).accusation) last ∙ accused)
+    (ap (λ o. (found_in_reply o (line.devices a) s).accusation) last ∙ accused))
 
 pub sent_told : (line : Knowledge) (a : ℕ) (q : Packet) → IsTo a q → a ≢ 127 → is_foreign q ≡ false → (found_in line q).notice ≡ notice_in_sent (line.devices a).last (line.devices a) q
-sent_told line a q to device plain =
-    let k = line.devices q.address in
-    ap (λ f. f.notice) (cond-false (eqb q.address 127 || is_foreign q) nothing_found (cond q.reply (found_in_reply k.last k q) (found_in_sent k q))
-    (or_from (eqb q.address 127) (is_foreign q) (ne_eqb q.address 127 (λ all. device (sym to.1 ∙ all))) plain))
-    ∙ ap (λ f. f.notice) (cond-false q.reply (found_in_reply k.last k q) (found_in_sent k q) to.0)
-    ∙ ap (λ b. notice_in_sent (line.devices b).last (line.devices b) q) to.1
+sent_told line a q to device plain = rw (ne_eqb q.address 127 (λ all. device (sym to.1 ∙ all)), plain, to.0, to.1)
 
 -- ---- doubts
 
@@ -65,13 +58,10 @@ in_doubt p q answered next none =
 module _ (k : Known) (p q : Packet) where
   -- what is no doubt, and what comes while the panel is suspected, goes by its rules
   pub by_rules : is_doubt p k.answered q ≡ false → panel_accused (Some p) k q ≡ sent_after p k.answered q
-  by_rules none =
-      cond-false (is_first_doubt (Some p) k q) None (sent_after p k.answered q) (and_left (is_doubt p k.answered q) (eqb k.suspected 0) none)
+  by_rules none = rw none
 
   pub by_suspicion : k.suspected ≢ 0 → panel_accused (Some p) k q ≡ sent_after p k.answered q
-  by_suspicion some =
-      cond-false (is_first_doubt (Some p) k q) None (sent_after p k.answered q)
-      (and_right (is_doubt p k.answered q) (eqb k.suspected 0) (ne_eqb k.suspected 0 some))
+  by_suspicion some = rw (and_right (is_doubt p k.answered q) (eqb k.suspected 0) (ne_eqb k.suspected 0 some))
 
   pub is_first : is_doubt p k.answered q ≡ true → k.suspected ≡ 0 → is_first_doubt (Some p) k q ≡ true
   is_first doubt none = and_from (is_doubt p k.answered q) (eqb k.suspected 0) doubt (eq-eqb k.suspected 0 none)
@@ -97,17 +87,15 @@ last_step a p line x known each is =
     (last_by (said x) (line.devices a) last x ∙ known))
 
 pub first_last : (a : ℕ) (line : Knowledge) (p : Packet) → IsTo a p → IsRemembered a (PacketItem p) line → IsLast p ((after_packet line p).devices a)
-first_last a line p to is =
-    at_remembered a (IsLast p) line p is (λ other. absurd (other to.1)) (λ _ reply. absurd (false≢true (sym to.0 ∙ reply)))
-    (λ _ _. (sent_asked (line.devices a) p).last) (λ _ reply. absurd (false≢true (sym to.0 ∙ reply)))
+first_last a line p to is = sent_remembered a (IsLast p) line p to is (sent_asked (line.devices a) p).last
 
 another_accused : (p q : Packet) (answered : Bool) → p.sequence ≢ 0 → q.sequence ≡ p.sequence → q ≢ p → sent_after p answered q ≡ Some AnotherPacket
 another_accused p q answered above number other =
-    cond-false (eqb q.sequence 0) None (cond (eqb q.sequence p.sequence) (cond (same_packet p q) None (Some AnotherPacket)) (cond (eqb q.sequence (next_sequence p.sequence)) (cond answered None (Some NotAnswered)) (Some SentOutOfTurn)))
-    (ne_eqb q.sequence 0 (λ zero. above (sym number ∙ zero)))
-    ∙ cond-true (eqb q.sequence p.sequence) (cond (same_packet p q) None (Some AnotherPacket)) (cond (eqb q.sequence (next_sequence p.sequence)) (cond answered None (Some NotAnswered)) (Some SentOutOfTurn))
-    (eq-eqb q.sequence p.sequence number)
-    ∙ cond-false (same_packet p q) None (Some AnotherPacket) (false_from_ne_true (same_packet p q) (λ same. other (sym (packet_is p q same))))
+    rw (
+      ne_eqb q.sequence 0 (λ zero. above (sym number ∙ zero)),
+      eq-eqb q.sequence p.sequence number,
+      false_from_ne_true (same_packet p q) (λ same. other (sym (packet_is p q same))),
+    )
 
 pub misses_no_other_packet : MissesNoOtherPacket
 misses_no_other_packet line a p items q to above nothing each next plain number other =
@@ -164,19 +152,16 @@ pub first_is_unanswered : (a : ℕ) (line : Knowledge) (p : Packet) → IsTo a p
     → IsUnanswered p ((after_packet line p).devices a)
 first_is_unanswered a line p to first is =
     let k = line.devices a in
-    at_remembered a (IsUnanswered p) line p is (λ other. absurd (other to.1)) (λ _ reply. absurd (false≢true (sym to.0 ∙ reply)))
-    (λ _ _. ((sent_asked k p).last, first_unanswered k p k.last first)) (λ _ reply. absurd (false≢true (sym to.0 ∙ reply)))
+    sent_remembered a (IsUnanswered p) line p to is ((sent_asked k p).last, first_unanswered k p k.last first)
 
 pub next_accused : (p q : Packet) (answered : Bool) → answered ≡ false → q.sequence ≡ next_sequence p.sequence → sent_after p answered q ≡ Some NotAnswered
 next_accused p q answered none next =
-    let turn = cond (eqb q.sequence (next_sequence p.sequence)) (cond answered None (Some NotAnswered)) (Some SentOutOfTurn) in
-    cond-false (eqb q.sequence 0) None (cond (eqb q.sequence p.sequence) (cond (same_packet p q) None (Some AnotherPacket)) turn)
-    (ne_eqb q.sequence 0 (λ zero. next_above_zero p.sequence (sym next ∙ zero)))
-    ∙ cond-false (eqb q.sequence p.sequence) (cond (same_packet p q) None (Some AnotherPacket)) turn
-    (ne_eqb q.sequence p.sequence (λ same. next_differs p.sequence (sym next ∙ same)))
-    ∙ cond-true (eqb q.sequence (next_sequence p.sequence)) (cond answered None (Some NotAnswered)) (Some SentOutOfTurn)
-    (eq-eqb q.sequence (next_sequence p.sequence) next)
-    ∙ cond-false answered None (Some NotAnswered) none
+    rw (
+      ne_eqb q.sequence 0 (λ zero. next_above_zero p.sequence (sym next ∙ zero)),
+      ne_eqb q.sequence p.sequence (λ same. next_differs p.sequence (sym next ∙ same)),
+      eq-eqb q.sequence (next_sequence p.sequence) next,
+      none,
+    )
 
 pub misses_no_unanswered : MissesNoUnanswered
 misses_no_unanswered line a p items q to first nothing each next plain number =
@@ -192,10 +177,8 @@ misses_no_unanswered line a p items q to first nothing each next plain number =
       λ some. sent_found now a q (Some NotAnswered) next device plain
           (ap (λ o. panel_accused o k q) known.0 ∙ by_suspicion k p q some ∙ next_accused p q k.answered known.1 number),
       λ none. (
-        sent_found now a q None next device plain
-            (ap (λ o. panel_accused o k q) known.0 ∙ cond-true (is_first_doubt (Some p) k q) None (sent_after p k.answered q) (is_first k p q doubt none)),
-        sent_told now a q next device plain ∙ ap (λ o. notice_in_sent o k q) known.0
-            ∙ cond-true (is_first_doubt (Some p) k q) (Some Unsure) (notice_if (is_missed (Some p) k) Unanswered) (is_first k p q doubt none),
+        sent_found now a q None next device plain (rw (known.0, is_first k p q doubt none)),
+        sent_told now a q next device plain ∙ rw (known.0, is_first k p q doubt none),
       ),
     )
 
@@ -241,8 +224,7 @@ pub first_pending : (a : ℕ) (line : Knowledge) (p : Packet) → IsTo a p → (
     → IsPending p.sequence ((after_packet line p).devices a)
 first_pending a line p to untaken is =
     let k = line.devices a in
-    at_remembered a (IsPending p.sequence) line p is (λ other. absurd (other to.1)) (λ _ reply. absurd (false≢true (sym to.0 ∙ reply)))
-    (λ _ _. ((p, (sent_asked k p).last, refl), untaken_sent p.sequence k p k.last untaken)) (λ _ reply. absurd (false≢true (sym to.0 ∙ reply)))
+    sent_remembered a (IsPending p.sequence) line p to is ((p, (sent_asked k p).last, refl), untaken_sent p.sequence k p k.last untaken)
 
 -- what a packet with this number must be answered by
 abbrev pub Keeps : ℕ → Packet → Known → Type 0
@@ -258,15 +240,11 @@ not_number (Some t) n other = ne_eqb t n (λ same. other (ap Some same))
 
 new_repeat : (k : Known) (q : Packet) (n : ℕ) → q.sequence ≡ n → k.taken ≢ Some n → repeat_reply k q ≡ None
 new_repeat k q n number untaken =
-    cond-false (not (eqb q.sequence 0) && is_number k.taken q.sequence) k.stored None
-    (and_right (not (eqb q.sequence 0)) (is_number k.taken q.sequence) (subst (λ m. is_number k.taken m ≡ false) (sym number) (not_number k.taken n untaken)))
+    rw (and_right (not (eqb q.sequence 0)) (is_number k.taken q.sequence) (subst (λ m. is_number k.taken m ≡ false) (sym number) (not_number k.taken n untaken)))
 
 pub old_repeat : (k : Known) (q : Packet) (n : ℕ) → n ≢ 0 → q.sequence ≡ n → k.taken ≡ Some n → repeat_reply k q ≡ k.stored
 old_repeat k q n above number taken =
-    cond-true (not (eqb q.sequence 0) && is_number k.taken q.sequence) k.stored None
-    (and_from (not (eqb q.sequence 0)) (is_number k.taken q.sequence)
-    (not_from_false (eqb q.sequence 0) (ne_eqb q.sequence 0 (λ zero. above (sym number ∙ zero))))
-    (subst (λ o. is_number o q.sequence ≡ true) (sym taken) (eq-eqb n q.sequence (sym number))))
+    rw (ne_eqb q.sequence 0 (λ zero. above (sym number ∙ zero)), taken, eq-eqb n q.sequence (sym number))
 
 -- the reply that takes the number
 answer_stored : (n : ℕ) (k : Known) (q r : Packet) → n ≢ 0 → q.sequence ≡ n → k.last ≡ Some q → repeat_reply k q ≡ None → r.sequence ≡ q.sequence
@@ -303,11 +281,9 @@ stored_sent n r k x None above last number known = absurd (none_some known.0.0 (
 stored_sent n r k x (Some old) above last number known =
     let same : known.0.0 ≡ old = same_some known.0.0 old (sym known.0.1 ∙ last) in
     let its : old.sequence ≡ n = sym (ap (λ (y : Packet). y.sequence) same) ∙ known.0.2 in
+    let taken : is_number k.taken old.sequence ≡ true = rw known.1.0 (eq-eqb n old.sequence (sym its)) in
     let keeps : keeps_number old k x ≡ true =
-    and_from (not (eqb x.sequence 0)) (k.replied || is_number k.taken old.sequence)
-    (not_from_false (eqb x.sequence 0) (ne_eqb x.sequence 0 (λ zero. above (sym number ∙ zero))))
-    (or_right k.replied (is_number k.taken old.sequence) (subst (λ t. is_number t old.sequence ≡ true) (sym known.1.0)
-    (eq-eqb n old.sequence (sym its)))) in
+    rw (ne_eqb x.sequence 0 (λ zero. above (sym number ∙ zero))) (or_right k.replied (is_number k.taken old.sequence) taken) in
     cond_both (same_packet old x) (after_copy k) (after_another (keeps_number old k x) (left_waiting old k) k x) (Keeps n r)
     (λ _. known.1)
     (λ _. (
@@ -376,14 +352,12 @@ other_accused : (n : ℕ) (r : Packet) (k : Known) (q s : Packet) → n ≢ 0 �
     → SaysOther n s → s ≢ r → IsAccused (reader_accused k q s)
 other_accused n r k q s above last number known says other =
     let stored : repeat_reply k q ≡ Some r = old_repeat k q n above number known.1.0 ∙ known.1.1 in
-    subst IsAccused (sym (cond-false (is_doubtful k q s) None (cond (is_one_more k s && not (is_owed k)) (Some SecondReply) (reply_accused (said s) k q s))
-    (none_doubtful k q r s n above number stored says)))
+    subst IsAccused (sym (rw (none_doubtful k q r s n above number stored says)))
     (cond_both (is_one_more k s && not (is_owed k)) (Some SecondReply) (reply_accused (said s) k q s) IsAccused (λ _. (SecondReply, refl))
     (λ _. elim says [
       | inl answer ↦ (
         AnotherReply,
-        ap (λ t. reply_accused t k q s) answer.0 ∙ ap (λ o. answer_accused o k q s) stored
-            ∙ cond-false (same_packet r s) None (Some AnotherReply) (false_from_ne_true (same_packet r s) (λ same. other (sym (packet_is r s same)))),
+        rw (answer.0, stored, false_from_ne_true (same_packet r s) (λ same. other (sym (packet_is r s same)))),
       )
       | inr busy ↦ subst (λ t. IsAccused (reply_accused t k q s)) (sym busy.0)
           (cond_both (not (eqb s.sequence q.sequence || eqb s.sequence 0)) (Some AnotherNumber) (cond (not (same_check s.check q.check)) (Some AnotherCheck) (cond (is_some (repeat_reply k q)) (Some BusyToRepeat) None))

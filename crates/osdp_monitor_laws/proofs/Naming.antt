@@ -1,6 +1,6 @@
 -- Each accusation by its name.
 use Rattle.std.proofs.Common.{◌≡◌, ◌≢◌, ◌⊎◌, inl, inr, ℕ, Bool, true, false, cond, eqb, ◌&&◌, ◌||◌, not, List, ◌∷◌, ◌++◌, Option, Some, None, Ok, refl, sym, subst, ap, ◌∙◌}
-use Rattle.std.proofs.lemmas.Bool.{and_from, and_left, and_right, cond-false, cond-true, cond_both, eq-eqb, eqb-true, false≢true, ne_eqb, not_from_false, not_from_true, or_from, or_left, or_right}
+use Rattle.std.proofs.lemmas.Bool.{and_left, and_right, cond-false, cond-true, cond_both, eq-eqb, eqb-true, false≢true, ne_eqb, not_from_true, or_from, or_left, or_right}
 use Rattle.std.specs.Prelude.{is_some}
 use Rattle.osdp_frame.specs.declared.check_kind.CheckKind.{CheckKind}
 use Rattle.osdp_frame.specs.declared.check_kind.CheckKind.TheVariants.{Sum, Crc}
@@ -12,18 +12,18 @@ use Rattle.osdp_msg.specs.declared.command.Command.TheVariants.{Poll}
 use Rattle.osdp_msg.specs.declared.reply.Reply.{Reply}
 use Rattle.osdp_msg.specs.declared.reply.Reply.TheVariants as reply
 use Rattle.osdp_monitor.specs.declared.accusation.Accusation.{Accusation}
-use Rattle.osdp_monitor.specs.declared.accusation.Accusation.TheVariants.{AnotherPacket, NotAnswered, SentOutOfTurn, SecondReply, AnotherNumber, AnotherCheck, BusyToRepeat, RefusedZero, TakenOutOfTurn, UnreadReply, UnfitReply, EventAtZero}
+use Rattle.osdp_monitor.specs.declared.accusation.Accusation.TheVariants.{SentOutOfTurn, AnotherNumber, AnotherCheck, RefusedZero, TakenOutOfTurn, UnreadReply, UnfitReply, EventAtZero}
 use Rattle.osdp_monitor.specs.declared.said.Said.{Said}
 use Rattle.osdp_monitor.specs.declared.said.Said.TheVariants.{Busy, Damage, Refusal, Answer}
 use Rattle.osdp_monitor.specs.Known.{Known, is_number}
 use Rattle.osdp_monitor.specs.Line.{Knowledge, after_items, after_packet, found_in}
 use Rattle.osdp_monitor.specs.Panel.{after_another, after_copy, after_sent, before_row, is_in_row, is_waiting, keeps_number, left_waiting, panel_accused, sent_after}
-use Rattle.osdp_monitor.specs.Reader.{after_answer, after_reply, after_reply_of, answer_accused, fit_accused, has_earlier_number, has_no_number, is_doubtful, is_event_at_zero, is_late, is_one_more, is_owed, is_plain, is_stray, is_unheard, reader_accused, reading_accused, repeat_reply, reply_accused, taken_accused, turn_accused}
-use Rattle.osdp_monitor.specs.Saying.{asked, is_answer, is_damage, reply_told, said}
+use Rattle.osdp_monitor.specs.Reader.{after_answer, after_reply, after_reply_of, has_earlier_number, has_no_number, is_doubtful, is_late, is_owed, is_plain, is_stray, is_unheard, reader_accused, reading_accused, repeat_reply, reply_accused, taken_accused, turn_accused}
+use Rattle.osdp_monitor.specs.Saying.{asked, is_answer, reply_told, said}
 use Rattle.osdp_monitor_laws.proofs.Agreeing.{none_some, same_some, sent_asked}
 use Rattle.osdp_monitor_laws.proofs.Late.{by_number, certain, none_owed, own_counts}
 use Rattle.osdp_monitor_laws.proofs.Missing.{IsLast, by_rules, device_of, first_last, last_step, no_doubt, sent_found}
-use Rattle.osdp_monitor_laws.proofs.Remembering.{after_append, after_one, at_remembered, forgotten_append, items_keep}
+use Rattle.osdp_monitor_laws.proofs.Remembering.{after_append, after_one, at_remembered, forgotten_append, items_keep, sent_remembered}
 use Rattle.osdp_rules.proofs.Comparing.{packet_is}
 use Rattle.osdp_monitor_laws.specs.Late.{IsNone}
 use Rattle.osdp_monitor_laws.specs.Misses.{Each, IsCopyOrReply, IsFrom, IsRemembered, IsTo, NothingForgotten}
@@ -35,10 +35,7 @@ use Rattle.osdp_rules.specs.Packets.{same_check, same_packet}
 out_of_turn : (p q : Packet) (answered : Bool) → q.sequence ≢ 0 → q.sequence ≢ p.sequence → q.sequence ≢ next_sequence p.sequence
     → sent_after p answered q ≡ Some SentOutOfTurn
 out_of_turn p q answered above other next =
-    let turn = cond (eqb q.sequence (next_sequence p.sequence)) (cond answered None (Some NotAnswered)) (Some SentOutOfTurn) in
-    cond-false (eqb q.sequence 0) None (cond (eqb q.sequence p.sequence) (cond (same_packet p q) None (Some AnotherPacket)) turn) (ne_eqb q.sequence 0 above)
-    ∙ cond-false (eqb q.sequence p.sequence) (cond (same_packet p q) None (Some AnotherPacket)) turn (ne_eqb q.sequence p.sequence other)
-    ∙ cond-false (eqb q.sequence (next_sequence p.sequence)) (cond answered None (Some NotAnswered)) (Some SentOutOfTurn) (ne_eqb q.sequence (next_sequence p.sequence) next)
+    rw (ne_eqb q.sequence 0 above, ne_eqb q.sequence p.sequence other, ne_eqb q.sequence (next_sequence p.sequence) next)
 
 pub misses_no_packet_out_of_turn : MissesNoPacketOutOfTurn
 misses_no_packet_out_of_turn line a p items q to nothing each next plain above other turn =
@@ -79,8 +76,7 @@ turned : (a : ℕ) (p : Packet) (line : Knowledge) (q : Packet) → IsTo a q →
     → IsRemembered a (PacketItem q) line → IsTurned q ((after_packet line q).devices a)
 turned a p line q to other known is =
     let k = line.devices a in
-    at_remembered a (IsTurned q) line q is (λ away. absurd (away to.1)) (λ _ reply. absurd (false≢true (sym to.0 ∙ reply)))
-    (λ _ _. ((sent_asked k q).last, turned_sent k p q k.last known other)) (λ _ reply. absurd (false≢true (sym to.0 ∙ reply)))
+    sent_remembered a (IsTurned q) line q to is ((sent_asked k q).last, turned_sent k p q k.last known other)
 
 -- its reply
 record IsDone (q : Packet) (k : Known) : Type 0 where
@@ -153,9 +149,7 @@ fresh_taken p k q n replied taken =
   where
     zero : (b : Bool) → eqb q.sequence 0 ≡ b → (not (eqb q.sequence 0) && (k.replied || is_number k.taken p.sequence)) ≡ false → q.sequence ≡ 0
     zero true is lost = eqb-true q.sequence 0 is
-    zero false is lost =
-        absurd (false≢true (sym lost ∙ and_from (not (eqb q.sequence 0)) (k.replied || is_number k.taken p.sequence) (not_from_false (eqb q.sequence 0) is)
-        (or_left k.replied (is_number k.taken p.sequence) replied)))
+    zero false is lost = absurd (false≢true (sym lost ∙ rw (is, replied)))
 
 fresh_sent : (k : Known) (p q : Packet) (o : Option Packet) → o ≡ Some p → q.sequence ≢ p.sequence → IsDone p k → (after_sent o k q).last ≡ Some q
     → (after_sent o k q).replied ≡ false → IsFresh p.sequence q (after_sent o k q)
@@ -163,8 +157,7 @@ fresh_sent k p q None last other done asks silent = absurd (none_some p last)
 fresh_sent k p q (Some old) last other done asks silent =
     let same : p ≡ old = same_some p old (sym last) in
     let differ : q.sequence ≢ old.sequence = subst (λ (x : Packet). q.sequence ≢ x.sequence) same other in
-    let left : left_waiting old k ≡ None =
-    cond-false (is_waiting k) (Some old.sequence) None (or_from k.owing (not k.replied) done.owing (not_from_true k.replied done.replied)) in
+    let left : left_waiting old k ≡ None = rw (done.owing, done.replied) in
     cond_both (same_packet old q) (after_copy k) (after_another (keeps_number old k q) (left_waiting old k) k q)
     (λ j. IsFresh p.sequence q j)
     (λ copy. absurd (differ (sym (ap (λ (x : Packet). x.sequence) (packet_is old q copy)))))
@@ -184,8 +177,8 @@ fresh : (a : ℕ) (p : Packet) (line : Knowledge) (q : Packet) → IsTo a q → 
     → IsRemembered a (PacketItem q) line → IsFresh p.sequence q ((after_packet line q).devices a)
 fresh a p line q to other known is =
     let k = line.devices a in
-    at_remembered a (IsFresh p.sequence q) line q is (λ away. absurd (away to.1)) (λ _ reply. absurd (false≢true (sym to.0 ∙ reply)))
-    (λ _ _. fresh_sent k p q k.last known.last other known (sent_asked k q).last (sent_asked k q).replied) (λ _ reply. absurd (false≢true (sym to.0 ∙ reply)))
+    sent_remembered a (IsFresh p.sequence q) line q to is
+    (fresh_sent k p q k.last known.last other known (sent_asked k q).last (sent_asked k q).replied)
 
 -- ---- the whole of it
 
@@ -269,10 +262,7 @@ module _ (n : ℕ) (q : Packet) (k : Known) (known : IsFresh n q k) (r : Packet)
       (and_left (is_stray k r) (not (is_some (repeat_reply k q))) not_stray)
 
   pub judged_is : reader_accused k q r ≡ reply_accused (said r) k q r
-  judged_is =
-      cond-false (is_doubtful k q r) None (cond (is_one_more k r && not (is_owed k)) (Some SecondReply) (reply_accused (said r) k q r)) in_no_doubt
-      ∙ cond-false (is_one_more k r && not (is_owed k)) (Some SecondReply) (reply_accused (said r) k q r)
-      (and_left (is_one_more k r) (not (is_owed k)) (and_left k.replied (not (is_damage (said r))) known.replied))
+  judged_is = rw (in_no_doubt, known.replied)
 
   judged : (s : Said) (accusation : Accusation) → said r ≡ s → reply_accused s k q r ≡ Some accusation → reader_accused k q r ≡ Some accusation
   judged s accusation says accused = judged_is ∙ subst (λ t. reply_accused t k q r ≡ Some accusation) (sym says) accused
@@ -285,22 +275,17 @@ module _ (n : ℕ) (q : Packet) (k : Known) (known : IsFresh n q k) (r : Packet)
   ]
 
   pub new : repeat_reply k q ≡ None
-  new =
-      cond-false (not (eqb q.sequence 0) && is_number k.taken q.sequence) k.stored None
-      (and_right (not (eqb q.sequence 0)) (is_number k.taken q.sequence) not_taken)
+  new = rw (and_right (not (eqb q.sequence 0)) (is_number k.taken q.sequence) not_taken)
 
   -- an answer with its number
   own_answer : (accusation : Accusation) → said r ≡ Answer → r.sequence ≡ q.sequence → turn_accused k.taken q r ≡ Some accusation
       → reader_accused k q r ≡ Some accusation
   own_answer accusation says number accused =
-      judged n q k known r Answer accusation says
-      (ap (λ o. answer_accused o k q r) new
-      ∙ cond-true (eqb r.sequence q.sequence) (turn_accused k.taken q r) (Some AnotherNumber) (eq-eqb r.sequence q.sequence number) ∙ accused)
+      judged n q k known r Answer accusation says (rw (new, eq-eqb r.sequence q.sequence number) accused)
 
   by_turn : (accusation : Accusation) → IsInTurn n q → taken_accused q r ≡ Some accusation → turn_accused k.taken q r ≡ Some accusation
   by_turn accusation turn accused = elim known.taken [
-    | inl taken ↦ subst (λ o. turn_accused o q r ≡ Some accusation) (sym taken)
-        (cond-true (eqb q.sequence 0 || eqb q.sequence (next_sequence n)) (taken_accused q r) (cond (eqb q.sequence n) None (Some TakenOutOfTurn)) in_turn ∙ accused)
+    | inl taken ↦ rw (taken, in_turn) accused
     | inr zero ↦ subst (λ o. turn_accused o q r ≡ Some accusation) (sym zero.1)
         (cond-true (eqb q.sequence 0) (taken_accused q r) None (eq-eqb q.sequence 0 zero.0) ∙ accused)
   ]
@@ -313,31 +298,22 @@ module _ (n : ℕ) (q : Packet) (k : Known) (known : IsFresh n q k) (r : Packet)
 
   other_number : (s : Said) → said r ≡ s → s ≢ Damage → r.sequence ≢ q.sequence → (s ≡ Busy → r.sequence ≢ 0) → reader_accused k q r ≡ Some AnotherNumber
   other_number Busy says _ differs above =
-      judged n q k known r Busy AnotherNumber says
-      (cond-true (not (eqb r.sequence q.sequence || eqb r.sequence 0)) (Some AnotherNumber) (cond (not (same_check r.check q.check)) (Some AnotherCheck) (cond (is_some (repeat_reply k q)) (Some BusyToRepeat) None))
-      (not_from_false (eqb r.sequence q.sequence || eqb r.sequence 0)
-      (or_from (eqb r.sequence q.sequence) (eqb r.sequence 0) (ne_eqb r.sequence q.sequence differs) (ne_eqb r.sequence 0 (above refl)))))
+      judged n q k known r Busy AnotherNumber says (rw (ne_eqb r.sequence q.sequence differs, ne_eqb r.sequence 0 (above refl)))
   other_number Damage says none differs above = absurd (none refl)
   other_number Refusal says _ differs above =
-      judged n q k known r Refusal AnotherNumber says
-      (cond-true (not (eqb r.sequence q.sequence)) (Some AnotherNumber) (cond (not (same_check r.check q.check)) (Some AnotherCheck) (cond (eqb q.sequence 0) (Some RefusedZero) None))
-      (not_from_false (eqb r.sequence q.sequence) (ne_eqb r.sequence q.sequence differs)))
+      judged n q k known r Refusal AnotherNumber says (rw (ne_eqb r.sequence q.sequence differs))
   other_number Answer says _ differs above =
-      judged n q k known r Answer AnotherNumber says
-      (ap (λ o. answer_accused o k q r) new
-      ∙ cond-false (eqb r.sequence q.sequence) (turn_accused k.taken q r) (Some AnotherNumber) (ne_eqb r.sequence q.sequence differs))
+      judged n q k known r Answer AnotherNumber says (rw (new, ne_eqb r.sequence q.sequence differs))
 
 pub checks_differ : (c d : CheckKind) → c ≢ d → same_check c d ≡ false
 checks_differ Sum Sum other = absurd (other refl)
-checks_differ Sum Crc other = refl
-checks_differ Crc Sum other = refl
 checks_differ Crc Crc other = absurd (other refl)
+checks_differ _ _ other = refl
 
 pub checks_same : (c d : CheckKind) → c ≡ d → same_check c d ≡ true
 checks_same Sum Sum same = refl
-checks_same Sum Crc same = absurd cc
-checks_same Crc Sum same = absurd cc
 checks_same Crc Crc same = refl
+checks_same _ _ same = cc
 
 module _ (n : ℕ) (q : Packet) (k : Known) (known : IsFresh n q k) (r : Packet) (other : q.sequence ≢ n) where
   -- a reply but BUSY has the packet's number
@@ -347,58 +323,39 @@ module _ (n : ℕ) (q : Packet) (k : Known) (known : IsFresh n q k) (r : Packet)
 
   other_check : (s : Said) → said r ≡ s → s ≢ Damage → FitsNumber q r → r.check ≢ q.check → (s ≡ Answer → IsInTurn n q) → reader_accused k q r ≡ Some AnotherCheck
   other_check Busy says _ fits differs turn =
-      judged n q k known r Busy AnotherCheck says
-      (cond-false (not (eqb r.sequence q.sequence || eqb r.sequence 0)) (Some AnotherNumber) (cond (not (same_check r.check q.check)) (Some AnotherCheck) (cond (is_some (repeat_reply k q)) (Some BusyToRepeat) None))
-      (not_from_true (eqb r.sequence q.sequence || eqb r.sequence 0) (elim fits [
-        | inl own ↦ or_left (eqb r.sequence q.sequence) (eqb r.sequence 0) (eq-eqb r.sequence q.sequence own)
-        | inr zero ↦ or_right (eqb r.sequence q.sequence) (eqb r.sequence 0) (eq-eqb r.sequence 0 zero.1)
-      ]))
-      ∙ cond-true (not (same_check r.check q.check)) (Some AnotherCheck) (cond (is_some (repeat_reply k q)) (Some BusyToRepeat) None)
-      (not_from_false (same_check r.check q.check) (checks_differ r.check q.check differs)))
+      judged n q k known r Busy AnotherCheck says (elim fits [
+        | inl own ↦ rw (eq-eqb r.sequence q.sequence own, checks_differ r.check q.check differs)
+        | inr zero ↦ rw (or_right (eqb r.sequence q.sequence) (eqb r.sequence 0) (eq-eqb r.sequence 0 zero.1), checks_differ r.check q.check differs)
+      ])
   other_check Damage says none fits differs turn = absurd (none refl)
   other_check Refusal says _ fits differs turn =
       judged n q k known r Refusal AnotherCheck says
-      (cond-false (not (eqb r.sequence q.sequence)) (Some AnotherNumber) (cond (not (same_check r.check q.check)) (Some AnotherCheck) (cond (eqb q.sequence 0) (Some RefusedZero) None))
-      (not_from_true (eqb r.sequence q.sequence) (eq-eqb r.sequence q.sequence (its_number Refusal says fits (λ e. absurd cc))))
-      ∙ cond-true (not (same_check r.check q.check)) (Some AnotherCheck) (cond (eqb q.sequence 0) (Some RefusedZero) None)
-      (not_from_false (same_check r.check q.check) (checks_differ r.check q.check differs)))
+      (rw (eq-eqb r.sequence q.sequence (its_number Refusal says fits (λ e. absurd cc)), checks_differ r.check q.check differs))
   other_check Answer says _ fits differs turn =
       own_answer n q k known r other AnotherCheck says (its_number Answer says fits (λ e. absurd cc))
-      (by_turn n q k known r other AnotherCheck (turn refl)
-      (cond-false (same_check r.check q.check) (reading_accused (reply_told r) q) (Some AnotherCheck) (checks_differ r.check q.check differs)))
+      (by_turn n q k known r other AnotherCheck (turn refl) (rw (checks_differ r.check q.check differs)))
 
   -- it was taken now, and is accused for what it is read as
   taken_now : (accusation : Accusation) → IsTaken n q r → reading_accused (reply_told r) q ≡ Some accusation → reader_accused k q r ≡ Some accusation
   taken_now accusation taken accused =
       own_answer n q k known r other accusation taken.says taken.same
-      (by_turn n q k known r other accusation taken.turn
-      (cond-true (same_check r.check q.check) (reading_accused (reply_told r) q) (Some AnotherCheck) (checks_same r.check q.check taken.check) ∙ accused))
+      (by_turn n q k known r other accusation taken.turn (rw (checks_same r.check q.check taken.check) accused))
 
   refuses_zero : said r ≡ Refusal → q.sequence ≡ 0 → r.sequence ≡ q.sequence → r.check ≡ q.check → reader_accused k q r ≡ Some RefusedZero
   refuses_zero says zero own check =
       judged n q k known r Refusal RefusedZero says
-      (cond-false (not (eqb r.sequence q.sequence)) (Some AnotherNumber) (cond (not (same_check r.check q.check)) (Some AnotherCheck) (cond (eqb q.sequence 0) (Some RefusedZero) None))
-      (not_from_true (eqb r.sequence q.sequence) (eq-eqb r.sequence q.sequence own))
-      ∙ cond-false (not (same_check r.check q.check)) (Some AnotherCheck) (cond (eqb q.sequence 0) (Some RefusedZero) None)
-      (not_from_true (same_check r.check q.check) (checks_same r.check q.check check))
-      ∙ cond-true (eqb q.sequence 0) (Some RefusedZero) None (eq-eqb q.sequence 0 zero))
+      (rw (eq-eqb r.sequence q.sequence own, checks_same r.check q.check check, eq-eqb q.sequence 0 zero))
 
   takes_third : said r ≡ Answer → r.sequence ≡ q.sequence → q.sequence ≢ 0 → q.sequence ≢ next_sequence n → reader_accused k q r ≡ Some TakenOutOfTurn
   takes_third says own above third =
       own_answer n q k known r other TakenOutOfTurn says own (elim known.taken [
-        | inl taken ↦ subst (λ o. turn_accused o q r ≡ Some TakenOutOfTurn) (sym taken)
-            (cond-false (eqb q.sequence 0 || eqb q.sequence (next_sequence n)) (taken_accused q r) (cond (eqb q.sequence n) None (Some TakenOutOfTurn))
-            (or_from (eqb q.sequence 0) (eqb q.sequence (next_sequence n)) (ne_eqb q.sequence 0 above) (ne_eqb q.sequence (next_sequence n) third))
-            ∙ cond-false (eqb q.sequence n) None (Some TakenOutOfTurn) (ne_eqb q.sequence n other))
+        | inl taken ↦ rw (taken, ne_eqb q.sequence 0 above, ne_eqb q.sequence (next_sequence n) third, ne_eqb q.sequence n other)
         | inr zero ↦ absurd (above zero.0)
       ])
 
   unfit : (command : Command) (told : Reply) → asked q ≡ Ok command → reply_told r ≡ Ok told → reply_fits command told ≡ false
       → reading_accused (reply_told r) q ≡ Some UnfitReply
-  unfit command told asks tells fits =
-      ap (λ t. reading_accused t q) tells ∙ ap (λ c. fit_accused c told q.sequence) asks
-      ∙ cond-true (not (reply_fits command told)) (Some UnfitReply) (cond (is_event_at_zero command told q.sequence) (Some EventAtZero) None)
-      (not_from_false (reply_fits command told) fits)
+  unfit command told asks tells fits = rw (tells, asks, fits)
 
   no_plain : (told : Reply) → IsEvent told → is_plain told ≡ false
   no_plain reply.Ack event = absurd (event.no_ack refl)
@@ -407,12 +364,7 @@ module _ (n : ℕ) (q : Packet) (k : Known) (known : IsFresh n q k) (r : Packet)
 
   event_at_zero : (told : Reply) → q.sequence ≡ 0 → asked q ≡ Ok Poll → reply_told r ≡ Ok told → reply_fits Poll told ≡ true → IsEvent told
       → reading_accused (reply_told r) q ≡ Some EventAtZero
-  event_at_zero told zero asks tells fits event =
-      ap (λ t. reading_accused t q) tells ∙ ap (λ c. fit_accused c told q.sequence) asks
-      ∙ cond-false (not (reply_fits Poll told)) (Some UnfitReply) (cond (is_event_at_zero Poll told q.sequence) (Some EventAtZero) None)
-      (not_from_true (reply_fits Poll told) fits)
-      ∙ cond-true (is_event_at_zero Poll told q.sequence) (Some EventAtZero) None
-      (and_from (eqb q.sequence 0) (not (is_plain told)) (eq-eqb q.sequence 0 zero) (not_from_false (is_plain told) (no_plain told event)))
+  event_at_zero told zero asks tells fits event = rw (tells, asks, fits, eq-eqb q.sequence 0 zero, no_plain told event)
 
   pub named : (accusation : Accusation) → Breaks accusation n q r → reader_accused k q r ≡ Some accusation
   named AnotherNumber (some, differs, above) = other_number n q k known r other (said r) refl some differs above

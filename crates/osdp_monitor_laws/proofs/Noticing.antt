@@ -1,6 +1,6 @@
 -- Each notice by its name.
-use Rattle.std.proofs.Common.{◌≡◌, ◌≢◌, ℕ, Bool, true, false, cond, eqb, ◌&&◌, not, [], ◌∷◌, ◌++◌, Option, Some, None, Result, Ok, refl, sym, subst, ap, ◌∙◌}
-use Rattle.std.proofs.lemmas.Bool.{and_from, and_left, and_parts, and_right, cond-false, cond-true, cond_both, eq-eqb, eqb-true, false≢true, ne_eqb, not-true, not_from_false, not_from_true, or_from, or_left}
+use Rattle.std.proofs.Common.{◌≡◌, ◌≢◌, ℕ, true, false, cond, eqb, ◌&&◌, not, [], ◌∷◌, ◌++◌, Option, Some, None, Result, Ok, refl, sym, subst, ap, ◌∙◌}
+use Rattle.std.proofs.lemmas.Bool.{and_from, and_left, and_parts, and_right, cond-false, cond-true, cond_both, eq-eqb, eqb-true, false≢true, ne_eqb, not-true, not_from_false, not_from_true, or_from}
 use Rattle.std.specs.Prelude.{is_some}
 use Rattle.osdp_frame.specs.Packet.{Packet, next_sequence}
 use Rattle.osdp_frame.specs.Reading.{PacketItem}
@@ -10,13 +10,13 @@ use Rattle.osdp_msg.specs.declared.reply.Reply.TheVariants as reply
 use Rattle.osdp_msg.specs.declared.reply_fields.Nak as nak
 use Rattle.osdp_monitor.specs.declared.found.Found.{Found}
 use Rattle.osdp_monitor.specs.declared.found.Notice.{Notice}
-use Rattle.osdp_monitor.specs.declared.found.Notice.TheVariants.{Opened, Late, Moved, Restarted, Unanswered, Unsure}
+use Rattle.osdp_monitor.specs.declared.found.Notice.TheVariants.{Opened, Moved, Restarted, Unanswered, Unsure}
 use Rattle.osdp_monitor.specs.declared.said.Said.{Said}
 use Rattle.osdp_monitor.specs.declared.said.Said.TheVariants.{Refusal}
 use Rattle.osdp_monitor.specs.Known.{Known}
 use Rattle.osdp_monitor.specs.Line.{Knowledge, after_items, after_packet, found_in, late_notice, moves_to, notice_if, reply_notice}
 use Rattle.osdp_monitor.specs.Panel.{after_another, after_copy, after_sent, is_first_doubt, is_missed, keeps_number, left_waiting}
-use Rattle.osdp_monitor.specs.Reader.{has_earlier_number, is_doubtful, is_late, is_nak, is_one_more, is_opening, is_owed, is_unheard, reader_accused}
+use Rattle.osdp_monitor.specs.Reader.{has_earlier_number, is_late, is_nak, is_one_more, is_opening, is_owed, is_unheard, reader_accused}
 use Rattle.osdp_monitor.specs.Saying.{is_answer, is_foreign, is_refusal, reply_told, said}
 use Rattle.osdp_monitor_laws.proofs.Accusing.{IsAnswered, now_answered}
 use Rattle.osdp_monitor_laws.proofs.Agreeing.{none_some, same_some, sent_asked}
@@ -24,7 +24,7 @@ use Rattle.osdp_monitor_laws.proofs.Late.{none_owed, says_answer, unheard_doubtf
 use Rattle.osdp_monitor_laws.proofs.Missing.{device_of, sent_told}
 use Rattle.osdp_monitor_laws.proofs.Naming.{IsFresh, heard, in_time, is_fresh, line7, quiet_items, whole}
 use Rattle.osdp_monitor_laws.proofs.Seconds.{nothing_more, replied}
-use Rattle.osdp_monitor_laws.proofs.Remembering.{after_append, after_one, at_remembered, forgotten_append}
+use Rattle.osdp_monitor_laws.proofs.Remembering.{after_append, after_one, forgotten_append, sent_remembered}
 use Rattle.osdp_monitor_laws.proofs.Telling.{late_accused, reply_found, tells}
 use Rattle.osdp_monitor_laws.specs.Misses.{IsRemembered, IsTo, NothingForgotten}
 use Rattle.osdp_monitor_laws.specs.Names.{Exchange, Happens, items_of}
@@ -40,9 +40,6 @@ no_nak told other = refl
 other_than_nak : (told : Result Reply MsgFault) → is_nak told ≡ false → (n : nak.Nak) → told ≢ Ok (reply.Nak n)
 other_than_nak told other n same = false≢true (sym other ∙ ap is_nak same)
 
-all_true : (a b c d e : Bool) → a ≡ true → b ≡ true → c ≡ true → d ≡ true → e ≡ true → (a && b && c && d && e) ≡ true
-all_true a b c d e pa pb pc pd pe = rw (pa, pb, pc, pd, pe) refl
-
 says_refusal : (s : Said) → is_refusal s ≡ true → s ≡ Refusal
 says_refusal Refusal is = refl
 says_refusal _ is = absurd (false≢true is)
@@ -53,24 +50,19 @@ module _ (n : ℕ) (p : Packet) (k : Known) (known : IsFresh n p k) (r : Packet)
   rest = cond (is_refusal (said r)) (Some Restarted) (cond (is_opening k p r) (Some Opened) (notice_if (is_one_more k r && is_owed k) (late_notice k)))
 
   stays : reply_notice None k p r ≡ rest
-  stays =
-      cond-false (is_late k p r) (Some (late_notice k)) (cond (is_unheard k p r) (Some Unsure) rest) (in_time n p k known r)
-      ∙ cond-false (is_unheard k p r) (Some Unsure) rest (heard n p k known r)
+  stays = rw (in_time n p k known r, heard n p k known r)
 
   nothing_more_told : notice_if (is_one_more k r && is_owed k) (late_notice k) ≡ None
   nothing_more_told =
-      cond-false (is_one_more k r && is_owed k) (Some (late_notice k)) None
-      (and_right (is_one_more k r) (is_owed k) (or_from k.owing (is_some k.earlier) known.owing (ap is_some known.earlier)))
+      rw (and_right (is_one_more k r) (is_owed k) (or_from k.owing (is_some k.earlier) known.owing (ap is_some known.earlier)))
 
   worth : (notice : Notice) (o : Option ℕ) → moves_to (Some p) r ≡ o → IsWorth notice p r → reply_notice o k p r ≡ Some notice
   worth (Moved place) o moves is = ap (λ x. reply_notice x k p r) (sym moves ∙ is)
   worth Restarted o moves is =
-      ap (λ x. reply_notice x k p r) (sym moves ∙ is.0) ∙ stays ∙ cond-true (is_refusal (said r)) (Some Restarted) _ (ap is_refusal is.1)
+      ap (λ x. reply_notice x k p r) (sym moves ∙ is.0) ∙ stays ∙ rw is.1
   worth Opened o moves is =
-      ap (λ x. reply_notice x k p r) (sym moves ∙ is.0) ∙ stays ∙ cond-false (is_refusal (said r)) (Some Restarted) _ (ap is_refusal is.1)
-      ∙ cond-true (is_opening k p r) (Some Opened) _
-      (all_true (eqb p.sequence 0) (eqb r.sequence 0) (not k.answered) (is_answer (said r)) (not (is_nak (reply_told r))) (eq-eqb p.sequence 0 is.3)
-      (eq-eqb r.sequence 0 is.4) (not_from_false k.answered known.answered) (ap is_answer is.1) (not_from_false (is_nak (reply_told r)) (no_nak (reply_told r) is.2)))
+      ap (λ x. reply_notice x k p r) (sym moves ∙ is.0) ∙ stays
+      ∙ rw (is.1, eq-eqb p.sequence 0 is.3, eq-eqb r.sequence 0 is.4, known.answered, no_nak (reply_told r) is.2)
   worth notice o moves is = absurd is
 
   by_name : (x notice : Notice) → IsWorth x p r → Some x ≡ Some notice → IsWorth notice p r
@@ -148,8 +140,7 @@ missed : (a : ℕ) (last : Packet) (line : Knowledge) (p : Packet) → IsTo a p 
     → IsRemembered a (PacketItem p) line → IsMissed p ((after_packet line p).devices a)
 missed a last line p to known none is =
     let k = line.devices a in
-    at_remembered a (IsMissed p) line p is (λ away. absurd (away to.1)) (λ _ reply. absurd (false≢true (sym to.0 ∙ reply)))
-    (λ _ _. ((sent_asked k p).last, missed_sent k p k.last last known none)) (λ _ reply. absurd (false≢true (sym to.0 ∙ reply)))
+    sent_remembered a (IsMissed p) line p to is ((sent_asked k p).last, missed_sent k p k.last last known none)
 
 -- nothing is told at the next packet to the device, but a first doubt
 none_told : (line : Knowledge) (a : ℕ) (p q : Packet) → IsTo a q → a ≢ 127 → is_foreign q ≡ false → (line.devices a).last ≡ Some p
@@ -193,13 +184,11 @@ first : (a : ℕ) (line : Knowledge) (p : Packet) → IsTo a p → (line.devices
     → IsFirst p ((after_packet line p).devices a)
 first a line p to none is =
     let k = line.devices a in
-    at_remembered a (IsFirst p) line p is (λ away. absurd (away to.1)) (λ _ reply. absurd (false≢true (sym to.0 ∙ reply)))
-    (λ _ _. ((sent_asked k p).last, first_sent k p k.last none)) (λ _ reply. absurd (false≢true (sym to.0 ∙ reply)))
+    sent_remembered a (IsFirst p) line p to is ((sent_asked k p).last, first_sent k p k.last none)
 
 unsure : (k : Known) (p r : Packet) (o : Option ℕ) → o ≡ None → is_late k p r ≡ true → k.settled ≡ false → reply_notice o k p r ≡ Some Unsure
 unsure k p r (Some place) none late new = absurd cc
-unsure k p r None none late new =
-    cond-true (is_late k p r) (Some (late_notice k)) _ late ∙ ap Some (cond-false k.settled Late Unsure new)
+unsure k p r None none late new = rw (late, new)
 
 pub tells_too_little : TellsTooLittle
 tells_too_little line a p items r unknown to nothing quiet from plain says other stays =
@@ -207,21 +196,17 @@ tells_too_little line a p items r unknown to nothing quiet from plain says other
     let now = after_items line0 items in
     let k = now.devices a in
     let known : IsFirst p k = quiet_items a (IsFirst p) items line0 (first a line p to unknown nothing.0) nothing.1 quiet in
-    let late : is_late k p r ≡ true =
-    and_from (has_earlier_number k r) (not (eqb r.sequence p.sequence))
-    (and_from _ _ (tells r says) (or_left _ _ (or_left (not k.settled) _ (not_from_false k.settled known.1))))
-    (not_from_false (eqb r.sequence p.sequence) (ne_eqb r.sequence p.sequence other)) in
+    let late : is_late k p r ≡ true = rw (tells r says, known.1, ne_eqb r.sequence p.sequence other) in
     subst (λ (l : Knowledge). ((found_in l r).accusation ≡ None) × ((found_in l r).notice ≡ Some Unsure)) (sym (after_one line (PacketItem p) items))
     (reply_found (λ (f : Found). (f.accusation ≡ None) × (f.notice ≡ Some Unsure)) now a p r from (device_of line a p to.1 nothing.0) plain known.0
     (late_accused k p r late, unsure k p r (moves_to (Some p) r) stays late known.1))
 
 unheard_accused : (k : Known) (p r : Packet) → is_unheard k p r ≡ true → reader_accused k p r ≡ None
-unheard_accused k p r unheard =
-    cond-true (is_doubtful k p r) None _ (unheard_doubtful k p r unheard)
+unheard_accused k p r unheard = rw (unheard_doubtful k p r unheard)
 
 unheard_told : (k : Known) (p r : Packet) (o : Option ℕ) → o ≡ None → is_late k p r ≡ false → is_unheard k p r ≡ true → reply_notice o k p r ≡ Some Unsure
 unheard_told k p r (Some place) none prompt unheard = absurd cc
-unheard_told k p r None none prompt unheard = cond-false (is_late k p r) (Some (late_notice k)) _ prompt ∙ cond-true (is_unheard k p r) (Some Unsure) _ unheard
+unheard_told k p r None none prompt unheard = rw (prompt, unheard)
 
 pub tells_unheard : TellsUnheard
 tells_unheard line a e r s is from answers own nothing second plain says number stays =
@@ -234,9 +219,7 @@ tells_unheard line a e r s is from answers own nothing second plain says number 
     let taken : IsAnswered e.last k = now_answered a e.last before r fresh.last from.1 from.0 answers own remembers in
     let none : has_earlier_number k s ≡ false = none_owed k s known.settled known.earlier known.older in
     let prompt : is_late k e.last s ≡ false = and_left (has_earlier_number k s) (not (eqb s.sequence e.last.sequence)) none in
-    let unheard : is_unheard k e.last s ≡ true =
-    and_from (is_answer (said s) && k.answered) (eqb s.sequence (next_sequence e.last.sequence))
-    (and_from (is_answer (said s)) k.answered (ap is_answer says) taken.1) (eq-eqb s.sequence (next_sequence e.last.sequence) number) in
+    let unheard : is_unheard k e.last s ≡ true = rw (says, taken.1, eq-eqb s.sequence (next_sequence e.last.sequence) number) in
     subst (λ (l : Knowledge). ((found_in l s).accusation ≡ None) × ((found_in l s).notice ≡ Some Unsure)) (sym (more line a e is r))
     (reply_found (λ (f : Found). (f.accusation ≡ None) × (f.notice ≡ Some Unsure)) now a e.last s second (device_of line a e.first is.first_to.1 is.nothing.0) plain
     known.last (unheard_accused k e.last s unheard, unheard_told k e.last s (moves_to (Some e.last) s) stays prompt unheard))

@@ -1,6 +1,6 @@
 -- What is known of the address of a panel's device fits the panel, whatever it sends and hears.
 use Rattle.std.proofs.Common.{◌≡◌, ◌⊎◌, inl, inr, ℕ, ◌+◌, Bool, true, false, cond, eqb, ◌&&◌, List, [], ◌∷◌, Option, Some, None, refl, sym, subst, ap, ◌∙◌}
-use Rattle.std.proofs.lemmas.Bool.{and_parts, cond-false, cond-true, cond_both, eq-eqb, eqb-true, false≢true, ne_eqb, or_cases}
+use Rattle.std.proofs.lemmas.Bool.{and_parts, cond_both, eq-eqb, eqb-true, false≢true, ne_eqb, or_cases}
 use Rattle.std.specs.Prelude.{nat_le, nat_lt}
 use Rattle.osdp_controller.specs.Answers.{is_not_taken, meaning_of}
 use Rattle.osdp_controller.specs.declared.config.ControllerConfig.{ControllerConfig}
@@ -88,10 +88,7 @@ by_rules k q f fine = cond_both (is_first_doubt (Some q) k f) None (sent_after q
 zero_may : (k : Known) (f : Packet) (o : Option Packet) → f.sequence ≡ 0 → panel_accused o k f ≡ None
 zero_may k f None zero = refl
 zero_may k f (Some q) zero =
-    by_rules k q f
-    (cond-true (eqb f.sequence 0) None
-    (cond (eqb f.sequence q.sequence) (cond (same_packet q f) None (Some AnotherPacket)) (cond (eqb f.sequence (next_sequence q.sequence)) (cond k.answered None (Some NotAnswered)) (Some SentOutOfTurn)))
-    (eq-eqb f.sequence 0 zero))
+    by_rules k q f (rw (eq-eqb f.sequence 0 zero))
 
 -- the last packet once more
 again_after : (f : Packet) (answered : Bool) → sent_after f answered f ≡ None
@@ -99,8 +96,7 @@ again_after f answered =
     cond_both (eqb f.sequence 0) None
     (cond (eqb f.sequence f.sequence) (cond (same_packet f f) None (Some AnotherPacket)) (cond (eqb f.sequence (next_sequence f.sequence)) (cond answered None (Some NotAnswered)) (Some SentOutOfTurn)))
     (λ a. a ≡ None) (λ _. refl)
-    (λ _. cond-true (eqb f.sequence f.sequence) (cond (same_packet f f) None (Some AnotherPacket)) (cond (eqb f.sequence (next_sequence f.sequence)) (cond answered None (Some NotAnswered)) (Some SentOutOfTurn)) (eq-eqb f.sequence f.sequence refl)
-    ∙ cond-true (same_packet f f) None (Some AnotherPacket) (is_packet f))
+    (λ _. rw (is_packet f, eq-eqb f.sequence f.sequence refl))
 
 again_may : (k : Known) (f : Packet) (o : Option Packet) → ((q : Packet) → o ≡ Some q → q ≡ f) → panel_accused o k f ≡ None
 again_may k f None same = refl
@@ -116,15 +112,13 @@ next_may : (k : Known) (f : Packet) (number : ℕ) (o : Option Packet) → k.las
 next_may k f number None is next rest = refl
 next_may k f number (Some q) is next rest =
     let last = rest q is in
-    let turn = cond (eqb f.sequence (next_sequence q.sequence)) (cond k.answered None (Some NotAnswered)) (Some SentOutOfTurn) in
     by_rules k q f
-    (cond-false (eqb f.sequence 0) None (cond (eqb f.sequence q.sequence) (cond (same_packet q f) None (Some AnotherPacket)) turn)
-    (ne_eqb f.sequence 0 (λ zero. next_above_zero number (sym next ∙ zero)))
-    ∙ cond-false (eqb f.sequence q.sequence) (cond (same_packet q f) None (Some AnotherPacket)) turn
-    (ne_eqb f.sequence q.sequence (λ same. next_differs number (sym next ∙ same ∙ last.0)))
-    ∙ cond-true (eqb f.sequence (next_sequence q.sequence)) (cond k.answered None (Some NotAnswered)) (Some SentOutOfTurn)
-    (eq-eqb f.sequence (next_sequence q.sequence) (next ∙ ap next_sequence (sym last.0)))
-    ∙ cond-true k.answered None (Some NotAnswered) last.1)
+    (rw (
+      ne_eqb f.sequence 0 (λ zero. next_above_zero number (sym next ∙ zero)),
+      ne_eqb f.sequence q.sequence (λ same. next_differs number (sym next ∙ same ∙ last.0)),
+      eq-eqb f.sequence (next_sequence q.sequence) (next ∙ ap next_sequence (sym last.0)),
+      last.1,
+    ))
 
 module _ (reached : Bool) (k : Known) where
   begin_fits : (x : Exchange) (number : ℕ) (s : Session) (waiting : List Command) → MaySend k (frame number s.config x)

@@ -11,7 +11,7 @@ use Rattle.osdp_monitor.specs.Panel.{after_sent}
 use Rattle.osdp_monitor.specs.Reader.{after_reply, is_unheard}
 use Rattle.osdp_monitor.specs.Saying.{is_foreign}
 use Rattle.osdp_monitor_laws.proofs.Knowing.{at_known, at_last}
-use Rattle.osdp_monitor_laws.specs.Misses.{Each, IsRemembered, NothingForgotten, OfAddress}
+use Rattle.osdp_monitor_laws.specs.Misses.{Each, IsRemembered, IsTo, NothingForgotten, OfAddress}
 
 module _ (a : ℕ) (Q : Known → Type 0) where
   at_moved : (moved : Option ℕ) (address : ℕ) (k : Known) (devices : ℕ → Known) → ((place : ℕ) → moved ≡ Some place → (place ≢ a) × (address ≢ a))
@@ -43,6 +43,13 @@ module _ (a : ℕ) (Q : Known → Type 0) where
       other)
       (λ command. at_known Q p.address a (after_sent (devices p.address).last (devices p.address) p) devices
       (λ here. subst (λ b. Q (after_sent (devices b).last (devices b) p)) (sym here) (sent here command)) other)))
+
+  -- .. of a packet that was sent there
+  pub sent_remembered : (line : Knowledge) (p : Packet) → IsTo a p → IsRemembered a (PacketItem p) line
+      → Q (after_sent (line.devices a).last (line.devices a) p) → Q ((after_packet line p).devices a)
+  sent_remembered line p to is known =
+      at_remembered line p is (λ away. absurd (away to.1)) (λ _ reply. absurd (false≢true (sym to.0 ∙ reply))) (λ _ _. known)
+      (λ _ reply. absurd (false≢true (sym to.0 ∙ reply)))
 
 -- after items one after the other
 pub after_append : (line : Knowledge) (xs ys : List RunItem) → after_items line (xs ++ ys) ≡ after_items (after_items line xs) ys

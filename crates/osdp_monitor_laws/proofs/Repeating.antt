@@ -1,22 +1,21 @@
 -- What the answer to a repeat is accused of, by its name.
-use Rattle.std.proofs.Common.{◌≡◌, ◌≢◌, inl, inr, ℕ, false, cond, eqb, ◌&&◌, ◌||◌, not, ◌∷◌, ◌++◌, Some, None, refl, sym, subst, ap, ◌∙◌}
-use Rattle.std.proofs.lemmas.Bool.{and_left, cond-false, cond-true, cond_both, eq-eqb, false≢true, false_from_ne_true, not-false, not-true, not_from_false, not_from_true, or_left, or_right}
-use Rattle.std.specs.Prelude.{is_some}
+use Rattle.std.proofs.Common.{◌≡◌, ◌≢◌, inl, inr, ℕ, false, cond, eqb, ◌||◌, not, ◌∷◌, ◌++◌, Some, None, refl, sym, subst, ap, ◌∙◌}
+use Rattle.std.proofs.lemmas.Bool.{cond_both, eq-eqb, false≢true, false_from_ne_true, not-false, not-true, not_from_true, or_left, or_right}
 use Rattle.osdp_frame.specs.Packet.{Packet}
 use Rattle.osdp_frame.specs.Reading.{PacketItem}
 use Rattle.osdp_monitor.specs.declared.accusation.Accusation.{Accusation}
-use Rattle.osdp_monitor.specs.declared.accusation.Accusation.TheVariants.{AnotherCheck, AnotherNumber, AnotherReply, BusyToRepeat, SecondReply}
+use Rattle.osdp_monitor.specs.declared.accusation.Accusation.TheVariants.{AnotherCheck, AnotherReply, BusyToRepeat}
 use Rattle.osdp_monitor.specs.declared.found.Found.{Found}
 use Rattle.osdp_monitor.specs.declared.said.Said.TheVariants.{Busy, Answer}
 use Rattle.osdp_monitor.specs.Known.{Known}
 use Rattle.osdp_monitor.specs.Line.{Knowledge, after_items, after_packet, found_in}
-use Rattle.osdp_monitor.specs.Reader.{answer_accused, is_doubtful, is_one_more, is_owed, reader_accused, repeat_reply, reply_accused}
-use Rattle.osdp_monitor.specs.Saying.{is_damage, said}
+use Rattle.osdp_monitor.specs.Reader.{answer_accused, reader_accused, repeat_reply, reply_accused}
+use Rattle.osdp_monitor.specs.Saying.{said}
 use Rattle.osdp_monitor_laws.proofs.Agreeing.{none_some, same_some, sent_asked}
 use Rattle.osdp_monitor_laws.proofs.Breaking.{checks_equal, checks_other}
 use Rattle.osdp_monitor_laws.proofs.Missing.{IsPending, IsStored, Keeps, device_of, first_pending, none_doubtful, old_repeat, pending_step, stored_sent, stored_step, taken_stored}
 use Rattle.osdp_monitor_laws.proofs.Naming.{checks_differ, checks_same, quiet_items}
-use Rattle.osdp_monitor_laws.proofs.Remembering.{after_append, after_one, at_remembered, forgotten_append, items_keep}
+use Rattle.osdp_monitor_laws.proofs.Remembering.{after_append, after_one, forgotten_append, items_keep, sent_remembered}
 use Rattle.osdp_rules.proofs.Comparing.{is_packet, packet_is}
 use Rattle.osdp_monitor_laws.proofs.Telling.{reply_found}
 use Rattle.osdp_monitor_laws.specs.Misses.{IsRemembered, IsTo, RefusesNothing, SaysOther, TakesNothing}
@@ -31,9 +30,7 @@ again : (a n : ℕ) (r : Packet) (line : Knowledge) (t : Packet) → n ≢ 0 →
     → IsRemembered a (PacketItem t) line → IsAgain t n r ((after_packet line t).devices a)
 again a n r line t above to number known is =
     let k = line.devices a in
-    at_remembered a (IsAgain t n r) line t is (λ away. absurd (away to.1)) (λ _ reply. absurd (false≢true (sym to.0 ∙ reply)))
-    (λ _ _. ((sent_asked k t).last, stored_sent n r k t k.last above refl number known, (sent_asked k t).replied))
-    (λ _ reply. absurd (false≢true (sym to.0 ∙ reply)))
+    sent_remembered a (IsAgain t n r) line t to is ((sent_asked k t).last, stored_sent n r k t k.last above refl number known, (sent_asked k t).replied)
 
 module _ (e : Repeated) (k : Known) (above : e.first.sequence ≢ 0) (same : e.again.sequence ≡ e.first.sequence)
     (known : IsAgain e.again e.first.sequence e.reply k) (s : Packet) (says : SaysOther e.first.sequence s) where
@@ -41,11 +38,7 @@ module _ (e : Repeated) (k : Known) (above : e.first.sequence ≢ 0) (same : e.a
   stored = old_repeat k e.again e.first.sequence above same known.1.0 ∙ known.1.1
 
   judged : reader_accused k e.again s ≡ reply_accused (said s) k e.again s
-  judged =
-      cond-false (is_doubtful k e.again s) None (cond (is_one_more k s && not (is_owed k)) (Some SecondReply) (reply_accused (said s) k e.again s))
-      (none_doubtful k e.again e.reply s e.first.sequence above same stored says)
-      ∙ cond-false (is_one_more k s && not (is_owed k)) (Some SecondReply) (reply_accused (said s) k e.again s)
-      (and_left (is_one_more k s) (not (is_owed k)) (and_left k.replied (not (is_damage (said s))) known.2))
+  judged = rw (none_doubtful k e.again e.reply s e.first.sequence above same stored says, known.2)
 
   by_answer : said s ≡ Answer → reader_accused k e.again s ≡ cond (same_packet e.reply s) None (Some AnotherReply)
   by_answer answer = judged ∙ ap (λ t. reply_accused t k e.again s) answer ∙ ap (λ o. answer_accused o k e.again s) stored
@@ -62,24 +55,13 @@ module _ (e : Repeated) (k : Known) (above : e.first.sequence ≢ 0) (same : e.a
 
   by_busy : said s ≡ Busy → reader_accused k e.again s ≡ cond (not (same_check s.check e.again.check)) (Some AnotherCheck) (Some BusyToRepeat)
   by_busy busy =
-      judged ∙ ap (λ t. reply_accused t k e.again s) busy
-      ∙ cond-false (not (eqb s.sequence e.again.sequence || eqb s.sequence 0)) (Some AnotherNumber) (cond (not (same_check s.check e.again.check)) (Some AnotherCheck) (cond (is_some (repeat_reply k e.again)) (Some BusyToRepeat) None))
-      (fits busy)
-      ∙ ap (λ o. cond (not (same_check s.check e.again.check)) (Some AnotherCheck) (cond (is_some o) (Some BusyToRepeat) None)) stored
+      judged ∙ rw (busy, fits busy, stored)
 
   named : (accusation : Accusation) → BreaksAgain accusation e s → reader_accused k e.again s ≡ Some accusation
   named AnotherReply (answer, other) =
-      by_answer answer
-      ∙ cond-false (same_packet e.reply s) None (Some AnotherReply)
-      (false_from_ne_true (same_packet e.reply s) (λ is. other (sym (packet_is e.reply s is))))
-  named BusyToRepeat (busy, check) =
-      by_busy busy
-      ∙ cond-false (not (same_check s.check e.again.check)) (Some AnotherCheck) (Some BusyToRepeat)
-      (not_from_true (same_check s.check e.again.check) (checks_same s.check e.again.check check))
-  named AnotherCheck (busy, differs) =
-      by_busy busy
-      ∙ cond-true (not (same_check s.check e.again.check)) (Some AnotherCheck) (Some BusyToRepeat)
-      (not_from_false (same_check s.check e.again.check) (checks_differ s.check e.again.check differs))
+      by_answer answer ∙ rw (false_from_ne_true (same_packet e.reply s) (λ is. other (sym (packet_is e.reply s is))))
+  named BusyToRepeat (busy, check) = by_busy busy ∙ rw (checks_same s.check e.again.check check)
+  named AnotherCheck (busy, differs) = by_busy busy ∙ rw (checks_differ s.check e.again.check differs)
   named accusation never = absurd never
 
   by_name : (x accusation : Accusation) → BreaksAgain x e s → Some x ≡ Some accusation → BreaksAgain accusation e s

@@ -1,9 +1,9 @@
 -- How a reader may answer that agrees with what is known: it is not accused, and agrees then, whether or not the reply comes.
-use Rattle.std.proofs.Common.{◌≡◌, ◌≢◌, ◌⊎◌, inl, inr, ℕ, Bool, true, false, cond, eqb, ◌&&◌, ◌||◌, not, Option, Some, None, refl, sym, subst, ap, ◌∙◌}
-use Rattle.std.proofs.lemmas.Bool.{and_from, and_left, and_right, cond-false, cond-true, cond_both, eq-eqb, false≢true, ne_eqb, not_from_false, not_from_true, or_from, or_left, or_right}
+use Rattle.std.proofs.Common.{◌≡◌, ◌≢◌, ◌⊎◌, inl, inr, ℕ, Bool, true, false, cond, eqb, ◌&&◌, not, Option, Some, None, refl, sym, subst, ap, ◌∙◌}
+use Rattle.std.proofs.lemmas.Bool.{and_left, and_right, cond-false, cond_both, eq-eqb, false≢true, ne_eqb, or_left, or_right}
 use Rattle.std.specs.Prelude.{is_some}
 use Rattle.osdp_frame.specs.Packet.{Packet, next_sequence}
-use Rattle.osdp_monitor.specs.declared.accusation.Accusation.TheVariants.{AnotherCheck, AnotherNumber, AnotherReply, BusyToRepeat, RefusedZero, SecondReply, TakenOutOfTurn}
+use Rattle.osdp_monitor.specs.declared.accusation.Accusation.TheVariants.{SecondReply}
 use Rattle.osdp_monitor.specs.declared.said.Said.{Said}
 use Rattle.osdp_monitor.specs.declared.said.Said.TheVariants.{Busy, Damage, Refusal, Answer}
 use Rattle.osdp_monitor.specs.Known.{Known, is_number, nothing_known}
@@ -19,11 +19,8 @@ module _ (k : Known) (p q : Packet) (asked : IsAsked k p) where
   -- one reply to one copy: it is judged by what it says
   judged : (s : Said) → said q ≡ s → reply_accused s k p q ≡ None → reader_accused k p q ≡ None
   judged s says fine =
-      let by_count = cond (is_one_more k q && not (is_owed k)) (Some SecondReply) (reply_accused (said q) k p q) in
-      cond_both (is_doubtful k p q) None by_count (λ a. a ≡ None) (λ _. refl)
-      (λ _. cond-false (is_one_more k q && not (is_owed k)) (Some SecondReply) (reply_accused (said q) k p q)
-      (and_left (is_one_more k q) (not (is_owed k)) (and_left k.replied (not (is_damage (said q))) asked.replied))
-      ∙ ap (λ t. reply_accused t k p q) says ∙ fine)
+      cond_both (is_doubtful k p q) None (cond (is_one_more k q && not (is_owed k)) (Some SecondReply) (reply_accused (said q) k p q)) (λ a. a ≡ None) (λ _. refl)
+      (λ _. rw (and_left (is_one_more k q) (not (is_owed k)) (and_left k.replied (not (is_damage (said q))) asked.replied), says) fine)
 
   became : (last : Option ℕ) (stored : Option Packet) (s : Said) → said q ≡ s → Agrees k last stored → Agrees (after_reply_of s k p q) last stored
       → Agrees (after_reply k p q) last stored
@@ -33,12 +30,8 @@ module _ (k : Known) (p q : Packet) (asked : IsAsked k p) where
 
 -- it is no known repeat
 pub no_repeat : (k : Known) (p : Packet) → (p.sequence ≡ 0) ⊎ (is_number k.taken p.sequence ≡ false) → repeat_reply k p ≡ None
-no_repeat k p (inl zero) =
-    cond-false (not (eqb p.sequence 0) && is_number k.taken p.sequence) k.stored None
-    (and_left (not (eqb p.sequence 0)) (is_number k.taken p.sequence) (not_from_true (eqb p.sequence 0) (eq-eqb p.sequence 0 zero)))
-no_repeat k p (inr other) =
-    cond-false (not (eqb p.sequence 0) && is_number k.taken p.sequence) k.stored None
-    (and_right (not (eqb p.sequence 0)) (is_number k.taken p.sequence) other)
+no_repeat k p (inl zero) = rw (eq-eqb p.sequence 0 zero)
+no_repeat k p (inr other) = rw (and_right (not (eqb p.sequence 0)) (is_number k.taken p.sequence) other)
 
 -- number 0, or the one after the last
 abbrev pub IsNext : Option ℕ → ℕ → Type 0
@@ -66,26 +59,19 @@ pub record Replies (k : Known) (p q : Packet) (last : Option ℕ) (stored : Opti
 turn_fine : (o : Option ℕ) (p q : Packet) → taken_accused p q ≡ None
     → (p.sequence ≡ 0) ⊎ ((n : ℕ) → o ≡ Some n → p.sequence ≡ next_sequence n) → turn_accused o p q ≡ None
 turn_fine None p q fine turn = cond_both (eqb p.sequence 0) (taken_accused p q) None (λ a. a ≡ None) (λ _. fine) (λ _. refl)
-turn_fine (Some n) p q fine (inl zero) =
-    cond-true (eqb p.sequence 0 || eqb p.sequence (next_sequence n)) (taken_accused p q) (cond (eqb p.sequence n) None (Some TakenOutOfTurn))
-    (or_left (eqb p.sequence 0) (eqb p.sequence (next_sequence n)) (eq-eqb p.sequence 0 zero)) ∙ fine
+turn_fine (Some n) p q fine (inl zero) = rw (or_left (eqb p.sequence 0) (eqb p.sequence (next_sequence n)) (eq-eqb p.sequence 0 zero)) fine
 turn_fine (Some n) p q fine (inr next) =
-    cond-true (eqb p.sequence 0 || eqb p.sequence (next_sequence n)) (taken_accused p q) (cond (eqb p.sequence n) None (Some TakenOutOfTurn))
-    (or_right (eqb p.sequence 0) (eqb p.sequence (next_sequence n)) (eq-eqb p.sequence (next_sequence n) (next n refl))) ∙ fine
+    rw (or_right (eqb p.sequence 0) (eqb p.sequence (next_sequence n)) (eq-eqb p.sequence (next_sequence n) (next n refl))) fine
 
 -- the number taken last
 turn_again : (o : Option ℕ) (p q : Packet) → p.sequence ≢ 0 → ((n : ℕ) → o ≡ Some n → p.sequence ≡ n) → turn_accused o p q ≡ None
-turn_again None p q above same = cond-false (eqb p.sequence 0) (taken_accused p q) None (ne_eqb p.sequence 0 above)
+turn_again None p q above same = rw (ne_eqb p.sequence 0 above)
 turn_again (Some n) p q above same =
-    cond-false (eqb p.sequence 0 || eqb p.sequence (next_sequence n)) (taken_accused p q) (cond (eqb p.sequence n) None (Some TakenOutOfTurn))
-    (or_from (eqb p.sequence 0) (eqb p.sequence (next_sequence n)) (ne_eqb p.sequence 0 above)
-    (ne_eqb p.sequence (next_sequence n) (λ next. next_differs n (sym next ∙ same n refl))))
-    ∙ cond-true (eqb p.sequence n) None (Some TakenOutOfTurn) (eq-eqb p.sequence n (same n refl))
+    rw (ne_eqb p.sequence 0 above, ne_eqb p.sequence (next_sequence n) (λ next. next_differs n (sym next ∙ same n refl)), eq-eqb p.sequence n (same n refl))
 
 -- with its number
 numbered : (k : Known) (p q : Packet) → q.sequence ≡ p.sequence → turn_accused k.taken p q ≡ None → answer_accused None k p q ≡ None
-numbered k p q number fine =
-    cond-true (eqb q.sequence p.sequence) (turn_accused k.taken p q) (Some AnotherNumber) (eq-eqb q.sequence p.sequence number) ∙ fine
+numbered k p q number fine = rw (eq-eqb q.sequence p.sequence number) fine
 
 -- a reply that takes the number
 pub taking_agrees : (k : Known) (p q : Packet) (stored : Option Packet) → (p.sequence ≢ 0 → stored ≡ Some q)
@@ -157,14 +143,10 @@ module _ (k : Known) (p : Packet) (last : Option ℕ) (stored : Option Packet) (
 
   pub busy : (q : Packet) → IsNext last p.sequence → said q ≡ Busy → (q.sequence ≡ p.sequence) ⊎ (q.sequence ≡ 0) → same_check q.check p.check ≡ true → Replies k p q last stored
   busy q next says number check = record {
-    fine = judged k p q asked Busy says
-        (cond-false (not (eqb q.sequence p.sequence || eqb q.sequence 0)) (Some AnotherNumber) (cond (not (same_check q.check p.check)) (Some AnotherCheck) (cond (is_some (repeat_reply k p)) (Some BusyToRepeat) None))
-        (not_from_true (eqb q.sequence p.sequence || eqb q.sequence 0) (elim number [
-          | inl own ↦ or_left (eqb q.sequence p.sequence) (eqb q.sequence 0) (eq-eqb q.sequence p.sequence own)
-          | inr zero ↦ or_right (eqb q.sequence p.sequence) (eqb q.sequence 0) (eq-eqb q.sequence 0 zero)
-        ]))
-        ∙ cond-false (not (same_check q.check p.check)) (Some AnotherCheck) (cond (is_some (repeat_reply k p)) (Some BusyToRepeat) None) (not_from_true (same_check q.check p.check) check)
-        ∙ ap (λ o. cond (is_some o) (Some BusyToRepeat) None) (next_is_new next));
+    fine = judged k p q asked Busy says (elim number [
+      | inl own ↦ rw (eq-eqb q.sequence p.sequence own, check, next_is_new next)
+      | inr zero ↦ rw (or_right (eqb q.sequence p.sequence) (eqb q.sequence 0) (eq-eqb q.sequence 0 zero), check, next_is_new next)
+    ]);
     lost = agrees;
     after = became k p q asked last stored Busy says agrees (busy_agrees next);
   }
@@ -176,11 +158,7 @@ module _ (k : Known) (p : Packet) (last : Option ℕ) (stored : Option Packet) (
   -- NAK 4
   pub refusing : (q : Packet) → p.sequence ≢ 0 → said q ≡ Refusal → q.sequence ≡ p.sequence → same_check q.check p.check ≡ true → Replies k p q last stored
   refusing q above says number check = record {
-    fine = judged k p q asked Refusal says
-        (cond-false (not (eqb q.sequence p.sequence)) (Some AnotherNumber) (cond (not (same_check q.check p.check)) (Some AnotherCheck) (cond (eqb p.sequence 0) (Some RefusedZero) None))
-        (not_from_true (eqb q.sequence p.sequence) (eq-eqb q.sequence p.sequence number))
-        ∙ cond-false (not (same_check q.check p.check)) (Some AnotherCheck) (cond (eqb p.sequence 0) (Some RefusedZero) None) (not_from_true (same_check q.check p.check) check)
-        ∙ cond-false (eqb p.sequence 0) (Some RefusedZero) None (ne_eqb p.sequence 0 above));
+    fine = judged k p q asked Refusal says (rw (eq-eqb q.sequence p.sequence number, check, ne_eqb p.sequence 0 above));
     lost = agrees;
     after = became k p q asked last stored Refusal says agrees (λ n m taken has. absurd (none_some n taken));
   }
@@ -192,16 +170,13 @@ module _ (k : Known) (p : Packet) (last : Option ℕ) (stored : Option Packet) (
         numbered k p q number (turn_again k.taken p q above (λ j other. level.same ∙ same_some n j (sym taken ∙ other)))
     by_stored (Some s) is n taken level =
         let same : q ≡ s = same_some q s (sym kept ∙ level.keeps s is above) in
-        cond-true (same_packet s q) None (Some AnotherReply) (subst (λ x. same_packet x q ≡ true) same (is_packet q))
+        rw (subst (λ x. same_packet x q ≡ true) same (is_packet q))
 
     known_again : (n : ℕ) → k.taken ≡ Some n → Level k stored n p.sequence ⊎ Unheard k stored n p.sequence
         → answer_accused (repeat_reply k p) k p q ≡ None
     known_again n taken (inl level) =
-        let known : is_number k.taken p.sequence ≡ true =
-        subst (λ o. is_number o p.sequence ≡ true) (sym taken) (eq-eqb n p.sequence (sym level.same)) in
-        ap (λ o. answer_accused o k p q) (cond-true (not (eqb p.sequence 0) && is_number k.taken p.sequence) k.stored None
-        (and_from (not (eqb p.sequence 0)) (is_number k.taken p.sequence) (not_from_false (eqb p.sequence 0) (ne_eqb p.sequence 0 above)) known))
-        ∙ by_stored k.stored refl n taken level
+        let known : repeat_reply k p ≡ k.stored = rw (ne_eqb p.sequence 0 above, taken, eq-eqb n p.sequence (sym level.same)) in
+        ap (λ o. answer_accused o k p q) known ∙ by_stored k.stored refl n taken level
     known_again n taken (inr u) =
         let same : u.packet ≡ p = same_some u.packet p (sym u.last ∙ asked.last) in
         let reply : u.reply ≡ q = same_some u.reply q (sym u.kept ∙ kept) in

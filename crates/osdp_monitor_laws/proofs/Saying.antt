@@ -1,6 +1,6 @@
 -- What a reader says anew, as a listener reads it.
-use Rattle.std.proofs.Common.{◌≡◌, ◌≢◌, ℕ, suc, true, false, cond, eqb, not, Some, None, Result, Ok, Err, refl, sym, subst, ap, ◌∙◌}
-use Rattle.std.proofs.lemmas.Bool.{and_left, and_right, cond-false, cond-true, ne_eqb, not_from_true}
+use Rattle.std.proofs.Common.{◌≡◌, ◌≢◌, ℕ, suc, true, false, eqb, not, Some, None, Result, Ok, Err, refl, sym, subst, ap, ◌∙◌}
+use Rattle.std.proofs.lemmas.Bool.{and_left, and_right, ne_eqb, not_from_true}
 use Rattle.std.specs.Prelude.{IfSome}
 use Rattle.osdp_controller.specs.Answers.{meaning_by_reading, meaning_by_reply}
 use Rattle.osdp_frame.specs.Packet.{Packet}
@@ -11,16 +11,14 @@ use Rattle.osdp_msg.specs.declared.command.Command.TheVariants as command
 use Rattle.osdp_msg.specs.declared.fault.MsgFault.{MsgFault}
 use Rattle.osdp_msg.specs.declared.reply.Reply.{Reply}
 use Rattle.osdp_msg_laws.specs.Laws.{FitsAPacket, ReadsTheTable}
-use Rattle.osdp_monitor.specs.declared.accusation.Accusation.TheVariants.{AnotherCheck, EventAtZero, UnfitReply}
 use Rattle.osdp_monitor.specs.declared.said.Said.TheVariants.{Answer}
-use Rattle.osdp_monitor.specs.Reader.{fit_accused, is_event_at_zero, is_plain, reading_accused, taken_accused}
-use Rattle.osdp_monitor.specs.Saying.{reply_told, said, said_by}
+use Rattle.osdp_monitor.specs.Reader.{fit_accused, is_event_at_zero, is_plain, taken_accused}
+use Rattle.osdp_monitor.specs.Saying.{said, said_by}
 use Rattle.osdp_reader.specs.Replies.{reply_packet}
 use Rattle.osdp_reader.specs.Table.{Outcome, command_in}
 use Rattle.osdp_monitor_laws.proofs.Agreeing.{same_some}
 use Rattle.osdp_monitor_laws.proofs.FittingReplies.{IsAnswer}
 use Rattle.osdp_rules.proofs.Comparing.{check_same}
-use Rattle.osdp_rules.specs.Packets.{same_check}
 
 -- a reply is read from its code and data
 abbrev pub ReadsReplies : Type 0
@@ -51,15 +49,13 @@ fits_command : (p : Packet) (x : Reply) (read : Result Command MsgFault) → com
 fits_command p x (Err fault) is fitting = refl
 fits_command p x (Ok c) is fitting =
     let both = fitting c is in
-    cond-false (not (reply_fits c x)) (Some UnfitReply) (cond (is_event_at_zero c x p.sequence) (Some EventAtZero) None) (not_from_true (reply_fits c x) both.0)
-    ∙ cond-false (is_event_at_zero c x p.sequence) (Some EventAtZero) None both.1
+    rw (both.0, both.1)
 
 pub taken_in_order : ReadsReplies → (p : Packet) (number : ℕ) (x : Reply) → ReplyFits x
     → ((c : Command) → command_in p ≡ Ok c → (reply_fits c x ≡ true) × (is_event_at_zero c x p.sequence ≡ false))
     → taken_accused p (reply_packet p number x) ≡ None
 taken_in_order reads p number x fits fitting =
-    cond-true (same_check p.check p.check) (reading_accused (reply_told (reply_packet p number x)) p) (Some AnotherCheck) (check_same p.check)
-    ∙ ap (λ t. reading_accused t p) (reads x fits) ∙ fits_command p x (command_in p) refl fitting
+    rw (check_same p.check, reads x fits) (fits_command p x (command_in p) refl fitting)
 
 -- what a packet that is acted on is answered
 pub record IsActedOn {H : Type 0} (p : Packet) (o : Outcome H) : Type 0 where

@@ -1,15 +1,15 @@
 -- A second reply to a packet: it is accused so.
-use Rattle.std.proofs.Common.{◌≡◌, ◌≢◌, ℕ, true, false, cond, eqb, ◌&&◌, not, [], ◌∷◌, ◌++◌, Some, None, refl, sym, subst, ap, ◌∙◌}
-use Rattle.std.proofs.lemmas.Bool.{and_from, and_left, and_right, cond-false, cond-true, cond_both, false≢true, ne_eqb, not_from_false, or_from}
+use Rattle.std.proofs.Common.{◌≡◌, ◌≢◌, ℕ, true, false, eqb, ◌&&◌, not, [], ◌∷◌, ◌++◌, Some, None, refl, sym, subst, ap, ◌∙◌}
+use Rattle.std.proofs.lemmas.Bool.{and_left, and_right, cond_both, false≢true, ne_eqb, or_from}
 use Rattle.std.specs.Prelude.{is_some}
 use Rattle.osdp_frame.specs.Packet.{Packet, next_sequence}
 use Rattle.osdp_frame.specs.Reading.{PacketItem}
 use Rattle.osdp_monitor.specs.declared.accusation.Accusation.TheVariants.{SecondReply}
 use Rattle.osdp_monitor.specs.declared.said.Said.{Said}
-use Rattle.osdp_monitor.specs.declared.said.Said.TheVariants.{Busy, Damage, Refusal, Answer}
+use Rattle.osdp_monitor.specs.declared.said.Said.TheVariants.{Damage, Answer}
 use Rattle.osdp_monitor.specs.Known.{Known}
 use Rattle.osdp_monitor.specs.Line.{Knowledge, after_items, after_packet, found_in}
-use Rattle.osdp_monitor.specs.Reader.{after_reply, after_reply_of, has_earlier_number, has_no_number, is_doubtful, is_late, is_one_more, is_owed, is_stray, reader_accused, repeat_reply, reply_accused}
+use Rattle.osdp_monitor.specs.Reader.{after_reply, after_reply_of, has_earlier_number, has_no_number, is_doubtful, is_late, is_owed, is_stray, reader_accused, repeat_reply}
 use Rattle.osdp_monitor.specs.Saying.{is_answer, is_damage, said}
 use Rattle.osdp_monitor_laws.proofs.Agreeing.{none_some, same_some}
 use Rattle.osdp_monitor_laws.proofs.Late.{by_fate, by_number, certain, none_owed}
@@ -28,9 +28,7 @@ pub record IsReplied (q : Packet) (k : Known) : Type 0 where
   pub settled : k.settled ≡ true
 
 replied_by : (s : Said) (n : ℕ) (q : Packet) (k : Known) (r : Packet) → s ≢ Damage → IsFresh n q k → IsReplied q (after_reply_of s k q r)
-replied_by Busy n q k r some known = record { last = known.last; replied = refl; earlier = known.earlier; older = known.older; owing = known.owing; settled = known.settled }
 replied_by Damage n q k r some known = absurd (some refl)
-replied_by Refusal n q k r some known = record { last = known.last; replied = refl; earlier = known.earlier; older = known.older; owing = known.owing; settled = known.settled }
 replied_by Answer n q k r some known =
     by_number (IsReplied q) (is_some (repeat_reply k q)) q.sequence k r
     (λ _. record {
@@ -42,6 +40,7 @@ replied_by Answer n q k r some known =
       settled = known.settled;
     })
     (λ _. record { last = known.last; replied = refl; earlier = known.earlier; older = known.older; owing = known.owing; settled = known.settled })
+replied_by _ n q k r some known = record { last = known.last; replied = refl; earlier = known.earlier; older = known.older; owing = known.owing; settled = known.settled }
 
 pub replied : (a n : ℕ) (q : Packet) (line : Knowledge) (r : Packet) → IsFrom a r → said r ≢ Damage → IsFresh n q (line.devices a)
     → IsRemembered a (PacketItem r) line → IsReplied q ((after_packet line r).devices a)
@@ -60,20 +59,15 @@ second_accused : (q : Packet) (k : Known) (s : Packet) → IsReplied q k → sai
 second_accused q k s known some third =
     let none : has_earlier_number k s ≡ false = none_owed k s known.settled known.earlier known.older in
     let not_owed : is_owed k ≡ false = or_from k.owing (is_some k.earlier) known.owing (ap is_some known.earlier) in
-    cond-false (is_doubtful k q s) None (cond (is_one_more k s && not (is_owed k)) (Some SecondReply) (reply_accused (said s) k q s))
-    (certain k q s (and_left (has_earlier_number k s) (not (eqb s.sequence q.sequence)) none) (and_left (has_earlier_number k s) (eqb q.sequence 0) none)
+    let in_no_doubt : is_doubtful k q s ≡ false =
+    certain k q s (and_left (has_earlier_number k s) (not (eqb s.sequence q.sequence)) none) (and_left (has_earlier_number k s) (eqb q.sequence 0) none)
     (and_right (is_answer (said s) && k.answered) (eqb s.sequence (next_sequence q.sequence)) (ne_eqb s.sequence (next_sequence q.sequence) third))
-    (and_left (is_stray k s) (not (is_some (repeat_reply k q))) (and_right (has_no_number (said s) s.sequence) (is_owed k) not_owed)))
-    ∙ cond-true (is_one_more k s && not (is_owed k)) (Some SecondReply) (reply_accused (said s) k q s)
-    (and_from (is_one_more k s) (not (is_owed k))
-    (and_from k.replied (not (is_damage (said s))) known.replied (not_from_false (is_damage (said s)) (no_damage (said s) some)))
-    (not_from_false (is_owed k) not_owed))
+    (and_left (is_stray k s) (not (is_some (repeat_reply k q))) (and_right (has_no_number (said s) s.sequence) (is_owed k) not_owed)) in
+    rw (in_no_doubt, known.replied, no_damage (said s) some, not_owed)
   where
     no_damage : (t : Said) → t ≢ Damage → is_damage t ≡ false
-    no_damage Busy other = refl
     no_damage Damage other = absurd (other refl)
-    no_damage Refusal other = refl
-    no_damage Answer other = refl
+    no_damage _ other = refl
 
 pub nothing_more : (l : Knowledge) → after_items l [] ≡ l
 unfolding after_items

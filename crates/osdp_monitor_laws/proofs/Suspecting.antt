@@ -1,18 +1,18 @@
 -- Since when a panel is suspected, and for how long.
-use Rattle.std.proofs.Common.{◌≡◌, ◌≢◌, ◌⊎◌, inl, inr, ℕ, ◌+◌, ◌-◌, Bool, true, false, cond, eqb, ltb, not, List, [], ◌∷◌, ◌++◌, Some, refl, sym, ap, ◌∙◌, arith}
-use Rattle.std.proofs.lemmas.Bool.{and_from, and_left, and_parts, and_right, cases_Bool, cond-false, cond-true, cond_both, eq-eqb, eqb-true, false≢true, lt-ltb, ne_eqb, not-true, not_from_false, not_from_true}
+use Rattle.std.proofs.Common.{◌≡◌, ◌≢◌, ◌⊎◌, inl, inr, ℕ, ◌+◌, ◌-◌, Bool, true, false, cond, eqb, not, List, [], ◌∷◌, ◌++◌, Some, refl, sym, ap, ◌∙◌, arith}
+use Rattle.std.proofs.lemmas.Bool.{and_from, and_left, and_parts, and_right, cases_Bool, cond_both, eq-eqb, eqb-true, false≢true, lt-ltb, ne_eqb, not-true, not_from_false, not_from_true}
 use Rattle.std.proofs.lemmas.List.Sums.{sum_by-cons}
 use Rattle.std.specs.Prelude.{is_some}
 use Rattle.osdp_frame.specs.declared.check_kind.CheckKind.TheVariants.{Sum}
 use Rattle.osdp_frame.specs.Packet.{Packet, next_sequence}
 use Rattle.osdp_frame.specs.Reading.{RunItem, PacketItem, SkippedItem, RefusedItem, smallest}
 use Rattle.osdp_monitor.specs.declared.accusation.Accusation.TheVariants.{NotAnswered}
-use Rattle.osdp_monitor.specs.declared.found.Notice.TheVariants.{Unanswered, Unsure}
+use Rattle.osdp_monitor.specs.declared.found.Notice.TheVariants.{Unsure}
 use Rattle.osdp_monitor.specs.declared.said.Said.{Said}
 use Rattle.osdp_monitor.specs.declared.said.Said.TheVariants.{Answer}
 use Rattle.osdp_monitor.specs.Known.{Known}
-use Rattle.osdp_monitor.specs.Line.{Knowledge, after_item, after_items, after_packet, found_in, no_knowledge, notice_if, notice_in_sent}
-use Rattle.osdp_monitor.specs.Panel.{after_another, after_copy, after_sent, is_doubt, is_first_doubt, is_missed, keeps_number, left_waiting, panel_accused, still_suspected, suspected_for}
+use Rattle.osdp_monitor.specs.Line.{Knowledge, after_item, after_items, after_packet, found_in}
+use Rattle.osdp_monitor.specs.Panel.{after_another, after_copy, after_sent, is_doubt, keeps_number, left_waiting, panel_accused}
 use Rattle.osdp_monitor.specs.Reader.{after_reply_of, repeat_reply}
 use Rattle.osdp_monitor.specs.Saying.{is_foreign, said}
 use Rattle.osdp_monitor_laws.proofs.Agreeing.{sent_asked}
@@ -20,7 +20,7 @@ use Rattle.osdp_monitor_laws.proofs.Late.{by_fate, by_number}
 use Rattle.osdp_monitor_laws.proofs.Missing.{IsUnanswered, by_suspicion, device_of, first_is_unanswered, in_doubt, is_first, next_accused, sent_found, sent_told, unanswered_step}
 use Rattle.osdp_monitor_laws.proofs.Numbers.{next_differs}
 use Rattle.osdp_monitor_laws.proofs.PanelLines.{last_by}
-use Rattle.osdp_monitor_laws.proofs.Remembering.{after_append, after_one, at_remembered, forgotten_append, items_keep}
+use Rattle.osdp_monitor_laws.proofs.Remembering.{after_append, after_one, at_remembered, forgotten_append, items_keep, sent_remembered}
 use Rattle.osdp_rules.proofs.Comparing.{packet_is}
 use Rattle.osdp_monitor_laws.specs.Misses.{IsRemembered, IsTo, LeavesUnanswered, NothingForgotten}
 use Rattle.osdp_monitor_laws.specs.Suspicion.{AreInNoDoubt, IsInNoDoubt, SuspectsAfterDoubts, SuspectsForAWhile, is_to, sent_to}
@@ -33,15 +33,14 @@ doubt_suspected k old p last doubt =
     cond_both (same_packet old p) (after_copy k) (after_another (keeps_number old k p) (left_waiting old k) k p) (λ j. j.suspected ≡ 8)
     (λ same. absurd (next_differs old.sequence (sym (eqb-true p.sequence (next_sequence old.sequence) (and_parts (eqb p.sequence (next_sequence old.sequence)) (not k.answered) doubt).0)
     ∙ sym (ap (λ (x : Packet). x.sequence) (packet_is old p same)))))
-    (λ _. ap (λ o. still_suspected o k p) last ∙ cond-true (is_doubt old k.answered p) suspected_for (k.suspected - 1) doubt)
+    (λ _. rw (last, doubt))
 
 doubted : (a : ℕ) (p : Packet) (line : Knowledge) (q : Packet) → IsTo a q → q.sequence ≡ next_sequence p.sequence → IsUnanswered p (line.devices a)
     → IsRemembered a (PacketItem q) line → ((after_packet line q).devices a).suspected ≡ 8
 doubted a p line q to next known is =
     let k = line.devices a in
-    at_remembered a (λ j. j.suspected ≡ 8) line q is (λ away. absurd (away to.1)) (λ _ reply. absurd (false≢true (sym to.0 ∙ reply)))
-    (λ _ _. ap (λ o. (after_sent o k q).suspected) known.0 ∙ doubt_suspected k p q known.0 (in_doubt p q k.answered next known.1))
-    (λ _ reply. absurd (false≢true (sym to.0 ∙ reply)))
+    sent_remembered a (λ j. j.suspected ≡ 8) line q to is
+    (ap (λ o. (after_sent o k q).suspected) known.0 ∙ doubt_suspected k p q known.0 (in_doubt p q k.answered next known.1))
 
 nothing_more : (line : Knowledge) → after_items line [] ≡ line
 unfolding after_items
@@ -86,9 +85,7 @@ certain line a x old to device plain last innocent quiet = elim (cases_Bool (is_
   where
     by : is_doubt old (line.devices a).answered x ≡ true → ((eqb (line.devices a).suspected 0 ≡ true) ⊎ (eqb (line.devices a).suspected 0 ≡ false)) → ⊥
     by doubt (inl none) =
-        quiet (sent_told line a x to device plain ∙ ap (λ o. notice_in_sent o (line.devices a) x) last
-        ∙ cond-true (is_first_doubt (Some old) (line.devices a) x) (Some Unsure) (notice_if (is_missed (Some old) (line.devices a)) Unanswered)
-        (is_first (line.devices a) old x doubt (eqb-true (line.devices a).suspected 0 none)))
+        quiet (sent_told line a x to device plain ∙ rw (last, is_first (line.devices a) old x doubt (eqb-true (line.devices a).suspected 0 none)))
     by doubt (inr some) =
         let parts = and_parts (eqb x.sequence (next_sequence old.sequence)) (not (line.devices a).answered) doubt in
         innocent (sent_found line a x (Some NotAnswered) to device plain
@@ -98,7 +95,7 @@ certain line a x old to device plain last innocent quiet = elim (cases_Bool (is_
 certain_less : (k : Known) (old p : Packet) → k.last ≡ Some old → is_doubt old k.answered p ≡ false → (after_sent (Some old) k p).suspected ≡ k.suspected - 1
 certain_less k old p last none =
     cond_both (same_packet old p) (after_copy k) (after_another (keeps_number old k p) (left_waiting old k) k p) (λ j. j.suspected ≡ k.suspected - 1)
-    (λ _. refl) (λ _. ap (λ o. still_suspected o k p) last ∙ cond-false (is_doubt old k.answered p) suspected_for (k.suspected - 1) none)
+    (λ _. refl) (λ _. rw (last, none))
 
 reply_less : (s : Said) (k : Known) (p x : Packet) → (after_reply_of s k p x).suspected ≡ k.suspected
 reply_less Answer k p x = by_number (λ j. j.suspected ≡ k.suspected) (is_some (repeat_reply k p)) p.sequence k x (λ _. refl) (λ _. refl)
@@ -126,8 +123,7 @@ step a line x known is free =
 -- a skipped byte changes nothing
 skipped : (a : ℕ) (line : Knowledge) (b : ℕ) → IsRemembered a (SkippedItem b) line → (after_item line (SkippedItem b)).devices a ≡ line.devices a
 skipped a line b is =
-    ap (λ (l : Knowledge). l.devices a)
-    (cond-true (ltb (line.skipped + 1) (smallest Sum)) (record line { skipped = line.skipped + 1 }) no_knowledge (lt-ltb (line.skipped + 1) (smallest Sum) is))
+    rw (lt-ltb (line.skipped + 1) (smallest Sum) is)
 
 one_more : (a : ℕ) (x : RunItem) (items : List RunItem) (n : ℕ) → (n - cond (is_to a x) 1 0) - sent_to a items ≡ n - sent_to a (x ∷ items)
 one_more a x items n = let first = sum_by-cons (λ (y : RunItem). cond (is_to a y) 1 0) x items in omega (arith, first)
@@ -153,8 +149,7 @@ pub suspects_for_a_while : SuspectsForAWhile
 suspects_for_a_while line a p items to nothing free =
     let line0 = after_packet line p in
     let asked : IsAsked (line0.devices a) =
-    at_remembered a IsAsked line p nothing.0 (λ away. absurd (away to.1)) (λ _ reply. absurd (false≢true (sym to.0 ∙ reply)))
-    (λ _ _. (p, (sent_asked (line.devices a) p).last)) (λ _ reply. absurd (false≢true (sym to.0 ∙ reply))) in
+    sent_remembered a IsAsked line p to nothing.0 (p, (sent_asked (line.devices a) p).last) in
     ap (λ (l : Knowledge). (l.devices a).suspected) (after_one line (PacketItem p) items)
     ∙ less a items line0 asked nothing.1 free
     ∙ ap (λ (l : Knowledge). (l.devices a).suspected - sent_to a items) (sym (after_one line (PacketItem p) [] ∙ nothing_more line0))

@@ -1,23 +1,22 @@
 -- A reply that comes late is told so.
-use Rattle.std.proofs.Common.{◌≡◌, ◌≢◌, inl, inr, ℕ, true, false, cond, eqb, ◌&&◌, ◌||◌, not, List, [], ◌∷◌, ◌++◌, Option, Some, None, refl, sym, subst, ap, ◌∙◌}
-use Rattle.std.proofs.lemmas.Bool.{and_from, cond-false, cond-true, cond_both, eq-eqb, false≢true, ne_eqb, not_from_false, or_from, or_left, or_right}
+use Rattle.std.proofs.Common.{◌≡◌, ◌≢◌, inl, inr, ℕ, true, false, eqb, not, List, [], ◌∷◌, ◌++◌, Option, Some, None, refl, sym, subst, ap, ◌∙◌}
+use Rattle.std.proofs.lemmas.Bool.{and_from, cond-true, cond_both, eq-eqb, false≢true, ne_eqb, not_from_false, or_left, or_right}
 use Rattle.std.specs.Prelude.{is_some}
 use Rattle.osdp_frame.specs.Packet.{Packet}
 use Rattle.osdp_frame.specs.Reading.{PacketItem, RunItem}
-use Rattle.osdp_monitor.specs.declared.accusation.Accusation.TheVariants.{SecondReply}
 use Rattle.osdp_monitor.specs.declared.found.Found.{Found}
-use Rattle.osdp_monitor.specs.declared.found.Notice.TheVariants.{Late, Unsure}
+use Rattle.osdp_monitor.specs.declared.found.Notice.TheVariants.{Late}
 use Rattle.osdp_monitor.specs.declared.said.Said.{Said}
 use Rattle.osdp_monitor.specs.declared.said.Said.TheVariants.{Busy, Answer}
-use Rattle.osdp_monitor.specs.Known.{Known, is_number}
-use Rattle.osdp_monitor.specs.Line.{Knowledge, after_items, after_packet, found_in, found_in_reply, found_in_sent, late_notice, moves_to, nothing_found, reply_notice}
-use Rattle.osdp_monitor.specs.Panel.{after_another, after_copy, after_sent, is_in_row, is_waiting, keeps_number, left_waiting}
-use Rattle.osdp_monitor.specs.Reader.{after_reply, after_reply_of, has_earlier_number, has_no_number, is_doubtful, is_late, is_one_more, is_owed, is_owed_number, is_stray, reader_accused, repeat_reply, reply_accused, tells_number}
+use Rattle.osdp_monitor.specs.Known.{Known}
+use Rattle.osdp_monitor.specs.Line.{Knowledge, after_items, after_packet, found_in, found_in_reply, found_in_sent, moves_to, reply_notice}
+use Rattle.osdp_monitor.specs.Panel.{after_another, after_copy, after_sent, is_waiting, keeps_number, left_waiting}
+use Rattle.osdp_monitor.specs.Reader.{after_reply, after_reply_of, has_no_number, is_late, is_owed, is_stray, reader_accused, repeat_reply, tells_number}
 use Rattle.osdp_monitor.specs.Saying.{is_foreign, said}
 use Rattle.osdp_monitor_laws.proofs.Agreeing.{none_some, same_some, sent_asked}
 use Rattle.osdp_monitor_laws.proofs.Late.{by_fate, by_number, late_doubtful, no_row}
 use Rattle.osdp_monitor_laws.proofs.PanelLines.{last_by}
-use Rattle.osdp_monitor_laws.proofs.Remembering.{after_append, after_one, at_remembered, forgotten_append, items_keep}
+use Rattle.osdp_monitor_laws.proofs.Remembering.{after_append, after_one, at_remembered, forgotten_append, items_keep, sent_remembered}
 use Rattle.osdp_rules.proofs.Comparing.{is_packet, packet_is}
 use Rattle.osdp_monitor_laws.specs.Late.{HasItsNumber, IsCopyOrOther, IsNone, LeavesStrayBusy, TellsLateAnswers}
 use Rattle.osdp_monitor_laws.specs.Misses.{Each, IsCopyOrReply, IsFrom, IsRemembered, IsTo, NothingForgotten}
@@ -46,8 +45,7 @@ IsSilent p k = (k.last ≡ Some p) × (k.replied ≡ false)
 silent_first : (a : ℕ) (line : Knowledge) (p : Packet) → IsTo a p → IsRemembered a (PacketItem p) line → IsSilent p ((after_packet line p).devices a)
 silent_first a line p to is =
     let k = line.devices a in
-    at_remembered a (IsSilent p) line p is (λ other. absurd (other to.1)) (λ _ reply. absurd (false≢true (sym to.0 ∙ reply)))
-    (λ _ _. ((sent_asked k p).last, (sent_asked k p).replied)) (λ _ reply. absurd (false≢true (sym to.0 ∙ reply)))
+    sent_remembered a (IsSilent p) line p to is ((sent_asked k p).last, (sent_asked k p).replied)
 
 silent_step : (a : ℕ) (p : Packet) (line : Knowledge) (x : Packet) → IsSilent p (line.devices a) → (x.address ≡ a → IsNone x)
     → IsRemembered a (PacketItem x) line → IsSilent p ((after_packet line x).devices a)
@@ -69,9 +67,8 @@ owing_first : (a : ℕ) (line : Knowledge) (p : Packet) → IsTo a p → IsSilen
     → IsOwing p ((after_packet line p).devices a)
 owing_first a line p to known is =
     let k = line.devices a in
-    at_remembered a (IsOwing p) line p is (λ other. absurd (other to.1)) (λ _ reply. absurd (false≢true (sym to.0 ∙ reply)))
-    (λ _ _. ((sent_asked k p).last, copied k p k.last known.0 (or_right k.owing (not k.replied) (not_from_false k.replied known.1))))
-    (λ _ reply. absurd (false≢true (sym to.0 ∙ reply)))
+    sent_remembered a (IsOwing p) line p to is
+    ((sent_asked k p).last, copied k p k.last known.0 (or_right k.owing (not k.replied) (not_from_false k.replied known.1)))
 
 owing_step : (a : ℕ) (p : Packet) (line : Knowledge) (x : Packet) → IsOwing p (line.devices a) → (x.address ≡ a → IsCopyOrReply p x)
     → IsRemembered a (PacketItem x) line → IsOwing p ((after_packet line x).devices a)
@@ -104,18 +101,13 @@ left_sent k p q (Some old) last other owing =
     cond_both (same_packet old q) (after_copy k) (after_another (keeps_number old k q) (left_waiting old k) k q)
     (Owes p.sequence)
     (λ copy. absurd (other (sym (ap (λ (x : Packet). x.sequence) (same ∙ packet_is old q copy)))))
-    (λ _. (
-      cond-true (is_waiting k) (Some old.sequence) None (or_left k.owing (not k.replied) owing) ∙ ap (λ (x : Packet). Some x.sequence) (sym same),
-      ap (λ o. not (is_in_row o q) || k.settled) (cond-true (is_waiting k) (Some old.sequence) None (or_left k.owing (not k.replied) owing))
-          ∙ ap (λ b. not b || k.settled) (no_row old.sequence q (subst (λ (x : Packet). q.sequence ≢ x.sequence) same other)),
-    ))
+    (λ _. (rw owing (ap (λ (x : Packet). Some x.sequence) (sym same)), rw (owing, no_row old.sequence q (subst (λ (x : Packet). q.sequence ≢ x.sequence) same other))))
 
 left_first : (a : ℕ) (p : Packet) (line : Knowledge) (q : Packet) → IsTo a q → q.sequence ≢ p.sequence → IsOwing p (line.devices a)
     → IsRemembered a (PacketItem q) line → IsLeft p.sequence q ((after_packet line q).devices a)
 left_first a p line q to other known is =
     let k = line.devices a in
-    at_remembered a (IsLeft p.sequence q) line q is (λ away. absurd (away to.1)) (λ _ reply. absurd (false≢true (sym to.0 ∙ reply)))
-    (λ _ _. ((sent_asked k q).last, left_sent k p q k.last known.0 other known.1)) (λ _ reply. absurd (false≢true (sym to.0 ∙ reply)))
+    sent_remembered a (IsLeft p.sequence q) line q to is ((sent_asked k q).last, left_sent k p q k.last known.0 other known.1)
 
 left_copied : (n : ℕ) (k : Known) (q : Packet) (o : Option Packet) → o ≡ Some q → Owes n k → Owes n (after_sent o k q)
 left_copied n k q None last known = absurd (none_some q last)
@@ -151,29 +143,21 @@ tells r (inr (inr busy)) =
 
 comes_late : (k : Known) (n : ℕ) (q r : Packet) → Owes n k → q.sequence ≢ n → HasItsNumber r → r.sequence ≡ n → is_late k q r ≡ true
 comes_late k n q r owes other says number =
-    and_from (has_earlier_number k r) (not (eqb r.sequence q.sequence))
-    (and_from (tells_number (said r) r.sequence) (is_owed_number k r.sequence) (tells r says)
-    (or_left (not k.settled || is_number k.earlier r.sequence) (is_number k.older r.sequence) (or_right (not k.settled) (is_number k.earlier r.sequence)
-    (subst (λ o. is_number o r.sequence ≡ true) (sym owes.0) (eq-eqb n r.sequence (sym number))))))
-    (not_from_false (eqb r.sequence q.sequence) (ne_eqb r.sequence q.sequence (λ same. other (sym same ∙ number))))
+    rw (tells r says, owes.1, owes.0, eq-eqb n r.sequence (sym number), ne_eqb r.sequence q.sequence (λ same. other (sym same ∙ number)))
 
 pub late_accused : (k : Known) (q r : Packet) → is_late k q r ≡ true → reader_accused k q r ≡ None
-late_accused k q r late =
-    cond-true (is_doubtful k q r) None (cond (is_one_more k r && not (is_owed k)) (Some SecondReply) (reply_accused (said r) k q r))
-    (late_doubtful k q r late)
+late_accused k q r late = rw (late_doubtful k q r late)
 
 pub late_told : (k : Known) (q r : Packet) (o : Option ℕ) → o ≡ None → is_late k q r ≡ true → k.settled ≡ true → reply_notice o k q r ≡ Some Late
 late_told k q r (Some place) none late settled = cc
-late_told k q r None none late settled =
-    cond-true (is_late k q r) (Some (late_notice k)) _ late ∙ ap Some (cond-true k.settled Late Unsure settled)
+late_told k q r None none late settled = rw (late, settled)
 
 -- what is found in a reply from the address
 pub reply_found : (P : Found → Type 0) (line : Knowledge) (a : ℕ) (q r : Packet) → IsFrom a r → a ≢ 127 → is_foreign r ≡ false → (line.devices a).last ≡ Some q
     → P (found_in_reply (Some q) (line.devices a) r) → P (found_in line r)
 reply_found P line a q r from device plain last holds =
     let k = line.devices r.address in
-    subst P (sym (cond-false (eqb r.address 127 || is_foreign r) nothing_found (cond r.reply (found_in_reply k.last k r) (found_in_sent k r))
-    (or_from (eqb r.address 127) (is_foreign r) (ne_eqb r.address 127 (λ all. device (sym from.1 ∙ all))) plain)))
+    rw (ne_eqb r.address 127 (λ all. device (sym from.1 ∙ all)), plain)
     (subst P (sym (cond-true r.reply (found_in_reply k.last k r) (found_in_sent k r) from.0))
     (subst (λ b. P (found_in_reply (line.devices b).last (line.devices b) r)) (sym from.1)
     (subst (λ o. P (found_in_reply o (line.devices a) r)) (sym last) holds)))
@@ -234,7 +218,7 @@ stray n q k r left busy zero =
     (or_right k.owing (is_some k.earlier) (ap is_some left.1.0))
 
 pub left_alone : (k : Known) (q r : Packet) → is_stray k r ≡ true → after_reply k q r ≡ k
-left_alone k q r is = cond-true (is_late k q r || is_stray k r) k _ (or_right (is_late k q r) (is_stray k r) is)
+left_alone k q r is = rw (or_right (is_late k q r) (is_stray k r) is)
 
 nothing_after : (l : Knowledge) → after_items l [] ≡ l
 unfolding after_items

@@ -7,7 +7,8 @@ use Rattle.std.proofs.lemmas.List.{nil_from_length}
 use Rattle.std.proofs.Math.Nat.{mul-le-mul_left, mul-mod_right}
 use Rattle.osdp_msg.specs.declared.fault.MsgFault.{MsgFault}
 use Rattle.osdp_msg.specs.declared.fault.MsgFault.TheVariants.{Length, Count}
-use Rattle.osdp_msg.specs.ListedCommands.{AreRecords, HasLength}
+use Rattle.osdp_msg.specs.Limits.{most_data}
+use Rattle.osdp_msg.specs.ListedCommands.{HasLength}
 use Rattle.osdp_msg.specs.Messages.{IsMessage}
 use Rattle.osdp_msg.specs.Refusal.{refusal, unless_fault}
 use Rattle.std.specs.Prelude.{IfOk, IfErr}
@@ -148,6 +149,12 @@ both_parts : (a b : Bool) → (a && b) ≡ true → (a ≡ true) × (b ≡ true)
 both_parts true true e = (refl, refl)
 both_parts true false e = absurd cc
 both_parts false b e = absurd cc
+
+-- one record at least, and no more bytes than a packet has room for
+pub record AreRecords (size : ℕ) (bytes : List ℕ) : Type 0 where
+  pub some : size ≤ length bytes
+  pub room : length bytes ≤ most_data
+  pub whole : length bytes % size ≡ 0
 
 pub are_records : (size : ℕ) (bytes : List ℕ) → refusal (Some (leb size (length bytes) && eqb (length bytes % size) 0)) (length bytes) true ≡ None → AreRecords size bytes
 are_records size bytes e =

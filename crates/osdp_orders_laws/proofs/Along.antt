@@ -6,7 +6,7 @@ use Rattle.osdp_msg.specs.declared.command.Command.{Command}
 use Rattle.osdp_bus.specs.declared.entry.Entry.{Entry}
 use Rattle.osdp_bus.specs.Buses.{device_of}
 use Rattle.osdp_bus.specs.Machine.{order_refusal_of, withdrawal_of}
-use Rattle.osdp_bus_laws.specs.Calls.{Call, Add, Begin, Submit, Withdraw, Retarget, OnBytes, OnSilence, Tick, NextReport}
+use Rattle.osdp_bus_laws.specs.Calls.{Call, Submit, Withdraw}
 use Rattle.osdp_orders.specs.declared.queue.Queue.{Queue}
 use Rattle.osdp_orders.specs.Orders.{PanelState, held_back, is_closed_in, or_held, queue_of, submit_refusal, submit_refusal_in, withdrawal}
 use Rattle.osdp_orders_laws.specs.Calls.{after_call, after_calls}
@@ -111,14 +111,7 @@ none_accepted entry (Submit at c) x none = by_same (at == entry) refl
     by_same true same =
         ap (λ n. if is_none (submit_refusal n c x) then Some c else None) (eqb-true at entry same)
         ∙ ap (λ f. if is_none f then Some c else None) (refused ∙ ap (λ o. order_refusal_of entry c o x.bus) none.device)
-none_accepted entry (Add address) x none = refl
-none_accepted entry (Begin at now) x none = refl
-none_accepted entry (Withdraw at) x none = refl
-none_accepted entry (Retarget at address) x none = refl
-none_accepted entry (OnBytes bytes now) x none = refl
-none_accepted entry (OnSilence now) x none = refl
-none_accepted entry (Tick now) x none = refl
-none_accepted entry NextReport x none = refl
+none_accepted entry _ x none = refl
 
 none_back : (entry : ℕ) (call : Call) (x : PanelState) → Nobody entry x → taken_back_in entry call x ≡ None
 none_back entry (Withdraw at) x none = by_same (at == entry) refl
@@ -127,14 +120,7 @@ none_back entry (Withdraw at) x none = by_same (at == entry) refl
     by_same false apart = refl
     by_same true same =
         ap (λ n. given (withdrawal n x)) (eqb-true at entry same) ∙ ap (λ o. given (or_held (withdrawal_of o) (held_back entry x))) none.device
-none_back entry (Add address) x none = refl
-none_back entry (Begin at now) x none = refl
-none_back entry (Submit at c) x none = refl
-none_back entry (Retarget at address) x none = refl
-none_back entry (OnBytes bytes now) x none = refl
-none_back entry (OnSilence now) x none = refl
-none_back entry (Tick now) x none = refl
-none_back entry NextReport x none = refl
+none_back entry _ x none = refl
 
 pub one_place : (entry : ℕ) (call : Call) (x : PanelState) → Inv x → OrdersIt call
     → (listed (goes_out entry call x) ++ listed (taken_back_in entry call x)) ++ waiting_orders entry (after_call call x)

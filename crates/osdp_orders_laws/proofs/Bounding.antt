@@ -9,7 +9,7 @@ use Rattle.osdp_time_laws.proofs.Orders.{lives}
 use Rattle.osdp_bus.specs.declared.config.BusConfig.{BusConfig}
 use Rattle.osdp_bus.specs.declared.entry.Entry.{Entry}
 use Rattle.osdp_bus.specs.Buses.{BusState, device_of}
-use Rattle.osdp_bus_laws.specs.Calls.{Call, Add, Begin, Submit, Withdraw, Retarget, OnBytes, OnSilence, Tick, NextReport}
+use Rattle.osdp_bus_laws.specs.Calls.{Call, Withdraw, Tick}
 use Rattle.osdp_bus_laws.specs.Calls.{after_calls as after_bus_calls}
 use Rattle.osdp_bus_laws.specs.Fairness.{Begins}
 use Rattle.osdp_bus_time_laws.specs.Laws.{IsUnderWay}
@@ -49,14 +49,7 @@ none_back entry (Withdraw at) x under = by_same (at == entry) refl
     by_same : (t : Bool) → (at == entry) ≡ t → (if t then given (withdrawal at x) else None) ≡ None
     by_same false apart = refl
     by_same true same = ap (λ n. given (withdrawal n x)) (eqb-true at entry same) ∙ none
-none_back entry (Add address) x under = refl
-none_back entry (Begin at now) x under = refl
-none_back entry (Submit at c) x under = refl
-none_back entry (Retarget at address) x under = refl
-none_back entry (OnBytes bytes now) x under = refl
-none_back entry (OnSilence now) x under = refl
-none_back entry (Tick now) x under = refl
-none_back entry NextReport x under = refl
+none_back entry _ x under = refl
 
 -- those that wait after a call, and the one that has gone out
 abbrev pub Waits : ℕ → List Command → Command → List Command → PanelState → Type 0

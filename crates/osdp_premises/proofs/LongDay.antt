@@ -1,5 +1,5 @@
 -- The long day keeps the premises: by the tests of each call, and since its values are in their ranges.
-use Rattle.std.proofs.Common.{◌≡◌, ◌≢◌, ◌<◌, ◌≤◌, ℕ, zero, suc, true, IfSome, List, [], ◌∷◌, length, Option, Some, None, is_some, refl, sym, subst, ap, ◌∙◌, arith}
+use Rattle.std.proofs.Common.{◌≡◌, ◌≢◌, ◌<◌, ◌≤◌, ℕ, zero, suc, true, IfSome, List, [], ◌∷◌, length, Option, Some, None, is_some, refl, sym, subst, ap, ◌∙◌, inr, arith}
 use Rattle.std.proofs.lemmas.Bool.{and_parts}
 use Rattle.std.specs.Prelude.{All, drop, slice_index, take}
 use Rattle.osdp_frame.specs.Held.{decided}
@@ -22,14 +22,15 @@ use Rattle.osdp_link_laws.proofs.Stages.{Each}
 use Rattle.osdp_reader.specs.Table.{hears}
 use Rattle.osdp_reader.specs.declared.handler.Answer.{Answer}
 use Rattle.osdp_shared_line.specs.Line.{site_at}
+use Rattle.osdp_reader_laws.specs.Storing.{StoresItsOwn}
 use Rattle.osdp_calls.specs.Calls.{Call, NewDevice, NewPanel, Next, OfPanel, Step, after_call, after_calls, read_up_to}
 use Rattle.osdp_calls.specs.Ends.{CanStand}
-use Rattle.osdp_calls.specs.Lines.{InUse, Station}
+use Rattle.osdp_calls.specs.Lines.{InUse, Station, bus_with}
 use Rattle.osdp_calls.specs.Premises.{AllKeep, InRange, IsSetUp, Keeps, NextInRange, PanelInRange}
 use Rattle.osdp_premises.specs.Deciding.{each_of}
 use Rattle.osdp_premises.specs.Exactly.{AllInRange}
 use Rattle.osdp_premises.specs.Leaving.{keeps_panel}
-use Rattle.osdp_premises.specs.LongDay.{LongDayKeeps, RestartHappens, RestartsHappen, calls, device_at, first_line, four, long_day, spare_at, station_at, twice}
+use Rattle.osdp_premises.specs.LongDay.{LongDayKeeps, RestartHappens, RestartsHappen, calls, device_at, first_line, four, had_sessions, line_in_the_morning, long_day, spare_at, station_at, twice}
 use Rattle.osdp_premises.proofs.Exactly.{fair_keep}
 use Rattle.osdp_premises.proofs.Leaving.{leaving_exact}
 
@@ -93,18 +94,42 @@ module _ {H : Type 0} where
   the_station None handler = station_at 3 handler
   the_station (Some t) handler = t
 
-  -- what holds of both stations at set-up
-  both : (handler : H) (Q : Station H → Type 0) → Q (station_at 3 handler) → Q (station_at 4 handler) → (k : ℕ) (t : Station H)
-      → site_at k (station_at 3 handler ∷ station_at 4 handler ∷ []) ≡ Some t → Q t
-  both handler Q first second zero t is = subst Q (is_the_one (station_at 3 handler) t is) first
-  both handler Q first second (suc zero) t is = subst Q (is_the_one (station_at 4 handler) t is) second
-  both handler Q first second (suc (suc k)) t is = absurd cc
+  -- two devices at set-up, the first as it may be
+  module _ (handler : H) (first : Station H) (address : first.reader.config.address ≡ 3) where
+    both : (Q : Station H → Type 0) → Q first → Q (station_at 4 handler) → (k : ℕ) (t : Station H)
+        → site_at k (first ∷ station_at 4 handler ∷ []) ≡ Some t → Q t
+    both Q one other zero t is = subst Q (is_the_one first t is) one
+    both Q one other (suc zero) t is = subst Q (is_the_one (station_at 4 handler) t is) other
+    both Q one other (suc (suc k)) t is = absurd cc
 
-  stands : (handler : H) (k : ℕ) (t : Station H) → site_at k (station_at 3 handler ∷ station_at 4 handler ∷ []) ≡ Some t
-      → (k < 2) × (t.reader.config.address ≡ at_place k)
-  stands handler zero t is = (omega arith, sym (ap (λ (x : Station H). x.reader.config.address) (is_the_one (station_at 3 handler) t is)))
-  stands handler (suc zero) t is = (omega arith, sym (ap (λ (x : Station H). x.reader.config.address) (is_the_one (station_at 4 handler) t is)))
-  stands handler (suc (suc k)) t is = absurd cc
+    stands : (k : ℕ) (t : Station H) → site_at k (first ∷ station_at 4 handler ∷ []) ≡ Some t → (k < 2) × (t.reader.config.address ≡ at_place k)
+    stands zero t is = (omega arith, sym (ap (λ (x : Station H). x.reader.config.address) (is_the_one first t is)) ∙ address)
+    stands (suc zero) t is = (omega arith, sym (ap (λ (x : Station H). x.reader.config.address) (is_the_one (station_at 4 handler) t is)))
+    stands (suc (suc k)) t is = absurd cc
+
+    set_up_with : StoresItsOwn first.reader → (first.place ≡ 0) × (first.begun ≡ None)
+        → (first.account ≡ new_account [] first.reader.queue.events) × (first.earlier ≡ [])
+        → IsSetUp (record (first_line handler) { stations = first ∷ station_at 4 handler ∷ [] })
+    set_up_with stores place account = record {
+      config = twice;
+      settings = twice_fits;
+      others = 20 ∷ [];
+      bus = ap (λ a. bus_with twice (a ∷ 4 ∷ 20 ∷ [])) (sym address);
+      devices = both (λ t. t.reader.config.address < 127) (subst (λ a. a < 127) (sym address) (omega arith)) (omega arith);
+      apart = λ j k s t other at there e. far j k other (stands j s at).0 (stands k t there).0 (sym (stands j s at).1 ∙ e ∙ (stands k t there).1);
+      stored = both (λ t. StoresItsOwn t.reader) stores tt;
+      place = both (λ t. (t.place ≡ 0) × (t.begun ≡ None)) place (refl, refl);
+      account = both (λ t. (t.account ≡ new_account [] t.reader.queue.events) × (t.earlier ≡ [])) account (refl, refl);
+      said = refl;
+      read = refl;
+      openings = refl;
+    }
+
+  pub is_set_up : (handler : H) → IsSetUp (first_line handler)
+  is_set_up handler = set_up_with handler (station_at 3 handler) refl tt (refl, refl) (refl, refl)
+
+  in_the_morning : (handler : H) → IsSetUp (line_in_the_morning handler)
+  in_the_morning handler = set_up_with handler (had_sessions (station_at 3 handler)) refl (refl, inr refl) (refl, refl) (refl, refl)
 
   -- calls among which no panel is made anew
   still : (steps : List (Step H)) → each_of (λ (step : Step H). keeps_panel step.call) steps ≡ true → Each (λ (step : Step H). CanStand step.call) steps
@@ -112,23 +137,6 @@ module _ {H : Type 0} where
   still (step ∷ steps) is =
       let both = and_parts (keeps_panel step.call) (each_of (λ (s : Step H). keeps_panel s.call) steps) is in
       (leaving_exact.stands step.call ((leaving_exact.panel step.call).0 both.0), still steps both.1)
-
-  pub is_set_up : (handler : H) → IsSetUp (first_line handler)
-  is_set_up handler = record {
-    config = twice;
-    settings = twice_fits;
-    others = 20 ∷ [];
-    bus = refl;
-    devices = both handler (λ t. t.reader.config.address < 127) (omega arith) (omega arith);
-    apart = λ j k s t other at there e.
-        far j k other (stands handler j s at).0 (stands handler k t there).0 (sym (stands handler j s at).1 ∙ e ∙ (stands handler k t there).1);
-    stored = both handler (λ t. t.reader.stored ≡ None) refl refl;
-    place = both handler (λ t. (t.place ≡ 0) × (t.begun ≡ None)) (refl, refl) (refl, refl);
-    account = both handler (λ t. (t.account ≡ new_account [] t.reader.queue.events) × (t.earlier ≡ [])) (refl, refl) (refl, refl);
-    said = refl;
-    read = refl;
-    openings = refl;
-  }
 
 module _ {H : Type 0} (answer_of : H → Command → Answer) (after : H → Command → H) where
   -- the ranges of a call, said by what is there
@@ -164,7 +172,7 @@ module _ {H : Type 0} (answer_of : H → Command → Answer) (after : H → Comm
   all_range (step ∷ steps) l fits =
       (range_of step.call l fits.0, all_range steps (after_call answer_of after step.call step.places l) fits.1)
 
-  ranges : (handler other : H) → AllRanges (long_day handler other) (first_line handler)
+  ranges : (handler other : H) → AllRanges (long_day handler other) (line_in_the_morning handler)
   unfolding items left_over decided reply_of reply_fault reply_at command_of command_fault command_at
   ranges handler other =
       (tt, (tt, (tt, (tt, (tt, (tt, ((id_fits, tt), (tt, ((tt, tt), (tt, (tt, (tt, (omega arith, (tt, (tt, ((id_fits, tt), (tt, (tt, (tt, (tt, (tt, (tt, (tt, (tt, (tt, (((omega arith, each_all CapabilityFits [] tt), tt), (tt, ((tt, tt), (tt, (tt, (tt, (tt, (tt, (tt, ((tt, tt), (tt, (tt, (tt, (tt, ((tt, tt), (tt, (tt, (tt, (tt, ((key_fits, tt), (tt, (tt, (tt, (tt, ((tt, tt), (tt, (tt, (tt, (tt, (tt, (tt, (omega arith, (tt, (tt, (tt, (tt, (tt, (tt, ((omega arith, room_fits), (tt, ((record { reason = tt; room = omega arith; detail = no_bytes }, tt), (tt, (tt, (tt, (tt, ((id_fits, tt), (tt, (tt, (tt, (tt, ((key_fits, tt), (tt, (tt, ((omega arith, omega arith), (tt, (tt, (((omega arith, omega arith), tt), (tt, (tt, (tt, (tt, (tt, ((id_fits, tt), (tt, (tt, ((omega arith, omega arith), (tt, (tt, (((omega arith, omega arith), tt), (tt, (tt, ((tt, tt), (tt, (tt, (tt, (tt, (tt, (tt, ((id_fits, tt), (tt, (tt, ((omega arith, room_fits), (tt, (tt, (tt, (tt, (tt, (tt, (tt, (tt, ((spare_fits, tt), (tt, (tt, (omega arith, (tt, (tt, (((omega arith, spare_can), tt), ((twice_fits, (omega arith, (omega arith, (omega arith, tt))), omega arith), (tt, (tt, (tt, ((spare_fits, tt), (tt, (tt, (tt, (tt, (tt, (tt, (omega arith, (tt, (tt, (tt, ((tt, tt), (tt, (tt, (tt, (tt, ((tt, (tt, (tt, tt))), (tt, (tt, (tt, (tt, (tt, ((omega arith, room_fits), tt)))))))))))))))))))))))))))))))))))))))))))))))))))))))))))))))))))))))))))))))))))))))))))))))))))))))))))))))))))))))))))))))))))))))))))))))))))))
@@ -172,9 +180,9 @@ module _ {H : Type 0} (answer_of : H → Command → Answer) (after : H → Comm
   pub day_keeps : (handler other : H) → LongDayKeeps answer_of after handler other
   unfolding items left_over decided reply_of reply_fault reply_at command_of command_fault command_at
   day_keeps handler other = record {
-    up = is_set_up handler;
-    keep = fair_keep answer_of after (long_day handler other) (first_line handler) refl
-        (all_range (long_day handler other) (first_line handler) (ranges handler other));
+    up = in_the_morning handler;
+    keep = fair_keep answer_of after (long_day handler other) (line_in_the_morning handler) refl
+        (all_range (long_day handler other) (line_in_the_morning handler) (ranges handler other));
     stand = each_all (λ (step : Step H). CanStand step.call) (long_day handler other)
         (each_split (λ (step : Step H). CanStand step.call) 122 (long_day handler other) (still (take 122 (long_day handler other)) refl)
         ((twice_fits, (refl, (refl, (refl, tt)))), still (drop 123 (long_day handler other)) refl));
@@ -194,7 +202,7 @@ module _ {H : Type 0} (answer_of : H → Command → Answer) (after : H → Comm
   -- ---- restarts of that day
 
   abbrev line_after : ℕ → H → H → InUse H
-  line_after count handler other = after_calls answer_of after (take count (long_day handler other)) (first_line handler)
+  line_after count handler other = after_calls answer_of after (take count (long_day handler other)) (line_in_the_morning handler)
 
   abbrev line_then : ℕ → Call H → H → H → InUse H
   line_then count call handler other = after_call answer_of after call [] (line_after count handler other)
@@ -221,7 +229,7 @@ module _ {H : Type 0} (answer_of : H → Command → Answer) (after : H → Comm
   stands_there (Some d) some = refl
 
   restart : (count k : ℕ) (call : Call H) (handler other : H) (first : Station H)
-      → site_at count (long_day handler other) ≡ Some (calls call []) → site_at k (first_line handler).stations ≡ Some first
+      → site_at count (long_day handler other) ≡ Some (calls call []) → site_at k (line_in_the_morning handler).stations ≡ Some first
       → is_some (site_at k (line_after count handler other).stations) ≡ true → is_some (device_of k (line_after count handler other).bus) ≡ true
       → is_some (site_at k (line_then count call handler other).stations) ≡ true → is_some (device_of k (line_then count call handler other).bus) ≡ true
       → RestartHappens answer_of after count k call handler other
@@ -235,9 +243,9 @@ module _ {H : Type 0} (answer_of : H → Command → Answer) (after : H → Comm
         next_entry = the_entry (device_of k (line_then count call handler other).bus);
         at = at;
         happens = record {
-          up = is_set_up handler;
-          keep = keep_before count (long_day handler other) (first_line handler) keep;
-          keeps = keep_at count (long_day handler other) (first_line handler) (calls call []) at keep;
+          up = in_the_morning handler;
+          keep = keep_before count (long_day handler other) (line_in_the_morning handler) keep;
+          keeps = keep_at count (long_day handler other) (line_in_the_morning handler) (calls call []) at keep;
           was = was;
           station = there (site_at k (line_after count handler other).stations) handler station;
           entry = stands_there (device_of k (line_after count handler other).bus) entry;
@@ -252,7 +260,7 @@ module _ {H : Type 0} (answer_of : H → Command → Answer) (after : H → Comm
 
   elsewhere : (handler other : H) → RestartHappens answer_of after 106 0 (NewDevice 0 (spare_at 9) handler four 20) handler other
   unfolding items left_over decided reply_of reply_fault reply_at command_of command_fault command_at
-  elsewhere handler other = restart 106 0 (NewDevice 0 (spare_at 9) handler four 20) handler other (station_at 3 handler) refl refl refl refl refl refl
+  elsewhere handler other = restart 106 0 (NewDevice 0 (spare_at 9) handler four 20) handler other (had_sessions (station_at 3 handler)) refl refl refl refl refl refl
 
   in_its_place : (handler other : H) → RestartHappens answer_of after 148 1 (NewDevice 1 (spare_at 4) handler four 20) handler other
   unfolding items left_over decided reply_of reply_fault reply_at command_of command_fault command_at
@@ -260,7 +268,7 @@ module _ {H : Type 0} (answer_of : H → Command → Answer) (after : H → Comm
 
   of_panel : (handler other : H) → RestartHappens answer_of after 122 0 (NewPanel twice (9 ∷ 4 ∷ 20 ∷ [])) handler other
   unfolding items left_over decided reply_of reply_fault reply_at command_of command_fault command_at
-  of_panel handler other = restart 122 0 (NewPanel twice (9 ∷ 4 ∷ 20 ∷ [])) handler other (station_at 3 handler) refl refl refl refl refl refl
+  of_panel handler other = restart 122 0 (NewPanel twice (9 ∷ 4 ∷ 20 ∷ [])) handler other (had_sessions (station_at 3 handler)) refl refl refl refl refl refl
 
   pub restarts_happen : (handler other : H) → RestartsHappen answer_of after handler other
   restarts_happen handler other =

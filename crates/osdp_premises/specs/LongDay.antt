@@ -1,7 +1,7 @@
--- A list of calls in which all of it happens that a line knows: two devices, bytes in pieces, damage, lost packets and repeated ones, a packet that is
--- read twice, a busy device, an event that is told again, orders and events that are taken back, another handler, a COMSET that is settled and one
--- that is in doubt, a device that restarts where it is, spares of another model that come in a device's place and elsewhere, a panel that restarts, and a reader of
--- another make, whose entry is the last.
+-- A list of calls in which all of it happens that a line knows: two devices, of which the first had sessions with another panel, bytes in pieces,
+-- damage, lost packets and repeated ones, a packet that is read twice, a busy device, an event that is told again, orders and events that are
+-- taken back, another handler, a COMSET that is settled and one that is in doubt, a device that restarts where it is, spares of another model that
+-- come in a device's place and elsewhere, a panel that restarts, and a reader of another make, whose entry is the last.
 use Rattle.std.specs.Prelude.{◌≡◌, ℕ, true, false, All, List, [], ◌∷◌, ◌++◌, map, length, take, drop, Option, Some, None}
 use Rattle.osdp_frame.specs.Packed.{packed}
 use Rattle.osdp_frame.specs.Receiving.{new_line}
@@ -82,6 +82,10 @@ module _ {H : Type 0} where
     earlier = [];
   }
 
+  -- the same device, which had sessions with another panel: the last command that it took was a POLL to 127 with number 2, and it stores the answer
+  abbrev pub had_sessions : Station H → Station H
+  had_sessions t = record t { reader = record t.reader { last = Some 2; stored = Some (packed true 127 2 Sum false 0 (64 ∷ [])) } }
+
   -- two devices, at 3 and at 4; and an entry whose device is of another make, at 20
   abbrev pub first_line : H → InUse H
   first_line handler = record {
@@ -91,6 +95,10 @@ module _ {H : Type 0} where
     place = 0;
     openings = [];
   }
+
+  -- .. of which the first had sessions before
+  abbrev pub line_in_the_morning : H → InUse H
+  line_in_the_morning handler = record (first_line handler) { stations = had_sessions (station_at 3 handler) ∷ station_at 4 handler ∷ [] }
 
   -- Sessions are begun. The first opening ID comes to its device in two pieces, and the other device passes it over. The PDID comes back in two
   -- pieces, at one moment.
@@ -331,7 +339,7 @@ module _ {H : Type 0} where
 
   module _ (answer_of : H → Command → Answer) (after : H → Command → H) where
     abbrev pub line_at_night : H → H → InUse H
-    line_at_night handler other = after_calls answer_of after (long_day handler other) (first_line handler)
+    line_at_night handler other = after_calls answer_of after (long_day handler other) (line_in_the_morning handler)
 
     abbrev pub first_sessions : H → H → List Account
     first_sessions handler other = sessions_of (site_at 0 (line_at_night handler other).stations)
@@ -340,14 +348,14 @@ module _ {H : Type 0} where
     -- In its sessions, the last of them first, so many commands were taken, and so many of them settled, told in doubt, and forgotten by the panel's
     -- restart; and so many events were reported. The key was told twice.
     pub record LongDayKeeps (handler other : H) : Type 0 where
-      pub up : IsSetUp (first_line handler)
-      pub keep : AllKeep answer_of after (long_day handler other) (first_line handler)
+      pub up : IsSetUp (line_in_the_morning handler)
+      pub keep : AllKeep answer_of after (long_day handler other) (line_in_the_morning handler)
       pub stand : All (λ (step : Step H). CanStand step.call) (long_day handler other)
       pub none_refused : NoneRefused (3 ∷ 4 ∷ 20 ∷ []) (new_bus twice)
       pub openings : map (λ (o : Opening). o.entry) (line_at_night handler other).openings ≡ 0 ∷ 0 ∷ 0 ∷ 0 ∷ 0 ∷ 1 ∷ 0 ∷ []
       pub addresses : map (λ (o : Opening). o.address) (line_at_night handler other).openings ≡ 9 ∷ 9 ∷ 7 ∷ 5 ∷ 3 ∷ 4 ∷ 3 ∷ []
       -- the spare is told by its own identity
-      pub spare : (after_calls answer_of after (take 117 (long_day handler other)) (first_line handler)).bus.devices.report
+      pub spare : (after_calls answer_of after (take 117 (long_day handler other)) (line_in_the_morning handler)).bus.devices.report
           ≡ Some (0, Opened (spare_at 9).id)
       pub taken : map (λ (a : Account). length a.taken) (first_sessions handler other) ≡ 0 ∷ 1 ∷ 0 ∷ 1 ∷ 1 ∷ 1 ∷ 0 ∷ []
       pub settled : map (λ (a : Account). length a.settled) (first_sessions handler other) ≡ 0 ∷ 0 ∷ 0 ∷ 0 ∷ 1 ∷ 1 ∷ 0 ∷ []
@@ -366,7 +374,7 @@ module _ {H : Type 0} where
       pub entry : Entry
       pub next_entry : Entry
       pub at : site_at count (long_day handler other) ≡ Some (calls call [])
-      pub happens : IsBeforeAndAfter answer_of after (first_line handler) (take count (long_day handler other)) (calls call []) k first before next
+      pub happens : IsBeforeAndAfter answer_of after (line_in_the_morning handler) (take count (long_day handler other)) (calls call []) k first before next
           entry next_entry
 
     -- a device comes back where it is, and another model comes elsewhere, and in its place; and the panel

@@ -29,13 +29,14 @@ use std::mem::replace;
 
 /// A reader on the line.
 #[derive(Drop)]
+// In this order what is zero in a new reader is written where the reader is to stand, and not copied there.
 pub struct Reader<H: Handler> {
-    config: KeptConfig,
-    last: Option<Seq>,
-    stored: StoredReply,
-    queue: EventQueue,
-    busy: bool,
     handler: H,
+    stored: StoredReply,
+    config: KeptConfig,
+    queue: EventQueue,
+    last: Option<Seq>,
+    busy: bool,
 }
 
 impl<H: Handler> Model for Reader<H> {
@@ -72,12 +73,12 @@ impl<H: Handler> Reader<H> {
     {
         let ReaderParts { config, queue } = parts;
         Reader {
-            config,
-            last: None,
-            stored: StoredReply::none(),
-            queue,
-            busy: false,
             handler,
+            stored: StoredReply::none(),
+            config,
+            queue,
+            last: None,
+            busy: false,
         }
     }
 

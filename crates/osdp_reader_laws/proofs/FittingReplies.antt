@@ -1,5 +1,5 @@
--- The replies to commands that are acted on fit them.
-use Rattle.std.proofs.Common.{◌≡◌, ◌⊎◌, subst, sym, refl, ℕ, Bool, true, false, cond, nat_le, List, Some, Result, Ok, inl, inr}
+-- The replies to commands that are acted on fit them, and are plain.
+use Rattle.std.proofs.Common.{◌≡◌, ◌⊎◌, subst, sym, refl, ℕ, Bool, true, false, not, ◌&&◌, eqb, cond, nat_le, List, Some, Result, Ok, inl, inr}
 use Rattle.osdp_frame.specs.Packet.{Packet}
 use Rattle.osdp_msg.specs.declared.command_fields.MakerMessage.{MakerMessage}
 use Rattle.osdp_msg.specs.declared.command.Command.{Command}
@@ -14,6 +14,7 @@ use Rattle.osdp_msg.specs.declared.reply.Reply.{Reply}
 use Rattle.osdp_msg.specs.declared.reply.Reply.TheVariants as reply
 use Rattle.osdp_msg.specs.Events.{event_reply}
 use Rattle.osdp_msg.specs.Fitting.{reply_fits}
+use Rattle.osdp_msg.specs.NakReasons.{reason_number}
 use Rattle.osdp_reader.specs.declared.config.ReaderConfig.{ReaderConfig}
 use Rattle.osdp_reader.specs.declared.handler.Answer.{Answer}
 use Rattle.osdp_reader.specs.declared.handler.Answer.TheVariants as answer
@@ -25,60 +26,73 @@ use Rattle.osdp_reader.specs.State.{ReaderState}
 use Rattle.osdp_reader.proofs.Answering.{OfReply, of_answer, of_event_or_answer}
 use Rattle.osdp_reader.specs.Table.{Outcome, answer_to, begun, command_in, event_or_answer, kind_of, outcome, taken}
 
-abbrev Fits : Command → Reply → Type 0
-Fits c r = reply_fits c r ≡ true
+-- whether a reply is plain: neither BUSY nor NAK 1 or 4
+abbrev pub plainly : Reply → Bool
+plainly reply.Busy = false
+plainly (reply.Nak n) = not (eqb (reason_number n.reason) 1) && not (eqb (reason_number n.reason) 4)
+plainly r = true
+
+abbrev pub Suits : Command → Reply → Type 0
+Suits c r = (reply_fits c r ≡ true) × (plainly r ≡ true)
 
 -- ---- what the handler answers
 
-done_fits : (c : Command) → reply_fits c (done_reply c) ≡ true
-done_fits command.Poll = refl
-done_fits c = refl
+done_suits : (c : Command) → Suits c (done_reply c)
+done_suits command.Poll = (refl, refl)
+done_suits c = (refl, refl)
 
-local_fits : (c : Command) (tamper power : ℕ) → reply_fits c (local_reply c tamper power) ≡ true
-local_fits command.Poll tamper power = refl
-local_fits c tamper power = refl
+local_suits : (c : Command) (tamper power : ℕ) → Suits c (local_reply c tamper power)
+local_suits command.Poll tamper power = (refl, refl)
+local_suits c tamper power = (refl, refl)
 
-list_fits : (c : Command) (states : List ℕ) → reply_fits c (list_reply c states) ≡ true
-list_fits command.Poll states = refl
-list_fits c states = refl
+list_suits : (c : Command) (states : List ℕ) → Suits c (list_reply c states)
+list_suits command.Poll states = (refl, refl)
+list_suits c states = (refl, refl)
 
-maker_fits : (c : Command) (own : MakerMessage) → reply_fits c (maker_reply c own) ≡ true
-maker_fits command.Poll own = refl
-maker_fits c own = refl
+maker_suits : (c : Command) (own : MakerMessage) → Suits c (maker_reply c own)
+maker_suits command.Poll own = (refl, refl)
+maker_suits c own = (refl, refl)
 
-refusal_fits : (c : Command) (reason : NakReason) → reply_fits c (refusal_reply reason) ≡ true
-refusal_fits c CommandLength = refl
-refusal_fits c reason = refl
+refusal_suits : (c : Command) (reason : NakReason) → Suits c (refusal_reply reason)
+refusal_suits c CommandLength = (refl, refl)
+refusal_suits c reason = (refl, refl)
 
-for_fits : (a : Answer) (c : Command) → reply_fits c (reply_for a c) ≡ true
-for_fits answer.Done c = done_fits c
-for_fits (answer.Local tamper power) c = local_fits c tamper power
-for_fits (answer.List states) c = list_fits c states.items
-for_fits (answer.Refuse reason) c = refusal_fits c reason
-for_fits (answer.Maker own) c = maker_fits c own
+for_suits : (a : Answer) (c : Command) → Suits c (reply_for a c)
+for_suits answer.Done c = done_suits c
+for_suits (answer.Local tamper power) c = local_suits c tamper power
+for_suits (answer.List states) c = list_suits c states.items
+for_suits (answer.Refuse reason) c = refusal_suits c reason
+for_suits (answer.Maker own) c = maker_suits c own
 
 -- ---- what the reader answers by itself
 
-comset_fits : (asked : Communication) (within : Bool) → reply_fits (command.Comset asked) (cond within (reply.Com asked) not_processed) ≡ true
-comset_fits asked true = refl
-comset_fits asked false = refl
+comset_suits : (asked : Communication) (within : Bool) → Suits (command.Comset asked) (cond within (reply.Com asked) not_processed)
+comset_suits asked true = (refl, refl)
+comset_suits asked false = (refl, refl)
 
-own_fits : (config : ReaderConfig) (c : Command) → OfReply (Fits c) (own_reply config c)
-own_fits config command.Poll = refl
-own_fits config (command.Id kept) = refl
-own_fits config (command.Cap kept) = refl
-own_fits config (command.Comset asked) = comset_fits asked (nat_le asked.address 126)
-own_fits config c = tt
+own_suits : (config : ReaderConfig) (c : Command) → OfReply (Suits c) (own_reply config c)
+own_suits config command.Poll = (refl, refl)
+own_suits config (command.Id kept) = (refl, refl)
+own_suits config (command.Cap kept) = (refl, refl)
+own_suits config (command.Comset asked) = comset_suits asked (nat_le asked.address 126)
+own_suits config c = tt
 
-event_fits : (e : Event) → reply_fits command.Poll (event_reply e) ≡ true
-event_fits (event.LocalState s) = refl
-event_fits e = refl
+event_suits : (e : Event) → Suits command.Poll (event_reply e)
+event_suits (event.LocalState s) = (refl, refl)
+event_suits e = (refl, refl)
 
 -- ---- what is said
 
 module _ {H : Type 0} (answer_of : H → Command → Answer) (after : H → Command → H) where
+  pub answer_suits : (config : ReaderConfig) (handler : H) (c : Command) → Suits c (answer_to answer_of after config handler c).reply
+  answer_suits = of_answer Suits event_suits own_suits for_suits answer_of after
+
+  pub event_or_answer_suits : (config : ReaderConfig) (handler : H) (c : Command) (events : List Event)
+      → Suits c (event_or_answer answer_of after (event_for c events) config handler c).reply
+  event_or_answer_suits = of_event_or_answer Suits event_suits own_suits for_suits answer_of after
+
   pub answer_fits : (config : ReaderConfig) (handler : H) (c : Command) → reply_fits c (answer_to answer_of after config handler c).reply ≡ true
-  answer_fits = of_answer Fits event_fits own_fits for_fits answer_of after
+  answer_fits config handler c = (answer_suits config handler c).0
 
   -- the reply that is said fits the command
   abbrev SaysFitting : Command → Outcome H → Type 0
@@ -96,5 +110,5 @@ module _ {H : Type 0} (answer_of : H → Command → Answer) (after : H → Comm
       (subst (λ (read : Result Command MsgFault). SaysFitting c (taken answer_of after read r p)) (sym is) (
         (event_or_answer answer_of after told r.config r.handler c).reply,
         refl,
-        of_event_or_answer Fits event_fits own_fits for_fits answer_of after r.config r.handler c (released r.queue).events,
+        (event_or_answer_suits r.config r.handler c (released r.queue).events).0,
       ))

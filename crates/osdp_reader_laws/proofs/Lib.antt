@@ -2,6 +2,7 @@ pub mod Meeting
 pub mod PlainReplies
 pub mod Outcomes
 pub mod Keeping
+pub mod Storing
 pub mod Offering
 pub mod Room
 pub mod Settings

@@ -4,6 +4,7 @@
 
 ghost use Rattle.osdp_reader_laws.specs.Laws.{ActsAtZero, ActsOnce, AnswersByWhatCame, AnswersInOrder, AnswersPlainly, AnswersTaken, AnswersTheSameAgain, AnswersTheSameStill, AnswersWhereverItIs, ChangesAnswersAlone, ForgetsWhereItMoves, HasOneSpelling, HasRoom, HearsItsAddress, IsKept, KeepsReply, KeepsWhatItTook, LosesNoEvent, RefusesBlocks, RefusesNumbers, RepeatsItsReply, RepliesToItsCommand, SaysBusy, SendsWhatItSays, StaysADevice, TakesNext, TellsItsOffer};
 ghost use Rattle.osdp_reader_laws.specs.Places.{RefusesForItsPlace};
+ghost use Rattle.osdp_reader_laws.specs.Storing.{StoresItsOwn};
 ghost use Rattle.osdp_reader_laws.specs.Withdrawing.{DoubtsWhatItTold, KnowsItsOffer, NeverTellsWhatIsTakenBack, TellsNoMoreWhatLapsed, ToldWhatIsInDoubt, WithdrawsOne};
 ghost use Rattle.osdp_reader_laws.specs.Steps.{AnswersPolls, AnswersWhatFits, BeginsAnew, ChangesByActing, KeepsItsSettings, LetsItsOfferGo, MovesByComsetAlone, OffersToPollsAlone, RefusesUnread, SaysWhatFits, TellsItsCommand, TellsItsComset};
 
@@ -91,8 +92,11 @@ pub fn sends_what_it_says<H: Handler>()
 
 /// Whatever is called: a reply is stored wherever the last number is 1 to 3, what counts as offered is the front, told by that
 /// reply, what was ever offered is an event that waits, no more events wait than there is room for, and the address is that of a device.
+///
+/// What is stored is a reply from the reader's own address, or from 127. So a device that had sessions before may be there at a first start.
 pub fn reader_stays_well<H: Handler>()
     ensures reply { IsKept H.answer_of H.after KeepsReply }
+    ensures own { IsKept H.answer_of H.after StoresItsOwn }
     ensures offer { IsKept H.answer_of H.after TellsItsOffer }
     ensures ever { IsKept H.answer_of H.after KnowsItsOffer }
     ensures room { IsKept H.answer_of H.after HasRoom }

@@ -28,6 +28,7 @@ use Rattle.osdp_shared_line.specs.Addresses.{HasNoOther, IsAsked, IsFreeFor, IsN
 use Rattle.osdp_shared_line.specs.Line as line
 use Rattle.osdp_shared_line.specs.Line.{Net, Site, address_of, calls, changed, is_command_accepted, is_comset_refused, is_reserved, is_retarget_accepted, is_retarget_refused, is_taken, is_taken_beside, site_at, takes_up}
 use Rattle.osdp_shared_line.specs.Views.{IsQuiet}
+use Rattle.osdp_shared_line.proofs.Readers.{IsForAll, IsFrom}
 use Rattle.osdp_shared_line.proofs.Apart.{Apart, IsAway, IsClosed, IsKept, IsToClosed, IsToDevice, NamesGo, Ordered, all_left, changes_one, kept_one, names_less, names_one, one_changes, ordered_lost, reader_address}
 use Rattle.osdp_shared_line.proofs.Controllers.{AreLeft}
 use Rattle.osdp_shared_line.proofs.Lists.{each_kept, somewhere_kept, somewhere_split}
@@ -145,8 +146,8 @@ module _ {H : Type 0} where
     devices = each_left IsToDevice s.coming t.coming q.coming h.devices;
     away = subst (λ a. Each (IsAway i a) t.coming) (sym q.reader) (each_left (IsAway i (reader_address s)) s.coming t.coming q.coming h.away);
     order = still_ordered i s.coming t.coming q.coming h.order;
-    stored = subst (λ a. IfSome t.reader.stored (λ p. p.address ≡ a)) (sym q.reader)
-        (subst (λ o. IfSome o (λ p. p.address ≡ reader_address s)) (sym q.stored) h.stored);
+    stored = subst (λ a. IfSome t.reader.stored (IsFrom IsForAll a)) (sym q.reader)
+        (subst (λ o. IfSome o (IsFrom IsForAll (reader_address s))) (sym q.stored) h.stored);
   }
 
   pub quietly : (i : ℕ) (s t : Site H) (n : Net H) → site_at i n.sites ≡ Some s → Quietly s t → Apart n → Apart (record n { sites = changed i t n.sites })

@@ -1,5 +1,5 @@
 -- What is said and read keeps all sites apart.
-use Rattle.std.proofs.Common.{◌≡◌, ◌≢◌, ◌⊎◌, ◌<◌, ℕ, suc, Bool, true, false, cond, List, [], ◌∷◌, ◌++◌, Option, Some, None, IfSome, refl, sym, subst, ap, ◌∙◌, inl, inr, append_assoc}
+use Rattle.std.proofs.Common.{◌≡◌, ◌≢◌, ◌⊎◌, ◌<◌, ℕ, suc, Bool, true, false, cond, List, [], ◌∷◌, ◌++◌, Option, Some, None, IfSome, refl, sym, subst, ap, ◌∙◌, inl, inr, append_assoc, arith}
 use Rattle.std.proofs.lemmas.Bool.Decides.{eqb_tells}
 use Rattle.std.proofs.lemmas.List.{append-nil}
 use Rattle.std.specs.Prelude.{◌==◌, map, option_to_list}
@@ -24,7 +24,7 @@ use Rattle.osdp_shared_line.proofs.Changing.{Nothing, One, Quietly, fewer, quiet
 use Rattle.osdp_shared_line.proofs.Controllers.{AreLeft, IsSent, hears_well, ticks_well}
 use Rattle.osdp_shared_line.proofs.Hearing.{by_address, closed_hears, silent}
 use Rattle.osdp_shared_line.proofs.Lists.{nowhere, somewhere_front, somewhere_split}
-use Rattle.osdp_shared_line.proofs.Readers.{ReadsWell, reads_well}
+use Rattle.osdp_shared_line.proofs.Readers.{IsForAll, IsFrom, ReadsWell, reads_well}
 use Rattle.osdp_shared_line.proofs.Sites.{at_changed, changed_from, map_from, some_same}
 
 module _ {H : Type 0} (answer_of : H → Command → Answer) (after : H → Command → H) where
@@ -154,8 +154,8 @@ module _ {H : Type 0} (answer_of : H → Command → Answer) (after : H → Comm
           h : IsKept i u
           h = before.kept i u (at_changed i u s n.sites at)
 
-          well : ReadsWell (reader_address u) p o
-          well = reads_well answer_of after u.reader p (sym here) h.stored
+          well : ReadsWell IsForAll (reader_address u) p o
+          well = reads_well IsForAll answer_of after u.reader p (sym here) h.stored
 
           names : NamesGo i s t n.sites
           names b (inl is) = inl (inl (sym quiet.address ∙ is))
@@ -187,13 +187,16 @@ module _ {H : Type 0} (answer_of : H → Command → Answer) (after : H → Comm
           changes : Apart (record n { sites = changed i t n.sites })
           changes = one_changes i s t n at names kept (inr (quiet.address, quiet.closed)) a
 
-          replies : (r : Option Packet) → IfSome r (λ q. q.address ≡ reader_address u)
+          replies : (r : Option Packet) → IfSome r (IsFrom IsForAll (reader_address u))
               → Each (λ q. IsToClosed (changed i t n.sites) (i, q)) (option_to_list r)
           replies None from = tt
           replies (Some q) from = (
-            λ k v other is at_it. absurd (elim (changed_from k i t s v n.sites at is) [
-              | inl mine ↦ other mine.0
-              | inr there ↦ a.names k i v s other there.1 at q.address (inl at_it) (inr (IsThere (sym quiet.reader ∙ sym from)))
+            λ k v other is at_it. absurd (elim from [
+              | inl here ↦ elim (changed_from k i t s v n.sites at is) [
+                | inl mine ↦ other mine.0
+                | inr there ↦ a.names k i v s other there.1 at q.address (inl at_it) (inr (IsThere (sym quiet.reader ∙ sym here)))
+              ]
+              | inr all ↦ let device = (changes.kept k v is).device in omega (arith, device, at_it, all)
             ]),
             tt,
           )

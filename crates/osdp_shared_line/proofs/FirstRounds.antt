@@ -47,13 +47,14 @@ module _ {H : Type 0} where
   module _ (answer_of : H → Command → Answer) (after : H → Command → H) where
     pub first_rounds : FirstRoundsAreExact answer_of after
     first_rounds n turns k s last up at there = (
-      λ h. (h.ready.clear.ready, h.rounds_fit),
+      λ h. (h.ready.clear.ready, h.stored, h.rounds_fit),
       λ h. record {
         up = up;
         fits = tt;
         empty = is_empty n up;
-        rounds_fit = h.1;
+        rounds_fit = h.2;
         was = at;
+        stored = h.1;
         is = at;
         there = there;
         ready = is_ready n k s up at h.0;

@@ -9,6 +9,7 @@ pub mod Changing
 pub mod Delivering
 pub mod Running
 pub mod Linking
+pub mod Storing
 pub mod Still
 pub mod Reading
 pub mod Rounds

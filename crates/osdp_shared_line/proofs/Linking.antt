@@ -101,7 +101,7 @@ module _ {H : Type 0} (answer_of : H → Command → Answer) (after : H → Comm
       one_fits i k s n (link.RestartReader config h room) (λ e. (fits s (subst (λ j. site_at j n.sites ≡ Some s) (sym e) is)).0)
   move_fits (RestartPanel settings) k s n is fits = ((fits k s is).0, tt)
 
-  quietly : (move : NetMove H) (n : Net H) → NetMoveFits answer_of after move n → OpensQuietly move n
+  pub quietly : (move : NetMove H) (n : Net H) → NetMoveFits answer_of after move n → OpensQuietly move n
   quietly (Reopen i now) n fits = fits
   quietly _ n fits = tt
 

@@ -18,6 +18,7 @@ use Rattle.osdp_shared_line.specs.Line as line
 use Rattle.osdp_shared_line.specs.Line.{Net, NetMove, RestartPanel, RestartReader, Retarget, Site, Submit, address_of, changed, restarts, site_at}
 use Rattle.osdp_shared_line.specs.Programs.{IsKnown, KeepsRule, Note, RestFits, all_addresses, also_at, note_after, noted_at, notes_after, two_addresses}
 use Rattle.osdp_shared_line.proofs.Apart.{IsOwnComset, all_left, reader_address}
+use Rattle.osdp_shared_line.proofs.Readers.{IsForAll, IsFrom}
 use Rattle.osdp_shared_line.proofs.Changing.{IsRead, Nothing, each_left, fewer, set_is}
 use Rattle.osdp_shared_line.proofs.Controllers.{AreLeft}
 use Rattle.osdp_shared_line.proofs.Lists.{somewhere_front, somewhere_rest, somewhere_split}
@@ -104,7 +105,7 @@ TakesNone k q = q.0 ≡ k → (to : ℕ) → SetsReader to q.1 → ⊥
 
 module _ {H : Type 0} where
   abbrev pub OwnFrom : ℕ → Site H → ℕ × Packet → Type 0
-  OwnFrom k s q = q.0 ≡ k → q.1.address ≡ reader_address s
+  OwnFrom k s q = q.0 ≡ k → IsFrom IsForAll (reader_address s) q.1
 
   -- a session was begun that hasn't opened: its reader goes nowhere, and says all from where it is
   pub record IsFresh (k : ℕ) (s : Site H) (panel : List (ℕ × Packet)) : Type 0 where
@@ -179,7 +180,7 @@ module _ {H : Type 0} where
     begun = λ is. let fresh = h.begun is in record {
       state = goes.opens fresh.state;
       coming = each_left (TakesNone k) s.coming u.coming goes.coming fresh.coming;
-      said = subst (λ b. Each (λ (q : ℕ × Packet). q.0 ≡ k → q.1.address ≡ b) next) (sym goes.reader) (keeps fresh.said);
+      said = subst (λ b. Each (λ (q : ℕ × Packet). q.0 ≡ k → IsFrom IsForAll b q.1) next) (sym goes.reader) (keeps fresh.said);
     };
   }
 

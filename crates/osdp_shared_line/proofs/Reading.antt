@@ -20,13 +20,14 @@ use Rattle.osdp_shared_line.specs.Views.{IsMoved, own, own_front, view}
 use Rattle.osdp_shared_line.proofs.Apart.{Apart, IsAway, IsKept, IsToDevice, reader_address}
 use Rattle.osdp_shared_line.proofs.Hearing.{silent}
 use Rattle.osdp_shared_line.proofs.Moving.{each_is_its_own, one_is, one_not}
-use Rattle.osdp_shared_line.proofs.Readers.{reads_well}
+use Rattle.osdp_shared_line.proofs.Readers.{IsForAll, IsFrom, IsNoAddress, StoresFrom, reads_well}
 use Rattle.osdp_shared_line.proofs.Running.{apart_after, by_own}
 use Rattle.osdp_shared_line.proofs.Sites.{changed_from, own_first, some_same}
 
 module _ {H : Type 0} (answer_of : H → Command → Answer) (after : H → Command → H) (known : ReadsWhatIsAsked) where
   -- readers before this place have read; the others have this to read, which the controller of site i has said. What is said back comes from
-  -- an address where no other controller is, and from its own controller's where it and the reader are together.
+  -- an address where no other controller is, and from its own controller's where it and the reader are together and what this stores is from
+  -- there.
   pub record Between (place total i : ℕ) (o : Option Packet) (Together : Type 0) (n : Net H) : Type 0 where
     pub few : (m : ℕ) (u : Site H) → site_at m n.sites ≡ Some u → m < total
     pub unread : (m : ℕ) (u : Site H) → site_at m n.sites ≡ Some u → place ≤ m → u.coming ≡ tagged i (option_to_list o)
@@ -34,7 +35,7 @@ module _ {H : Type 0} (answer_of : H → Command → Answer) (after : H → Comm
     pub said : Option Packet
     pub panel : n.to_panel ≡ tagged i (option_to_list said)
     pub before : place ≤ i → said ≡ None
-    pub mine : place ≤ i → (u : Site H) → site_at i n.sites ≡ Some u → Together → reader_address u ≡ address_of u
+    pub mine : place ≤ i → (u : Site H) → site_at i n.sites ≡ Some u → Together → (reader_address u ≡ address_of u) × StoresFrom IsNoAddress u.reader
     pub away : IfSome said (λ q. (m : ℕ) (u : Site H) → m ≢ i → site_at m n.sites ≡ Some u → address_of u ≢ q.address)
     pub own : IfSome said (λ q. (u : Site H) → site_at i n.sites ≡ Some u → Together → address_of u ≡ q.address)
 
@@ -119,9 +120,10 @@ module _ {H : Type 0} (answer_of : H → Command → Answer) (after : H → Comm
           if_map (Some y) f is = f y is
 
       -- its own reader: it answers from where it was
-      answering : place ≡ i → (r : Option Packet) → IfSome r (λ q. q.address ≡ reader_address u) → (qs : List (ℕ × Packet))
+      answering : place ≡ i → (r : Option Packet) → IfSome r (IsFrom IsForAll (reader_address u))
+          → (StoresFrom IsNoAddress u.reader → IfSome r (IsFrom IsNoAddress (reader_address u))) → (qs : List (ℕ × Packet))
           → qs ≡ n.to_panel ++ tagged place (option_to_list r) → Next (record n { sites = Sites; to_panel = qs })
-      answering here r from_here qs same = record {
+      answering here r from_here from_own qs same = record {
         few = few;
         unread = unread;
         read = read;
@@ -132,25 +134,29 @@ module _ {H : Type 0} (answer_of : H → Command → Answer) (after : H → Comm
         before = λ le. absurd (omega (arith, here, le));
         mine = λ le. absurd (omega (arith, here, le));
         away = away r from_here;
-        own = own r from_here;
+        own = own r from_own;
       }
         where
           its : site_at i n.sites ≡ Some u
           its = subst (λ j. site_at j n.sites ≡ Some u) here at
 
-          away : (r : Option Packet) → IfSome r (λ q. q.address ≡ reader_address u)
+          away : (r : Option Packet) → IfSome r (IsFrom IsForAll (reader_address u))
               → IfSome r (λ q. (m : ℕ) (v : Site H) → m ≢ i → site_at m Sites ≡ Some v → address_of v ≢ q.address)
           away None is = tt
           away (Some q) is = λ m v differs there e.
               let w = from m v there in
-              a.names m i w.0 u differs w.1 its q.address (inl (sym w.2 ∙ e)) (inr (IsThere (sym is)))
+              elim is [
+                | inl mine ↦ a.names m i w.0 u differs w.1 its q.address (inl (sym w.2 ∙ e)) (inr (IsThere (sym mine)))
+                | inr all ↦ let device = (a.kept m w.0 w.1).device in let same = w.2 in omega (arith, device, same, e, all)
+              ]
 
-          own : (r : Option Packet) → IfSome r (λ q. q.address ≡ reader_address u)
+          own : (r : Option Packet) → (StoresFrom IsNoAddress u.reader → IfSome r (IsFrom IsNoAddress (reader_address u)))
               → IfSome r (λ q. (v : Site H) → site_at i Sites ≡ Some v → Together → address_of v ≡ q.address)
           own None is = tt
           own (Some q) is = λ v there together.
               let w = from i v there in
-              w.2 ∙ ap address_of (some_same w.0 u (sym w.1 ∙ its)) ∙ sym (b.mine (omega (arith, here)) u its together) ∙ sym is
+              let mine = b.mine (omega (arith, here)) u its together in
+              w.2 ∙ ap address_of (some_same w.0 u (sym w.1 ∙ its)) ∙ sym mine.0 ∙ elim (is mine.1) [ inl its_own ↦ sym its_own | inr none ↦ absurd none ]
 
     reads : (x : Option (Site H)) → site_at place n.sites ≡ x → Next (line.to_reader answer_of after place Delivered x n)
     reads None none = unchanged (λ u is. absurd cc)
@@ -184,19 +190,19 @@ module _ {H : Type 0} (answer_of : H → Command → Answer) (after : H → Comm
             quiet : reader_address u ≢ p.address → l ≡ link_of left [] []
             quiet other = silent answer_of after p (link_of left [] []) device other
 
-            said : IfSome outcome.reply (λ q. q.address ≡ reader_address u)
-            said = elim (eqb_tells (reader_address u) p.address) [
-              | inl equal ↦ (reads_well answer_of after u.reader p (sym equal.1) h.stored).said
+            said : (Others : ℕ → Type 0) → StoresFrom Others u.reader → IfSome outcome.reply (IsFrom Others (reader_address u))
+            said Others stores = elim (eqb_tells (reader_address u) p.address) [
+              | inl equal ↦ (reads_well Others answer_of after u.reader p (sym equal.1) stores).said
               | inr differs ↦ none_said outcome.reply (ap (λ (v : Link H). v.to_controller) (quiet differs.1))
             ]
               where
-                none_said : (r : Option Packet) → option_to_list r ≡ [] → IfSome r (λ q. q.address ≡ reader_address u)
+                none_said : (r : Option Packet) → option_to_list r ≡ [] → IfSome r (IsFrom Others (reader_address u))
                 none_said None none = tt
                 none_said (Some q) none = absurd cc
 
             heard : Next (line.hears_at answer_of after place p left n)
             heard = elim (eqb_tells place i) [
-              | inl equal ↦ answering u t at refl refl equal.1 outcome.reply said (n.to_panel ++ tagged place l.to_controller) refl
+              | inl equal ↦ answering u t at refl refl equal.1 outcome.reply (said IsForAll h.stored) (said IsNoAddress) (n.to_panel ++ tagged place l.to_controller) refl
               | inr differs ↦ silently u t at refl refl differs.1 (n.to_panel ++ tagged place l.to_controller)
                   (ap (λ (v : Link H). n.to_panel ++ tagged place v.to_controller)
                   (quiet ((subst (Each (IsAway place (reader_address u))) coming h.away).0 (λ e. differs.1 (sym e))))

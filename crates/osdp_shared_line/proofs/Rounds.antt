@@ -30,6 +30,8 @@ use Rattle.osdp_shared_line.proofs.Reading.{Between, IsSeen, all_between, reads_
 use Rattle.osdp_shared_line.proofs.Running.{apart_after, apart_all, apart_first, by_own}
 use Rattle.osdp_shared_line.proofs.Sites.{changed_from, map_from, some_same}
 use Rattle.osdp_shared_line.proofs.Still.{IsStill, round_still}
+use Rattle.osdp_shared_line.proofs.Storing.{from_there, keeps_own}
+use Rattle.osdp_shared_line.proofs.Readers.{IsNoAddress, StoresFrom}
 use Rattle.osdp_link_laws.proofs.Numbers.{is_false, is_true}
 
 pub at_length : {A : Type 0} (m : ℕ) (u : A) (ss : List A) → site_at m ss ≡ Some u → m < length ss
@@ -65,7 +67,7 @@ module _ {H : Type 0} (answer_of : H → Command → Answer) (after : H → Comm
     -- ---- a controller ticks
 
     abbrev Together : ℕ → Net H → Type 0
-    Together i n = (s : Site H) → site_at i n.sites ≡ Some s → reader_address s ≡ address_of s
+    Together i n = (s : Site H) → site_at i n.sites ≡ Some s → (reader_address s ≡ address_of s) × StoresFrom IsNoAddress s.reader
 
     ticked : (i now : ℕ) (x : Option (Site H)) (n : Net H) → site_at i n.sites ≡ x → Apart n → IsEmpty n → IsFew n
         → (o : Option Packet) × Between answer_of after known 0 total i o (Together i n) (line.tick_at answer_of after i now x n)
@@ -124,15 +126,18 @@ module _ {H : Type 0} (answer_of : H → Command → Answer) (after : H → Comm
               )
             ]
 
-        own : (u : Site H) → site_at i (map (is_told said) (changed i t n.sites)) ≡ Some u → reader_address s ≡ address_of s
-            → reader_address u ≡ address_of u
+        own : (u : Site H) → site_at i (map (is_told said) (changed i t n.sites)) ≡ Some u
+            → (reader_address s ≡ address_of s) × StoresFrom IsNoAddress s.reader → (reader_address u ≡ address_of u) × StoresFrom IsNoAddress u.reader
         own u is together =
             let old = map_from (is_told said) i u (changed i t n.sites) is in
             let well = ticks_well known s.controller.session.state (seen now s.controller.session) s.controller.waiting refl (a.kept i s at).fits in
             elim (changed_from i i t s old.0 n.sites at old.1) [
-              | inl here ↦
-                  ap (λ (w : Site H). reader_address w) old.2 ∙ ap (λ (w : Site H). reader_address w) here.1 ∙ together
-                  ∙ sym (ap (λ (w : Site H). address_of w) old.2 ∙ ap (λ (w : Site H). address_of w) here.1 ∙ well.address)
+              | inl here ↦ (
+                ap (λ (w : Site H). reader_address w) old.2 ∙ ap (λ (w : Site H). reader_address w) here.1 ∙ together.0
+                    ∙ sym (ap (λ (w : Site H). address_of w) old.2 ∙ ap (λ (w : Site H). address_of w) here.1 ∙ well.address),
+                subst (λ (w : Site H). StoresFrom IsNoAddress w.reader) (sym old.2)
+                    (subst (λ (w : Site H). StoresFrom IsNoAddress w.reader) (sym here.1) together.1),
+              )
               | inr other ↦ absurd (other.0 refl)
             ]
 
@@ -191,8 +196,8 @@ module _ {H : Type 0} (answer_of : H → Command → Answer) (after : H → Comm
       pub seen : IsSeen answer_of after known k (link.run answer_of after (cond (eqb i k) (round now) []) (view k s n)) next
       pub fits : MovesFit answer_of after (cond (eqb i k) (round now) []) (view k s n)
 
-    pub one_round : (k i now : ℕ) (s : Site H) (n : Net H) → site_at k n.sites ≡ Some s → (i ≡ k → reader_address s ≡ address_of s) → Apart n → IsEmpty n
-        → IsFew n → NetMovesFit answer_of after (net_round total (i, now)) n
+    pub one_round : (k i now : ℕ) (s : Site H) (n : Net H) → site_at k n.sites ≡ Some s
+        → (i ≡ k → (reader_address s ≡ address_of s) × StoresFrom IsNoAddress s.reader) → Apart n → IsEmpty n → IsFew n → NetMovesFit answer_of after (net_round total (i, now)) n
         → IsRound k i now s n (run answer_of after (net_round total (i, now)) n)
     one_round k i now s n is together a empty few fits =
         subst (IsRound k i now s n) (sym (net_more (all_read 0 total) (ToPanel Delivered now ∷ []) n1)) (record {
@@ -271,7 +276,7 @@ module _ {H : Type 0} (answer_of : H → Command → Answer) (after : H → Comm
             (m1.moved ∙ ap (λ ms. link.run answer_of after ms (view k s n)) (one_is i k (link.Tick now) equal.1))
             in
             let near = if_map b2.said (λ q close. close seen.site seen.there (λ u at.
-            subst (λ v. reader_address v ≡ address_of v) (some_same s u (sym (subst (λ j. site_at j n.sites ≡ Some s) (sym equal.1) is) ∙ at)) (together equal.1)))
+            subst (λ v. (reader_address v ≡ address_of v) × StoresFrom IsNoAddress v.reader) (some_same s u (sym (subst (λ j. site_at j n.sites ≡ Some s) (sym equal.1) is) ∙ at)) (together equal.1)))
             b2.own
             in
             subst (λ b. IsSeen answer_of after known k (link.run answer_of after (cond b (round now) []) (view k s n)) n3
@@ -300,7 +305,7 @@ module _ {H : Type 0} (answer_of : H → Command → Answer) (after : H → Comm
     all_rounds [] k s n is a empty few still fits = (record { site = s; there = is; seen = refl }, tt)
     all_rounds (turn ∷ turns) k s n is a empty few still fits =
         let next = run answer_of after (net_round total turn) n in
-        let r = one_round k turn.0 turn.1 s n is (λ e. still.together) a empty few (fits_first (net_round total turn) (net_rounds total turns) n fits) in
+        let r = one_round k turn.0 turn.1 s n is (λ e. (still.together, still.stored)) a empty few (fits_first (net_round total turn) (net_rounds total turns) n fits) in
         let now_still = subst IsStill (sym r.seen.seen) (stays (eqb turn.0 k) turn.1) in
         let rest = all_rounds turns k r.seen.site next r.seen.there r.apart r.empty r.few now_still (fits_then (net_round total turn) (net_rounds total turns) n fits) in (
           subst (IsSeen answer_of after known k (link.run answer_of after (rounds (moments_of k (turn ∷ turns))) (view k s n)))
@@ -343,7 +348,7 @@ module _ {H : Type 0} (answer_of : H → Command → Answer) (after : H → Comm
           together = h.ready.clear.address;
           none = each_of SetsNoAddress (unended s) h.ready.unended;
           fits = kept.fits;
-          stored = kept.stored;
+          stored = keeps_own answer_of after known moves n h.fits (apart_first n h.up) k first s h.was h.is (from_there first.reader.stored (reader_address first) h.stored);
         }) h.rounds_fit in (
           subst (λ v. view k v (run answer_of after (net_rounds (length later.sites) turns) later)
               ≡ link.run answer_of after (rounds (moments_of k turns)) (view k s later)) (some_same all.0.site last (sym all.0.there ∙ h.there)) all.0.seen,

@@ -1,5 +1,5 @@
 -- What a program notes holds after what the panel reads, and so after every list of moves.
-use Rattle.std.proofs.Common.{◌≡◌, ℕ, Bool, true, false, cond, eqb, List, [], ◌∷◌, ◌++◌, Option, Some, refl, sym, subst, ap, ◌∙◌, inl, inr, append_assoc}
+use Rattle.std.proofs.Common.{◌≡◌, ℕ, Bool, true, false, cond, eqb, List, [], ◌∷◌, ◌++◌, Option, Some, refl, sym, subst, ap, ◌∙◌, inl, inr, append_assoc, arith}
 use Rattle.std.proofs.lemmas.Bool.Decides.{eqb_tells}
 use Rattle.std.specs.Prelude.{◌&&◌}
 use Rattle.osdp_frame.specs.Packet.{Packet}
@@ -120,7 +120,10 @@ module _ {H : Type 0} (answer_of : H → Command → Answer) (after : H → Comm
             ]
 
             together : reader_address s ≡ address_of s
-            together = sym ((subst (Each (OwnFrom k s)) line_is fresh.said).0 mine) ∙ sym there
+            together = elim ((subst (Each (OwnFrom k s)) line_is fresh.said).0 mine) [
+              | inl own ↦ sym own ∙ sym there
+              | inr all ↦ let device = (whole.kept k s at).device in absurd (omega (arith, device, there, all))
+            ]
 
             may : (a : ℕ) → MayComeTo a k (gets q.1 now s)
                 → IsKnown a (gets q.1 now s) (record { begun = false; addresses = all_addresses (address_of s) s.controller.waiting })

@@ -1,5 +1,5 @@
 -- From the beginning over each list of moves: nobody else hears what a site says, and each site is its link.
-use Rattle.std.proofs.Common.{◌≡◌, ◌≢◌, ◌+◌, ℕ, zero, suc, List, [], ◌∷◌, ◌++◌, Some, IfSome, refl, sym, subst, ap, ◌∙◌, inl, inr, arith}
+use Rattle.std.proofs.Common.{◌≡◌, ◌≢◌, ◌⊎◌, ◌+◌, ℕ, zero, suc, true, List, [], ◌∷◌, ◌++◌, Option, Some, None, IfSome, refl, sym, subst, ap, ◌∙◌, inl, inr, arith}
 use Rattle.osdp_msg.specs.declared.limits.Room.{Room}
 use Rattle.osdp_frame.specs.Packet.{Packet}
 use Rattle.osdp_msg.specs.CommandTable.{CommandFits}
@@ -17,6 +17,7 @@ use Rattle.osdp_shared_line.specs.Addresses.{IsAsked, IsInOrder, IsNameOf, IsSai
 use Rattle.osdp_shared_line.specs.Line as line
 use Rattle.osdp_shared_line.specs.Line.{LoseToPanel, LoseToReader, Net, NetMove, Queue, Reopen, RestartPanel, RestartReader, Retarget, SetBusy, SetHandler, Site, Submit, Tick, ToPanel, ToReader, Withdraw, WithdrawEvent, address_of, after_net, restarts, run, site_at}
 use Rattle.osdp_shared_line.specs.Views.{HeardByOwn}
+use Rattle.osdp_shared_line.proofs.Readers.{IsForAll, IsFrom}
 use Rattle.osdp_shared_line.proofs.Apart.{Apart, IsAfter, IsAway, IsClosed, IsKept, IsOwnComset, IsToClosed, IsToDevice, Ordered, each_any, reader_address, with_panel}
 use Rattle.osdp_shared_line.proofs.Changing.{busying, handling, losing, queueing, quiet_change, reopening, restarting, retargeting, set_is, submitting, withdrawing, withdrawing_event}
 use Rattle.osdp_shared_line.proofs.Delivering.{ticking, to_panel, to_reader}
@@ -113,6 +114,10 @@ in_order : (k : ℕ) (ps : List (ℕ × Packet)) → Ordered k ps → IsInOrder 
 in_order k [] order = tt
 in_order k (p ∷ ps) order = (each_all (IsAfter k p) ps order.0, in_order k ps order.1)
 
+from_own : (o : Option Packet) (here : ℕ) → IfSome o (λ q. (q.reply ≡ true) × ((q.address ≡ here) ⊎ (q.address ≡ 127))) → IfSome o (IsFrom IsForAll here)
+from_own None here is = tt
+from_own (Some q) here is = is.1
+
 module _ {H : Type 0} where
   pub apart_first : (n : Net H) → IsSetUp n → Apart n
   apart_first n up = record {
@@ -126,7 +131,7 @@ module _ {H : Type 0} where
           devices = subst (Each IsToDevice) (sym (up.coming k s is)) tt;
           away = subst (Each (IsAway k (reader_address s))) (sym (up.coming k s is)) tt;
           order = subst (Ordered k) (sym (up.coming k s is)) tt;
-          stored = subst (λ o. IfSome o (λ q. q.address ≡ reader_address s)) (sym (up.stored k s is)) tt;
+          stored = from_own s.reader.stored (reader_address s) (up.stored k s is);
         };
     panel = subst (Each (IsToClosed n.sites)) (sym up.to_panel) tt;
   }

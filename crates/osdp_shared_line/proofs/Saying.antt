@@ -27,7 +27,7 @@ use Rattle.osdp_shared_line.proofs.Hearing.{by_address, silent}
 use Rattle.osdp_shared_line.proofs.Lists.{somewhere_rest, somewhere_split}
 use Rattle.osdp_shared_line.proofs.Noting.{AsksFor, Goes, IsFresh, IsIn, IsNoted, Noted, OwnFrom, Softly, TakesNone, all_go, as_is, plainly, same_known, soft}
 use Rattle.osdp_shared_line.proofs.Openings.{ticks_opening}
-use Rattle.osdp_shared_line.proofs.Readers.{ReadsWell, reads_well}
+use Rattle.osdp_shared_line.proofs.Readers.{IsForAll, IsFrom, ReadsWell, reads_well}
 use Rattle.osdp_shared_line.proofs.Running.{restart_from}
 use Rattle.osdp_shared_line.proofs.Sites.{changed_from, map_from}
 
@@ -189,10 +189,10 @@ module _ {H : Type 0} (answer_of : H → Command → Answer) (after : H → Comm
             before : IsNoted i u (notes i) n.to_panel
             before = soft i s u (notes i) n.to_panel n.to_panel quiet (λ all. all) noted
 
-            well : ReadsWell (reader_address u) p o
-            well = reads_well answer_of after u.reader p (sym here)
-                (subst (λ x. IfSome x (λ q. q.address ≡ reader_address u)) (sym stored)
-                (subst (λ b. IfSome s.reader.stored (λ q. q.address ≡ b)) (sym there) (whole.kept i s at).stored))
+            well : ReadsWell IsForAll (reader_address u) p o
+            well = reads_well IsForAll answer_of after u.reader p (sym here)
+                (subst (λ x. IfSome x (IsFrom IsForAll (reader_address u))) (sym stored)
+                (subst (λ b. IfSome s.reader.stored (IsFrom IsForAll b)) (sym there) (whole.kept i s at).stored))
 
             may : (a : ℕ) → MayComeTo a i (left_by u l) → IsKnown a u (notes i)
             may a (IsThere is) = elim well.goes [
@@ -212,12 +212,12 @@ module _ {H : Type 0} (answer_of : H → Command → Answer) (after : H → Comm
                 record {
                   state = f.state;
                   coming = f.coming;
-                  said = subst (λ x. Each (λ (q : ℕ × Packet). q.0 ≡ i → q.1.address ≡ x) (n.to_panel ++ tagged i l.to_controller)) (sym stays)
-                      (each_append (λ (q : ℕ × Packet). q.0 ≡ i → q.1.address ≡ reader_address u) n.to_panel (tagged i l.to_controller) f.said
-                      (each_tagged (λ (q : ℕ × Packet). q.0 ≡ i → q.1.address ≡ reader_address u) i l.to_controller (replies o.reply well.said)));
+                  said = subst (λ x. Each (λ (q : ℕ × Packet). q.0 ≡ i → IsFrom IsForAll x q.1) (n.to_panel ++ tagged i l.to_controller)) (sym stays)
+                      (each_append (λ (q : ℕ × Packet). q.0 ≡ i → IsFrom IsForAll (reader_address u) q.1) n.to_panel (tagged i l.to_controller) f.said
+                      (each_tagged (λ (q : ℕ × Packet). q.0 ≡ i → IsFrom IsForAll (reader_address u) q.1) i l.to_controller (replies o.reply well.said)));
                 }
               where
-                replies : (r : Option Packet) → IfSome r (λ q. q.address ≡ reader_address u) → Each (λ q. i ≡ i → q.address ≡ reader_address u) (option_to_list r)
+                replies : (r : Option Packet) → IfSome r (IsFrom IsForAll (reader_address u)) → Each (λ q. i ≡ i → IsFrom IsForAll (reader_address u) q) (option_to_list r)
                 replies None is = tt
                 replies (Some q) is = ((λ e. is), tt)
 

@@ -16,7 +16,7 @@ use Rattle.osdp_link_laws.proofs.Lines.{each_front, each_map, each_rest}
 use Rattle.osdp_link_laws.proofs.Stages.{Each}
 use Rattle.osdp_shared_line.specs.Addresses.{Sets, SetsReader, Somewhere, asked_in}
 use Rattle.osdp_shared_line.proofs.Controllers.{IsSent, hears_well, ticks_well}
-use Rattle.osdp_shared_line.proofs.Readers.{StoresOwn, reads_well}
+use Rattle.osdp_shared_line.proofs.Readers.{IsNoAddress, StoresFrom, reads_well}
 
 none_sets : (to : ℕ) (cs : List Command) → Each SetsNoAddress cs → Somewhere (Sets to) cs → ⊥
 none_sets to [] none found = found
@@ -35,7 +35,7 @@ module _ {H : Type 0} where
     pub together : l.reader.config.address ≡ l.controller.session.config.address
     pub none : Each SetsNoAddress (asked_of l)
     pub fits : Each CommandFits (asked_of l)
-    pub stored : StoresOwn l.reader
+    pub stored : StoresFrom IsNoAddress l.reader
 
   module _ (answer_of : H → Command → Answer) (after : H → Command → H) (reads : ReadsWhatIsAsked) where
     ticking : (now : ℕ) (l : Link H) → l.to_reader ≡ [] → IsStill l
@@ -59,7 +59,7 @@ module _ {H : Type 0} where
     reading : (ps : List Packet) (l : Link H) → Each (IsPlainTo l.reader.config.address) ps → IsStill l → IsStill (link.to_reader answer_of after ps Delivered l)
     reading [] l plain h = h
     reading (p ∷ ps) l plain h =
-        let well = reads_well answer_of after l.reader p plain.0.0 h.stored in
+        let well = reads_well IsNoAddress answer_of after l.reader p plain.0.0 h.stored in
         record {
           together = elim well.goes [ inl stays ↦ stays ∙ h.together | inr went ↦ absurd (plain.0.1 _ went) ];
           none = h.none;

@@ -9,6 +9,7 @@ use Rattle.osdp_msg.specs.declared.command.Command.TheVariants.{Cap}
 use Rattle.osdp_msg.proofs.ReplyRows.{pd_id_fits}
 use Rattle.osdp_controller_laws.specs.Calls.{IsInRange}
 use Rattle.osdp_reader.specs.declared.handler.Answer.{Answer}
+use Rattle.osdp_reader_laws.specs.Storing.{StoresItsOwn}
 use Rattle.osdp_link_laws.specs.Headline.{Begins, MaySubmit, SaysWhatFitsIf}
 use Rattle.osdp_link_laws.specs.Link.{Delivery}
 use Rattle.osdp_link_laws.specs.Progress.{NoComset, SetsNoAddress}
@@ -16,7 +17,7 @@ use Rattle.osdp_link_laws.proofs.Lines.{each_all}
 use Rattle.osdp_link_laws.proofs.Stages.{Each}
 use Rattle.osdp_shared_line.specs.Addresses.{IsSetUp, NetMoveFits, NetMovesFit, in_front}
 use Rattle.osdp_shared_line.specs.Line.{Net, NetMove, Site, ToReader, address_of, after_net, run, site_at}
-use Rattle.osdp_shared_line.specs.Progress.{AreRounds, IsEmpty, IsReady, net_rounds}
+use Rattle.osdp_shared_line.specs.Progress.{AreRounds, IsEmpty, IsReady, StoresFromThere, net_rounds}
 use Rattle.osdp_shared_line.specs.TwoStations.{HasRounds, TwoStationsHaveRounds, device_at, ordered, orders, station_at, turns, two_stations}
 use Rattle.osdp_shared_line.specs.Views.{view}
 use Rattle.osdp_shared_line.proofs.Sites.{some_same}
@@ -67,7 +68,7 @@ module _ {H : Type 0} (handler other : H) where
     begins = λ k s is.
         both (λ s. (j : ℕ) → Begins (view j s (two_stations handler other))) (begins 3 handler (omega arith)) (begins 4 other (omega arith)) k s is k;
     together = both (λ s. s.reader.config.address ≡ address_of s) refl refl;
-    stored = both (λ s. s.reader.stored ≡ None) refl refl;
+    stored = both (λ s. StoresItsOwn s.reader) tt tt;
     waiting = both (λ s. All NoComset s.controller.waiting) (each_all NoComset (Cap 0 ∷ []) (refl, tt)) (each_all NoComset (Cap 0 ∷ []) (refl, tt));
     apart = λ j k s t differ at there same.
         let first = stands j s at in
@@ -142,17 +143,18 @@ module _ {H : Type 0} (answer_of : H → Command → Answer) (after : H → Comm
     one_waits : All SetsNoAddress (Cap 0 ∷ [])
     one_waits = each_all SetsNoAddress (Cap 0 ∷ []) (refl, tt)
 
-    are_rounds : (k : ℕ) (first : Site H) → site_at k (two_stations handler other).sites ≡ Some first
+    are_rounds : (k : ℕ) (first : Site H) → site_at k (two_stations handler other).sites ≡ Some first → StoresFromThere first
         → is_some (site_at k (ordered answer_of after handler other).sites) ≡ true → is_some (site_at k later.sites) ≡ true
         → IsReady k (the_site (site_at k (ordered answer_of after handler other).sites) handler) (ordered answer_of after handler other)
         → AreRounds answer_of after (two_stations handler other) orders turns k first
         (the_site (site_at k (ordered answer_of after handler other).sites) handler) (the_site (site_at k later.sites) handler)
-    are_rounds k first was some some_later ready = record {
+    are_rounds k first was stored some some_later ready = record {
       up = is_set_up handler other;
       fits = orders_fit;
       empty = is_empty;
       rounds_fit = rounds_fit;
       was = was;
+      stored = stored;
       is = there (site_at k (ordered answer_of after handler other).sites) handler some;
       there = there (site_at k later.sites) handler some_later;
       ready = ready;
@@ -167,7 +169,7 @@ module _ {H : Type 0} (answer_of : H → Command → Answer) (after : H → Comm
       first = station_at 3 handler;
       site = the_site (site_at 0 (ordered answer_of after handler other).sites) handler;
       last = the_site (site_at 0 later.sites) handler;
-      rounds = are_rounds 0 (station_at 3 handler) refl refl refl
+      rounds = are_rounds 0 (station_at 3 handler) refl tt refl refl
           (record { clear = record { to_reader = refl; to_controller = refl; address = refl; ready = refl; issued = both_wait }; unended = both_wait });
       range = in_range 3 handler;
       due = (refl, (refl, (refl, tt)));
@@ -180,7 +182,7 @@ module _ {H : Type 0} (answer_of : H → Command → Answer) (after : H → Comm
       first = station_at 4 other;
       site = the_site (site_at 1 (ordered answer_of after handler other).sites) handler;
       last = the_site (site_at 1 later.sites) handler;
-      rounds = are_rounds 1 (station_at 4 other) refl refl refl
+      rounds = are_rounds 1 (station_at 4 other) refl tt refl refl
           (record { clear = record { to_reader = refl; to_controller = refl; address = refl; ready = refl; issued = one_waits }; unended = one_waits });
       range = in_range 4 other;
       due = (refl, (refl, tt));

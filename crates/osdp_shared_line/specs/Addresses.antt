@@ -13,6 +13,7 @@ use Rattle.osdp_controller.specs.declared.state.State.{State}
 use Rattle.osdp_controller.specs.declared.state.State.TheVariants.{Waiting, Pausing}
 use Rattle.osdp_reader.specs.Table.{command_in, new_address}
 use Rattle.osdp_reader.specs.declared.handler.Answer.{Answer}
+use Rattle.osdp_reader_laws.specs.Storing.{StoresItsOwn}
 use Rattle.osdp_link_laws.specs.Headline.{Begins, MoveFits, SaysWhatFitsIf}
 use Rattle.osdp_link_laws.specs.Link as link
 use Rattle.osdp_link_laws.specs.Progress.{NoComset}
@@ -98,13 +99,14 @@ module _ {H : Type 0} where
     pub others : (j : ℕ) (t : Site H) → j ≢ k → site_at j n.sites ≡ Some t → IsNameOf address j t → ⊥
     pub coming : All (λ (q : ℕ × Packet). q.0 ≢ k → q.1.address ≢ address) s.coming
 
-  -- nothing is on the line, the controllers are at different addresses, each with its reader, and begin their first session
+  -- Nothing is on the line, the controllers are at different addresses, each with its reader, and begin their first session. A reader may have
+  -- had sessions before, and store a reply of theirs.
   pub record IsSetUp (n : Net H) : Type 0 where
     pub coming : (k : ℕ) (s : Site H) → site_at k n.sites ≡ Some s → s.coming ≡ []
     pub to_panel : n.to_panel ≡ []
     pub begins : (k : ℕ) (s : Site H) → site_at k n.sites ≡ Some s → Begins (view k s n)
     pub together : (k : ℕ) (s : Site H) → site_at k n.sites ≡ Some s → s.reader.config.address ≡ address_of s
-    pub stored : (k : ℕ) (s : Site H) → site_at k n.sites ≡ Some s → s.reader.stored ≡ None
+    pub stored : (k : ℕ) (s : Site H) → site_at k n.sites ≡ Some s → StoresItsOwn s.reader
     pub waiting : (k : ℕ) (s : Site H) → site_at k n.sites ≡ Some s → All NoComset s.controller.waiting
     pub apart : (j k : ℕ) (s t : Site H) → j ≢ k → site_at j n.sites ≡ Some s → site_at k n.sites ≡ Some t → address_of s ≢ address_of t
 

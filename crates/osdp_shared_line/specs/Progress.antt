@@ -1,5 +1,5 @@
 -- Progress on a line with several readers: what rounds that lose nothing come to for each of them.
-use Rattle.std.specs.Prelude.{◌≡◌, ◌⊎◌, ℕ, zero, suc, ◌==◌, if◌then◌else◌, All, List, [], ◌∷◌, ◌++◌, length, Some}
+use Rattle.std.specs.Prelude.{◌≡◌, ◌⊎◌, ℕ, zero, suc, ◌==◌, if◌then◌else◌, All, List, [], ◌∷◌, ◌++◌, length, Some, IfSome}
 use Rattle.osdp_msg.specs.declared.command.Command.{Command}
 use Rattle.osdp_controller.specs.declared.state.State.TheVariants.{Closed}
 use Rattle.osdp_controller_laws.specs.Calls.{IsInRange}
@@ -17,6 +17,10 @@ moments_of k [] = []
 moments_of k (turn ∷ turns) = if turn.0 == k then turn.1 ∷ moments_of k turns else moments_of k turns
 
 module _ {H : Type 0} where
+  -- what the reader of a site stores, if anything, was said from where it is: to its address, and not to all
+  abbrev pub StoresFromThere : Site H → Type 0
+  StoresFromThere s = IfSome s.reader.stored (λ q. q.address ≡ s.reader.config.address)
+
   -- so many readers read what comes next for each of them, in their order, the first of them at this place
   abbrev pub all_read : ℕ → ℕ → List (NetMove H)
   all_read place zero = []
@@ -41,13 +45,15 @@ module _ {H : Type 0} where
     pub unended : All SetsNoAddress (unended s)
 
   module _ (answer_of : H → Command → Answer) (after : H → Command → H) where
-    -- after any moves that leave nothing on the line come rounds, each of some site, and this site was there before, between and after
+    -- After any moves that leave nothing on the line come rounds, each of some site, and this site was there before, between and after. What
+    -- its reader stored at first, if anything, was said from where it was.
     pub record AreRounds (n : Net H) (moves : List (NetMove H)) (turns : List (ℕ × ℕ)) (k : ℕ) (first s last : Site H) : Type 0 where
       pub up : IsSetUp n
       pub fits : NetMovesFit answer_of after moves n
       pub empty : IsEmpty (run answer_of after moves n)
       pub rounds_fit : NetMovesFit answer_of after (net_rounds (length (run answer_of after moves n).sites) turns) (run answer_of after moves n)
       pub was : site_at k n.sites ≡ Some first
+      pub stored : StoresFromThere first
       pub is : site_at k (run answer_of after moves n).sites ≡ Some s
       pub there : site_at k (run answer_of after (net_rounds (length (run answer_of after moves n).sites) turns) (run answer_of after moves n)).sites
           ≡ Some last

@@ -5,7 +5,8 @@ ghost use Rattle.osdp_shared_line.specs.Progress.{EachComesThrough, EachComesThr
 use osdp_reader::Handler;
 
 /// After any moves that keep the premises and leave nothing on the line: rounds of all sites that lose nothing, one after another, are for
-/// each site its own rounds and nothing else, where its ends are at one address and no COMSET to a device's address is under way for it.
+/// each site its own rounds and nothing else, where its ends are at one address and no COMSET to a device's address is under way for it. This asks
+/// that its reader stored at first nothing that it said to 127.
 pub fn rounds_are_its_own<H: Handler>()
     ensures { RoundsAreItsOwn H.answer_of H.after }
 {

@@ -14,10 +14,11 @@ use Rattle.osdp_link_laws.proofs.Stages.{Each}
 use Rattle.osdp_link_laws.proofs.Numbers.{is_true}
 use Rattle.osdp_shared_line.specs.Line as line
 use Rattle.osdp_shared_line.specs.Line.{Net, site_at}
+use Rattle.osdp_reader_laws.specs.Storing.{StoresItsOwn}
 use Rattle.osdp_shared_line.specs.Addresses.{IsSetUp}
 use Rattle.osdp_shared_line.specs.Views.{view}
 use Rattle.osdp_bus_links.specs.Links.{device_of}
-use Rattle.osdp_bus_links.specs.Premises.{NoneIsKept}
+use Rattle.osdp_bus_links.specs.Premises.{NothingIsKept}
 use Rattle.osdp_sim.specs.State.{room_for}
 use Rattle.osdp_sim_bus.specs.Runs.{AreSettings, are_apart, is_at, is_reader_in_range}
 use Rattle.osdp_sim_bus.specs.State.{Given, address_of, begun_device, new_site, set_up}
@@ -111,8 +112,11 @@ module _ {H : Type 0} where
       → (k : ℕ) (s : line.Site H) → site_at k (first_sites config readers) ≡ Some s → P s
   each_first P config readers all k s is = let its = site_of config k s readers is in subst P its.2 (all its.0)
 
-  pub none_is_kept : (config : BusConfig) (readers : List (Given H)) → NoneIsKept (first_net config readers)
-  none_is_kept config readers = each_first (λ (s : line.Site H). s.reserved ≡ None) config readers (λ given. refl)
+  pub nothing_is_kept : (config : BusConfig) (readers : List (Given H)) → NothingIsKept (first_net config readers)
+  nothing_is_kept config readers = record {
+    addresses = each_first (λ (s : line.Site H). s.reserved ≡ None) config readers (λ given. refl);
+    replies = each_first (λ (s : line.Site H). s.reader.stored ≡ None) config readers (λ given. refl);
+  }
 
   pub is_set_up : (config : BusConfig) (readers : List (Given H)) → AreSettings config readers → IsSetUp (first_net config readers)
   is_set_up config readers settings = record {
@@ -137,7 +141,7 @@ module _ {H : Type 0} where
           earlier = alone.earlier;
         });
     together = each_first (λ (s : line.Site H). s.reader.config.address ≡ line.address_of s) config readers (λ given. refl);
-    stored = each_first (λ (s : line.Site H). s.reader.stored ≡ None) config readers (λ given. refl);
+    stored = each_first (λ (s : line.Site H). StoresItsOwn s.reader) config readers (λ given. tt);
     waiting = each_first (λ (s : line.Site H). All NoComset s.controller.waiting) config readers (λ given k d lt. absurd (omega (arith, lt)));
     apart = λ j k s t other at_j at_k.
         let first = site_of config j s readers at_j in

@@ -35,7 +35,7 @@ use Rattle.osdp_sim_laws.specs.Accounts.{IsNoRefusal}
 use Rattle.osdp_sim_laws.proofs.Holding.{HasSessions, last_one}
 use Rattle.osdp_sim_bus_laws.specs.Accounts.{BusAnswer, IsAnswer, IsRun, OfEach, WasSetUp, accounts_in}
 use Rattle.osdp_sim_bus_laws.specs.Moves.{AreItsMoves, IsSiteOf, SchedulesAreMoves, moves_of}
-use Rattle.osdp_sim_bus_laws.proofs.Beginning.{first_net, first_site, follows_first, has_site, is_set_up, none_is_kept}
+use Rattle.osdp_sim_bus_laws.proofs.Beginning.{first_net, first_site, follows_first, has_site, is_set_up, nothing_is_kept}
 use Rattle.osdp_sim_bus_laws.proofs.Sites.{counts_alike, get_site}
 
 module _ {H : Type 0} where
@@ -103,7 +103,7 @@ module _ {H : Type 0} where
           s = simulation.run answer_of after steps (set_up config readers)
 
           done : AreItsMoves answer_of after steps (set_up config readers) first
-          done = schedules steps (set_up config readers) first up (none_is_kept config readers) (follows_first config readers) is.well is.fits
+          done = schedules steps (set_up config readers) first up (nothing_is_kept config readers) (follows_first config readers) is.well is.fits
 
           each : (k : ℕ) (given : Given H) → slice_get readers k ≡ Some given
               → (a : Account) × (slice_get (accounts s) k ≡ Some a) × HasSessions answer_of after given.0 given.2 a

@@ -14,7 +14,7 @@ use Rattle.osdp_link_laws.proofs.Stages.{Each}
 use Rattle.osdp_shared_line.specs.Addresses.{IsSetUp, NobodyElseHears}
 use Rattle.osdp_shared_line.specs.Line.{Net, NetMove, Site, run, site_at}
 use Rattle.osdp_shared_line.specs.Views.{EachMoveIsItsOwn, own}
-use Rattle.osdp_bus_links.specs.Premises.{AllOthersFit, BusSuffices, IsScheduled, NoneIsKept}
+use Rattle.osdp_bus_links.specs.Premises.{AllOthersFit, BusSuffices, IsScheduled, NothingIsKept}
 use Rattle.osdp_bus_links.proofs.Linked.{AreLinked, IsLinked, OfALink}
 use Rattle.osdp_bus_links.proofs.Names.{are_steady}
 use Rattle.osdp_bus_links.proofs.Sited.{IsSited, all_sited, each_own}
@@ -70,9 +70,9 @@ module _ {H : Type 0} (answer_of : H → Command → Answer) (after : H → Comm
 
   module _ (steps_move : StepsAreMoves answer_of after) (suffices : BusSuffices answer_of after)
       (always : (n : Net H) → AreLinked answer_of after n → Each (λ (q : ℕ × Packet). IsSited n.sites q.0) n.to_panel → IsKnown n)
-      (links : (first : Net H) (moves : List (NetMove H)) → IsSetUp first → NoneIsKept first → Each IsScheduled moves
+      (links : (first : Net H) (moves : List (NetMove H)) → IsSetUp first → NothingIsKept first → Each IsScheduled moves
       → AllOthersFit answer_of after moves first → AreLinked answer_of after (run answer_of after moves first)) where
-    goes : (steps : List SimStep) (s : LineState H) (first : Net H) (ms : List (NetMove H)) → IsSetUp first → NoneIsKept first → Each IsScheduled ms
+    goes : (steps : List SimStep) (s : LineState H) (first : Net H) (ms : List (NetMove H)) → IsSetUp first → NothingIsKept first → Each IsScheduled ms
         → AllOthersFit answer_of after ms first → FollowsSites s (run answer_of after ms first) → simulation.is_well answer_of after steps s ≡ true
         → FitAlong answer_of after steps s → Goes steps s (run answer_of after ms first)
     goes [] s first ms up none scheduled others h well along = record { scheduled = tt; others = tt; follows = h }

@@ -16,7 +16,7 @@ use Rattle.osdp_shared_line.specs.Line.{Net, NetMove, run, site_at}
 use Rattle.osdp_shared_line.specs.Views.{view}
 use Rattle.osdp_bus.specs.declared.config.BusConfig.{BusConfig}
 use Rattle.osdp_bus_links.specs.Links.{CallsAreMoves, IsBusOf, packets_on, tick_moves}
-use Rattle.osdp_bus_links.specs.Premises.{AllOthersFit, BusSuffices, IsScheduled, NoneIsKept}
+use Rattle.osdp_bus_links.specs.Premises.{AllOthersFit, BusSuffices, IsScheduled, NothingIsKept}
 use Rattle.osdp_sim.specs.Steps.{moment_after}
 use Rattle.osdp_sim.specs.declared.step.SimStep.{SimStep}
 use Rattle.osdp_sim.specs.declared.step.SimStep.TheVariants.{Issue, Queue, Busy, Wait, ToReader, ToController, Reopen}
@@ -128,11 +128,11 @@ module _ {H : Type 0} where
 
     -- so is each schedule, as far as it isn't refused, from a line on which the first sessions begin
     abbrev pub SchedulesAreMoves : Type 0
-    SchedulesAreMoves = (steps : List SimStep) (s : LineState H) (first : Net H) → IsSetUp first → NoneIsKept first → FollowsSites s first
+    SchedulesAreMoves = (steps : List SimStep) (s : LineState H) (first : Net H) → IsSetUp first → NothingIsKept first → FollowsSites s first
         → simulation.is_well answer_of after steps s ≡ true → FitAlong answer_of after steps s
         → AreItsMoves steps s first
 
 -- where the settings are in their ranges, the line that is set up follows sites on which the first sessions begin
 abbrev pub BeginsAsSites : Type 0 → Type 0
 BeginsAsSites H = (config : BusConfig) (readers : List (Given H)) → AreSettings config readers
-    → (first : Net H) × IsSetUp first × NoneIsKept first × FollowsSites (set_up config readers) first
+    → (first : Net H) × IsSetUp first × NothingIsKept first × FollowsSites (set_up config readers) first

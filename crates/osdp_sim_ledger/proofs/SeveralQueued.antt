@@ -21,7 +21,7 @@ use Rattle.osdp_shared_line.specs.Addresses.{IsSetUp}
 use Rattle.osdp_shared_line.specs.Line as line
 use Rattle.osdp_shared_line.specs.Line.{Net, NetMove, Site, is_comset_refused, run, site_at}
 use Rattle.osdp_shared_line.specs.Views.{one_if, view}
-use Rattle.osdp_bus_links.specs.Premises.{NoneIsKept}
+use Rattle.osdp_bus_links.specs.Premises.{NothingIsKept}
 use Rattle.osdp_calls.proofs.Counting.{GivesNone, LinkGivesNone, at_site, counted, in_net, in_net_more, net_none}
 use Rattle.osdp_sim.specs.Steps.{moment_after}
 use Rattle.osdp_sim.specs.declared.step.SimStep.{SimStep}
@@ -190,7 +190,7 @@ module _ {H : Type 0} where
 
     -- ---- a schedule
 
-    module _ (schedules : SchedulesAreMoves answer_of after) (k : ℕ) (s0 : LineState H) (n0 : Net H) (up : IsSetUp n0) (none : NoneIsKept n0)
+    module _ (schedules : SchedulesAreMoves answer_of after) (k : ℕ) (s0 : LineState H) (n0 : Net H) (up : IsSetUp n0) (none : NothingIsKept n0)
         (follows : FollowsSites s0 n0) (u0 : ReaderSite H) (at0 : slice_get s0.sites k ≡ Some u0) (empty : u0.account.queued ≡ []) where
       abbrev pub HasQueued : List SimStep → Type 0
       HasQueued xs =

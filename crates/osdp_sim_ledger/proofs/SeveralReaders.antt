@@ -34,7 +34,7 @@ use Rattle.osdp_sim_bus.specs.Runs.{FitAlong, is_well, steps_done}
 use Rattle.osdp_sim_bus.specs.State.{Given, new_site, set_up}
 use Rattle.osdp_sim_bus.specs.Steps.{StepFits, after_step, fault_of}
 use Rattle.osdp_sim_bus_laws.specs.Moves.{SchedulesAreMoves, moves_of}
-use Rattle.osdp_sim_bus_laws.proofs.Beginning.{follows_first, has_site, is_set_up, none_is_kept}
+use Rattle.osdp_sim_bus_laws.proofs.Beginning.{follows_first, has_site, is_set_up, nothing_is_kept}
 use Rattle.osdp_sim_bus_laws.proofs.Rows.{account_at, answers, told_by}
 use Rattle.osdp_sim_bus_laws.specs.Accounts.{IsRun}
 use Rattle.osdp_sim_ledger.specs.SeveralReaders.{BusRunKeepsLedgers, first_net, first_site, steps_of_reader}
@@ -55,7 +55,7 @@ module _ {H : Type 0} (answer_of : H → Command → Answer) (after : H → Comm
       let s0 = set_up config readers in
       let n0 = first_net config readers in
       let up = is_set_up config readers is.settings in
-      let none = none_is_kept config readers in
+      let none = nothing_is_kept config readers in
       let follows = follows_first config readers in
       let moves = moves_of answer_of after steps s0 in
       let done = schedules steps s0 n0 up none follows is.well is.fits in

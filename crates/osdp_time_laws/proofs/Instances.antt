@@ -1,7 +1,7 @@
 -- Each bound is reached.
-use Rattle.std.proofs.Common.{◌≡◌, ℕ, ◌≤◌, true, false, List, [], ◌∷◌, refl, arith}
+use Rattle.std.proofs.Common.{◌≡◌, ℕ, ◌+◌, ◌≤◌, Bool, true, false, ◌&&◌, ◌||◌, List, [], ◌∷◌, refl, sym, ◌∙◌, arith}
 use Rattle.std.specs.Prelude.{max, nat_le}
-use Rattle.std.proofs.lemmas.Bool.{leb-true}
+use Rattle.std.proofs.lemmas.Bool.{and_parts, false≢true, leb-true}
 use Rattle.std.proofs.lemmas.List.Elements.{All-cons, All-nil}
 use Rattle.osdp_frame.specs.Packet.{next_sequence}
 use Rattle.osdp_msg.specs.declared.command.Command.{Command}
@@ -20,8 +20,8 @@ use Rattle.osdp_controller.proofs.Choices.{either_way}
 use Rattle.osdp_controller_laws.specs.Runs.{Begin, Call, Hear, Tick, after_call}
 use Rattle.osdp_controller_laws.proofs.Well.{keeps_each}
 use Rattle.osdp_time_laws.specs.Acceptance.{IsAccepted}
-use Rattle.osdp_time_laws.specs.Clock.{IsOwed}
-use Rattle.osdp_time_laws.specs.Instances.{BoundsAreReached, ack, order_calls, one_order, two_orders, busy, dead_calls, machine_in, opening_calls, outstanding_poll, short_waits, silent_calls, slow_calls}
+use Rattle.osdp_time_laws.specs.Clock.{IsBy, IsOwed, KeepsTime, TicksBy, is_tick}
+use Rattle.osdp_time_laws.specs.Instances.{BoundsAreReached, ack, order_calls, one_order, two_orders, dead_calls, machine_in, opening_calls, outstanding_poll, short_waits, silent_calls, slow_calls}
 use Rattle.osdp_time_laws.specs.Orders.{OrderWaits}
 use Rattle.osdp_time_laws.specs.Laws.{FallsSilent, GoesOn, IsNotBusy, IsOpening, IsSilent}
 use Rattle.osdp_time_laws.proofs.Duties.{until_of}
@@ -49,11 +49,57 @@ owed_by call k at none owed =
     let on : k.session.greatest ≤ at = owed.not_before in
     omega arith
 
-owed_at : (call : Call) (k : Machine) (at : ℕ) → k.waiting ≡ [] → IsOwed at call k → until_of k.session.state ≤ at
-owed_at call k at none owed = owed_by call k at (λ idle. none) owed
+-- a moment before which no tick does anything: a command that waits is asked at once where nothing is outstanding
+abbrev moment_in : Bool → List Command → Session → ℕ
+moment_in true (command ∷ w) s = s.greatest
+moment_in _ w s = max s.greatest (until_of s.state)
 
-no_other : {A : Type 0} → true ≡ false → A
-no_other h = cc
+owed_from : (call : Call) (k : Machine) (at : ℕ) → IsOwed at call k → moment_in (is_idle k.session.state) k.waiting k.session ≤ at
+owed_from call k at owed = by_waiting (is_idle k.session.state) k.waiting refl refl
+  where
+    by_waiting : (idle : Bool) (w : List Command) → is_idle k.session.state ≡ idle → k.waiting ≡ w → moment_in idle w k.session ≤ at
+    by_waiting true (command ∷ w) is has = owed.not_before
+    by_waiting true [] is has = let reached = owed_by call k at (λ idle. has) owed in let on = owed.not_before in omega (arith, reached, on)
+    by_waiting false w is has =
+        let reached = owed_by call k at (λ idle. absurd (false≢true (sym is ∙ idle))) owed in let on = owed.not_before in omega (arith, reached, on)
+
+-- ---- whether the ticks of a run come in time
+
+abbrev is_by : ℕ → Call → Bool
+is_by limit (Begin now) = nat_le now limit
+is_by limit (Tick now) = nat_le now limit
+is_by limit (Hear p now) = nat_le now limit
+is_by limit _ = true
+
+by_later : (m n : ℕ) (call : Call) → m ≤ n → is_by m call ≡ true → IsBy n call
+by_later m n (Begin now) le is = omega (arith, le, leb-true now m is)
+by_later m n (Tick now) le is = omega (arith, le, leb-true now m is)
+by_later m n (Hear p now) le is = omega (arith, le, leb-true now m is)
+by_later m n _ le is = tt
+
+abbrev ticks_by : ℕ → List Call → Bool
+ticks_by limit [] = true
+ticks_by limit (call ∷ calls) = is_by limit call && (is_tick call || ticks_by limit calls)
+
+ticks_later : (m n : ℕ) (calls : List Call) → m ≤ n → ticks_by m calls ≡ true → TicksBy n calls
+ticks_later m n [] le is = tt
+ticks_later m n (call ∷ calls) le is =
+    let both = and_parts (is_by m call) (is_tick call || ticks_by m calls) is in
+    (by_later m n call le both.0, λ other. ticks_later m n calls le (rw other at both.1))
+
+abbrev keeps_time : ℕ → List Call → Machine → Bool
+keeps_time late [] k = true
+keeps_time late (call ∷ calls) k =
+    ticks_by (moment_in (is_idle k.session.state) k.waiting k.session + late) (call ∷ calls) && keeps_time late calls (after_call call k)
+
+in_time_by : (late : ℕ) (calls : List Call) (k : Machine) → keeps_time late calls k ≡ true → KeepsTime late calls k
+in_time_by late [] k is = tt
+in_time_by late (call ∷ calls) k is =
+    let moment = moment_in (is_idle k.session.state) k.waiting k.session in
+    let both = and_parts (ticks_by (moment + late) (call ∷ calls)) (keeps_time late calls (after_call call k)) is in (
+      λ at owed. let from = owed_from call k at owed in ticks_later (moment + late) (at + late) (call ∷ calls) (omega (arith, from)) both.0,
+      in_time_by late calls (after_call call k) both.1,
+    )
 
 short_config : IsConfig short_waits
 short_config = record {
@@ -76,49 +122,13 @@ is_machine state number is opening = record {
 
 -- ---- the runs, call by call
 
-abbrev slow_0 : Machine
-slow_0 = after_call (Tick 0) (machine_in (Idle 0) 0)
-
-abbrev slow_1 : Machine
-slow_1 = after_call (Tick 4) slow_0
-
-abbrev slow_2 : Machine
-slow_2 = after_call (Hear busy 8) slow_1
-
-abbrev slow_3 : Machine
-slow_3 = after_call (Tick 8) slow_2
-
-abbrev slow_4 : Machine
-slow_4 = after_call (Tick 11) slow_3
-
-abbrev slow_5 : Machine
-slow_5 = after_call (Tick 15) slow_4
-
 slow : GoesOn 1 0 slow_calls (machine_in (Idle 0) 0)
 unfolding replies.reply_of replies.reply_fault replies.reply_at
 slow = record {
   machine = is_machine (Idle 0) 0 tt tt;
   begins = refl;
   lasts = (refl, (refl, (refl, (refl, (refl, (refl, tt))))));
-  in_time = (
-    λ at owed. let reached : 3 ≤ at = owed_at (Tick 4) slow_0 at refl owed in (omega arith, no_other),
-    (
-      λ at owed. let reached : 7 ≤ at = owed_at (Hear busy 8) slow_1 at refl owed in (omega arith, λ other. (omega arith, no_other)),
-      (
-        λ at owed. let reached : 10 ≤ at = owed_at (Tick 8) slow_2 at refl owed in (omega arith, no_other),
-        (
-          λ at owed. let reached : 10 ≤ at = owed_at (Tick 11) slow_3 at refl owed in (omega arith, no_other),
-          (
-            λ at owed. let reached : 14 ≤ at = owed_at (Tick 15) slow_4 at refl owed in (omega arith, no_other),
-            (
-              λ at owed. let reached : 18 ≤ at = owed_at (Tick 19) slow_5 at refl owed in (omega arith, no_other),
-              tt,
-            ),
-          ),
-        ),
-      ),
-    ),
-  );
+  in_time = in_time_by 1 slow_calls (after_call (Tick 0) (machine_in (Idle 0) 0)) refl;
 }
 
 dead : GoesOn 1 0 dead_calls (machine_in (Idle 0) 0)
@@ -126,35 +136,8 @@ dead = record {
   machine = is_machine (Idle 0) 0 tt tt;
   begins = refl;
   lasts = (refl, (refl, tt));
-  in_time = (
-    λ at owed. let reached : 3 ≤ at = owed_at (Tick 4) slow_0 at refl owed in (omega arith, no_other),
-    (
-      λ at owed. let reached : 7 ≤ at = owed_at (Tick 8) slow_1 at refl owed in (omega arith, no_other),
-      tt,
-    ),
-  );
+  in_time = in_time_by 1 dead_calls (after_call (Tick 0) (machine_in (Idle 0) 0)) refl;
 }
-
-abbrev opening_0 : Machine
-opening_0 = after_call (Begin 0) (machine_in Closed 0)
-
-abbrev opening_1 : Machine
-opening_1 = after_call (Tick 5) opening_0
-
-abbrev opening_2 : Machine
-opening_2 = after_call (Tick 9) opening_1
-
-abbrev opening_3 : Machine
-opening_3 = after_call (Hear busy 13) opening_2
-
-abbrev opening_4 : Machine
-opening_4 = after_call (Tick 13) opening_3
-
-abbrev opening_5 : Machine
-opening_5 = after_call (Tick 16) opening_4
-
-abbrev opening_6 : Machine
-opening_6 = after_call (Tick 20) opening_5
 
 begins_slow : IsOpening 1 0 opening_calls (machine_in Closed 0)
 unfolding replies.reply_of replies.reply_fault replies.reply_at
@@ -162,38 +145,8 @@ begins_slow = record {
   machine = is_machine Closed 0 tt tt;
   begins = refl;
   lasts = (refl, (refl, (refl, (refl, (refl, (refl, (refl, tt)))))));
-  in_time = (
-    λ at owed. let reached : 4 ≤ at = owed_at (Tick 5) opening_0 at refl owed in (omega arith, no_other),
-    (
-      λ at owed. let reached : 8 ≤ at = owed_at (Tick 9) opening_1 at refl owed in (omega arith, no_other),
-      (
-        λ at owed. let reached : 12 ≤ at = owed_at (Hear busy 13) opening_2 at refl owed in (omega arith, λ other. (omega arith, no_other)),
-        (
-          λ at owed. let reached : 15 ≤ at = owed_at (Tick 13) opening_3 at refl owed in (omega arith, no_other),
-          (
-            λ at owed. let reached : 15 ≤ at = owed_at (Tick 16) opening_4 at refl owed in (omega arith, no_other),
-            (
-              λ at owed. let reached : 19 ≤ at = owed_at (Tick 20) opening_5 at refl owed in (omega arith, no_other),
-              (
-                λ at owed. let reached : 23 ≤ at = owed_at (Tick 24) opening_6 at refl owed in (omega arith, no_other),
-                tt,
-              ),
-            ),
-          ),
-        ),
-      ),
-    ),
-  );
+  in_time = in_time_by 1 opening_calls (after_call (Begin 0) (machine_in Closed 0)) refl;
 }
-
-abbrev silent_0 : Machine
-silent_0 = after_call (Hear ack 0) (machine_in outstanding_poll 1)
-
-abbrev silent_1 : Machine
-silent_1 = after_call (Tick 6) silent_0
-
-abbrev silent_2 : Machine
-silent_2 = after_call (Tick 10) silent_1
 
 falls : FallsSilent 1 ack 0 silent_calls (machine_in outstanding_poll 1)
 unfolding replies.reply_of replies.reply_fault replies.reply_at
@@ -204,16 +157,7 @@ falls = record {
   answered = refl;
   silent = All-cons IsSilent (Tick 6) (Tick 10 ∷ Tick 14 ∷ []) tt (All-cons IsSilent (Tick 10) (Tick 14 ∷ []) tt (All-cons IsSilent (Tick 14) [] tt (All-nil IsSilent)));
   lasts = (refl, (refl, (refl, tt)));
-  in_time = (
-    λ at owed. let reached : 5 ≤ at = owed_at (Tick 6) silent_0 at refl owed in (omega arith, no_other),
-    (
-      λ at owed. let reached : 9 ≤ at = owed_at (Tick 10) silent_1 at refl owed in (omega arith, no_other),
-      (
-        λ at owed. let reached : 13 ≤ at = owed_at (Tick 14) silent_2 at refl owed in (omega arith, no_other),
-        tt,
-      ),
-    ),
-  );
+  in_time = in_time_by 1 silent_calls (after_call (Hear ack 0) (machine_in outstanding_poll 1)) refl;
 }
 
 one_id : IsMachine (record (machine_in (Idle 0) 0) { waiting = Id 0 ∷ []; capacity = 2; room = 2866 })
@@ -223,24 +167,6 @@ one_id = record {
   waiting = All-cons IsSubmitted (Id 0) [] (λ same. cc) (All-nil IsSubmitted);
   room = omega arith;
 }
-
-abbrev order_0 : Machine
-order_0 = after_call (Tick 0) two_orders
-
-abbrev order_1 : Machine
-order_1 = after_call (Tick 3) order_0
-
-abbrev order_2 : Machine
-order_2 = after_call (Hear busy 6) order_1
-
-abbrev order_3 : Machine
-order_3 = after_call (Tick 6) order_2
-
-abbrev order_4 : Machine
-order_4 = after_call (Tick 8) order_3
-
-abbrev order_5 : Machine
-order_5 = after_call (Tick 11) order_4
 
 order_slow : OrderWaits 0 0 0 order_calls two_orders
 unfolding replies.reply_of replies.reply_fault replies.reply_at
@@ -254,28 +180,7 @@ order_slow = record {
   begins = refl;
   place = omega arith;
   lasts = ((omega arith), refl, ((omega arith), refl, ((omega arith), refl, ((omega arith), refl, ((omega arith), refl, ((omega arith), refl, ((omega arith), refl, tt)))))));
-  in_time = (
-    λ at owed. let reached : 3 ≤ at = owed_by (Tick 3) order_0 at (λ idle. cc) owed in (omega arith, no_other),
-    (
-      λ at owed. let reached : 6 ≤ at = owed_by (Hear busy 6) order_1 at (λ idle. cc) owed in (omega arith, λ other. (omega arith, no_other)),
-      (
-        λ at owed. let now : 6 ≤ at = owed.not_before in (omega arith, no_other),
-        (
-          λ at owed. let reached : 8 ≤ at = owed_by (Tick 8) order_3 at (λ idle. cc) owed in (omega arith, no_other),
-          (
-            λ at owed. let reached : 11 ≤ at = owed_by (Tick 11) order_4 at (λ idle. cc) owed in (omega arith, no_other),
-            (
-              λ at owed. let reached : 14 ≤ at = owed_by (Hear ack 14) order_5 at (λ idle. cc) owed in (omega arith, λ other. (omega arith, no_other)),
-              (
-                λ at owed. let now : 14 ≤ at = owed.not_before in (omega arith, no_other),
-                tt,
-              ),
-            ),
-          ),
-        ),
-      ),
-    ),
-  );
+  in_time = in_time_by 0 order_calls (after_call (Tick 0) two_orders) refl;
 }
 
 order_accepted : IsAccepted 0 (Id 0) order_calls one_order

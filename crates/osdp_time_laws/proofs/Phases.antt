@@ -1,16 +1,12 @@
 -- What a session may still take, from one call to the next.
-use Rattle.std.proofs.Common.{◌≡◌, ◌∙◌, ◌⊎◌, ap, subst, inl, inr, ℕ, zero, suc, ◌+◌, ◌-◌, ◌*◌, ◌^◌, ◌≤◌, ◌<◌, Bool, true, false, List, [], ◌∷◌, Option, Some, None, refl, arith}
+use Rattle.std.proofs.Common.{◌≡◌, ◌∙◌, ◌⊎◌, ap, subst, inl, inr, ℕ, zero, suc, ◌+◌, ◌-◌, ◌*◌, ◌^◌, ◌≤◌, ◌<◌, Bool, true, false, List, [], ◌∷◌, None, refl, arith}
 use Rattle.std.specs.Prelude.{All, nat_le, nat_lt}
 use Rattle.std.proofs.Math.Nat.{min-le_left, suc-mul}
 use Rattle.std.proofs.lemmas.Bool.{leb-false, ltb-false, ltb-true}
 use Rattle.std.proofs.lemmas.List.Elements.{All-head, All-tail}
 use Rattle.osdp_frame.specs.Packet.{Packet, next_sequence}
 use Rattle.osdp_msg.specs.declared.command.Command.{Command}
-use Rattle.osdp_msg.specs.declared.command_fields.Communication.{Communication}
-use Rattle.osdp_msg.specs.declared.reply.Reply.{Reply}
-use Rattle.osdp_msg.specs.declared.reply_fields.PdId.{PdId}
 use Rattle.osdp_controller.specs.declared.config.ControllerConfig.{ControllerConfig}
-use Rattle.osdp_controller.specs.declared.exchange.Exchange.{Exchange}
 use Rattle.osdp_controller.specs.declared.exchange.Exchange.TheVariants.{Opening, Polling, Asking}
 use Rattle.osdp_controller.specs.declared.exchange.Outstanding.{Outstanding}
 use Rattle.osdp_controller.specs.declared.meaning.ReplyMeaning.{ReplyMeaning}
@@ -20,14 +16,14 @@ use Rattle.osdp_controller.specs.declared.session.Session.{Session}
 use Rattle.osdp_controller.specs.declared.state.State.{State}
 use Rattle.osdp_controller.specs.declared.state.State.TheVariants.{Closed, Quiet, Idle, Waiting, Pausing}
 use Rattle.osdp_controller.specs.Answers.{is_not_taken, meaning_of}
-use Rattle.osdp_controller.specs.Hearing.{Heard, answered, answered_unread, com_of, command_answered, comset_of, hears, hears_busy, loses, moved_by, opening_answered, pausing_hears, pd_id_of, waiting_hears}
+use Rattle.osdp_controller.specs.Hearing.{Heard, hears, hears_busy, loses, waiting_hears}
 use Rattle.osdp_controller.specs.Private.{numbered_in}
 use Rattle.osdp_controller.specs.Sessions.{after_send, at_rest, closed, later, seen}
 use Rattle.osdp_controller.specs.States.{is_closed}
 use Rattle.osdp_controller.specs.Ticking.{Ticked, begins, gives_up, sends_frame, stays, ticks_in, tries_again}
 use Rattle.osdp_controller.proofs.Choices.{either_way}
 use Rattle.osdp_controller_laws.specs.Runs.{Call, Hear}
-use Rattle.osdp_controller_laws.proofs.Frames.{either_frame}
+use Rattle.osdp_controller_laws.proofs.Frames.{OfEach, either_frame, of_answer, of_pause, of_unread}
 use Rattle.osdp_time_laws.specs.Clock.{is_tick}
 use Rattle.osdp_time_laws.specs.Laws.{IsNotBusy}
 use Rattle.osdp_time_laws.proofs.Duties.{Due, due_ahead, due_anew, due_kept, due_now, until_of}
@@ -329,27 +325,13 @@ module _ (late end : ℕ) (c : ControllerConfig) (more : ℕ) (Counts : Type 0) 
           let limit : s.config.busy_limit ≡ c.busy_limit = ap (λ (k : ControllerConfig). k.busy_limit) same in
           (near, λ so. (same, pauses_next until (later s.config.busy_wait s) sends o.busies s.greatest call calls (later_busy s same) (omega arith) r left)))
 
-      opening_holds : (id : Option PdId) (calls : List Call) (s : Session) → s.greatest ≤ end → Holds calls s → HeardHolds calls (opening_answered id s)
-      opening_holds None calls s near stay = stay
-      opening_holds (Some id) calls s near stay = at_rest_holds calls s near
-
-      command_holds : (moved : Option Communication) (command : Command) (reply : Reply) (calls : List Call) (s : Session) → s.greatest ≤ end
-          → HeardHolds calls (command_answered moved command reply s)
-      command_holds None command reply calls s near = at_rest_holds calls s near
-      command_holds (Some d) command reply calls s near =
-          no_session calls (closed (record s { config = record s.config { address = d.address } })) near refl
-
-      answered_holds : (x : Exchange) (reply : Reply) (calls : List Call) (s : Session) → s.greatest ≤ end → Holds calls s
-          → HeardHolds calls (answered x reply s)
-      answered_holds Opening reply calls s near stay = opening_holds (pd_id_of reply) calls s near stay
-      answered_holds Polling reply calls s near stay = at_rest_holds calls s near
-      answered_holds (Asking command) reply calls s near stay = command_holds (moved_by (comset_of command) (com_of reply)) command reply calls s near
-
-      unread_holds : (x : Exchange) (code : ℕ) (calls : List Call) (s : Session) → s.greatest ≤ end → Holds calls s
-          → HeardHolds calls (answered_unread x code s)
-      unread_holds Opening code calls s near stay = stay
-      unread_holds Polling code calls s near stay = at_rest_holds calls s near
-      unread_holds (Asking command) code calls s near stay = at_rest_holds calls s near
+      each_holds : (calls : List Call) (s : Session) → s.greatest ≤ end → Holds calls s → OfEach (HeardHolds calls) s
+      each_holds calls s near stay = record {
+        ignored = stay;
+        rested = λ told. at_rest_holds calls s near;
+        moved = λ d command. no_session calls (closed (record s { config = record s.config { address = d.address } })) near refl;
+        lost = λ cause o. no_session calls (closed s) near refl;
+      }
 
       waiting_holds : (a : ReplyMeaning) (until sends : ℕ) (o : Outstanding) (call : Call) (calls : List Call) (s : Session) → is_tick call ≡ false
           → s.greatest ≤ end → s.config ≡ c → (r : Sent until sends o.busies s.greatest (call ∷ calls)) → BusyLeft a r.busies_left o.busies
@@ -364,16 +346,8 @@ module _ (late end : ℕ) (c : ControllerConfig) (more : ℕ) (Counts : Type 0) 
         ),
       )
       waiting_holds NumberRefused until sends o call calls s other near same r left stay = no_session calls (closed s) near refl
-      waiting_holds (Plain reply) until sends o call calls s other near same r left stay = answered_holds o.exchange reply calls s near stay
-      waiting_holds (Unreadable code) until sends o call calls s other near same r left stay = unread_holds o.exchange code calls s near stay
-
-      pausing_holds : (a : ReplyMeaning) (o : Outstanding) (calls : List Call) (s : Session) → s.greatest ≤ end → Holds calls s
-          → HeardHolds calls (pausing_hears a o s)
-      pausing_holds NotTaken o calls s near stay = stay
-      pausing_holds Damaged o calls s near stay = stay
-      pausing_holds NumberRefused o calls s near stay = no_session calls (closed s) near refl
-      pausing_holds (Plain reply) o calls s near stay = answered_holds o.exchange reply calls s near stay
-      pausing_holds (Unreadable code) o calls s near stay = unread_holds o.exchange code calls s near stay
+      waiting_holds (Plain reply) until sends o call calls s other near same r left stay = of_answer (HeardHolds calls) s (each_holds calls s near stay) o.exchange reply
+      waiting_holds (Unreadable code) until sends o call calls s other near same r left stay = of_unread (HeardHolds calls) s (each_holds calls s near stay) o.exchange code
 
       busy_left : (q busies now : ℕ) (p : Packet) (calls : List Call) → Left q busies (Hear p now ∷ calls) → BusyLeft (meaning_of p) q busies
       busy_left q busies now p calls (inl few) = inl few
@@ -383,7 +357,7 @@ module _ (late end : ℕ) (c : ControllerConfig) (more : ℕ) (Counts : Type 0) 
           → Phase (Hear p now ∷ calls) state s.greatest → Holds calls s → HeardHolds calls (numbered_in state (meaning_of p) s)
       numbered_holds (Waiting until sends o) p now calls s near same r stay =
           waiting_holds (meaning_of p) until sends o (Hear p now) calls s refl near same r (busy_left r.busies_left o.busies now p calls r.left) stay
-      numbered_holds (Pausing until o) p now calls s near same r stay = pausing_holds (meaning_of p) o calls s near stay
+      numbered_holds (Pausing until o) p now calls s near same r stay = of_pause (HeardHolds calls) s (each_holds calls s near stay) (meaning_of p) o
       numbered_holds _ p now calls s near same r stay = stay
 
       pub frame_holds : (p : Packet) (now : ℕ) (calls : List Call) (s : Session) → (seen now s).greatest ≤ end → s.config ≡ c

@@ -1,31 +1,21 @@
 -- What a device that falls silent may take until it is told lost.
-use Rattle.std.proofs.Common.{◌≡◌, sym, subst, inr, ℕ, ◌+◌, ◌*◌, ◌≤◌, true, List, [], ◌∷◌, Option, Some, None, refl, arith}
-use Rattle.std.specs.Prelude.{All, nat_lt}
+use Rattle.std.proofs.Common.{◌≡◌, sym, subst, inr, ℕ, ◌+◌, ◌*◌, ◌≤◌, true, List, [], ◌∷◌, refl, arith}
+use Rattle.std.specs.Prelude.{All}
 use Rattle.std.proofs.lemmas.List.Elements.{All-cons, All-head, All-nil, All-tail}
 use Rattle.osdp_frame.specs.Packet.{Packet}
-use Rattle.osdp_msg.specs.declared.command.Command.{Command}
-use Rattle.osdp_msg.specs.declared.command_fields.Communication.{Communication}
-use Rattle.osdp_msg.specs.declared.reply.Reply.{Reply}
-use Rattle.osdp_msg.specs.declared.reply_fields.PdId.{PdId}
 use Rattle.osdp_controller.specs.declared.config.ControllerConfig.{ControllerConfig}
-use Rattle.osdp_controller.specs.declared.exchange.Exchange.{Exchange}
-use Rattle.osdp_controller.specs.declared.exchange.Exchange.TheVariants.{Opening, Polling, Asking}
-use Rattle.osdp_controller.specs.declared.exchange.Outstanding.{Outstanding}
 use Rattle.osdp_controller.specs.declared.meaning.ReplyMeaning.{ReplyMeaning}
-use Rattle.osdp_controller.specs.declared.meaning.ReplyMeaning.TheVariants.{NotTaken, Damaged, NumberRefused, Plain, Unreadable}
-use Rattle.osdp_controller.specs.declared.report.LostCause.TheVariants as causes
 use Rattle.osdp_controller.specs.declared.session.Session.{Session}
 use Rattle.osdp_controller.specs.declared.state.State.{State}
 use Rattle.osdp_controller.specs.declared.state.State.TheVariants.{Closed, Idle, Waiting, Pausing}
 use Rattle.osdp_controller.specs.Answers.{meaning_of}
-use Rattle.osdp_controller.specs.Hearing.{Heard, answered, answered_unread, com_of, command_answered, comset_of, hears, hears_busy, loses, moved_by, opening_answered, pausing_hears, pd_id_of, waiting_hears}
+use Rattle.osdp_controller.specs.Hearing.{Heard, answered, hears}
 use Rattle.osdp_controller.specs.Machine.{is_outstanding}
 use Rattle.osdp_controller.specs.Private.{numbered_in}
-use Rattle.osdp_controller.specs.Sessions.{later, seen}
+use Rattle.osdp_controller.specs.Sessions.{seen}
 use Rattle.osdp_controller.specs.States.{is_idle}
-use Rattle.osdp_controller.proofs.Choices.{either_way}
 use Rattle.osdp_controller_laws.specs.Runs.{Call, Hear, after_call, after_calls}
-use Rattle.osdp_controller_laws.proofs.Frames.{either_frame}
+use Rattle.osdp_controller_laws.proofs.Frames.{OfEach, either_frame, of_pause, of_wait}
 use Rattle.osdp_time_laws.specs.Laws.{IsNotBusy, IsSilent, SilenceIsTold, is_in_session}
 use Rattle.osdp_time_laws.proofs.Beginnings.{no_busy, on_from, one_less, round_is}
 use Rattle.osdp_time_laws.proofs.Duties.{due_anew, until_of}
@@ -40,47 +30,17 @@ not_idle : (state : State) → is_outstanding state ≡ true → is_idle state �
 not_idle Closed out idle = cc
 not_idle _ out idle = cc
 
-opening_rests : (id : Option PdId) (s : Session) → is_outstanding s.state ≡ true → Rests s.config (opening_answered id s)
-opening_rests (Some id) s out = λ idle. (refl, later_within s.config.poll_interval s)
-opening_rests None s out = λ idle. absurd (not_idle s.state out idle)
-
-command_rests : (moved : Option Communication) (command : Command) (reply : Reply) (s : Session) → Rests s.config (command_answered moved command reply s)
-command_rests (Some answered) command reply s = λ idle. cc
-command_rests None command reply s = λ idle. (refl, later_within s.config.poll_interval s)
-
-answered_rests : (x : Exchange) (reply : Reply) (s : Session) → is_outstanding s.state ≡ true → Rests s.config (answered x reply s)
-answered_rests Opening reply s out = opening_rests (pd_id_of reply) s out
-answered_rests Polling reply s out = λ idle. (refl, later_within s.config.poll_interval s)
-answered_rests (Asking command) reply s out = command_rests (moved_by (comset_of command) (com_of reply)) command reply s
-
-unread_rests : (x : Exchange) (code : ℕ) (s : Session) → is_outstanding s.state ≡ true → Rests s.config (answered_unread x code s)
-unread_rests Opening code s out = λ idle. absurd (not_idle s.state out idle)
-unread_rests Polling code s out = λ idle. (refl, later_within s.config.poll_interval s)
-unread_rests (Asking command) code s out = λ idle. (refl, later_within s.config.poll_interval s)
-
-busy_rests : (o : Outstanding) (s : Session) → Rests s.config (hears_busy o s)
-busy_rests o s =
-    either_way (Rests s.config) (nat_lt s.config.busy_limit (o.busies + 1)) (loses causes.TooBusy o s)
-    (record { session = record s { state = Pausing (later s.config.busy_wait s) (record o { busies = o.busies + 1 }) }; report = None })
-    (λ b idle. cc) (λ b idle. cc)
-
-waiting_rests : (a : ReplyMeaning) (sends : ℕ) (o : Outstanding) (s : Session) → is_outstanding s.state ≡ true → Rests s.config (waiting_hears a sends o s)
-waiting_rests NotTaken sends o s out = busy_rests o s
-waiting_rests Damaged sends o s out = λ idle. cc
-waiting_rests NumberRefused sends o s out = λ idle. cc
-waiting_rests (Plain reply) sends o s out = answered_rests o.exchange reply s out
-waiting_rests (Unreadable code) sends o s out = unread_rests o.exchange code s out
-
-pausing_rests : (a : ReplyMeaning) (o : Outstanding) (s : Session) → is_outstanding s.state ≡ true → Rests s.config (pausing_hears a o s)
-pausing_rests NotTaken o s out = λ idle. absurd (not_idle s.state out idle)
-pausing_rests Damaged o s out = λ idle. absurd (not_idle s.state out idle)
-pausing_rests NumberRefused o s out = λ idle. cc
-pausing_rests (Plain reply) o s out = answered_rests o.exchange reply s out
-pausing_rests (Unreadable code) o s out = unread_rests o.exchange code s out
+each_rests : (s : Session) → is_outstanding s.state ≡ true → OfEach (Rests s.config) s
+each_rests s out = record {
+  ignored = λ idle. absurd (not_idle s.state out idle);
+  rested = λ told idle. (refl, later_within s.config.poll_interval s);
+  moved = λ d command idle. cc;
+  lost = λ cause o idle. cc;
+}
 
 numbered_rests : (state : State) (a : ReplyMeaning) (s : Session) → is_outstanding s.state ≡ true → Rests s.config (numbered_in state a s)
-numbered_rests (Waiting until sends o) a s out = waiting_rests a sends o s out
-numbered_rests (Pausing until o) a s out = pausing_rests a o s out
+numbered_rests (Waiting until sends o) a s out = of_wait (Rests s.config) s (each_rests s out) a sends o (λ idle. cc) (λ idle. cc)
+numbered_rests (Pausing until o) a s out = of_pause (Rests s.config) s (each_rests s out) a o
 numbered_rests _ a s out = λ idle. absurd (not_idle s.state out idle)
 
 pub frame_rests : (p : Packet) (now : ℕ) (s : Session) → is_outstanding s.state ≡ true → Rests s.config (hears p now s)

@@ -3,29 +3,22 @@ use Rattle.std.proofs.Common.{sym, subst, ℕ, ◌+◌, ◌≤◌, List, [], ◌
 use Rattle.std.specs.Prelude.{max, nat_le, nat_lt}
 use Rattle.osdp_frame.specs.Packet.{Packet, next_sequence}
 use Rattle.osdp_msg.specs.declared.command.Command.{Command}
-use Rattle.osdp_msg.specs.declared.command_fields.Communication.{Communication}
-use Rattle.osdp_msg.specs.declared.reply.Reply.{Reply}
-use Rattle.osdp_msg.specs.declared.reply_fields.PdId.{PdId}
 use Rattle.osdp_controller.specs.declared.config.ControllerConfig.{ControllerConfig}
-use Rattle.osdp_controller.specs.declared.exchange.Exchange.{Exchange}
-use Rattle.osdp_controller.specs.declared.exchange.Exchange.TheVariants.{Opening, Polling, Asking}
-use Rattle.osdp_controller.specs.declared.exchange.Outstanding.{Outstanding}
+use Rattle.osdp_controller.specs.declared.exchange.Exchange.TheVariants.{Opening, Polling}
 use Rattle.osdp_controller.specs.declared.fault.ControllerFault.{ControllerFault}
 use Rattle.osdp_controller.specs.declared.meaning.ReplyMeaning.{ReplyMeaning}
-use Rattle.osdp_controller.specs.declared.meaning.ReplyMeaning.TheVariants.{NotTaken, Damaged, NumberRefused, Plain, Unreadable}
-use Rattle.osdp_controller.specs.declared.report.LostCause.TheVariants as causes
 use Rattle.osdp_controller.specs.declared.session.Session.{Session}
 use Rattle.osdp_controller.specs.declared.state.State.{State}
 use Rattle.osdp_controller.specs.declared.state.State.TheVariants.{Closed, Quiet, Idle, Waiting, Pausing}
 use Rattle.osdp_controller.specs.Answers.{meaning_of}
-use Rattle.osdp_controller.specs.Hearing.{Heard, answered, answered_unread, com_of, command_answered, comset_of, hears, hears_busy, loses, moved_by, opening_answered, pausing_hears, pd_id_of, waiting_hears}
+use Rattle.osdp_controller.specs.Hearing.{Heard, hears}
 use Rattle.osdp_controller.specs.Machine.{Machine, after_begin, after_retarget, changed_unless, refused_unless_closed, retarget_refusal, submit_refusal}
 use Rattle.osdp_controller.specs.Private.{numbered_in}
 use Rattle.osdp_controller.specs.Sessions.{later, seen}
 use Rattle.osdp_controller.specs.Ticking.{Ticked, begins, gives_up, sends_frame, stays, ticks_in, tries_again}
 use Rattle.osdp_controller.proofs.Choices.{either_way}
 use Rattle.osdp_controller_laws.specs.Runs.{Call, Submit, Begin, Retarget, Withdraw, Tick, Hear, after_call, after_calls}
-use Rattle.osdp_controller_laws.proofs.Frames.{either_frame}
+use Rattle.osdp_controller_laws.proofs.Frames.{OfEach, either_frame, of_pause, of_wait}
 use Rattle.osdp_controller_laws.proofs.Lasting.{submit_session}
 use Rattle.osdp_time_laws.specs.Acceptance.{IsTimely, StaysTimely, WaitsItsTime}
 use Rattle.osdp_time_laws.proofs.Phases.{later_within}
@@ -73,47 +66,14 @@ tick_timely (Pausing until o) s w is =
 abbrev HeardTimely : Heard → Type 0
 HeardTimely h = OfSession h.session
 
-busy_timely : (o : Outstanding) (s : Session) → HeardTimely (hears_busy o s)
-busy_timely o s =
-    either_way HeardTimely (nat_lt s.config.busy_limit (o.busies + 1)) (loses causes.TooBusy o s)
-    (record { session = record s { state = Pausing (later s.config.busy_wait s) (record o { busies = o.busies + 1 }) }; report = None })
-    (λ b. tt) (λ b. later_within s.config.busy_wait s)
-
-opening_timely : (id : Option PdId) (s : Session) → OfSession s → HeardTimely (opening_answered id s)
-opening_timely None s is = is
-opening_timely (Some id) s is = later_within s.config.poll_interval s
-
-command_timely : (moved : Option Communication) (command : Command) (reply : Reply) (s : Session) → HeardTimely (command_answered moved command reply s)
-command_timely None command reply s = later_within s.config.poll_interval s
-command_timely (Some d) command reply s = tt
-
-answered_timely : (x : Exchange) (reply : Reply) (s : Session) → OfSession s → HeardTimely (answered x reply s)
-answered_timely Opening reply s is = opening_timely (pd_id_of reply) s is
-answered_timely Polling reply s is = later_within s.config.poll_interval s
-answered_timely (Asking command) reply s is = command_timely (moved_by (comset_of command) (com_of reply)) command reply s
-
-unread_timely : (x : Exchange) (code : ℕ) (s : Session) → OfSession s → HeardTimely (answered_unread x code s)
-unread_timely Opening code s is = is
-unread_timely Polling code s is = later_within s.config.poll_interval s
-unread_timely (Asking command) code s is = later_within s.config.poll_interval s
-
-waiting_timely : (a : ReplyMeaning) (sends : ℕ) (o : Outstanding) (s : Session) → OfSession s → HeardTimely (waiting_hears a sends o s)
-waiting_timely NotTaken sends o s is = busy_timely o s
-waiting_timely Damaged sends o s is = let near : s.greatest ≤ s.greatest + s.config.reply_wait = omega arith in near
-waiting_timely NumberRefused sends o s is = tt
-waiting_timely (Plain reply) sends o s is = answered_timely o.exchange reply s is
-waiting_timely (Unreadable code) sends o s is = unread_timely o.exchange code s is
-
-pausing_timely : (a : ReplyMeaning) (o : Outstanding) (s : Session) → OfSession s → HeardTimely (pausing_hears a o s)
-pausing_timely NotTaken o s is = is
-pausing_timely Damaged o s is = is
-pausing_timely NumberRefused o s is = tt
-pausing_timely (Plain reply) o s is = answered_timely o.exchange reply s is
-pausing_timely (Unreadable code) o s is = unread_timely o.exchange code s is
+each_timely : (s : Session) → OfSession s → OfEach HeardTimely s
+each_timely s is = record { ignored = is; rested = λ told. later_within s.config.poll_interval s; moved = λ d command. tt; lost = λ cause o. tt }
 
 numbered_timely : (state : State) (a : ReplyMeaning) (s : Session) → OfSession s → HeardTimely (numbered_in state a s)
-numbered_timely (Waiting until sends o) a s is = waiting_timely a sends o s is
-numbered_timely (Pausing until o) a s is = pausing_timely a o s is
+numbered_timely (Waiting until sends o) a s is =
+    let near : s.greatest ≤ s.greatest + s.config.reply_wait = omega arith in
+    of_wait HeardTimely s (each_timely s is) a sends o near (later_within s.config.busy_wait s)
+numbered_timely (Pausing until o) a s is = of_pause HeardTimely s (each_timely s is) a o
 numbered_timely _ a s is = is
 
 frame_timely : (p : Packet) (now : ℕ) (s : Session) → OfSession s → HeardTimely (hears p now s)

@@ -1,5 +1,4 @@
 mod JobLemmas
-mod CaptureWords
 mod Choosing
 mod OneTopic
 pub mod Names

@@ -7,7 +7,7 @@ use Rattle.std.specs.List.{starts_with}
 use Rattle.std.specs.Str.{bytes_eq}
 use Rattle.osdp_tool_streams.specs.Cut.{ended_after, last_line, line_feed, lines_of, unended_after}
 use Rattle.osdp_tool_inputs.specs.Echoes.{all_echoes, echoes_below, echoes_in, heard_part, is_echo, left_in, left_of, next_stamp, next_went, went_after, went_by}
-use Rattle.osdp_tool_inputs.specs.Heard.{heard_objects, heard_text, marked_line, marked_object, stamped_object, tells_at, tells_below, told_line}
+use Rattle.osdp_tool_inputs.specs.Heard.{printed_of, retold_line, retold_times, tells_at, tells_below}
 use Rattle.osdp_tool_inputs.specs.Places.{FindsLate, HasFollowed, IsAt, IsHeard, first_told, late_from, late_in, late_only, stamps_left, tells_left}
 use Rattle.osdp_tool_inputs.specs.Times.{ends_so, has_digits, is_stamp, no_stamp, stamp_at, stamps_below}
 use Rattle.osdp_tool_inputs.specs.declared.capture.Capture.{Capture}
@@ -18,7 +18,6 @@ use Rattle.osdp_tool_inputs.specs.declared.places.Source.{Source}
 use Rattle.osdp_tool_inputs.proofs.Echoing.{heard_lines, sorted_size, sorts_all}
 use Rattle.osdp_tool_inputs.proofs.Stamps.{a_run, a_stamp, at_run, beyond, no_digits}
 use Rattle.osdp_tool_times.specs.Captures.{Heard, after_line, after_lines, heard_of, line_told, nothing_heard}
-use Rattle.osdp_tool_times.specs.Text.{times_objects, times_text}
 use Rattle.osdp_tool_times.specs.declared.waits.Told.{Told}
 use Rattle.osdp_tool_times.specs.declared.waits.Told.TheVariants.{InTime, Late, Nothing}
 
@@ -325,35 +324,22 @@ at_end text late old new was none none_new echoes run place held stamp told = re
 
 -- ---- what is printed
 
-pub line_is : (clock : Bool) (s stamp : List ℕ) (t told : Told) (line : List ℕ) → s ≡ stamp → t ≡ late_only told → marked_line clock s t line ≡ marked_line clock stamp told line
-line_is clock s stamp t told line a b = ap (λ x. marked_line clock x t line) a ∙ ap (λ x. marked_line clock stamp x line) b ∙ same told
+-- what is printed of a line with the stamp of its run, where the time of an answer in time is not
+pub marked_is : (marked : Bool → List ℕ → Told → List ℕ → List ℕ)
+    → ((clock : Bool) (stamp line : List ℕ) (time : ℕ) → marked clock stamp Nothing line ≡ marked clock stamp (InTime time) line)
+    → (clock : Bool) (s stamp : List ℕ) (t told : Told) (line : List ℕ) → s ≡ stamp → t ≡ late_only told → marked clock s t line ≡ marked clock stamp told line
+marked_is marked alike clock s stamp t told line a b = ap (λ x. marked clock x t line) a ∙ ap (λ x. marked clock stamp x line) b ∙ same told
   where
-    same : (t : Told) → marked_line clock stamp (late_only t) line ≡ marked_line clock stamp t line
+    same : (t : Told) → marked clock stamp (late_only t) line ≡ marked clock stamp t line
     same Nothing = refl
-    same (InTime time) = refl
+    same (InTime time) = alike clock stamp line time
     same (Late took waited) = refl
 
-pub object_is : (clock : Bool) (s stamp : List ℕ) (t told : Told) (line : List ℕ) → s ≡ stamp → t ≡ late_only told → marked_object clock s t line ≡ marked_object clock stamp told line
-object_is clock s stamp t told line a b = ap (λ x. marked_object clock x t line) a ∙ ap (λ x. marked_object clock stamp x line) b ∙ same told
-  where
-    same : (t : Told) → marked_object clock stamp (late_only t) line ≡ marked_object clock stamp t line
-    same Nothing = refl
-    same (InTime time) = refl
-    same (Late took waited) = refl
-
-module _ (clock : Bool) (text shown told times : List ℕ) (c : Capture) (followed : HasFollowed (left_of text) c) where
-  pub text_is : told ≡ flat_map (told_line clock (stamps_left text) (tells_left text)) (lines_of shown) → times ≡ times_text (heard_of c.timed).times
-      → told ++ times ≡ heard_text clock (heard_part text) shown
-  text_is told_is times_is =
-      ap (λ t. t ++ times) told_is
-      ∙ ap (λ t. flat_map (told_line clock (stamps_left text) (tells_left text)) (lines_of shown) ++ t) (times_is ∙ ap (λ (h : Heard). times_text h.times) followed.heard)
-      ∙ ap (λ l. flat_map (told_line clock (stamps_below no_stamp l) (tells_below nothing_heard l)) (lines_of shown) ++ times_text (after_lines nothing_heard l).times)
-      (sym (heard_lines text))
-
-  pub objects_are : told ≡ flat_map (stamped_object clock (stamps_left text) (tells_left text)) (lines_of shown) → times ≡ times_objects (heard_of c.timed).times
-      → told ++ times ≡ heard_objects clock (heard_part text) shown
-  objects_are told_is times_is =
-      ap (λ t. t ++ times) told_is
-      ∙ ap (λ t. flat_map (stamped_object clock (stamps_left text) (tells_left text)) (lines_of shown) ++ t) (times_is ∙ ap (λ (h : Heard). times_objects h.times) followed.heard)
-      ∙ ap (λ l. flat_map (stamped_object clock (stamps_below no_stamp l) (tells_below nothing_heard l)) (lines_of shown) ++ times_objects (after_lines nothing_heard l).times)
-      (sym (heard_lines text))
+pub printed_is : (json clock : Bool) (text shown told times : List ℕ) (c : Capture) → HasFollowed (left_of text) c
+    → told ≡ flat_map (retold_line json clock (stamps_left text) (tells_left text)) (lines_of shown) → times ≡ retold_times json (heard_of c.timed).times
+    → told ++ times ≡ printed_of json clock (heard_part text) shown
+printed_is json clock text shown told times c followed told_is times_is =
+    ap (λ t. t ++ times) told_is
+    ∙ ap (λ t. flat_map (retold_line json clock (stamps_left text) (tells_left text)) (lines_of shown) ++ t) (times_is ∙ ap (λ (h : Heard). retold_times json h.times) followed.heard)
+    ∙ ap (λ l. flat_map (retold_line json clock (stamps_below no_stamp l) (tells_below nothing_heard l)) (lines_of shown) ++ retold_times json (after_lines nothing_heard l).times)
+    (sym (heard_lines text))

@@ -8,6 +8,7 @@ use Rattle.osdp_tool_objects.specs.Objects.{object_with}
 use Rattle.osdp_tool_inputs.specs.Times.{ends_so, has_digits, run_of, stamp_at, stamps_of}
 use Rattle.osdp_tool_times.specs.Captures.{Heard, after_line, after_lines, line_told, nothing_heard}
 use Rattle.osdp_tool_times.specs.DayTime.{clock_stamp}
+use Rattle.osdp_tool_times.specs.declared.table.Times.{Times}
 use Rattle.osdp_tool_times.specs.declared.waits.Told.{Told}
 use Rattle.osdp_tool_times.specs.declared.waits.Told.TheVariants.{InTime, Late, Nothing}
 use Rattle.osdp_tool_times.specs.Text.{times_objects, times_text}
@@ -67,13 +68,6 @@ told_line clock stamps tells line =
 abbrev pub told_text : Bool → List ℕ → List ℕ → List ℕ
 told_text clock text shown = flat_map (told_line clock (stamps_of text) (tells_of text)) (lines_of shown)
 
--- the answer times of each device, by the stamps of the text
-abbrev pub answer_times : List ℕ → List ℕ
-answer_times text = times_text (after_lines nothing_heard (lines_of text)).times
-
-abbrev pub heard_text : Bool → List ℕ → List ℕ → List ℕ
-heard_text clock text shown = told_text clock text shown ++ answer_times text
-
 -- ---- the same as objects of JSON
 
 -- how long a late answer took, and how long the panel waited
@@ -93,15 +87,15 @@ marked_object clock stamp told line = object_with (shown_by clock stamp) (member
 abbrev pub stamped_object : Bool → List (List ℕ) → List Told → List ℕ → List ℕ
 stamped_object clock stamps tells line = marked_object clock (stamp_at (run_of line) stamps) (tells_at (run_of line) tells) line
 
-abbrev pub told_objects : Bool → List ℕ → List ℕ → List ℕ
-told_objects clock text shown = flat_map (stamped_object clock (stamps_of text) (tells_of text)) (lines_of shown)
+-- ---- by whether objects are wanted, and by whether the day's time is
 
-abbrev pub answer_objects : List ℕ → List ℕ
-answer_objects text = times_objects (after_lines nothing_heard (lines_of text)).times
+abbrev pub retold_line : Bool → Bool → List (List ℕ) → List Told → List ℕ → List ℕ
+retold_line json clock stamps tells line = if json then stamped_object clock stamps tells line else told_line clock stamps tells line
 
-abbrev pub heard_objects : Bool → List ℕ → List ℕ → List ℕ
-heard_objects clock text shown = told_objects clock text shown ++ answer_objects text
+abbrev pub retold_times : Bool → List Times → List ℕ
+retold_times json times = if json then times_objects times else times_text times
 
--- by whether objects are wanted, and by whether the day's time is
+-- what the monitor prints of the digits in a text, with the stamps of the text, and the answer times of each device, by these stamps
 abbrev pub printed_of : Bool → Bool → List ℕ → List ℕ → List ℕ
-printed_of json clock text shown = if json then heard_objects clock text shown else heard_text clock text shown
+printed_of json clock text shown =
+    flat_map (retold_line json clock (stamps_of text) (tells_of text)) (lines_of shown) ++ retold_times json (after_lines nothing_heard (lines_of text)).times

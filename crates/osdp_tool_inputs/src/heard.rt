@@ -3,11 +3,10 @@
 ghost use Rattle.std.specs.Prelude.{◌≡◌, ◌++◌, ◌∷◌, [], IfOk, OnOk, flat_map, is_some, string_bytes};
 ghost use Rattle.memchr.specs.Find.{first_of, is_byte, places};
 ghost use Rattle.osdp_tool_inputs.specs.Echoes.{echoes_in, heard_part, left_of, printed_by};
-ghost use Rattle.osdp_tool_inputs.specs.Heard.{heard_objects, heard_text, marked_line, marked_object, members_after, names_run, printed_of, shown_by, stamped_object, times_after, told_line, took_members, took_text, whole_line};
+ghost use Rattle.osdp_tool_inputs.specs.Heard.{marked_line, marked_object, members_after, names_run, printed_of, retold_line, retold_times, shown_by, stamped_object, times_after, told_line, took_members, took_text, whole_line};
 ghost use Rattle.osdp_tool_inputs.specs.Places.{HasFollowed, IsAt, IsHeard, stamps_left, tells_left};
 ghost use Rattle.osdp_tool_streams.specs.Cut.{lines_of};
 ghost use Rattle.osdp_tool_times.specs.Captures.{heard_of};
-ghost use Rattle.osdp_tool_times.specs.Text.{times_objects, times_text};
 
 use crate::capture::Capture;
 use crate::ears::Ears;
@@ -151,25 +150,6 @@ fn push_told<'a>(
     push_plain(text, line)
 }
 
-/// What the monitor prints of a text, its lines about a run after the moment and the way of it; a hyphen where it has none. A late answer stands before its times.
-fn told_lines(
-    alloc: Global,
-    clock: bool,
-    source: Source<'_>,
-    shown: &[u8],
-) -> Result<Vec<u8>, AllocError>
-    requires { IsHeard source }
-    ensures { IfOk result (λ told. told.items ≡ flat_map (told_line clock (stamps_left source.entry.text.now) (tells_left source.entry.text.now)) (lines_of shown.now)) }
-{
-    let mut told = Vec::new(alloc);
-    let mut place = Place::before(source);
-    let mut lines = Lines::of(shown);
-    'lines: while let Some(line) = lines.next() {
-        push_told(alloc, clock, &mut told, source, &mut place, line)?;
-    }
-    Ok(told)
-}
-
 /// Adds the object of a line with this beside it.
 fn push_stamped(
     alloc: Global,
@@ -210,78 +190,62 @@ fn push_one<'a>(
     push_stamped(alloc, clock, text, mark, line)
 }
 
-/// The same as objects of JSON.
-fn told_objects(
+/// Adds a line that was printed of a text, in text or as an object of JSON.
+fn push_retold<'a>(
     alloc: Global,
+    json: bool,
+    clock: bool,
+    text: &mut Vec<u8>,
+    source: Source<'a>,
+    place: &mut Place<'a>,
+    line: &[u8],
+) -> Result<(), AllocError>
+    requires heard { IsHeard source }
+    requires place { IsAt source.text.now source.late.now place.old }
+    ensures text { OnOk result (text.new.items ≡ text.old.items ++ retold_line json clock (stamps_left source.entry.text.now) (tells_left source.entry.text.now) line.now) }
+    ensures place { IsAt source.entry.text.now source.entry.late.now place.new }
+{
+    if json {
+        return push_one(alloc, clock, text, source, place, line);
+    }
+    push_told(alloc, clock, text, source, place, line)
+}
+
+/// What the monitor prints of a text, its lines about a run after the moment and the way of it; a hyphen where it has none. A late answer stands before its times.
+/// As objects of JSON each has that in it.
+fn retold_lines(
+    alloc: Global,
+    json: bool,
     clock: bool,
     source: Source<'_>,
     shown: &[u8],
 ) -> Result<Vec<u8>, AllocError>
     requires { IsHeard source }
-    ensures { IfOk result (λ told. told.items ≡ flat_map (stamped_object clock (stamps_left source.entry.text.now) (tells_left source.entry.text.now)) (lines_of shown.now)) }
+    ensures { IfOk result (λ told. told.items ≡ flat_map (retold_line json clock (stamps_left source.entry.text.now) (tells_left source.entry.text.now)) (lines_of shown.now)) }
 {
     let mut told = Vec::new(alloc);
     let mut place = Place::before(source);
     let mut lines = Lines::of(shown);
     'lines: while let Some(line) = lines.next() {
-        push_one(alloc, clock, &mut told, source, &mut place, line)?;
+        push_retold(alloc, json, clock, &mut told, source, &mut place, line)?;
     }
     Ok(told)
 }
 
-/// The answer times of each device.
-fn answer_times(alloc: Global, timed: &Timed) -> Result<String, AllocError>
-    ensures { IfOk result (λ told. string_bytes told ≡ times_text (heard_of timed.now).times) }
+/// The answer times of each device, in lines or as objects of JSON.
+fn answer_times(alloc: Global, json: bool, timed: &Timed) -> Result<String, AllocError>
+    ensures { IfOk result (λ told. string_bytes told ≡ retold_times json (heard_of timed.now).times) }
 {
     let mut told = String::new(alloc);
-    timed.push_times(&mut told)?;
+    if json {
+        timed.push_objects(&mut told)?;
+    } else {
+        timed.push_times(&mut told)?;
+    }
     Ok(told)
 }
 
-/// The same as objects of JSON.
-fn answer_objects(alloc: Global, timed: &Timed) -> Result<String, AllocError>
-    ensures { IfOk result (λ told. string_bytes told ≡ times_objects (heard_of timed.now).times) }
-{
-    let mut told = String::new(alloc);
-    timed.push_objects(&mut told)?;
-    Ok(told)
-}
-
-/// What the monitor prints of a text that was heard, with the moments in it, and then the answer times of each device.
-fn heard_text(
-    alloc: Global,
-    clock: bool,
-    text: &[u8],
-    capture: &Capture,
-    shown: &[u8],
-) -> Result<Vec<u8>, AllocError>
-    requires { HasFollowed (left_of text.now) capture.now }
-    ensures { IfOk result (λ told. told.items ≡ heard_text clock (heard_part text.now) shown.now) }
-{
-    let late = capture.late.as_slice();
-    let mut told = told_lines(alloc, clock, Source { text, late }, shown)?;
-    told.extend_from_slice(answer_times(alloc, &capture.timed)?.as_bytes())?;
-    Ok(told)
-}
-
-/// The same as objects of JSON.
-fn heard_objects(
-    alloc: Global,
-    clock: bool,
-    text: &[u8],
-    capture: &Capture,
-    shown: &[u8],
-) -> Result<Vec<u8>, AllocError>
-    requires { HasFollowed (left_of text.now) capture.now }
-    ensures { IfOk result (λ told. told.items ≡ heard_objects clock (heard_part text.now) shown.now) }
-{
-    let late = capture.late.as_slice();
-    let mut told = told_objects(alloc, clock, Source { text, late }, shown)?;
-    told.extend_from_slice(answer_objects(alloc, &capture.timed)?.as_bytes())?;
-    Ok(told)
-}
-
-/// The same as lines or as objects of JSON.
+/// What the monitor prints of a text that was heard, with the moments in it, and then the answer times of each device: lines, or objects of JSON.
 fn retold(
     alloc: Global,
     json: bool,
@@ -293,10 +257,10 @@ fn retold(
     requires { HasFollowed (left_of text.now) capture.now }
     ensures { IfOk result (λ told. told.items ≡ printed_of json clock (heard_part text.now) shown.now) }
 {
-    if json {
-        return heard_objects(alloc, clock, text, capture, shown);
-    }
-    heard_text(alloc, clock, text, capture, shown)
+    let late = capture.late.as_slice();
+    let mut told = retold_lines(alloc, json, clock, Source { text, late }, shown)?;
+    told.extend_from_slice(answer_times(alloc, json, &capture.timed)?.as_bytes())?;
+    Ok(told)
 }
 
 /// What the monitor prints of a text that was heard without its echoes, and what is told of the echoes.

@@ -70,9 +70,6 @@ module _ (mode : MonitorMode) (hex : mode.hex ≡ true) (every : mode.every ≡ 
 
   -- the lines that end in a piece, and those that end in it after what was read
   module _ (done : List Piece) (told : LinesTold done) (piece : Piece) where
-    before : List ℕ
-    before = bytes_of done
-
     new_lines : List (List ℕ)
     new_lines = ended_after (unended_line (bytes_of done)) piece.bytes
 

@@ -4,7 +4,7 @@ use Rattle.std.specs.Prelude.{IsTrue}
 use Rattle.std.proofs.lemmas.List.{drop_all, drop-drop, take_all}
 use Rattle.osdp_frame.specs.Bytes.{AreBytes}
 use Rattle.osdp_frame.specs.Items.{reading}
-use Rattle.osdp_frame.specs.Reading.{IsFirst, PacketItem, RefusedItem, RunItem, SkippedItem, Stands, item_size}
+use Rattle.osdp_frame.specs.Reading.{IsFirst, RunItem, Stands, item_size}
 use Rattle.osdp_frame.proofs.Head.{AreBytes-drop}
 use Rattle.osdp_frame_laws.proofs.Readings.{is_reading, item_size-positive, reading_is, sizes_reading}
 use Rattle.osdp_tool_show.specs.declared.detail.Detail.{Detail}
@@ -104,12 +104,6 @@ text_end run at detail l text all past so_far =
     sym (append-nil text)
     ∙ ap (λ t. text ++ t) (sym (ap (λ r. items_report detail l (reading r)) (drop_all at run past) ∙ ap (items_report detail l) reading_nothing ∙ report_nil detail l))
     ∙ so_far
-
--- no item has more bytes than a packet may have
-pub stands_small : (rest : List ℕ) (part : RunItem) → Stands rest part → item_size part ≤ 1440
-stands_small rest (PacketItem p) begins = begins.spelled.fits.room
-stands_small rest (SkippedItem b) stands = omega arith
-stands_small rest (RefusedItem f) stands = omega arith
 
 -- ---- what is counted
 

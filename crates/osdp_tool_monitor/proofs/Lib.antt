@@ -11,7 +11,6 @@ pub mod Sessions
 pub mod Writing
 pub mod Pieces
 pub mod Closing
-pub mod Words
 pub mod Weights
 pub mod Alike
 pub mod Captures

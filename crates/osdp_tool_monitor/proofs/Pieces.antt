@@ -1,6 +1,6 @@
 -- Pieces of an input, one after the other.
 use Rattle.std.proofs.Common.{◌≡◌, ℕ, ◌+◌, ◌*◌, ◌^◌, ◌≤◌, Bool, true, false, cond, is_some, List, [], ◌∷◌, ◌++◌, length, take, Option, None, Ok, Err, refl, sym, subst, ap, ◌∙◌, arith, append_assoc, append-nil, length-append}
-use Rattle.std.proofs.KnownBytes.{Appends-kept, Appends-nil, Appends-trans, Consumes-kept, Consumes-nil, Consumes-trans}
+use Rattle.std.proofs.KnownBytes.{Appends-kept, Appends-nil, Appends-trans, Consumes-nil, Consumes-trans}
 use Rattle.std.proofs.Math.Seq.{take-append-add}
 use Rattle.std.proofs.lemmas.List.{map-append}
 use Rattle.std.proofs.lemmas.List.Concat.{flat_map-append}
@@ -90,10 +90,6 @@ came_more tells first mid last i0 i1 i2 pieces piece came taken is = record {
   moments = subst (λ l. Told tells first l last) (sym (map-append (λ (p : Piece). p.moment) pieces (piece ∷ [])))
       (moments-more tells first mid last (moments_of pieces) piece.moment came.moments is);
 }
-
-pub came_kept : {M : Type 0} (tells : M → ℕ → M → Type 0) (first last : M) (i0 i1 i2 : Option (List ℕ)) (pieces : List Piece)
-    → CameIn tells first last i0 i1 pieces → Keeps i1 i2 → CameIn tells first last i0 i2 pieces
-came_kept tells first last i0 i1 i2 pieces came kept = record { taken = Consumes-kept i0 i1 i2 (bytes_of pieces) came.taken kept; moments = came.moments }
 
 -- ---- what was told of them
 
@@ -299,12 +295,6 @@ module _ {M : Type 0} (tells : M → ℕ → M → Type 0) (mode : MonitorMode) 
     ill,
   )
   read_stops mid last i1 i2 now after s next piece input_failed failed fault r taken moment stops input = absurd stops
-
-  pub read_kept : (mid : M) (i1 i2 now : Option (List ℕ)) (s : Session) → HasRead tells mode first mid i0 i1 start now s → Keeps i1 i2 → HasRead tells mode first mid i0 i2 start now s
-  read_kept mid i1 i2 now s r kept = record { pieces = r.pieces; came = came_kept tells first mid i0 i1 i2 r.pieces r.came kept; follows = r.follows }
-
-  pub read_here : (mid : M) (i1 now : Option (List ℕ)) (s : Session) → HasRead tells mode first mid i0 i1 start now s → IsToldInPart tells mode first mid i0 i1 start now
-  read_here mid i1 now s r = part_here tells mode first mid i0 i1 start now r.pieces s r.came r.follows
 
   -- as many pieces as may come have come
   pub read_long : (mid : M) (i1 now : Option (List ℕ)) (s : Session) (r : HasRead tells mode first mid i0 i1 start now s) → 2 ^ 57 ≤ length (bytes_of r.pieces)

@@ -395,34 +395,6 @@ pub took_bytes : (piece : Piece) (old new : Session) (before after : List ℕ) �
     → Goes (byte_events old.mode.recorded old.mode.gap old.last piece) (cut_of old) old new before after → TakesBytes true piece old new before after
 took_bytes piece old new before after form goes = bytes_by old.mode.hex piece old new before after form goes
 
-lines_by : (good hex : Bool) (piece : Piece) (old new : Session) (before after : List ℕ) → hex ≡ true
-    → GoesOrBreaks good (run_events (ended_after old.characters.items piece.bytes)) (bad_line (old.ended + 1) (ended_after old.characters.items piece.bytes))
-    (record (cut_of old) { line = kept (unended_after old.characters.items piece.bytes); ended = old.ended + length (ended_after old.characters.items piece.bytes) })
-    old new before after
-    → GoesOrBreaks good (cond hex (run_events (ended_after old.characters.items piece.bytes)) (byte_events old.mode.recorded old.mode.gap old.last piece))
-    (bad_line (old.ended + 1) (lines_in hex (cut_of old) piece))
-    (record (cut_of old) { line = cond hex (kept (unended_after old.characters.items piece.bytes)) old.characters.items; ended = old.ended + length (lines_in hex (cut_of old) piece) })
-    old new before after
-lines_by good true piece old new before after form goes = goes
-lines_by good false piece old new before after form goes = absurd cc
-
-pub took_lines : (good : Bool) (piece : Piece) (old new : Session) (before after : List ℕ) → old.mode.hex ≡ true
-    → GoesOrBreaks good (run_events (ended_after old.characters.items piece.bytes)) (bad_line (old.ended + 1) (ended_after old.characters.items piece.bytes))
-    (record (cut_of old) { line = kept (unended_after old.characters.items piece.bytes); ended = old.ended + length (ended_after old.characters.items piece.bytes) })
-    old new before after → TakesBytes good piece old new before after
-took_lines true piece old new before after form goes = lines_by true old.mode.hex piece old new before after form goes
-took_lines false piece old new before after form goes = lines_by false old.mode.hex piece old new before after form goes
-
-pub piece_broke : (piece : Piece) (old new : Session) (before after : List ℕ) → TakesBytes false piece old new before after → TakesPiece false piece old new before after
-piece_broke piece old new before after b = record {
-  mode = b.mode;
-  bad_is = b.bad_is;
-  hears = subst (λ l. Hears l old.line new.line before after)
-      (sym (ap (λ o. bytes_events old.mode (cut_of old) piece ++ cond (is_some o) [] (table_events (is_due old.mode.every old.tabled piece.moment))) b.bad_is
-      ∙ append-nil (bytes_events old.mode (cut_of old) piece)))
-      b.hears;
-}
-
 pub piece_went : (piece : Piece) (old mid new : Session) (before middle after : List ℕ) → TakesBytes true piece old mid before middle
     → Goes (table_events (is_due mid.mode.every mid.tabled piece.moment)) (record (cut_of mid) { last = Some piece.moment; tabled = tabled_after (is_due mid.mode.every mid.tabled piece.moment) mid.tabled piece.moment })
     mid new middle after → TakesPiece true piece old new before after
@@ -451,18 +423,6 @@ unfolding bad_line
 ended_bytes old l before after form hears = record {
   hears = rw form hears;
   bad = rw form refl;
-}
-
-pub ended_line : (good : Bool) (old new : Session) (before after : List ℕ) → old.mode.hex ≡ true
-    → GoesOrBreaks good (run_events ((old.characters.items ++ []) ∷ [])) (bad_line (old.ended + 1) ((old.characters.items ++ []) ∷ []))
-    (record (cut_of old) { line = []; ended = old.ended + 1 }) old new before after → EndsInput good old new before after
-ended_line true old new before after form (goes, none) = record {
-  hears = rw form (subst (λ l. Hears (run_events (l ∷ [])) old.line new.line before after) (append-nil old.characters.items) goes.hears);
-  bad = rw form (ap (λ l. bad_line (old.ended + 1) (l ∷ [])) (sym (append-nil old.characters.items)) ∙ none);
-}
-ended_line false old new before after form b = record {
-  hears = rw form (subst (λ l. Hears (run_events (l ∷ [])) old.line new.line before after) (append-nil old.characters.items) b.hears);
-  bad = rw form (ap (λ l. bad_line (old.ended + 1) (l ∷ [])) (sym (append-nil old.characters.items)) ∙ b.bad_is);
 }
 
 pub ended_all : (good : Bool) (old new : Session) (before middle after : List ℕ) → EndsInput good old new before middle → Hears (TableDue ∷ []) new.line new.line middle after

@@ -2,9 +2,6 @@
 use Rattle.std.proofs.Common.{◌≡◌, ℕ, ◌+◌, ◌≤◌, Bool, true, false, cond, not, List, [], ◌∷◌, ◌++◌, length, ap, arith, length-append, Option, Some, None, MatchOption}
 use Rattle.osdp_tool_streams.proofs.Lengths.{said_short}
 use Rattle.osdp_tool_streams.specs.Line.{is_blank, kept, said}
-use Rattle.osdp_tool_streams.specs.declared.fault.ToolFault.{ToolFault}
-use Rattle.osdp_tool_streams.specs.declared.fault.ToolFault.TheVariants.{NoMemory}
-use Rattle.osdp_tool_monitor.specs.Listening.{IsLineFault}
 
 kept_one : (x : ℕ) (xs : List ℕ) (t : Bool) → length (kept xs) ≤ length xs → length (cond t (x ∷ kept xs) (kept xs)) ≤ length (x ∷ xs)
 kept_one x xs true so = omega arith
@@ -20,7 +17,3 @@ pub said_within : (held characters bytes : List ℕ) (o : Option (List ℕ)) (go
 said_within held characters bytes None good is m well = absurd cc
 said_within held characters bytes (Some r) good is m well =
     omega (arith, said_short (held ++ kept characters) r is, ap length m.1, length-append held (kept characters), kept_short characters)
-
-pub no_memory : (count : ℕ) (fault : ToolFault) → fault ≡ NoMemory → IsLineFault count fault
-no_memory count NoMemory is = tt
-no_memory count fault is = absurd cc

@@ -1,28 +1,16 @@
 -- Texts that are written, in whole or in part.
-use Rattle.std.proofs.Common.{◌≡◌, ℕ, ◌+◌, ◌*◌, ◌||◌, Bool, true, false, is_err, List, [], length, Option, Result, Ok, Err, refl, sym, subst, ap, ◌∙◌, arith}
-use Rattle.std.proofs.KnownBytes.{Appends-kept, Keeps-refl}
+use Rattle.std.proofs.Common.{◌≡◌, ℕ, ◌||◌, Bool, true, false, is_err, List, [], length, Option, Result, Ok, Err, sym, subst, ap, ◌∙◌, arith}
+use Rattle.std.proofs.KnownBytes.{Appends-kept}
 use Rattle.std.proofs.lemmas.List.{take_all}
 use Rattle.std.specs.Io.KnownBytes.{Appends, Keeps}
 use Rattle.std.specs.Prelude.{IsOkUnless}
 use Rattle.osdp_tool_streams.specs.declared.fault.ToolFault.{ToolFault}
-use Rattle.osdp_tool_streams.specs.declared.fault.ToolFault.TheVariants.{TooLong, WriteFailed, NoMemory}
-use Rattle.osdp_tool_streams.specs.Watched.{AppendsPart}
+use Rattle.osdp_tool_streams.specs.declared.fault.ToolFault.TheVariants.{WriteFailed}
 use Rattle.osdp_tool_monitor.specs.Hearing.{Hears, LineEvent}
-use Rattle.osdp_tool_monitor.specs.Listening.{IsLineFault}
 use Rattle.osdp_tool_monitor.specs.declared.session.Session.{Session}
 use Rattle.osdp_tool_monitor.specs.Events.{Piece}
 use Rattle.osdp_tool_monitor.specs.Reading.{TellsEvents, TellsPiece, Wrote}
-use Rattle.osdp_tool_monitor.specs.Session.{TakesPiece, weight}
-
--- a write that failed
-pub wrote_part : (text : List ℕ) (before after : Option (List ℕ)) (was failed : Bool) (fault : ToolFault) → fault ≡ WriteFailed
-    → AppendsPart before after text → failed ≡ (was || true) → Wrote text before after failed (Err fault)
-wrote_part text before after was failed fault is (count, below, appends) ill =
-    subst (λ f. Wrote text before after failed (Err f)) (sym is) (count, appends, ill ∙ or_true was)
-  where
-    or_true : (b : Bool) → (b || true) ≡ true
-    or_true true = refl
-    or_true false = refl
+use Rattle.osdp_tool_monitor.specs.Session.{TakesPiece}
 
 -- a flush after a write
 pub wrote_flushed : (text : List ℕ) (before mid after : Option (List ℕ)) (was failed : Bool) (r : Result (Unit {0}) ToolFault) → Appends before mid text → Keeps mid after
@@ -37,12 +25,6 @@ wrote_flushed text before mid after was failed (Err fault) appends kept is ill w
     )
 
 -- ---- one piece
-
-pub piece_stops : (piece : Piece) (old new : Session) (now : Option (List ℕ)) (failed : Bool) (fault : ToolFault)
-    → IsLineFault (weight old + 5 * length piece.bytes) fault → failed ≡ false → TellsPiece piece old new now now failed (Err fault)
-piece_stops piece old new now failed NoMemory is well = (Keeps-refl now, well)
-piece_stops piece old new now failed TooLong is well = (Keeps-refl now, well, is)
-piece_stops piece old new now failed fault is well = absurd is
 
 pub piece_part : (piece : Piece) (old new : Session) (good : Bool) (text : List ℕ) (before after : Option (List ℕ)) (failed : Bool) (fault : ToolFault)
     → TakesPiece good piece old new [] text → Wrote text before after failed (Err fault) → TellsPiece piece old new before after failed (Err fault)
@@ -61,9 +43,3 @@ pub events_part : (T : Type 0) (events : List LineEvent) (old new other : Sessio
     → Hears events old.line new.line [] text → Wrote text before after failed (Err fault) → TellsEvents {T = T} events old other before after failed (Err fault)
 events_part T events old new other text before after failed WriteFailed hears (count, appends, ill) = (new.line, text, count, hears, appends, ill)
 events_part T events old new other text before after failed fault hears wrote = absurd wrote
-
-pub events_stop : (T : Type 0) (events : List LineEvent) (old new : Session) (now : Option (List ℕ)) (failed : Bool) (fault : ToolFault)
-    → IsLineFault (weight old + 5) fault → failed ≡ false → TellsEvents {T = T} events old new now now failed (Err fault)
-events_stop T events old new now failed NoMemory is well = (Keeps-refl now, well)
-events_stop T events old new now failed TooLong is well = (Keeps-refl now, well, is)
-events_stop T events old new now failed fault is well = absurd is

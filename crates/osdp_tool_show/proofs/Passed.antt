@@ -1,7 +1,7 @@
 -- Skipped bytes that are counted at once.
-use Rattle.std.proofs.Common.{◌≡◌, ◌≢◌, ℕ, ◌+◌, ◌-◌, ◌*◌, ◌≤◌, cond, false, List, [], ◌∷◌, length, length-drop, map, take, drop, Option, Some, refl, sym, subst, ap, ◌∙◌, arith}
+use Rattle.std.proofs.Common.{◌≡◌, ◌≢◌, ℕ, ◌+◌, ◌-◌, ◌*◌, cond, false, List, [], ◌∷◌, length, map, take, drop, Option, Some, refl, sym, subst, ap, ◌∙◌, arith}
 use Rattle.std.proofs.lemmas.Bool.{ne_eqb}
-use Rattle.std.proofs.lemmas.List.{drop_all, length-take}
+use Rattle.std.proofs.lemmas.List.{drop_all}
 use Rattle.std.proofs.KnownBytes.{Appends-nil}
 use Rattle.std.specs.Io.KnownBytes.{Appends}
 use Rattle.std.specs.List.{AllByRecursion}
@@ -18,7 +18,7 @@ use Rattle.osdp_tool_show.specs.ToldItems.{shown_lines}
 use Rattle.osdp_tool_show.proofs.PassedItems.{after_passed, lines_passed}
 use Rattle.osdp_tool_show.specs.declared.report.Report.{Report}
 use Rattle.osdp_tool_show.specs.Machine.{Tells, Drained, Took}
-use Rattle.osdp_tool_show.proofs.WholeItems.{settled_new, took_after, took_drained}
+use Rattle.osdp_tool_show.proofs.WholeItems.{settled_new, took_drained}
 
 abbrev pub AreSkipped : List ℕ → Type 0
 AreSkipped bytes = AllByRecursion (λ b. b ≢ start_of_message) bytes
@@ -69,14 +69,3 @@ took_passed bytes count old new now fits skipped alone detail tally =
     let front_fits = AreBytes-take count bytes fits in
     took_drained front new_run new_run old new now now front_fits settled_new
     (drained_passed old new now front front_fits skipped tally (tells_passed old new now front alone detail tally))
-
--- .. after a front of which nothing is held
-pub took_passing : (bytes : List ℕ) (at count : ℕ) (first old new : Report) (a b c : Option (List ℕ)) → count ≤ length (take (length bytes - at) (drop at bytes))
-    → Took (take at bytes) new_run new_run first old a b → Took (take count (take (length bytes - at) (drop at bytes))) new_run new_run old new b c
-    → Took (take (at + count) bytes) new_run new_run first new a c
-took_passing bytes at count first old new a b c within t passed =
-    let left = length bytes - at in
-    took_after bytes at count left new_run new_run new_run first old new a b c (omega (arith, within, length-take left (drop at bytes))) t passed
-
-pub within_passing : (bytes : List ℕ) (at count : ℕ) → at ≤ length bytes → count ≤ length (take (length bytes - at) (drop at bytes)) → at + count ≤ length bytes
-within_passing bytes at count there within = omega (arith, length-take (length bytes - at) (drop at bytes), length-drop at bytes)

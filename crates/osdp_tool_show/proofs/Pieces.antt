@@ -38,14 +38,6 @@ took_both xs ys good a b c before middle after first second = record {
   load_is = omega (arith, first.load_is, second.load_is, length-append xs ys);
 }
 
-pub took_nothing : (a : Capture) (before : Option (List ℕ)) → IsSettled a.framer → TookPiece [] true a a before before
-took_nothing a before settled = record {
-  follows = λ detail form start read f. subst (λ l. HasShown detail form start l a before) (sym (append-nil read)) f;
-  settled = settled;
-  form_is = refl;
-  load_is = omega arith;
-}
-
 -- a capture of one form that goes on
 in_form : (kind : Form) (piece : List ℕ) (old new : Capture) (before after : Option (List ℕ)) → old.form ≡ kind → new.form ≡ old.form → IsSettled new.framer
     → load new ≤ load old + 5 * length piece

@@ -1,5 +1,5 @@
 -- A capture that is read to its end.
-use Rattle.std.proofs.Common.{◌≡◌, ℕ, ◌+◌, ◌-◌, ◌≤◌, Bool, true, false, List, [], ◌∷◌, ◌++◌, length, take, drop, take-append-drop, Option, Some, None, Result, Ok, Err, OnOk, OnErr, IfErr, ◌⊎◌, inl, inr, refl, sym, subst, ap, ◌∙◌, arith, append_assoc, append-nil, length-append, length-take}
+use Rattle.std.proofs.Common.{◌≡◌, ℕ, ◌+◌, ◌-◌, ◌≤◌, Bool, true, false, List, [], ◌∷◌, ◌++◌, length, take, drop, take-append-drop, Option, Some, None, Result, Ok, Err, ◌⊎◌, inl, inr, refl, sym, subst, ap, ◌∙◌, arith, append_assoc, append-nil, length-append, length-take}
 use Rattle.std.specs.Prelude.{IsErrAnd, if◌then◌else◌}
 use Rattle.std.specs.Io.KnownBytes.{Appends, Consumes, IsAtEnd, Keeps}
 use Rattle.std.proofs.KnownBytes.{Consumes-kept, Consumes-nil, Consumes-trans}
@@ -21,13 +21,13 @@ use Rattle.osdp_tool_show.specs.declared.report.Report.{Report}
 use Rattle.osdp_tool_streams.specs.declared.fault.ToolFault.{ToolFault}
 use Rattle.osdp_tool_streams.specs.declared.fault.ToolFault.TheVariants.{NotHex, WriteFailed, NoMemory}
 use Rattle.osdp_tool_streams.specs.Reading.{ReadsBytes}
-use Rattle.osdp_tool_show.specs.Machine.{IsSettled, IsStep, EndedRun, Stands}
+use Rattle.osdp_tool_show.specs.Machine.{IsStep, EndedRun, Stands}
 use Rattle.osdp_tool_show.specs.Written.{IsBeginning, StopsWithin}
 use Rattle.osdp_tool_show.proofs.Beginnings.{begun_all, stops_by}
 use Rattle.osdp_tool_show.specs.Shown.{shown, shown_so_far}
 use Rattle.osdp_tool_show.specs.Ending.{streamed, EndsAtBadLine, EndsAtFailedRead, EndsPartWay, EndsPastLimit}
 use Rattle.osdp_tool_show.specs.Capture.{HasShown, HasShownIf, TookPiece, TookPart, StopsInPiece}
-use Rattle.osdp_tool_show.specs.Works.{Works, Answered, Closed, EndedInput, EndsLine, ReadToEnd, ReadToBadLine, ReadToLimit, ReadToFailure, ReadPart, StopsAtEnd, StopsClosing}
+use Rattle.osdp_tool_show.specs.Works.{Works, Answered, Closed, EndedInput, EndsLine, ReadToEnd, ReadToBadLine, ReadToLimit, ReadPart, StopsAtEnd, StopsClosing}
 use Rattle.osdp_tool_show.proofs.Pieces.{took_both, nothing_bad, told_nothing}
 
 -- ---- reading
@@ -95,12 +95,6 @@ read_end limit left old new a b c x y h ends =
     let was = h.count in
     record { read = h.read; taken = Consumes-kept a b c h.read h.taken ends.0; at_end = ends.1; within = omega arith; took = h.took }
 
-pub read_failure : (limit left : ℕ) (old new : Capture) (a b c : Option (List ℕ)) (x y : Option (List ℕ))
-    → HasRead limit left old new a b x y → Keeps b c → ReadToFailure limit old new a c x y
-read_failure limit left old new a b c x y h kept =
-    let was = h.count in
-    record { read = h.read; taken = Consumes-kept a b c h.read h.taken kept; within = omega arith; took = h.took }
-
 -- ---- the end
 
 pub lines_closed : (detail : Detail) (runs : List (List ℕ)) → lines_so_far detail runs [] ≡ runs_lines detail no_tally runs
@@ -151,19 +145,6 @@ fed_end form read is good = by_line form is good (line_bytes (unended_line read)
         let e = end_apart read bytes good says in
         let f = feed_apart read bytes good says in
         (e.1 ∙ sym (append-nil (closed_runs (ended_runs Apart read) bytes)) ∙ sym (ap (λ r. closed_runs r []) f.0), e.0 ∙ sym f.1)
-
-pub ends_raw : (old : Capture) (before : Option (List ℕ)) → old.form ≡ Raw → IsSettled old.framer → EndsLine true old old before before
-ends_raw old before raw settled = record {
-  ends = λ detail form start read f. by_form detail form start read f (sym f.form_is ∙ raw);
-  settled = settled;
-  load_is = omega arith;
-}
-  where
-    by_form : (detail : Detail) (form : Form) (start : Option (List ℕ)) (read : List ℕ) → HasShown detail form start read old before → form ≡ Raw
-        → EndedInput detail form start read true old before
-    by_form detail Raw start read f is = record { ended = []; open_bytes = read; runs = refl; bad = refl; stands = f.stands }
-    by_form detail Joined start read f is = cc
-    by_form detail Apart start read f is = cc
 
 pub ends_line : (good : Bool) (old new : Capture) (before after : Option (List ℕ)) → (old.form ≡ Joined) ⊎ (old.form ≡ Apart)
     → TookPiece (line_feed ∷ []) good old new before after → EndsLine good old new before after
@@ -377,26 +358,6 @@ works_at_bad_line detail form limit start before middle written ib ia input_fail
       output_well = well_too;
     }
 
--- what a write that went well gave
-written_well : {P : Type 0} (r : Result (Unit {0}) ToolFault) (was failed : Bool) → IsStep r was failed → IfErr r (λ fault. fault ≡ WriteFailed) → OnOk r P → failed ≡ false → P
-written_well (Ok x) was failed s e p well = p
-written_well {P} (Err fault) was failed s e p well = absurd (no_failure fault s e)
-  where
-    no_failure : (fault : ToolFault) → IsStep {T = Unit {0}} (Err fault) was failed → fault ≡ WriteFailed → ⊥
-    no_failure WriteFailed s e = cc
-    no_failure fault s e = cc
-
--- what was told is written, or a beginning of it
-begun_kept : (middle written : Option (List ℕ)) → Keeps middle written → IsBeginning written middle
-begun_kept None written k = tt
-begun_kept (Some x) None k = absurd k
-begun_kept (Some x) (Some y) k = ([], sym k ∙ sym (append-nil y))
-
-written_or_part : (r : Result (Unit {0}) ToolFault) (middle written : Option (List ℕ)) → OnOk r (Keeps middle written) → OnErr r (IsBeginning written middle)
-    → IsBeginning written middle
-written_or_part (Ok x) middle written kept stops = begun_kept middle written kept
-written_or_part (Err e) middle written kept stops = stops
-
 pub works_past_limit : (detail : Detail) (form : Form) (limit : ℕ) (start before middle written input_before input_after : Option (List ℕ)) (input_failed output_failed : Bool)
     (old mid : Capture) → ReadToLimit limit old mid input_before input_after before middle → input_failed ≡ false → output_failed ≡ false
     → Keeps middle written → HasShown detail form start [] old before
@@ -409,23 +370,6 @@ works_past_limit detail form limit start before middle written ib ia input_faile
       text = Appends-kept start middle written (lines_so_far detail (ended_runs form r.read.within) (open_run form r.read.within)) here.stands.lines kept;
       input_well = well;
       output_well = well_too;
-    }
-
-pub works_at_failed_read : (detail : Detail) (form : Form) (limit : ℕ) (start before middle written input_before input_after : Option (List ℕ)) (input_failed was output_failed : Bool)
-    (old mid : Capture) (r : Result (Unit {0}) ToolFault) → ReadToFailure limit old mid input_before input_after before middle → input_failed ≡ true
-    → IsStep r was output_failed → IfErr r (λ fault. fault ≡ WriteFailed) → OnOk r (Keeps middle written) → OnErr r (IsBeginning written middle) → HasShown detail form start [] old before
-    → EndsAtFailedRead detail form limit (streamed input_before input_after input_failed) (streamed start written output_failed)
-works_at_failed_read detail form limit start before middle written ib ia input_failed was output_failed old mid r read failed step fault kept stops f =
-    let here = read.took.follows detail form start [] f in
-    record {
-      read = read.read;
-      taken = read.taken;
-      within = read.within;
-      good = here.good;
-      text = λ well. Appends-kept start middle written (lines_so_far detail (ended_runs form read.read) (open_run form read.read)) here.stands.lines (written_well r was output_failed step fault kept well);
-      part = stops_by start middle written (shown_so_far detail form read.read) (shown_so_far detail form read.read) [] here.stands.lines
-          (written_or_part r middle written kept stops) (sym (append-nil _));
-      input_failed = failed;
     }
 
 -- an input that failed before the call

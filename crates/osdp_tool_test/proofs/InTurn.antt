@@ -6,7 +6,7 @@ use Rattle.osdp_tool_streams.specs.declared.fault.ToolFault.{ToolFault}
 use Rattle.osdp_tool_streams.specs.declared.fault.ToolFault.TheVariants.{NotHex, TooLong, BadWords, BadStep, HoldsPacket, NotQuiet, ReadFailed, WriteFailed, NoMemory}
 use Rattle.osdp_tool_test.specs.Ending.{Ends, IsRead}
 use Rattle.osdp_tool_test.specs.Entries.{Told}
-use Rattle.osdp_tool_test.specs.Laws.{IsReportedInPart, IsToldInTurn}
+use Rattle.osdp_tool_test.specs.Laws.{EndsInTurn, IsReportedInPart, IsToldInTurn}
 use Rattle.osdp_tool_test.specs.Report.{report_text}
 use Rattle.osdp_tool_test.specs.Running.{AsksNone, Tests, asking_words}
 use Rattle.osdp_tool_test.specs.declared.report.Form.{Form}
@@ -84,11 +84,14 @@ module _ (Shows : Form → List (List ℕ) → List Told → Type 0) (Stops : Li
     told_by (Err (HoldsPacket number)) h = absurd h
     told_by (Err (NotQuiet number)) h = absurd h
 
-  pub in_turn : (result : Result ℕ ToolFault) → Tests Shows Stops limit words (Some bytes) left (Some start) (Some now) failed result → TellsSo result
-  in_turn result (inl h) = told_by h.0 h.1 result h.2
-  in_turn result (inr h) = record {
+  tells_so : (result : Result ℕ ToolFault) → Tests Shows Stops limit words (Some bytes) left (Some start) (Some now) failed result → TellsSo result
+  tells_so result (inl h) = told_by h.0 h.1 result h.2
+  tells_so result (inr h) = record {
     refused = (λ is. h.0, λ none. h.1.fault);
     write = λ is. inr (inr h.1.fault);
     write_told = λ is. cc (is, h.1.fault);
     told = inr (h.1.written, λ is. left_as_it_was bytes left h.1.read);
   }
+
+pub in_turn : (Shows : Form → List (List ℕ) → List Told → Type 0) (Stops : List (List ℕ) → ℕ → Type 0) (limit : ℕ) → EndsInTurn Shows limit (Tests Shows Stops limit)
+in_turn Shows Stops limit words bytes start now left failed result h = tells_so Shows Stops limit words bytes start now left failed result h

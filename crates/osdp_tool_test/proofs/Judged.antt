@@ -1,5 +1,5 @@
 -- What a whole input is judged by.
-use Rattle.std.proofs.Common.{◌≡◌, ℕ, ◌≤◌, Bool, false, List, take, length, map, Option, Some, None, Ok, Err, sym, ap, subst, ◌∙◌}
+use Rattle.std.proofs.Common.{◌≡◌, ℕ, ◌≤◌, List, take, length, map, Option, Some, None, Ok, sym, ap, subst, ◌∙◌}
 use Rattle.std.specs.Io.KnownBytes.{Appends, Consumes, IsAtEnd, Keeps}
 use Rattle.std.specs.Prelude.{MatchOption}
 use Rattle.std.proofs.KnownBytes.{Appends-kept}
@@ -8,49 +8,16 @@ use Rattle.osdp_tool_captures.specs.Whole.{ReadWhole}
 use Rattle.osdp_tool_streams.specs.Cut.{lines_of}
 use Rattle.osdp_tool_streams.specs.Watched.{AppendsPart}
 use Rattle.osdp_tool_streams.specs.declared.fault.ToolFault.{ToolFault}
-use Rattle.osdp_tool_streams.specs.declared.fault.ToolFault.TheVariants.{NotHex, TooLong, BadWords, BadStep, HoldsPacket, NotQuiet, ReadFailed, WriteFailed, NoMemory}
-use Rattle.osdp_tool_test.specs.Ending.{Ends, IsPart, IsRead, IsReported, Judges, status_of}
+use Rattle.osdp_tool_test.specs.Ending.{IsPart, IsRead, IsReported, Judges, status_of}
 use Rattle.osdp_tool_test.specs.Entries.{Told, told}
 use Rattle.osdp_tool_test.specs.Judging.{StopsAt, TakesAll}
 use Rattle.osdp_tool_test.specs.Report.{report_text}
 use Rattle.osdp_tool_test.specs.declared.entry.Entry.{Entry}
 use Rattle.osdp_tool_test.specs.declared.report.Form.{Form}
 
-module _ (A : List (List ℕ) → List Told → Type 0) (B : List (List ℕ) → ℕ → Type 0) (limit : ℕ) (before after : Option (List ℕ)) where
-  pub judged_fault : (bytes : List ℕ) (fault : ToolFault) → ReadWhole limit before after bytes (Some fault) → Judges A B limit before after (Err fault)
-  judged_fault bytes TooLong h = record { read = bytes; byte = h.1.0; taken = h.1.1; whole = h.0 }
-  judged_fault bytes ReadFailed h = tt
-  judged_fault bytes NoMemory h = absurd h
-  judged_fault bytes WriteFailed h = absurd h
-  judged_fault bytes BadWords h = absurd h
-  judged_fault bytes (NotHex n) h = absurd h
-  judged_fault bytes (BadStep n) h = absurd h
-  judged_fault bytes (HoldsPacket n) h = absurd h
-  judged_fault bytes (NotQuiet n) h = absurd h
-
-  pub no_memory : (fault : ToolFault) → fault ≡ NoMemory → Judges A B limit before after (Err fault)
-  no_memory fault is = subst (λ f. Judges A B limit before after (Err f)) (sym is) tt
-
-  module _ (form : Form) (start now : Option (List ℕ)) where
-    -- what stops the judging stops the command, which has written nothing
-    pub ends_judged : (fault : ToolFault) (failed : Bool) → Judges A B limit before after (Err fault) → failed ≡ false → Keeps start now
-        → Ends A B limit before after form start now failed (Err fault)
-    ends_judged TooLong failed h well kept = (h, kept, well)
-    ends_judged (BadStep n) failed h well kept = (h, kept, well)
-    ends_judged ReadFailed failed h well kept = (kept, well)
-    ends_judged NoMemory failed h well kept = kept
-    ends_judged WriteFailed failed h well kept = absurd h
-    ends_judged BadWords failed h well kept = absurd h
-    ends_judged (NotHex n) failed h well kept = absurd h
-    ends_judged (HoldsPacket n) failed h well kept = absurd h
-    ends_judged (NotQuiet n) failed h well kept = absurd h
-
 -- lines that were taken, or of which one was refused
 module _ {T : Type 0} (takes : T → List (List ℕ) → T → Type 0) (refuses : List (List ℕ) → Type 0) (found : T → List Told) (start last : T)
     (limit : ℕ) (before after : Option (List ℕ)) (given bytes : List ℕ) (fault : Option ToolFault) (bad : Option ℕ) where
-  Taken : List ℕ → Option ℕ → Type 0
-  Taken read b = MatchOption b (TakesAll takes refuses found start (lines_of read) last) (λ n. StopsAt takes refuses found 1 start (lines_of read) n last)
-
   whole : fault ≡ None → ReadWhole limit before after bytes fault → Consumes before after bytes × IsAtEnd after × (length bytes ≤ limit)
   whole none read = subst (ReadWhole limit before after bytes) none read
 

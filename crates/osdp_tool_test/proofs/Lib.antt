@@ -3,7 +3,6 @@ pub mod Finding
 pub mod Taking
 pub mod Telling
 pub mod Judged
-pub mod Device
 pub mod Rows
 pub mod Parts
 mod FormWords
@@ -11,4 +10,5 @@ pub mod ByLines
 pub mod InTurn
 pub mod Once
 pub mod OneLine
-mod OneReport
+pub mod OneReport
+mod ByRows

@@ -6,6 +6,7 @@ use Rattle.osdp_msg.proofs.RowTexts.{differ}
 use Rattle.osdp_words.proofs.WordLaws.{has_one_word}
 use Rattle.osdp_words.specs.Word.{AllStandFor, StandsFor, Word, bytes, number, plain}
 use Rattle.osdp_tool_test.specs.Lines.{ExchangeFits, IsList, LeftOut, Line, SaidFits, asks, device, exchange_words, opens, said_name, said_words, skips, skips_words, times}
+use Rattle.osdp_tool_test.specs.Rules.{IsRule}
 use Rattle.osdp_tool_test.specs.declared.exchange.Exchange.{Exchange}
 use Rattle.osdp_tool_test.proofs.Once.{AreNamed}
 
@@ -27,15 +28,16 @@ list_once given x y h k s t =
 abbrev made : ℕ → ℕ → ArrayVec ℕ → ℕ → ArrayVec ℕ → Exchange
 made n moment sent delay heard = record { number = n; moment = moment; sent = sent; delay = delay; heard = heard }
 
-exchange_once : (given : List (List ℕ)) (x y : Exchange) → ExchangeFits x → ExchangeFits y → AllStandFor (exchange_words x) given → AllStandFor (exchange_words y) given → x ≡ y
-exchange_once [] x y h k s t = absurd s
-exchange_once (a ∷ []) x y h k s t = absurd s.1
-exchange_once (a ∷ b ∷ []) x y h k s t = absurd s.1.1
-exchange_once (a ∷ b ∷ c ∷ []) x y h k s t = absurd s.1.1.1
-exchange_once (a ∷ b ∷ c ∷ d ∷ []) x y h k s t = absurd s.1.1.1.1
-exchange_once (a ∷ b ∷ c ∷ d ∷ e ∷ f ∷ given) x y h k s t = absurd s.1.1.1.1.1
-exchange_once (a ∷ b ∷ c ∷ d ∷ e ∷ []) x y h k s t =
-    let n = decimal_injective x.number y.number (omega (arith, h.0)) (omega (arith, k.0)) (sym s.0 ∙ t.0) in
+pub exchange_once : (IsNumber : ℕ → Type 0) → ((n : ℕ) → IsNumber n → n < 2 ^ 64) → (given : List (List ℕ)) (x y : Exchange)
+    → ExchangeFits IsNumber x → ExchangeFits IsNumber y → AllStandFor (exchange_words x) given → AllStandFor (exchange_words y) given → x ≡ y
+exchange_once IsNumber small [] x y h k s t = absurd s
+exchange_once IsNumber small (a ∷ []) x y h k s t = absurd s.1
+exchange_once IsNumber small (a ∷ b ∷ []) x y h k s t = absurd s.1.1
+exchange_once IsNumber small (a ∷ b ∷ c ∷ []) x y h k s t = absurd s.1.1.1
+exchange_once IsNumber small (a ∷ b ∷ c ∷ d ∷ []) x y h k s t = absurd s.1.1.1.1
+exchange_once IsNumber small (a ∷ b ∷ c ∷ d ∷ e ∷ f ∷ given) x y h k s t = absurd s.1.1.1.1.1
+exchange_once IsNumber small (a ∷ b ∷ c ∷ d ∷ e ∷ []) x y h k s t =
+    let n = decimal_injective x.number y.number (small x.number h.0) (small y.number k.0) (sym s.0 ∙ t.0) in
     let moment = decimal_injective x.moment y.moment h.1 k.1 (sym s.1.0 ∙ t.1.0) in
     let sent = list_once c x.sent y.sent h.2 k.2 s.1.1.0 t.1.1.0 in
     let delay = decimal_injective x.delay y.delay h.3 k.3 (sym s.1.1.1.0 ∙ t.1.1.1.0) in
@@ -55,13 +57,16 @@ skip_once (a ∷ []) x y h k s t = absurd s.1
 skip_once (a ∷ b ∷ given) x y h k s t =
     ap (λ (m : ℕ). left_out m x.why) (decimal_injective x.number y.number h k (sym s.0 ∙ t.0)) ∙ ap (left_out y.number) (sym s.1.0 ∙ t.1.0)
 
+small : (n : ℕ) → IsRule n → n < 2 ^ 64
+small n is = omega (arith, is)
+
 one_line : (given : List (List ℕ)) (m n : Line) → SaidFits m → SaidFits n → AllStandFor (said_words m) given → AllStandFor (said_words n) given → m ≡ n
 one_line [] m n h k s t = absurd s
 one_line (word ∷ given) (device p) (device q) h k s t = ap device (number_once given p q (omega (arith, h)) (omega (arith, k)) s.1 t.1)
-one_line (word ∷ given) (opens x) (opens y) h k s t = ap opens (exchange_once given x y h k s.1 t.1)
-one_line (word ∷ given) (asks x) (asks y) h k s t = ap asks (exchange_once given x y h k s.1 t.1)
-one_line (word ∷ given) (skips x) (skips y) h k s t = ap skips (skip_once given x y (omega (arith, h)) (omega (arith, k)) s.1 t.1)
-one_line (word ∷ given) (times p) (times q) h k s t = ap times (number_once given p q (omega (arith, h)) (omega (arith, k)) s.1 t.1)
+one_line (word ∷ given) (opens x) (opens y) h k s t = ap opens (exchange_once IsRule small given x y h k s.1 t.1)
+one_line (word ∷ given) (asks x) (asks y) h k s t = ap asks (exchange_once IsRule small given x y h k s.1 t.1)
+one_line (word ∷ given) (skips x) (skips y) h k s t = ap skips (skip_once given x y (small x.number h) (small y.number k) s.1 t.1)
+one_line (word ∷ given) (times p) (times q) h k s t = ap times (number_once given p q (small p h) (small q k) s.1 t.1)
 one_line (word ∷ given) m n h k s t = absurd (differ (said_name m) (said_name n) refl (sym s.0 ∙ t.0))
 
 no_hash : (m : Line) (word : List ℕ) (others : List (List ℕ)) → AllStandFor (said_words m) ((35 ∷ word) ∷ others) → ⊥

@@ -5,7 +5,6 @@ use Rattle.arrayvec.specs.ArrayVec.{ArrayVec}
 use Rattle.osdp_words.specs.Reading.{Reads, ReadsWords}
 use Rattle.osdp_words.specs.Word.{AllStandFor, Word, bytes, number}
 use Rattle.osdp_tool_test.specs.Lines.{ExchangeFits, HeardFits, IsList, PairFits, SentFits, exchange_words, heard_words, pair_words, sent_words}
-use Rattle.osdp_tool_test.specs.Rules.{IsRule}
 use Rattle.osdp_tool_test.specs.declared.exchange.Exchange.{Exchange}
 
 abbrev pub is_none : {X : Type 0} → Option X → Bool
@@ -81,6 +80,6 @@ sent_parts = record { same = λ c. refl; words_are = λ a b. refl; parts = λ c 
 abbrev pub exchange_of : ℕ → Sent → Exchange
 exchange_of n y = record { number = n; moment = y.0; sent = y.1; delay = y.2; heard = y.3 }
 
-pub exchange_parts : IsPair number IsRule (λ (x : Sent). sent_words x) (λ (x : Sent). SentFits x) exchange_words ExchangeFits
+pub exchange_parts : (IsNumber : ℕ → Type 0) → IsPair number IsNumber (λ (x : Sent). sent_words x) (λ (x : Sent). SentFits x) exchange_words (ExchangeFits IsNumber)
     (λ x. x.number) (λ x. (x.moment, x.sent, x.delay, x.heard)) exchange_of
-exchange_parts = record { same = λ c. refl; words_are = λ a b. refl; parts = λ c f. (f.0, (f.1, f.2, f.3, f.4)); whole = λ a b f g. (f, g.0, g.1, g.2, g.3) }
+exchange_parts IsNumber = record { same = λ c. refl; words_are = λ a b. refl; parts = λ c f. (f.0, (f.1, f.2, f.3, f.4)); whole = λ a b f g. (f, g.0, g.1, g.2, g.3) }

@@ -21,9 +21,6 @@ module _ {T : Type 0} (takes : T → List (List ℕ) → T → Type 0) (refuses 
     pub taken : (last : T) → All now (lines_of (drop at bytes)) last → All start (lines_of bytes) last
     pub stopped : (n : ℕ) (last : T) → Stops number now (lines_of (drop at bytes)) n last → Stops 1 start (lines_of bytes) n last
 
-  pub begun : Going 0 1 start
-  begun = record { within = omega arith; counts = omega arith; taken = λ last h. h; stopped = λ n last h. h }
-
   lines_are : (at count : ℕ) → HasLine (drop at bytes) count → lines_of (drop at bytes) ≡ take count (drop at bytes) ∷ lines_of (drop (at + (count + 1)) bytes)
   lines_are at count stands =
       ap lines_of (line_cut (drop at bytes) count stands) ∙ lines_of-feed (take count (drop at bytes)) (drop (count + 1) (drop at bytes)) stands.line

@@ -1,5 +1,5 @@
 -- What the lines that were taken say, and how a command ends by them.
-use Rattle.std.proofs.Common.{◌≡◌, ◌⊎◌, ℕ, ◌+◌, Bool, List, [], ◌∷◌, ◌++◌, length, Option, None, Result, Ok, Err, refl, sym, ap, ◌∙◌, arith, inl, inr}
+use Rattle.std.proofs.Common.{◌≡◌, ◌⊎◌, ℕ, ◌+◌, Bool, List, [], ◌∷◌, ◌++◌, length, map, Option, None, Result, Ok, Err, refl, sym, ap, subst, ◌∙◌, arith, inl, inr}
 use Rattle.osdp_tool_streams.specs.declared.fault.ToolFault.{ToolFault}
 use Rattle.osdp_tool_streams.specs.declared.fault.ToolFault.TheVariants.{NotHex, TooLong, BadWords, BadStep, HoldsPacket, NotQuiet, ReadFailed, WriteFailed, NoMemory}
 use Rattle.std.specs.Io.KnownBytes.{Keeps}
@@ -8,16 +8,17 @@ use Rattle.osdp_words.specs.Word.{Word, words_in}
 use Rattle.osdp_tool_test.specs.Ending.{Ends, IsPart}
 use Rattle.osdp_tool_test.specs.Entries.{Told}
 use Rattle.osdp_tool_test.specs.Judging.{RefusesLine, StopsAt, TakesAll, TakesLine, Finds, Stops}
-use Rattle.osdp_tool_test.specs.Saying.{IsFirstBad, LineSays, LinesSay, LinesFind, SaysNone, WordsSay, after_all}
+use Rattle.osdp_tool_test.specs.Running.{Tests}
+use Rattle.osdp_tool_test.specs.Saying.{IsFirstBad, LineSays, LinesSay, LinesFind, RefusesSaid, SaysNone, ShowsByRows, TakesSaid, after_all}
 use Rattle.osdp_tool_test.specs.declared.report.Form.{Form}
 
 module _ {C T M : Type 0} (words_of : C → List Word) (Fits : C → Type 0) (model : T → M) (after : Option C → M → M) (all : M → List Told)
     (none : (m : M) → after None m ≡ m) (start : T) where
   abbrev pub takes : T → List (List ℕ) → T → Type 0
-  takes old words new = (said : Option C) × WordsSay words_of Fits words said × (model new ≡ after said (model old))
+  takes = TakesSaid words_of Fits model after
 
   abbrev pub refuses : List (List ℕ) → Type 0
-  refuses words = (said : Option C) → WordsSay words_of Fits words said → ⊥
+  refuses = RefusesSaid words_of Fits
 
   abbrev pub found : T → List Told
   found t = all (model t)
@@ -119,3 +120,32 @@ module _ (A B : List (List ℕ) → List Told → Type 0) (C D : List (List ℕ)
   ends_as failed (Err BadWords) h = h
   ends_as failed (Err (HoldsPacket number)) h = h
   ends_as failed (Err (NotQuiet number)) h = h
+
+-- a test of lines ends by what these show
+pub said_ends : {C T M : Type 0} (words_of : C → List Word) (Fits : C → Type 0) (model : T → M) (adds : Option C → M → M) (all : M → List Told) (none : (m : M) → adds None m ≡ m)
+    (start : T) (begun : M) → model start ≡ begun
+    → (limit : ℕ) (input_before input_after : Option (List ℕ)) (form : Form) (before after : Option (List ℕ)) (failed : Bool) (r : Result ℕ ToolFault)
+    → Ends (Finds (TakesSaid words_of Fits model adds) (RefusesSaid words_of Fits) (λ t. all (model t)) start)
+    (Stops (TakesSaid words_of Fits model adds) (RefusesSaid words_of Fits) (λ t. all (model t)) start) limit input_before input_after form before after failed r
+    → Ends (LinesFind words_of Fits adds begun all) (IsFirstBad words_of Fits) limit input_before input_after form before after failed r
+said_ends words_of Fits model adds all none start begun is limit input_before input_after form before after failed r ends =
+    ends_as (Finds (TakesSaid words_of Fits model adds) (RefusesSaid words_of Fits) (λ t. all (model t)) start) (LinesFind words_of Fits adds begun all)
+    (Stops (TakesSaid words_of Fits model adds) (RefusesSaid words_of Fits) (λ t. all (model t)) start) (IsFirstBad words_of Fits)
+    (λ lines entries h. subst (λ m. LinesFind words_of Fits adds m all lines entries) is (finds_said words_of Fits model adds all none start lines entries h))
+    (λ lines number h. stops_said words_of Fits model adds all none start lines number h)
+    limit input_before input_after form before after failed r ends
+
+-- what lines show by some rules they show by the rows of these
+pub tests_by_rows : {R Row : Type 0} (row : R → Row) (rows : List Row) (FindsBy : Form → List R → List (List ℕ) → List Told → Type 0) (StopsBy : List (List ℕ) → ℕ → Type 0)
+    (rules : List R) → map row rules ≡ rows
+    → (limit : ℕ) (words : List (List ℕ)) (input_before input_after before after : Option (List ℕ)) (failed : Bool) (r : Result ℕ ToolFault)
+    → Tests (λ form. FindsBy form rules) StopsBy limit words input_before input_after before after failed r
+    → Tests (ShowsByRows row rows FindsBy) StopsBy limit words input_before input_after before after failed r
+tests_by_rows row rows FindsBy StopsBy rules are limit words input_before input_after before after failed r (inl h) =
+    inl (
+      h.0,
+      h.1,
+      ends_as (FindsBy h.0 rules) (ShowsByRows row rows FindsBy h.0) StopsBy StopsBy (λ lines entries finds. (rules, are, finds)) (λ lines number stops. stops)
+          limit input_before input_after h.0 before after failed r h.2,
+    )
+tests_by_rows row rows FindsBy StopsBy rules are limit words input_before input_after before after failed r (inr h) = inr h

@@ -1,12 +1,12 @@
--- What a line of a test of a device says.
+-- What a line of a test says.
 use Rattle.std.specs.Prelude.{ℕ, ◌<◌, ◌≤◌, ◌^◌, List, [], ◌∷◌, codes}
 use Rattle.arrayvec.specs.ArrayVec.{ArrayVec, array_vec_len}
 use Rattle.hex.specs.Hex.{IsBytes}
 use Rattle.osdp_words.specs.Word.{Word, bytes, number, plain}
 use Rattle.osdp_tool_test.specs.Rules.{IsRule}
 use Rattle.osdp_tool_test.specs.declared.exchange.Exchange.{Exchange}
-use Rattle.osdp_tool_test.specs.declared.exchange.Said.{Said}
-use Rattle.osdp_tool_test.specs.declared.exchange.Said.TheVariants.{Device, Opens, Asks, Skips, Times}
+use Rattle.osdp_tool_test.specs.declared.said.Said.{Said}
+use Rattle.osdp_tool_test.specs.declared.said.Said.TheVariants.{Device, Opens, Asks, Skips, Times}
 use Rattle.osdp_tool_test.specs.declared.exchange.Skip.{Skip}
 
 -- as many bytes as a line holds
@@ -34,12 +34,12 @@ sent_words x = number x.0 ∷ bytes x.1.items ∷ number x.2 ∷ bytes x.3.items
 abbrev pub SentFits : ℕ × ArrayVec ℕ × ℕ × ArrayVec ℕ → Type 0
 SentFits x = (x.0 < 2 ^ 64) × IsList x.1 × (x.2 < 2 ^ 64) × IsList x.3
 
--- the rule whose scenario it belongs to stands first
+-- the number of the rule for which it was said stands first
 abbrev pub exchange_words : Exchange → List Word
 exchange_words x = number x.number ∷ number x.moment ∷ bytes x.sent.items ∷ number x.delay ∷ bytes x.heard.items ∷ []
 
-abbrev pub ExchangeFits : Exchange → Type 0
-ExchangeFits x = IsRule x.number × (x.moment < 2 ^ 64) × IsList x.sent × (x.delay < 2 ^ 64) × IsList x.heard
+abbrev pub ExchangeFits : (ℕ → Type 0) → Exchange → Type 0
+ExchangeFits IsNumber x = IsNumber x.number × (x.moment < 2 ^ 64) × IsList x.sent × (x.delay < 2 ^ 64) × IsList x.heard
 
 -- a rule that was left out, and why
 pub record LeftOut : Type 0 where
@@ -52,8 +52,10 @@ skip_of x = record { number = x.number; why = x.why.now }
 abbrev pub skips_words : LeftOut → List Word
 skips_words x = number x.number ∷ plain x.why ∷ []
 
-abbrev pub SkipsFits : LeftOut → Type 0
-SkipsFits x = IsRule x.number
+abbrev pub SkipsFits : (ℕ → Type 0) → LeftOut → Type 0
+SkipsFits IsNumber x = IsNumber x.number
+
+-- ---- the lines of a test of a device
 
 -- what a line says; by the times of all answers so far a rule is judged
 pub data Line : Type 0 where
@@ -90,7 +92,7 @@ said_words said = plain (said_name said) ∷ said_fields said
 
 abbrev pub SaidFits : Line → Type 0
 SaidFits (device address) = address < 127
-SaidFits (opens x) = ExchangeFits x
-SaidFits (asks x) = ExchangeFits x
-SaidFits (skips x) = SkipsFits x
+SaidFits (opens x) = ExchangeFits IsRule x
+SaidFits (asks x) = ExchangeFits IsRule x
+SaidFits (skips x) = SkipsFits IsRule x
 SaidFits (times n) = IsRule n

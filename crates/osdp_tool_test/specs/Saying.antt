@@ -1,8 +1,9 @@
 -- What a line of a test says, where what it may say is words.
-use Rattle.std.specs.Prelude.{◌≡◌, ◌⊎◌, ℕ, ◌+◌, List, [], ◌∷◌, ◌++◌, length, IsUtf8, Option, Some, None}
+use Rattle.std.specs.Prelude.{◌≡◌, ◌⊎◌, ℕ, ◌+◌, List, [], ◌∷◌, ◌++◌, length, map, IsUtf8, Option, Some, None}
 use Rattle.std.specs.List.{AllZip}
 use Rattle.osdp_words.specs.Word.{AllStandFor, Word, words_in}
 use Rattle.osdp_tool_test.specs.Entries.{Told}
+use Rattle.osdp_tool_test.specs.declared.report.Form.{Form}
 
 -- the line begins with a #
 abbrev pub IsComment : List ℕ → Type 0
@@ -46,3 +47,15 @@ module _ {C : Type 0} (words_of : C → List Word) (Fits : C → Type 0) where
 
     abbrev pub LinesFind : List (List ℕ) → List Told → Type 0
     LinesFind lines entries = (said : List (Option C)) × LinesSay lines said × (entries ≡ found (after_all said start))
+
+  -- what a test takes and refuses: the words of a line add to what it stands for, or they are those of none
+  module _ {T M : Type 0} (model : T → M) (after : Option C → M → M) where
+    abbrev pub TakesSaid : T → List (List ℕ) → T → Type 0
+    TakesSaid old words new = (said : Option C) × WordsSay words said × (model new ≡ after said (model old))
+
+  abbrev pub RefusesSaid : List (List ℕ) → Type 0
+  RefusesSaid words = (said : Option C) → WordsSay words said → ⊥
+
+-- what lines show of rules that have these rows, where what they show is known for any rules
+abbrev pub ShowsByRows : {R Row : Type 0} → (R → Row) → List Row → (Form → List R → List (List ℕ) → List Told → Type 0) → Form → List (List ℕ) → List Told → Type 0
+ShowsByRows {R} row rows Finds form lines entries = (rules : List R) × (map row rules ≡ rows) × Finds form rules lines entries

@@ -1,5 +1,5 @@
 -- The rules of a device.
-use Rattle.std.specs.Prelude.{◌≡◌, ℕ, List, [], ◌∷◌, codes, map}
+use Rattle.std.specs.Prelude.{ℕ, List, [], ◌∷◌, codes}
 use Rattle.osdp_rules.specs.declared.aspect.Aspect.{Aspect}
 use Rattle.osdp_rules.specs.declared.aspect.Aspect.TheVariants.{Address, Check, Number, Plain, Single, Prompt, Busy, Turn, Repeat, Wrong, Deaf, Quiet, Block, Served, Fit, Read, Code, Length, Listed, Beyond}
 use Rattle.osdp_tool_test.specs.declared.rules.Ground.{Ground}
@@ -102,6 +102,3 @@ device_rules =
     ∷ (Turn, Asked, codes "after a packet larger than CAP's receive buffer number 0 is taken")
     ∷ (Prompt, Asked, codes "each answer of the run begins within 200 ms")
     ∷ []
-
-abbrev pub AreDeviceRules : List Rule → Type 0
-AreDeviceRules rules = map row rules ≡ device_rules

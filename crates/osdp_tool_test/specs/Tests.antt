@@ -1,5 +1,5 @@
 -- A test of a device: what each line adds to it.
-use Rattle.std.specs.Prelude.{◌≡◌, ℕ, ◌==◌, Bool, true, false, if◌then◌else◌, List, [], ◌∷◌, ◌++◌, map, option_map, Option, Some, None}
+use Rattle.std.specs.Prelude.{ℕ, ◌==◌, Bool, true, false, if◌then◌else◌, List, [], ◌∷◌, ◌++◌, map, option_map, Option, Some, None}
 use Rattle.osdp_frame.specs.Packet.{Packet}
 use Rattle.osdp_rules.specs.Claims.{claims_after, no_claims}
 use Rattle.osdp_rules.specs.Delays.{delays_finding}
@@ -12,10 +12,10 @@ use Rattle.osdp_tool_test.specs.Entries.{Told, after_finding, new_entry, told, w
 use Rattle.osdp_tool_test.specs.Faults.{fault_text}
 use Rattle.osdp_tool_test.specs.Found.{shown}
 use Rattle.osdp_tool_test.specs.Lines.{LeftOut, Line, SaidFits, asks, device, opens, said_words, skips, times}
-use Rattle.osdp_tool_test.specs.Saying.{IsFirstBad, LinesFind, WordsSay}
+use Rattle.osdp_tool_test.specs.Saying.{IsFirstBad, LinesFind, RefusesSaid, ShowsByRows, TakesSaid}
 use Rattle.osdp_tool_test.specs.Rules.{rule_in}
 use Rattle.osdp_tool_test.specs.Seen.{Seen, is_answered, seen_in}
-use Rattle.osdp_tool_test.specs.Table.{AreDeviceRules}
+use Rattle.osdp_tool_test.specs.Table.{device_rules, row}
 use Rattle.osdp_tool_test.specs.Times.{RunTimes, new_times, times_after, times_of, times_text}
 use Rattle.osdp_tool_test.specs.declared.exchange.Exchange.{Exchange}
 use Rattle.osdp_tool_test.specs.declared.report.Form.{Form}
@@ -151,14 +151,14 @@ DeviceFinds form rules = LinesFind said_words SaidFits after_said (new_test form
 
 -- .. by the rules of a device
 abbrev pub DeviceShows : Form → List (List ℕ) → List Told → Type 0
-DeviceShows form lines entries = (rules : List Rule) × AreDeviceRules rules × DeviceFinds form rules lines entries
+DeviceShows = ShowsByRows row device_rules DeviceFinds
 
 abbrev pub DeviceStops : List (List ℕ) → ℕ → Type 0
 DeviceStops = IsFirstBad said_words SaidFits
 
 -- the words of a line are taken, or they are those of none
 abbrev pub Takes : Tested → List (List ℕ) → Tested → Type 0
-Takes old words new = (said : Option Line) × WordsSay said_words SaidFits words said × (model new ≡ after_said said (model old))
+Takes = TakesSaid said_words SaidFits model after_said
 
 abbrev pub Refuses : List (List ℕ) → Type 0
-Refuses words = (said : Option Line) → WordsSay said_words SaidFits words said → ⊥
+Refuses = RefusesSaid said_words SaidFits

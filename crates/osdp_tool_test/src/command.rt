@@ -8,10 +8,10 @@ ghost use Rattle.osdp_tool_test.specs.Running.{AsksForm, AsksNone, Tests, asking
 ghost use Rattle.osdp_tool_test.specs.Tests.{DeviceFinds, DeviceShows, DeviceStops, Refuses, Takes, all_entries, model};
 
 use crate::entry::Entry;
-use crate::exchange::said_in;
 use crate::judging::{LineTest, judge_lines};
 use crate::report::Form;
 use crate::rules::{RULES, Rule};
+use crate::said::said_in;
 use crate::tested::Tested;
 use osdp_refused_words::{Slot, slots_stop};
 use osdp_tool_streams::{LIMIT, ToolFault, Watched};

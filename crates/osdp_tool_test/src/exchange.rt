@@ -1,13 +1,12 @@
-//! A line of what was sent and heard.
+//! What was sent and heard, and the words of it.
 
 ghost use Rattle.std.specs.Prelude.{◌≡◌, ◌<◌, ◌∷◌, [], ℕ, option_map};
 ghost use Rattle.arrayvec.specs.ArrayVec.{ArrayVec as Items};
 ghost use Rattle.osdp_words.specs.Reading.{Reads, ReadsWords};
 ghost use Rattle.osdp_words.specs.Word.{number, plain, texts};
-ghost use Rattle.osdp_tool_test.specs.Rules.{IsRule};
-ghost use Rattle.osdp_tool_test.specs.Lines.{ExchangeFits, HeardFits, PairFits, SaidFits, SentFits, SkipsFits, exchange_words, heard_words, pair_words, said_of, said_words, sent_words, skip_of, skips_words};
+ghost use Rattle.osdp_tool_test.specs.Rules.{IsWithin};
+ghost use Rattle.osdp_tool_test.specs.Lines.{ExchangeFits, HeardFits, PairFits, SentFits, SkipsFits, exchange_words, heard_words, pair_words, sent_words, skip_of, skips_words};
 
-use crate::rules::COUNT;
 use arrayvec::ArrayVec;
 use osdp_frame::Address;
 use osdp_words::{byte_list, number_u8, number_u64};
@@ -15,10 +14,10 @@ use osdp_words::{byte_list, number_u8, number_u64};
 /// Bytes that a line holds.
 pub type Bytes = ArrayVec<u8, 4096>;
 
-/// What was sent, and what was heard after it.
+/// What a panel sent, and what it heard after it. In the test of a device the panel is what tests.
 #[derive(Drop)]
-pub(crate) struct Exchange {
-    /// The number of the rule whose scenario it belongs to.
+pub struct Exchange {
+    /// The number of the rule for which it was said; 0 where for none.
     pub number: u8,
     /// The moment at which it was sent, in milliseconds.
     pub moment: u64,
@@ -32,30 +31,15 @@ pub(crate) struct Exchange {
 
 /// A rule that was left out.
 #[derive(Clone, Copy)]
-pub(crate) struct Skip<'a> {
+pub struct Skip<'a> {
     /// Its number.
     pub number: u8,
     /// Why: the word that allows it.
     pub why: &'a str,
 }
 
-/// What a line says.
-#[derive(Drop)]
-pub(crate) enum Said<'a> {
-    /// The address of the device under test.
-    Device(Address),
-    /// What was sent, and what was heard after it: no rule is judged by it.
-    Opens(Exchange),
-    /// The same, and its rule is judged by it.
-    Asks(Exchange),
-    /// A rule was left out.
-    Skips(Skip<'a>),
-    /// The rule of this number is judged by the times of all answers so far.
-    Times(u8),
-}
-
 /// The address of a device.
-fn parse_device(words: &[&str]) -> Option<Address>
+pub fn parse_device(words: &[&str]) -> Option<Address>
     ensures { ReadsWords (λ n. number n ∷ []) (λ n. n < 127) (texts words.now) result }
 {
     let [word] = words else {
@@ -64,12 +48,12 @@ fn parse_device(words: &[&str]) -> Option<Address>
     Address::device(number_u8(word)?)
 }
 
-/// The number of a rule.
-fn parse_rule(word: &str) -> Option<u8>
-    ensures { Reads number IsRule word.now result }
+/// The number of a rule from `least` to `most`.
+pub(crate) fn number_within(word: &str, least: u8, most: u8) -> Option<u8>
+    ensures { Reads number (IsWithin least most) word.now result }
 {
     let number = number_u8(word)?;
-    (number > 0 && usize::from(number) <= COUNT).then_some(number)
+    (least <= number && number <= most).then_some(number)
 }
 
 /// How many milliseconds later an answer began, and its bytes.
@@ -91,12 +75,7 @@ fn pair_in(sent: &str, delay: &str, heard: &str) -> Option<(Bytes, u64, Bytes)>
 }
 
 /// The moment, what was sent, and what was heard of it.
-pub fn sent_in(
-    moment: &str,
-    sent: &str,
-    delay: &str,
-    heard: &str,
-) -> Option<(u64, Bytes, u64, Bytes)>
+fn sent_in(moment: &str, sent: &str, delay: &str, heard: &str) -> Option<(u64, Bytes, u64, Bytes)>
     ensures { ReadsWords (λ (x : ℕ × Items ℕ × ℕ × Items ℕ). sent_words x) (λ (x : ℕ × Items ℕ × ℕ × Items ℕ). SentFits x)
         (moment.now ∷ sent.now ∷ delay.now ∷ heard.now ∷ []) result }
 {
@@ -105,11 +84,20 @@ pub fn sent_in(
     Some((moment, sent, delay, heard))
 }
 
-/// What was sent and heard, by a rule's number.
-fn exchange_in(number: &str, moment: &str, sent: &str, delay: &str, heard: &str) -> Option<Exchange>
-    ensures { ReadsWords exchange_words ExchangeFits (number.now ∷ moment.now ∷ sent.now ∷ delay.now ∷ heard.now ∷ []) result }
+/// What was sent and heard, by the number of a rule from `least` to `most`.
+fn exchange_in(
+    number: &str,
+    moment: &str,
+    sent: &str,
+    delay: &str,
+    heard: &str,
+    least: u8,
+    most: u8,
+) -> Option<Exchange>
+    ensures { ReadsWords exchange_words (ExchangeFits (IsWithin least most))
+        (number.now ∷ moment.now ∷ sent.now ∷ delay.now ∷ heard.now ∷ []) result }
 {
-    let number = parse_rule(number)?;
+    let number = number_within(number, least, most)?;
     let (moment, sent, delay, heard) = sent_in(moment, sent, delay, heard)?;
     Some(Exchange {
         number,
@@ -120,57 +108,23 @@ fn exchange_in(number: &str, moment: &str, sent: &str, delay: &str, heard: &str)
     })
 }
 
-/// What was sent and heard.
-fn parse_exchange(words: &[&str]) -> Option<Exchange>
-    ensures { ReadsWords exchange_words ExchangeFits (texts words.now) result }
+/// What was sent and heard. The number of its rule goes from `least` to `most`.
+pub fn parse_exchange(words: &[&str], least: u8, most: u8) -> Option<Exchange>
+    ensures { ReadsWords exchange_words (ExchangeFits (IsWithin least most)) (texts words.now) result }
 {
     let [number, moment, sent, delay, heard] = words else {
         return None;
     };
-    exchange_in(number, moment, sent, delay, heard)
+    exchange_in(number, moment, sent, delay, heard, least, most)
 }
 
-/// A rule that was left out, and why.
-fn parse_skip<'a>(words: &[&'a str]) -> Option<Skip<'a>>
-    ensures { ReadsWords skips_words SkipsFits (texts words.now) (option_map skip_of result) }
+/// A rule that was left out, from 1 to `most`, and why.
+pub fn parse_skip<'a>(words: &[&'a str], most: u8) -> Option<Skip<'a>>
+    ensures { ReadsWords skips_words (SkipsFits (IsWithin 1 most)) (texts words.now) (option_map skip_of result) }
 {
     let [number, why] = words else {
         return None;
     };
-    let number = parse_rule(number)?;
+    let number = number_within(number, 1, most)?;
     Some(Skip { number, why: *why })
-}
-
-/// The rule that is judged by the times of all answers so far.
-fn parse_times(words: &[&str]) -> Option<u8>
-    ensures { ReadsWords (λ n. number n ∷ []) IsRule (texts words.now) result }
-{
-    let [word] = words else {
-        return None;
-    };
-    parse_rule(word)
-}
-
-/// The line whose words begin with a name and go on with these.
-fn parse_row<'a>(name: &str, words: &[&'a str]) -> Option<Said<'a>>
-    ensures { ReadsWords said_words SaidFits (name.now ∷ texts words.now) (option_map said_of result) }
-{
-    match name {
-        "device" => Some(Said::Device(parse_device(words)?)),
-        "opens" => Some(Said::Opens(parse_exchange(words)?)),
-        "asks" => Some(Said::Asks(parse_exchange(words)?)),
-        "skips" => Some(Said::Skips(parse_skip(words)?)),
-        "times" => Some(Said::Times(parse_times(words)?)),
-        _ => None,
-    }
-}
-
-/// What a line says that has these words: one line at most has them.
-pub(crate) fn said_in<'a>(words: &[&'a str]) -> Option<Said<'a>>
-    ensures { ReadsWords said_words SaidFits (texts words.now) (option_map said_of result) }
-{
-    let [name, rest @ ..] = words else {
-        return None;
-    };
-    parse_row(name, rest)
 }

@@ -455,10 +455,10 @@ pub const RULES: [Rule; 85] = [
 ];
 
 /// How many there are.
-pub(crate) const COUNT: usize = RULES.len();
+pub(crate) const COUNT: u8 = RULES.len() as u8;
 
-/// The rule of a number.
-pub(crate) fn rule_of(rules: &[Rule], number: usize) -> Option<Rule>
+/// The rule of a number. The first of the rules has number 1.
+pub fn rule_of<R: Copy>(rules: &[R], number: usize) -> Option<R>
     ensures { result ≡ rule_in rules.now number }
 {
     if number == 0 {

@@ -9,12 +9,13 @@ ghost use Rattle.osdp_tool_test.specs.Seen.{in_a_row, seen};
 ghost use Rattle.osdp_tool_test.specs.Tests.{after_each, after_exchange, after_said, after_seen, after_times, all_entries, begun_done, begun_entry, left_out, model, new_test, with_entry, with_known, with_run};
 
 use crate::entry::Entry;
-use crate::exchange::{Exchange, Said, Skip, said_in};
+use crate::exchange::{Exchange, Skip};
 use crate::fault::push_fault;
 use crate::found::{Heard, shown};
 use crate::report::Form;
 use crate::rules::{Rule, rule_of};
 use crate::runs::{Found, packets};
+use crate::said::Said;
 use crate::times::Times;
 use osdp_frame::Address;
 use osdp_rules::{Claims, Finding, Known};

@@ -1,6 +1,5 @@
 pub mod Each
-pub mod Panel
 pub mod Rows
 pub mod Parts
 mod OneLine
-mod OneReport
+mod ByRows

@@ -1,36 +1,14 @@
 -- A line says one thing at most.
-use Rattle.std.proofs.Common.{◌≡◌, ◌∙◌, ℕ, List, [], ◌∷◌, codes, refl, sym, ap, arith}
+use Rattle.std.proofs.Common.{◌≡◌, ◌∙◌, ◌<◌, ◌^◌, ℕ, List, [], ◌∷◌, codes, refl, sym, ap, arith}
 use Rattle.std.proofs.lemmas.Fmt.{decimal_injective}
 use Rattle.arrayvec.specs.ArrayVec.{ArrayVec}
 use Rattle.osdp_msg.proofs.RowTexts.{differ}
 use Rattle.osdp_words.specs.Word.{AllStandFor}
 use Rattle.osdp_tool_test.proofs.Once.{AreNamed}
-use Rattle.osdp_tool_test.proofs.OneLine.{list_once, number_once, skip_once}
-use Rattle.osdp_tool_test_panel.specs.Lines.{ExchangeFits, Line, MoreFits, SaidFits, device, exchange_words, hears, more_words, said_name, said_words, says, skips}
-use Rattle.osdp_tool_test_panel.specs.declared.exchange.Exchange.{Exchange}
-use Rattle.osdp_tool_test_panel.specs.declared.exchange.More.{More}
-
-abbrev made : ℕ → ℕ → ArrayVec ℕ → ℕ → ArrayVec ℕ → Exchange
-made n moment read delay said = record { number = n; moment = moment; read = read; delay = delay; said = said }
-
-exchange_once : (given : List (List ℕ)) (x y : Exchange) → ExchangeFits x → ExchangeFits y → AllStandFor (exchange_words x) given → AllStandFor (exchange_words y) given → x ≡ y
-exchange_once [] x y h k s t = absurd s
-exchange_once (a ∷ []) x y h k s t = absurd s.1
-exchange_once (a ∷ b ∷ []) x y h k s t = absurd s.1.1
-exchange_once (a ∷ b ∷ c ∷ []) x y h k s t = absurd s.1.1.1
-exchange_once (a ∷ b ∷ c ∷ d ∷ []) x y h k s t = absurd s.1.1.1.1
-exchange_once (a ∷ b ∷ c ∷ d ∷ e ∷ f ∷ given) x y h k s t = absurd s.1.1.1.1.1
-exchange_once (a ∷ b ∷ c ∷ d ∷ e ∷ []) x y h k s t =
-    let n = decimal_injective x.number y.number (omega (arith, h.0)) (omega (arith, k.0)) (sym s.0 ∙ t.0) in
-    let moment = decimal_injective x.moment y.moment h.1 k.1 (sym s.1.0 ∙ t.1.0) in
-    let read = list_once c x.read y.read h.2 k.2 s.1.1.0 t.1.1.0 in
-    let delay = decimal_injective x.delay y.delay h.3 k.3 (sym s.1.1.1.0 ∙ t.1.1.1.0) in
-    let said = list_once e x.said y.said h.4 k.4 s.1.1.1.1.0 t.1.1.1.1.0 in
-    ap (λ (m : ℕ). made m x.moment x.read x.delay x.said) n
-    ∙ ap (λ (m : ℕ). made y.number m x.read x.delay x.said) moment
-    ∙ ap (λ (l : ArrayVec ℕ). made y.number y.moment l x.delay x.said) read
-    ∙ ap (λ (m : ℕ). made y.number y.moment y.read m x.said) delay
-    ∙ ap (λ (l : ArrayVec ℕ). made y.number y.moment y.read y.delay l) said
+use Rattle.osdp_tool_test.proofs.OneLine.{exchange_once, list_once, number_once, skip_once}
+use Rattle.osdp_tool_test_panel.specs.Lines.{Line, MoreFits, SaidFits, device, hears, more_words, said_name, said_words, says, skips}
+use Rattle.osdp_tool_test_panel.specs.Rules.{IsAsked}
+use Rattle.osdp_tool_test_panel.specs.declared.said.More.{More}
 
 abbrev more : ℕ → ArrayVec ℕ → More
 more delay said = record { delay = delay; said = said }
@@ -41,10 +19,13 @@ more_once (a ∷ []) x y h k s t = absurd s.1
 more_once (a ∷ b ∷ given) x y h k s t =
     ap (λ (m : ℕ). more m x.said) (decimal_injective x.delay y.delay h.0 k.0 (sym s.0 ∙ t.0)) ∙ ap (more y.delay) (list_once b x.said y.said h.1 k.1 s.1.0 t.1.0)
 
+asked_small : (n : ℕ) → IsAsked n → n < 2 ^ 64
+asked_small n is = omega (arith, is)
+
 one_line : (given : List (List ℕ)) (m n : Line) → SaidFits m → SaidFits n → AllStandFor (said_words m) given → AllStandFor (said_words n) given → m ≡ n
 one_line [] m n h k s t = absurd s
 one_line (word ∷ given) (device p) (device q) h k s t = ap device (number_once given p q (omega (arith, h)) (omega (arith, k)) s.1 t.1)
-one_line (word ∷ given) (hears x) (hears y) h k s t = ap hears (exchange_once given x y h k s.1 t.1)
+one_line (word ∷ given) (hears x) (hears y) h k s t = ap hears (exchange_once IsAsked asked_small given x y h k s.1 t.1)
 one_line (word ∷ given) (says x) (says y) h k s t = ap says (more_once given x y h k s.1 t.1)
 one_line (word ∷ given) (skips x) (skips y) h k s t = ap skips (skip_once given x y (omega (arith, h)) (omega (arith, k)) s.1 t.1)
 one_line (word ∷ given) m n h k s t = absurd (differ (said_name m) (said_name n) refl (sym s.0 ∙ t.0))

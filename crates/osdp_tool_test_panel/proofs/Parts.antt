@@ -1,21 +1,12 @@
--- The parts of a line.
-use Rattle.std.proofs.Common.{◌≡◌, ℕ, List, Option, Some, None, ap, option_map, refl}
+-- What the device said too, by the words of what was heard.
+use Rattle.std.proofs.Common.{◌≡◌, ℕ, List, Option, Some, None, ap, option_map}
 use Rattle.std.specs.Prelude.{IfSome}
 use Rattle.osdp_words.specs.Reading.{ReadsWords}
-use Rattle.osdp_words.specs.Word.{AllStandFor, number}
-use Rattle.osdp_tool_test.proofs.Parts.{Heard, IsPair, Sent}
-use Rattle.osdp_tool_test.specs.Lines.{HeardFits, SentFits, heard_words, sent_words}
-use Rattle.osdp_tool_test_panel.specs.Lines.{ExchangeFits, MoreFits, exchange_words, more_words}
-use Rattle.osdp_tool_test_panel.specs.Rules.{IsAsked}
-use Rattle.osdp_tool_test_panel.specs.declared.exchange.Exchange.{Exchange}
-use Rattle.osdp_tool_test_panel.specs.declared.exchange.More.{More}
-
-abbrev pub exchange_of : ℕ → Sent → Exchange
-exchange_of n y = record { number = n; moment = y.0; read = y.1; delay = y.2; said = y.3 }
-
-pub exchange_parts : IsPair number IsAsked (λ (x : Sent). sent_words x) (λ (x : Sent). SentFits x) exchange_words ExchangeFits
-    (λ x. x.number) (λ x. (x.moment, x.read, x.delay, x.said)) exchange_of
-exchange_parts = record { same = λ c. refl; words_are = λ a b. refl; parts = λ c f. (f.0, (f.1, f.2, f.3, f.4)); whole = λ a b f g. (f, g.0, g.1, g.2, g.3) }
+use Rattle.osdp_words.specs.Word.{AllStandFor}
+use Rattle.osdp_tool_test.proofs.Parts.{Heard}
+use Rattle.osdp_tool_test.specs.Lines.{HeardFits, heard_words}
+use Rattle.osdp_tool_test_panel.specs.Lines.{MoreFits, more_words}
+use Rattle.osdp_tool_test_panel.specs.declared.said.More.{More}
 
 abbrev pub more_of : Heard → More
 more_of x = record { delay = x.0; said = x.1 }

@@ -6,7 +6,7 @@ use Rattle.osdp_panel_rules.specs.declared.aspect.Aspect.TheVariants.{Asks, Rese
 use Rattle.osdp_words.specs.Word.{bytes, printed}
 use Rattle.osdp_tool_test.specs.Faults.{mark}
 use Rattle.osdp_tool_test.specs.declared.report.Form.{Form}
-use Rattle.osdp_tool_test_panel.specs.declared.exchange.Exchange.{Exchange}
+use Rattle.osdp_tool_test.specs.declared.exchange.Exchange.{Exchange}
 
 abbrev pub expected : Aspect → List ℕ
 expected Asks = codes "an address without bit 7"
@@ -28,10 +28,10 @@ expected Online = codes "at most 8 seconds since the packet before"
 
 -- a packet that was read, and what was said to it
 abbrev pub read_line : List ℕ → Exchange → List ℕ
-read_line m x = m ++ (codes "at " ++ (decimal x.moment ++ (codes " ms read " ++ (printed (bytes x.read.items) ++ codes "\n"))))
+read_line m x = m ++ (codes "at " ++ (decimal x.moment ++ (codes " ms read " ++ (printed (bytes x.sent.items) ++ codes "\n"))))
 
 abbrev pub said_line : List ℕ → Exchange → List ℕ
-said_line m x = m ++ (codes "said " ++ (printed (bytes x.said.items) ++ (codes " after " ++ (decimal x.delay ++ codes " ms\n"))))
+said_line m x = m ++ (codes "said " ++ (printed (bytes x.heard.items) ++ (codes " after " ++ (decimal x.delay ++ codes " ms\n"))))
 
 abbrev pub expected_line : List ℕ → Aspect → List ℕ
 expected_line m aspect = m ++ (codes "expected " ++ (expected aspect ++ codes "\n"))

@@ -1,32 +1,19 @@
 -- What a line of a test of a panel says.
 use Rattle.std.specs.Prelude.{ℕ, ◌<◌, ◌^◌, List, [], ◌∷◌, codes}
-use Rattle.osdp_tool_test.specs.Lines.{IsList, LeftOut, skips_words}
+use Rattle.osdp_tool_test.specs.Lines.{ExchangeFits, IsList, LeftOut, SkipsFits, exchange_words, skip_of, skips_words}
+use Rattle.osdp_tool_test.specs.declared.exchange.Exchange.{Exchange}
 use Rattle.osdp_words.specs.Word.{Word, bytes, number, plain}
 use Rattle.osdp_tool_test_panel.specs.Rules.{IsAsked, IsRule}
-use Rattle.osdp_tool_test_panel.specs.declared.exchange.Exchange.{Exchange}
-use Rattle.osdp_tool_test_panel.specs.declared.exchange.More.{More}
-use Rattle.osdp_tool_test_panel.specs.declared.exchange.Said.{Said}
-use Rattle.osdp_tool_test_panel.specs.declared.exchange.Said.TheVariants.{Device, Hears, Says, Skips}
-use Rattle.osdp_tool_test_panel.specs.declared.exchange.Skip.{Skip}
+use Rattle.osdp_tool_test_panel.specs.declared.said.More.{More}
+use Rattle.osdp_tool_test_panel.specs.declared.said.Said.{Said}
+use Rattle.osdp_tool_test_panel.specs.declared.said.Said.TheVariants.{Device, Hears, Says, Skips}
 
--- the rule for which it was said, the moment, what was read, how much later the device spoke, and what it said
-abbrev pub exchange_words : Exchange → List Word
-exchange_words x = number x.number ∷ number x.moment ∷ bytes x.read.items ∷ number x.delay ∷ bytes x.said.items ∷ []
-
-abbrev pub ExchangeFits : Exchange → Type 0
-ExchangeFits x = IsAsked x.number × (x.moment < 2 ^ 64) × IsList x.read × (x.delay < 2 ^ 64) × IsList x.said
-
+-- what the device said too, some time later
 abbrev pub more_words : More → List Word
 more_words x = number x.delay ∷ bytes x.said.items ∷ []
 
 abbrev pub MoreFits : More → Type 0
 MoreFits x = (x.delay < 2 ^ 64) × IsList x.said
-
-abbrev pub skip_of : Skip → LeftOut
-skip_of x = record { number = x.number; why = x.why.now }
-
-abbrev pub SkipsHere : LeftOut → Type 0
-SkipsHere x = IsRule x.number
 
 -- what a line says
 pub data Line : Type 0 where
@@ -59,6 +46,6 @@ said_words said = plain (said_name said) ∷ said_fields said
 
 abbrev pub SaidFits : Line → Type 0
 SaidFits (device address) = address < 127
-SaidFits (hears x) = ExchangeFits x
+SaidFits (hears x) = ExchangeFits IsAsked x
 SaidFits (says x) = MoreFits x
-SaidFits (skips x) = SkipsHere x
+SaidFits (skips x) = SkipsFits IsRule x

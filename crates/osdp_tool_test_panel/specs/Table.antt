@@ -1,5 +1,5 @@
 -- The rules of a panel.
-use Rattle.std.specs.Prelude.{◌≡◌, ℕ, Bool, true, false, List, [], ◌∷◌, codes, map}
+use Rattle.std.specs.Prelude.{ℕ, Bool, true, false, List, [], ◌∷◌, codes}
 use Rattle.osdp_panel_rules.specs.declared.aspect.Aspect.{Aspect}
 use Rattle.osdp_panel_rules.specs.declared.aspect.Aspect.TheVariants.{Asks, Reserved, Plain, Turn, Copy, Wait, Online, Answer, Silence, Order, Noise, Astray, Busy, Damage, Refusal, Lapse}
 use Rattle.osdp_tool_test.specs.declared.rules.Ground.{Ground}
@@ -54,6 +54,3 @@ panel_rules =
     ∷ (Refusal, Asked, false, codes "after NAK 4 a session begins with number 0")
     ∷ (Lapse, Asked, false, codes "after 8 seconds of silence a session begins with number 0")
     ∷ []
-
-abbrev pub ArePanelRules : List PanelRule → Type 0
-ArePanelRules rules = map row rules ≡ panel_rules

@@ -1,19 +1,20 @@
 -- A test of a panel: what each line adds to it.
-use Rattle.std.specs.Prelude.{◌≡◌, ℕ, ◌-◌, ◌==◌, ◌||◌, false, if◌then◌else◌, List, [], ◌∷◌, map, Option, Some, None}
+use Rattle.std.specs.Prelude.{ℕ, ◌-◌, ◌==◌, ◌||◌, false, if◌then◌else◌, List, [], ◌∷◌, map, Option, Some, None}
 use Rattle.osdp_frame.specs.Packet.{Packet}
 use Rattle.osdp_panel_rules.specs.Judging.{judged}
 use Rattle.osdp_panel_rules.specs.Known.{after_noise, after_packet, after_said as said_after, nothing_known}
 use Rattle.osdp_panel_rules.specs.declared.known.Known.{Known}
 use Rattle.osdp_tool_test.specs.Entries.{Told, after_finding, told}
 use Rattle.osdp_tool_test.specs.Lines.{LeftOut}
+use Rattle.osdp_tool_test.specs.Rules.{rule_in}
 use Rattle.osdp_tool_test.specs.Runs.{first_of, packets_of}
-use Rattle.osdp_tool_test.specs.Saying.{IsFirstBad, LinesFind, WordsSay}
+use Rattle.osdp_tool_test.specs.Saying.{IsFirstBad, LinesFind, RefusesSaid, ShowsByRows, TakesSaid}
+use Rattle.osdp_tool_test.specs.declared.exchange.Exchange.{Exchange}
 use Rattle.osdp_tool_test.specs.declared.report.Form.{Form}
 use Rattle.osdp_tool_test_panel.specs.Faults.{fault_text}
 use Rattle.osdp_tool_test_panel.specs.Lines.{Line, SaidFits, device, hears, said_words, says, skips}
-use Rattle.osdp_tool_test_panel.specs.Rules.{fresh_from, rule_in}
-use Rattle.osdp_tool_test_panel.specs.Table.{ArePanelRules}
-use Rattle.osdp_tool_test_panel.specs.declared.exchange.Exchange.{Exchange}
+use Rattle.osdp_tool_test_panel.specs.Rules.{fresh_from}
+use Rattle.osdp_tool_test_panel.specs.Table.{panel_rules, row}
 use Rattle.osdp_tool_test_panel.specs.declared.rules.PanelRule.{PanelRule}
 use Rattle.osdp_tool_test_panel.specs.declared.tested.Tested.{Tested}
 
@@ -78,7 +79,7 @@ after_hearing bytes t = record t { known = after_bytes bytes t.known }
 
 abbrev pub after_exchange : Exchange → PanelTest → PanelTest
 after_exchange x t =
-    record (after_hearing x.said.items (after_packet_of x (first_of (packets_of false x.read.items)) t)) { before = Some x }
+    record (after_hearing x.heard.items (after_packet_of x (first_of (packets_of false x.sent.items)) t)) { before = Some x }
 
 abbrev pub skipped_entry : LeftOut → Told → Told
 skipped_entry x e = if e.number == x.number then record e { skipped = x.why } else e
@@ -99,14 +100,14 @@ PanelFinds form rules = LinesFind said_words SaidFits after_said (new_test form 
 
 -- .. by the rules of a panel
 abbrev pub PanelShows : Form → List (List ℕ) → List Told → Type 0
-PanelShows form lines entries = (rules : List PanelRule) × ArePanelRules rules × PanelFinds form rules lines entries
+PanelShows = ShowsByRows row panel_rules PanelFinds
 
 abbrev pub PanelStops : List (List ℕ) → ℕ → Type 0
 PanelStops = IsFirstBad said_words SaidFits
 
 -- the words of a line are taken, or they are those of none
 abbrev pub Takes : Tested → List (List ℕ) → Tested → Type 0
-Takes old words new = (said : Option Line) × WordsSay said_words SaidFits words said × (model new ≡ after_said said (model old))
+Takes = TakesSaid said_words SaidFits model after_said
 
 abbrev pub Refuses : List (List ℕ) → Type 0
-Refuses words = (said : Option Line) → WordsSay said_words SaidFits words said → ⊥
+Refuses = RefusesSaid said_words SaidFits

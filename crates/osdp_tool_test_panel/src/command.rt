@@ -5,8 +5,8 @@ ghost use Rattle.osdp_words.specs.Word.{texts};
 ghost use Rattle.osdp_tool_test.specs.Running.{Tests};
 ghost use Rattle.osdp_tool_test_panel.specs.Tests.{PanelFinds, PanelShows, PanelStops, Refuses, Takes, entries_of, model};
 
-use crate::exchange::said_in;
 use crate::rules::{PANEL_RULES, PanelRule};
+use crate::said::said_in;
 use crate::tested::Tested;
 use osdp_tool_streams::{LIMIT, ToolFault, Watched};
 use osdp_tool_test::{Entry, LineTest, form_of, judge_lines};

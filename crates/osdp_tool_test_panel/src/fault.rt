@@ -3,9 +3,8 @@
 ghost use Rattle.std.specs.Prelude.{◌≡◌, ◌++◌, OnOk, string_bytes};
 ghost use Rattle.osdp_tool_test_panel.specs.Faults.{before_lines, expected, fault_text};
 
-use crate::exchange::Exchange;
 use osdp_panel_rules::Aspect;
-use osdp_tool_test::{Form, mark};
+use osdp_tool_test::{Exchange, Form, mark};
 use osdp_words::ByteList;
 use std::alloc::AllocError;
 
@@ -41,8 +40,8 @@ fn push_before(text: &mut String, mark: &str, before: &Option<Exchange>) -> Resu
         return Ok(());
     };
     let (moment, delay) = (last.moment, last.delay);
-    let read = ByteList(last.read.as_slice());
-    let said = ByteList(last.said.as_slice());
+    let read = ByteList(last.sent.as_slice());
+    let said = ByteList(last.heard.as_slice());
     writeln!(text, "{mark}at {moment} ms read {read}")?;
     writeln!(text, "{mark}said {said} after {delay} ms")
 }
@@ -62,7 +61,7 @@ pub(crate) fn push_fault(
     let expected = expected(aspect);
     push_before(text, mark, before)?;
     let moment = exchange.moment;
-    let read = ByteList(exchange.read.as_slice());
+    let read = ByteList(exchange.sent.as_slice());
     writeln!(text, "{mark}expected {expected}")?;
     writeln!(text, "{mark}at {moment} ms read {read}")
 }

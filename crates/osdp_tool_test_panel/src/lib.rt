@@ -2,10 +2,10 @@
 #![tactic(auto)]
 
 mod command;
-mod exchange;
 mod fault;
 mod laws;
 mod rules;
+mod said;
 mod tested;
 
 pub use command::test_panel;

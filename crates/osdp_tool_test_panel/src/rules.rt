@@ -1,8 +1,5 @@
 //! The rules, each with what it looks at and what asks for it.
 
-ghost use Rattle.std.specs.Prelude.{◌≡◌};
-ghost use Rattle.osdp_tool_test_panel.specs.Rules.{rule_in};
-
 use osdp_panel_rules::Aspect;
 use osdp_tool_test::Ground;
 
@@ -246,17 +243,4 @@ pub const PANEL_RULES: [PanelRule; 37] = [
 ];
 
 /// How many there are.
-pub(crate) const COUNT: usize = PANEL_RULES.len();
-
-/// The rule of a number.
-pub(crate) fn rule_of(rules: &[PanelRule], number: usize) -> Option<PanelRule>
-    ensures { result ≡ rule_in rules.now number }
-{
-    if number == 0 {
-        return None;
-    }
-    match rules.get(number - 1) {
-        Some(rule) => Some(*rule),
-        None => None,
-    }
-}
+pub(crate) const COUNT: u8 = PANEL_RULES.len() as u8;

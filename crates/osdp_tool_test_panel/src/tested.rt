@@ -2,16 +2,17 @@
 
 ghost use Rattle.std.specs.Prelude.{◌≡◌, Some, map, IfOk, OnOk};
 ghost use Rattle.osdp_tool_test.specs.Entries.{told};
-ghost use Rattle.osdp_tool_test_panel.specs.Lines.{said_of, skip_of};
+ghost use Rattle.osdp_tool_test.specs.Lines.{skip_of};
+ghost use Rattle.osdp_tool_test_panel.specs.Lines.{said_of};
 ghost use Rattle.osdp_tool_test_panel.specs.Rules.{fresh_from};
 ghost use Rattle.osdp_tool_test_panel.specs.Tests.{after_bytes, after_exchange, after_hearing, after_packet_of, after_said, asked_for, judged_entry, model, new_test, skipped_entry, waited};
 
-use crate::exchange::{Exchange, Said, Skip};
 use crate::fault::push_fault;
-use crate::rules::{PanelRule, rule_of};
+use crate::rules::PanelRule;
+use crate::said::Said;
 use osdp_frame::{Address, FrameView};
 use osdp_panel_rules::{Known, judged};
-use osdp_tool_test::{Entry, Form, packets};
+use osdp_tool_test::{Entry, Exchange, Form, Skip, packets, rule_of};
 use std::alloc::{AllocError, Global};
 use std::mem::replace;
 
@@ -193,11 +194,11 @@ impl Tested {
     fn take(&mut self, exchange: Exchange) -> Result<(), AllocError>
         ensures { OnOk result (model self.new ≡ after_exchange exchange (model self.old)) }
     {
-        let found = packets(exchange.read.as_slice(), false);
+        let found = packets(exchange.sent.as_slice(), false);
         if let Some(packet) = found.view() {
             self.take_packet(&packet, &exchange)?;
         }
-        self.hear(exchange.said.as_slice());
+        self.hear(exchange.heard.as_slice());
         self.before = Some(exchange);
         Ok(())
     }

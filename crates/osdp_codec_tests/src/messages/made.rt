@@ -1,4 +1,4 @@
-//! Commands and events made from their parts, and from lines.
+//! How many records and bytes commands and events may have, and those that are made from lines. `osdp_typed_tests` makes each message from its parts.
 use super::*;
 
 const OUTPUT: OutputRecord = OutputRecord {
@@ -6,15 +6,6 @@ const OUTPUT: OutputRecord = OutputRecord {
     control: 5,
     timer: 300,
 };
-
-/// An LED that is green from now on.
-fn led() -> LedRecord {
-    LedRecord {
-        permanent_control: 1,
-        permanent_on_color: 2,
-        ..LedRecord::default()
-    }
-}
 
 /// An element so many times.
 fn repeated<T: Copy + Drop>(rt: &impl Abort, alloc: Global, element: T, count: usize) -> Vec<T> {
@@ -38,139 +29,112 @@ fn line(rt: &impl Abort, alloc: Global, name: &str, word: &str, count: usize) ->
     line
 }
 
-#[test]
-fn an_output_from_its_record(rt: HostRuntime) {
-    let records = [OUTPUT];
-    let made = Outputs::new(&records).expect(&rt, "one record");
-    prints(&rt, rt.alloc(), &Command::Output(made), "OUT 1:5:300");
-}
-
-#[test]
-fn an_led_from_its_record(rt: HostRuntime) {
-    let records = [led()];
-    let made = Leds::new(&records).expect(&rt, "one record");
-    prints(
-        &rt,
-        rt.alloc(),
-        &Command::Led(made),
-        "LED 0:0:0:0:0:0:0:0:1:0:0:2:0",
-    );
-}
-
-/// Whether there are lists of so many outputs, and of so many LEDs.
-fn are_lists(rt: &impl Abort, alloc: Global, outputs: usize, leds: usize) -> (bool, bool) {
+/// Lists of so many outputs, and of so many LEDs, are messages, or neither is one.
+fn are_lists(rt: &impl Abort, alloc: Global, outputs: usize, leds: usize, fit: bool) {
     let outputs = repeated(rt, alloc, OUTPUT, outputs);
-    let leds = repeated(rt, alloc, led(), leds);
-    (Outputs::new(&outputs).is_some(), Leds::new(&leds).is_some())
+    let leds = repeated(rt, alloc, LedRecord::default(), leds);
+    let are_made = (Outputs::new(&outputs).is_some(), Leds::new(&leds).is_some());
+    assert!(rt; are_made == (fit, fit));
 }
 
 #[test]
 fn one_to_358_outputs_and_one_to_102_leds(rt: HostRuntime) {
-    for (outputs, leds) in [(1, 1), (357, 101), (358, 102)] {
-        assert_eq!(rt; are_lists(&rt, rt.alloc(), outputs, leds), (true, true));
-    }
+    are_lists(&rt, rt.alloc(), 0, 0, false);
+    are_lists(&rt, rt.alloc(), 1, 1, true);
+    are_lists(&rt, rt.alloc(), 357, 101, true);
+    are_lists(&rt, rt.alloc(), 358, 102, true);
+    are_lists(&rt, rt.alloc(), 359, 103, false);
 }
 
-#[test]
-fn no_outputs_and_leds_or_too_many(rt: HostRuntime) {
-    for (outputs, leds) in [(0, 0), (359, 103)] {
-        assert_eq!(rt; are_lists(&rt, rt.alloc(), outputs, leds), (false, false));
-    }
-}
-
-#[test]
-fn a_card_from_its_bits(rt: HostRuntime) {
-    let bytes = [0x0A, 0x0B, 0x0C, 0x40];
-    let made = Raw::new(1, 0, 26, &bytes).expect(&rt, "four bytes");
-    prints(&rt, rt.alloc(), &Event::Raw(made), "RAW 1 0 26 0A0B0C40");
+/// A card of so many bits has so many bytes, or isn't made of them.
+fn is_card(rt: &impl Abort, alloc: Global, bits: u16, count: usize, fits: bool) {
+    let bytes = repeated(rt, alloc, 0xA5_u8, count);
+    assert!(rt; Raw::new(0, 0, bits, &bytes).is_some() == fits, "{bits}");
 }
 
 #[test]
 fn a_card_has_as_many_bytes_as_its_bits_need(rt: HostRuntime) {
-    for (bits, count, fits) in [
-        (0, 0, true),
-        (0, 1, false),
-        (1, 0, false),
-        (8, 1, true),
-        (9, 1, false),
-        (9, 2, true),
-        (16, 3, false),
-        (11_424, 1_428, true),
-        (11_425, 1_429, false),
-        (65_535, 8_192, false),
-    ] {
-        let bytes = repeated(&rt, rt.alloc(), 0xA5_u8, count);
-        assert_eq!(rt; Raw::new(0, 0, bits, &bytes).is_some(), fits);
-    }
+    is_card(&rt, rt.alloc(), 0, 0, true);
+    is_card(&rt, rt.alloc(), 0, 1, false);
+    is_card(&rt, rt.alloc(), 1, 0, false);
+    is_card(&rt, rt.alloc(), 8, 1, true);
+    is_card(&rt, rt.alloc(), 9, 1, false);
+    is_card(&rt, rt.alloc(), 9, 2, true);
+    is_card(&rt, rt.alloc(), 16, 3, false);
+    is_card(&rt, rt.alloc(), 11_424, 1_428, true);
+    is_card(&rt, rt.alloc(), 11_425, 1_429, false);
+    is_card(&rt, rt.alloc(), 65_535, 8_192, false);
+}
+
+/// The line is this command's.
+fn is_line_of(rt: &impl Abort, alloc: Global, line: &str, text: &str) {
+    let mut place = Spelling::new();
+    let command = Command::parse_line(line, &mut place).ok();
+    prints(rt, alloc, &command.expect(rt, line), text);
 }
 
 #[test]
 fn words_of_a_line_have_spaces_between(rt: HostRuntime) {
-    for text in [
-        "OUT 0:2:0 1:1:5",
-        "  OUT 0:2:0 1:1:5",
-        "OUT   0:2:0  1:1:5   ",
-    ] {
-        let mut place = Spelling::new();
-        let command = Command::parse_line(text, &mut place).ok().expect(&rt, text);
-        prints(&rt, rt.alloc(), &command, "OUT 0:2:0 1:1:5");
+    let text = "OUT 0:2:0 1:1:5";
+    is_line_of(&rt, rt.alloc(), text, text);
+    is_line_of(&rt, rt.alloc(), "  OUT 0:2:0 1:1:5", text);
+    is_line_of(&rt, rt.alloc(), "OUT   0:2:0  1:1:5   ", text);
+}
+
+/// Whether this line is a command's, a reply's and an event's.
+fn kinds_of(line: &str) -> (bool, bool, bool) {
+    let mut place = Spelling::new();
+    let command = Command::parse_line(line, &mut place).err() != Some(BadWords);
+    let reply = Reply::parse_line(line, &mut place).err() != Some(BadWords);
+    let event = Event::parse_line(line, &mut place).err() != Some(BadWords);
+    (command, reply, event)
+}
+
+/// Lines of no message, each between two bars.
+const NO_LINES: &str =
+    "||   |OUT|OUT\t0:2:0|out 0:2:0|OUT 0:2:0 x|OUT 0 2 0|POLL 0|KEYPAD 0|KEYPAD\t0 31|";
+
+#[test]
+fn a_line_of_no_message(rt: HostRuntime) {
+    for text in NO_LINES.split('|') {
+        assert!(rt; kinds_of(text) == (false, false, false), "{text}");
     }
 }
 
 #[test]
-fn a_line_that_is_no_command(rt: HostRuntime) {
-    for text in [
-        "",
-        "   ",
-        "OUT",
-        "OUT\t0:2:0",
-        "out 0:2:0",
-        "OUT 0:2:0 x",
-        "OUT 0 2 0",
-        "KEYPAD 0 31",
-        "POLL 0",
-    ] {
-        let mut place = Spelling::new();
-        assert_eq!(rt; Command::parse_line(text, &mut place).err(), Some(BadWords));
-    }
+fn a_line_of_one_kind(rt: HostRuntime) {
+    assert!(rt; kinds_of("KEYPAD 0 31") == (false, true, true));
+    assert!(rt; kinds_of("ACK") == (false, true, false));
+    assert!(rt; kinds_of("OUT 0:2:0") == (true, false, false));
+}
+
+/// A line with so many words of an output, and one with so many of a capability, are messages or aren't.
+fn are_lines(rt: &impl Abort, alloc: Global, count: usize, is_command: bool, is_reply: bool) {
+    let outputs = line(rt, alloc, "OUT", "  0:2:0", count);
+    let capabilities = line(rt, alloc, "PDCAP", " 1:2:3", count);
+    assert!(rt; kinds_of(outputs.as_str()) == (is_command, false, false));
+    assert!(rt; kinds_of(capabilities.as_str()) == (false, is_reply, false));
 }
 
 #[test]
 fn a_line_of_many_words(rt: HostRuntime) {
-    for (count, fits) in [
-        (358, true),
-        (359, false),
-        (477, false),
-        (478, false),
-        (1_000, false),
-    ] {
-        let text = line(&rt, rt.alloc(), "OUT", "  0:2:0", count);
-        let mut place = Spelling::new();
-        assert_eq!(rt;
-            Command::parse_line(text.as_str(), &mut place).is_ok(),
-            fits
-        );
-    }
-}
-
-#[test]
-fn a_reply_of_the_most_words(rt: HostRuntime) {
-    for (count, fits) in [(0, true), (477, true), (478, false), (479, false)] {
-        let text = line(&rt, rt.alloc(), "PDCAP", " 1:2:3", count);
-        let mut place = Spelling::new();
-        assert_eq!(rt; Reply::parse_line(text.as_str(), &mut place).is_ok(), fits);
-    }
+    are_lines(&rt, rt.alloc(), 0, false, true);
+    are_lines(&rt, rt.alloc(), 358, true, true);
+    are_lines(&rt, rt.alloc(), 359, false, true);
+    are_lines(&rt, rt.alloc(), 477, false, true);
+    are_lines(&rt, rt.alloc(), 478, false, false);
+    are_lines(&rt, rt.alloc(), 479, false, false);
+    are_lines(&rt, rt.alloc(), 1_000, false, false);
 }
 
 #[test]
 fn an_event_of_a_line(rt: HostRuntime) {
     let mut place = Spelling::new();
-    let event = Event::parse_line(" KEYPAD  0 3132", &mut place)
-        .ok()
-        .expect(&rt, "an event");
-    prints(&rt, rt.alloc(), &event, "KEYPAD 0 3132");
-    for text in ["ACK", "KEYPAD 0", "KEYPAD\t0 31", "OUT 0:2:0", ""] {
-        let mut place = Spelling::new();
-        assert_eq!(rt; Event::parse_line(text, &mut place).err(), Some(BadWords));
-    }
+    let event = Event::parse_line(" KEYPAD  0 3132", &mut place).ok();
+    prints(
+        &rt,
+        rt.alloc(),
+        &event.expect(&rt, "an event"),
+        "KEYPAD 0 3132",
+    );
 }

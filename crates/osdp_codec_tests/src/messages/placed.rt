@@ -22,7 +22,7 @@ const COMMANDS: &str = "\
 6E 0780250000 COMSET 7 9600
 ";
 
-/// A row's command is read from its code and data; parsed in place of what stands in `place`; and written, and read again, in place of
+/// A row's command is read from its code and data; parsed in place of what stands in `place`, and copied; and written, and read again, in place of
 /// what stands in `written`.
 fn row_is_put(
     rt: &impl Abort,
@@ -46,7 +46,7 @@ fn row_is_put(
     let parsed = Command::parse(words.as_slice(), place)
         .ok()
         .expect(rt, text);
-    is_command(rt, alloc, &parsed, code, data, text);
+    is_command(rt, alloc, &parsed.copy(), code, data, text);
     parsed.write_into(written);
     is_spelled(rt, written.as_slice(), code, data);
     prints(rt, alloc, &Command::kept(written.as_slice()), text);

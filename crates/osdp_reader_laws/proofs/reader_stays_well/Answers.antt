@@ -6,6 +6,7 @@ use Rattle.osdp_reader_laws.proofs.Keeping.{keeps_reply, none_is_some}
 use Rattle.osdp_reader_laws.proofs.Offering.{lapse_offer, none_offered, offer_stays, outcome_offer, submit_offer, withdraw_offer}
 use Rattle.osdp_reader_laws.proofs.Outcomes.{outcome_keeps}
 use Rattle.osdp_reader_laws.proofs.Room.{keeps_room, lapse_room, submit_room, withdraw_room}
+use Rattle.osdp_reader_laws.proofs.Storing.{outcome_own}
 use Rattle.osdp_reader_laws.proofs.Withdrawing.{lapse_knows, outcome_knows, submit_knows, withdraw_knows}
 use Rattle.osdp_reader_laws.proofs.QueuedOnce.{never_true}
 use Rattle.osdp_reader_laws.proofs.reader_stays_well.Goals as goal
@@ -20,6 +21,19 @@ returns-clause-reply g c = (
     (λ r handler keeps. keeps),
     (λ r keeps. keeps),
     (λ r keeps. keeps),
+  ),
+)
+
+pub returns-clause-own : goal.returns-clause-own
+returns-clause-own g c = (
+  (λ config handler capacity. tt),
+  (
+    (λ r p own. outcome_own g.H.Handler.answer_of g.H.Handler.after (kind_of r p) r p refl own),
+    (λ r event free own. own),
+    (λ r busy own. own),
+    (λ r handler own. own),
+    (λ r own. own),
+    (λ r own. own),
   ),
 )
 

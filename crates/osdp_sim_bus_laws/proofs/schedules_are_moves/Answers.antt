@@ -1,6 +1,6 @@
 use Rattle.std.proofs.Common.{refl, arith}
 use Rattle.osdp_frame.specs.Spelling.{spelling}
-use Rattle.osdp_sim_bus_laws.proofs.Beginning.{first_net, follows_first, is_set_up, none_is_kept}
+use Rattle.osdp_sim_bus_laws.proofs.Beginning.{first_net, follows_first, is_set_up, nothing_is_kept}
 use Rattle.osdp_sim_bus_laws.proofs.Scheduling.{schedules_are_moves}
 use Rattle.osdp_sim_bus_laws.proofs.Stepping.{steps_are_moves}
 use Rattle.osdp_sim_bus_laws.proofs.schedules_are_moves.Goals as goal
@@ -29,4 +29,4 @@ returns-clause-schedules g c =
 
 pub returns-clause-set_up : goal.returns-clause-set_up
 returns-clause-set_up g c config readers settings =
-    (first_net config readers, is_set_up config readers settings, none_is_kept config readers, follows_first config readers)
+    (first_net config readers, is_set_up config readers settings, nothing_is_kept config readers, follows_first config readers)

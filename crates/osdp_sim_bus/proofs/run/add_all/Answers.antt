@@ -1,5 +1,5 @@
-use Rattle.std.proofs.Common.{◌≡◌, ◌∷◌, [], ◌++◌, ap, arith, length, map, rules, ◌∙◌}
-use Rattle.std.proofs.lemmas.List.{map-append}
+use Rattle.std.proofs.Common.{◌≡◌, ◌∷◌, [], ◌++◌, ap, arith, length, map, rules, sym, ◌∙◌}
+use Rattle.std.proofs.lemmas.List.{append-nil, map-append, nil_from_length}
 use Rattle.std.specs.Vec.Iter.{into_iter_items}
 use Rattle.osdp_sim_bus.specs.Room.{site_of, sites_of}
 use Rattle.osdp_sim_bus.specs.State.{Given, new_site}
@@ -20,3 +20,10 @@ loop-config-preserved g c =
       sites = ap (λ l. l ++ map new_site left) made ∙ one_more_put new_site (sites_of at.sites.items) old left given (map new_site all) at.invariant.sites cut;
       count = omega (arith, at.invariant.count, c.in-Some.ensures.steps.1, ap length cut);
     }
+
+pub returns-clause-sites : goal.returns-clause-sites
+returns-clause-sites g c =
+    let at = c.loop-config in
+    let none : into_iter_items at.config-iterator ≡ [] = nil_from_length (into_iter_items at.config-iterator) (sym at.invariant.count ∙ c.in-None.ensures.steps.0) in
+    let all : into_iter_items c.into_iter-config-iterator.result ≡ c.args.readers.items = c.into_iter-config-iterator.ensures.into_iter_gives.0 in
+    sym (append-nil (sites_of at.sites.items)) ∙ ap (λ l. sites_of at.sites.items ++ map new_site l) (sym none) ∙ at.invariant.sites ∙ ap (map new_site) all

@@ -1,6 +1,6 @@
-use Rattle.std.proofs.Common.{◌≡◌, ◌++◌, drop, filter, not, is_some}
+use Rattle.std.proofs.Common.{◌≡◌, drop}
 use Rattle.osdp_tool.specs.Job.{texts_of}
-use Rattle.osdp_tool.specs.InputWords.{are_files, format_named, format_of, last_format}
+use Rattle.osdp_tool.specs.InputWords.{are_files}
 use Rattle.osdp_tool.proofs.input_words.are_files.Given as goal
 
 -- the words so far, and those that are left

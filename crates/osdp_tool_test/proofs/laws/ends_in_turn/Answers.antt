@@ -1,5 +1,6 @@
-use Rattle.osdp_tool_test.proofs.OneReport.{device_in_turn}
+use Rattle.osdp_tool_test.specs.Tests.{DeviceShows, DeviceStops}
+use Rattle.osdp_tool_test.proofs.InTurn.{in_turn}
 use Rattle.osdp_tool_test.proofs.laws.ends_in_turn.Goals as goal
 
 pub returns : goal.returns
-returns c = device_in_turn
+returns c = in_turn DeviceShows DeviceStops

@@ -3,7 +3,7 @@ use Rattle.osdp_msg.proofs.RowTexts.{made_row_read}
 use Rattle.osdp_words.specs.Word.{texts}
 use Rattle.osdp_tool_test_panel.specs.Lines.{SaidFits, device, said_fields, said_name, said_of, skips}
 use Rattle.osdp_tool_test_panel.proofs.Rows.{is_device, is_skips}
-use Rattle.osdp_tool_test_panel.proofs.exchange.parse_row.Goals as goal
+use Rattle.osdp_tool_test_panel.proofs.said.parse_row.Goals as goal
 
 pub returns-in_err-parse_device-in-device : goal.returns-in_err-parse_device-in-device
 returns-in_err-parse_device-in-device c =

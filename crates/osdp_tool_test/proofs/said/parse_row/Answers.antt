@@ -3,7 +3,7 @@ use Rattle.osdp_msg.proofs.RowTexts.{made_row_read}
 use Rattle.osdp_words.specs.Word.{texts}
 use Rattle.osdp_tool_test.specs.Lines.{SaidFits, asks, device, opens, said_fields, said_name, said_of, skip_of, skips, times}
 use Rattle.osdp_tool_test.proofs.Rows.{is_asks, is_device, is_opens, is_skips, is_times}
-use Rattle.osdp_tool_test.proofs.exchange.parse_row.Goals as goal
+use Rattle.osdp_tool_test.proofs.said.parse_row.Goals as goal
 
 pub returns-in_ok-parse_device-in-device : goal.returns-in_ok-parse_device-in-device
 returns-in_ok-parse_device-in-device c =

@@ -1,15 +1,15 @@
 use Rattle.std.proofs.Common.{◌≡◌, ◌++◌, length}
 use Rattle.std.specs.Prelude.{flat_map}
 use Rattle.osdp_tool_streams.specs.Cut.{lines_of}
-use Rattle.osdp_tool_inputs.specs.Heard.{stamped_object}
+use Rattle.osdp_tool_inputs.specs.Heard.{retold_line}
 use Rattle.osdp_tool_inputs.specs.Places.{IsAt, stamps_left, tells_left}
-use Rattle.osdp_tool_inputs.proofs.heard.told_objects.Given as goal
+use Rattle.osdp_tool_inputs.proofs.heard.retold_lines.Given as goal
 
 -- the lines so far, and those to come
 abbrev pub invariant-lines : goal.invariant-lines
 invariant-lines l = record {
-  told : l.told.items ++ flat_map (stamped_object l.clock (stamps_left l.source.text.now) (tells_left l.source.text.now)) l.lines
-      ≡ flat_map (stamped_object l.clock (stamps_left l.source.text.now) (tells_left l.source.text.now)) (lines_of l.shown);
+  told : l.told.items ++ flat_map (retold_line l.json l.clock (stamps_left l.source.text.now) (tells_left l.source.text.now)) l.lines
+      ≡ flat_map (retold_line l.json l.clock (stamps_left l.source.text.now) (tells_left l.source.text.now)) (lines_of l.shown);
   place : IsAt l.source.text.now l.source.late.now l.place;
 }
 
