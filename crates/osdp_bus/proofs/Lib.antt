@@ -1,3 +1,4 @@
+pub mod Common
 pub mod Runs
 pub mod Waiting
 pub mod Defaults

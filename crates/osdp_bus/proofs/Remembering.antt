@@ -1,12 +1,6 @@
 -- What is remembered of each entry that there may be, by the list of what is remembered of those that are there.
-use Rattle.std.proofs.Common.{◌≡◌, ◌∙◌, ℕ, zero, suc, ◌-◌, ◌<◌, ◌≤◌, false, List, [], ◌∷◌, ◌++◌, length, replicate, Some, None, refl, sym, ap, arith, append_assoc}
-use Rattle.std.specs.Prelude.{slice_get, slice_set}
-use Rattle.std.specs.Option.{option_map_or}
-use Rattle.osdp_controller.specs.declared.report.Report.{Report}
+use Rattle.osdp_bus.proofs.Common.{◌≡◌, ◌∙◌, ℕ, zero, suc, ◌-◌, ◌<◌, ◌≤◌, false, List, [], ◌∷◌, ◌++◌, length, replicate, Some, None, refl, sym, ap, arith, append_assoc, slice_get, slice_set, option_map_or, Report, Entry, memories_of, Remembered, may_be_again, memory_at, nothing_yet, remembers, remembers_at}
 use Rattle.osdp_controller.specs.declared.report.Report.TheVariants as report
-use Rattle.osdp_bus.specs.declared.entry.Entry.{Entry}
-use Rattle.osdp_bus.specs.Private.{memories_of}
-use Rattle.osdp_bus.specs.Remembering.{Remembered, may_be_again, memory_at, nothing_yet, remembers, remembers_at}
 
 -- a new entry has told nothing, as one that isn't there
 pub one_more : (ms : List Remembered) → length ms < 16 → memories_of (ms ++ nothing_yet ∷ []) ≡ memories_of ms

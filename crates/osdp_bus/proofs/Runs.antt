@@ -1,19 +1,9 @@
 -- The devices of a bus hear the items of a run one after the other.
-use Rattle.std.proofs.Common.{◌≡◌, ℕ, ◌+◌, ◌-◌, ◌==◌, ◌≤◌, ◌<◌, List, [], ◌∷◌, ◌++◌, true, false, Option, Some, None, length, take, drop, refl, sym, ap, ◌∙◌, arith, length-drop, subst}
+use Rattle.osdp_bus.proofs.Common.{◌≡◌, ℕ, ◌+◌, ◌-◌, ◌==◌, ◌≤◌, ◌<◌, List, [], ◌∷◌, ◌++◌, true, false, Option, Some, None, length, take, drop, refl, sym, ap, ◌∙◌, arith, length-drop, subst, take_all, Held, after_advance, after_first, after_push, by_itself, decided, later, taken_count, items, left_over, rest_of, IsAllRead, IsReceived, Received, run_ends, PieceTaken, item_leaves, item_read, over_items, over_leaves, piece_read, piece_some, piece_taken, items_nothing, some_ended, BusState, Devices, ends_run, hears_item, hears_items, ReadsHead}
 use Rattle.std.proofs.Math.Seq.{drop-drop}
-use Rattle.std.proofs.lemmas.List.{take_all}
 use Rattle.osdp_frame.specs.Bytes.{AreBytes}
-use Rattle.osdp_frame.specs.Held.{Held, after_advance, after_first, after_push, by_itself, decided, later, taken_count}
-use Rattle.osdp_frame.specs.Items.{items, left_over, rest_of}
 use Rattle.osdp_frame.specs.Reading.{RunItem, PacketItem, SkippedItem, RefusedItem, item_size}
-use Rattle.osdp_frame.specs.Receiving.{IsAllRead, IsReceived, Received}
-use Rattle.osdp_frame.specs.Receiving.{ends_run as run_ends}
-use Rattle.osdp_frame_laws.proofs.InTurn.{PieceTaken, item_leaves, item_read, over_items, over_leaves, piece_read, piece_some, piece_taken}
-use Rattle.osdp_frame_laws.proofs.LeftOver.{items_nothing, some_ended}
 use Rattle.osdp_frame_laws.proofs.Readings.{item_size-decided}
-use Rattle.osdp_bus.specs.Buses.{BusState, Devices}
-use Rattle.osdp_bus.specs.Hearing.{ends_run, hears_item, hears_items}
-use Rattle.osdp_bus.specs.Private.{ReadsHead}
 
 pub hears_items-append : (now : ℕ) (xs ys : List RunItem) (ds : Devices) → hears_items now (xs ++ ys) ds ≡ hears_items now ys (hears_items now xs ds)
 hears_items-append now [] ys ds = refl

@@ -1,7 +1,5 @@
 -- What waits once a device has told something, or nothing.
-use Rattle.std.proofs.Common.{◌≡◌, ℕ, true, false, Option, Some, None, option_map, is_some, refl}
-use Rattle.osdp_controller.specs.declared.report.Report.{Report}
-use Rattle.osdp_bus.specs.Buses.{waiting_after}
+use Rattle.osdp_bus.proofs.Common.{◌≡◌, ℕ, true, false, Option, Some, None, option_map, is_some, refl, Report, waiting_after}
 
 -- where nothing waited, what is told does
 pub told_first : (entry before : ℕ) (told was : Option Report) → is_some was ≡ false

@@ -1,24 +1,9 @@
 -- From when on devices are due, and what a bus does then.
-use Rattle.std.proofs.Common.{◌≡◌, ℕ, zero, suc, ◌+◌, ◌-◌, ◌<◌, ◌≤◌, ◌^◌, ◌==◌, ◌||◌, ◌&&◌, not, Bool, true, false, cond, max, List, [], ◌∷◌, ◌++◌, length, take, drop, Option, Some, None, is_some, refl, sym, subst, ap, ◌∙◌, inr, arith, take-append-drop, ◌≢◌}
-use Rattle.std.specs.Prelude.{nat_le, slice_get}
-use Rattle.std.specs.List.{list_any}
-use Rattle.std.specs.Option.{option_map_or, option_or}
-use Rattle.std.proofs.lemmas.Bool.{leb-true, leb-false, le-leb, ne_eqb}
-use Rattle.std.proofs.lemmas.List.{nil_from_length}
-use Rattle.osdp_frame.specs.Items.{items}
+use Rattle.osdp_bus.proofs.Common.{◌≡◌, ℕ, zero, suc, ◌+◌, ◌-◌, ◌<◌, ◌≤◌, ◌^◌, ◌==◌, ◌||◌, ◌&&◌, not, Bool, true, false, cond, max, List, [], ◌∷◌, ◌++◌, length, take, drop, Option, Some, None, is_some, refl, sym, subst, ap, ◌∙◌, inr, arith, take-append-drop, ◌≢◌, nat_le, slice_get, list_any, option_map_or, option_or, leb-true, leb-false, le-leb, ne_eqb, nil_from_length, items, items_nothing, Report, Entry, BusState, device_of, has_report, holder, is_silent, waiting_after, IsDeadline, acts, has_acted, is_run_ended, Remembered, first_around, first_from, holds, is_entry_due, step_of, ends_run, ends_silent, hears_items, IsDueFrom, IsHolderDeadline, any_due}
 use Rattle.osdp_frame.specs.Silence.{is_silent_for}
-use Rattle.osdp_frame_laws.proofs.LeftOver.{items_nothing}
 use Rattle.osdp_controller.specs.Machine.{IsDeadline as IsDeadlineOf, Machine, is_due}
-use Rattle.osdp_controller.specs.declared.report.Report.{Report}
 use Rattle.osdp_bus.specs.declared.config.BusConfig.{BusConfig}
-use Rattle.osdp_bus.specs.declared.entry.Entry.{Entry}
-use Rattle.osdp_bus.specs.Buses.{BusState, device_of, has_report, holder, is_silent, waiting_after}
-use Rattle.osdp_bus.specs.Deadlines.{IsDeadline, acts, has_acted, is_run_ended}
-use Rattle.osdp_bus.specs.Remembering.{Remembered}
-use Rattle.osdp_bus.specs.Entries.{first_around, first_from, holds, is_entry_due, step_of}
-use Rattle.osdp_bus.specs.Hearing.{ends_run, ends_silent, hears_items}
 use Rattle.osdp_bus.specs.Ticking.{BusTicked, is_due_at, is_held_and_due, next_due, stays, ticks_at, ticks_by, ticks_free, ticks_held, ticks_on, ticks_with}
-use Rattle.osdp_bus.specs.Waits.{IsDueFrom, IsHolderDeadline, any_due}
 
 -- two tests by one moment each
 same_tests : (a b c d : ℕ) → (a ≤ b → c ≤ d) → (c ≤ d → a ≤ b) → nat_le a b ≡ nat_le c d

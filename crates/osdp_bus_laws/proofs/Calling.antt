@@ -1,30 +1,6 @@
 -- What holds of the devices of a bus is kept by the calls of its user, and so by every list of calls.
-use Rattle.std.proofs.Common.{◌≡◌, ◌∙◌, ap, sym, subst, inl, inr, ℕ, ◌<◌, ◌||◌, Bool, true, false, max, List, [], ◌∷◌, ◌++◌, length, Option, Some, None, refl, append_assoc, append-nil}
-use Rattle.std.specs.Prelude.{◌⊎◌, if◌then◌else◌, is_some, nat_le, nat_lt, slice_get, slice_set, option_map, option_to_list}
-use Rattle.std.specs.Option.{option_map_or}
-use Rattle.std.proofs.lemmas.Bool.{eq-eqb, ltb-true}
-use Rattle.osdp_msg.specs.declared.command.Command.{Command}
-use Rattle.osdp_msg.specs.declared.command_fields.Communication.{Communication}
+use Rattle.osdp_bus_laws.proofs.Common.{◌≡◌, ◌∙◌, ap, sym, subst, inl, inr, ℕ, ◌<◌, ◌||◌, Bool, true, false, max, List, [], ◌∷◌, ◌++◌, length, Option, Some, None, refl, append_assoc, append-nil, ◌⊎◌, if◌then◌else◌, is_some, nat_le, nat_lt, slice_get, slice_set, option_map, option_to_list, option_map_or, eq-eqb, ltb-true, Command, Communication, State, Closed, has_comset, comset_of, AreSettings, IsMachine, Machine, after_begin, after_retarget, after_submit, begin_refusal, kept_in, or_no_device, refused_unless_closed, retarget_refusal, submit_refusal, withdrawn_in, changed_machine, asked_in, SubmitTo, BeginOf, RetargetOf, WithdrawOf, was_closed, keeps_config, keeps_each, stays_well, BusConfig, Entry, BusFault, TooMany, AddressTaken, OutOfRange, BusState, Devices, device_of, new_bus, seen, address_of, is_at, is_reserved, is_taken, is_taken_beside, reserved_for, takes_up, add_refusal, after_add, after_begin_at, after_next_report, after_retarget_at, after_submit_at, begin_refusal_at, begin_refusal_of, bus_fault, changed_unless, changes_entry, entry_begins, entry_retargets, entry_submits, entry_withdraws, is_comset_refused, most_entries, new_device, or_taken, reserved_without, retarget_refusal_at, retarget_refusal_of, submit_refusal_at, submit_refusal_of, withdrawn_of, IsBusConfig, controller_config, Names, comsets_in, Call, Add, Begin, Submit, Withdraw, Retarget, OnBytes, OnSilence, Tick, NextReport, after_call, after_calls}
 use Rattle.osdp_controller.specs.declared.fault.ControllerFault.{ControllerFault}
-use Rattle.osdp_controller.specs.declared.state.State.{State}
-use Rattle.osdp_controller.specs.declared.state.State.TheVariants.{Closed}
-use Rattle.osdp_controller.specs.Comsets.{has_comset}
-use Rattle.osdp_controller.specs.Hearing.{comset_of}
-use Rattle.osdp_controller.specs.Machine.{AreSettings, IsMachine, Machine, after_begin, after_retarget, after_submit, begin_refusal, kept_in, or_no_device, refused_unless_closed, retarget_refusal, submit_refusal, withdrawn_in, changed_unless as changed_machine}
-use Rattle.osdp_controller_laws.specs.Commands.{asked_in}
-use Rattle.osdp_controller_laws.specs.Runs.{Submit as SubmitTo, Begin as BeginOf, Retarget as RetargetOf, Withdraw as WithdrawOf}
-use Rattle.osdp_controller_laws.proofs.Closed.{was_closed}
-use Rattle.osdp_controller_laws.proofs.Well.{keeps_config, keeps_each, stays_well}
-use Rattle.osdp_bus.specs.declared.config.BusConfig.{BusConfig}
-use Rattle.osdp_bus.specs.declared.entry.Entry.{Entry}
-use Rattle.osdp_bus.specs.declared.fault.BusFault.{BusFault}
-use Rattle.osdp_bus.specs.declared.fault.BusFault.TheVariants.{TooMany, AddressTaken, OutOfRange}
-use Rattle.osdp_bus.specs.Buses.{BusState, Devices, device_of, new_bus, seen}
-use Rattle.osdp_bus.specs.Entries.{address_of, is_at, is_reserved, is_taken, is_taken_beside, reserved_for, takes_up}
-use Rattle.osdp_bus.specs.Machine.{add_refusal, after_add, after_begin_at, after_next_report, after_retarget_at, after_submit_at, begin_refusal_at, begin_refusal_of, bus_fault, changed_unless, changes_entry, entry_begins, entry_retargets, entry_submits, entry_withdraws, is_comset_refused, most_entries, new_device, or_taken, reserved_without, retarget_refusal_at, retarget_refusal_of, submit_refusal_at, submit_refusal_of, withdrawn_of}
-use Rattle.osdp_bus.specs.Settings.{IsBusConfig, controller_config}
-use Rattle.osdp_bus_laws.specs.Addresses.{Names, comsets_in}
-use Rattle.osdp_bus_laws.specs.Calls.{Call, Add, Begin, Submit, Withdraw, Retarget, OnBytes, OnSilence, Tick, NextReport, after_call, after_calls}
 use Rattle.osdp_bus_laws.proofs.Changing.{Comes, IsFree, Sound, comes_of, sound_added, sound_set}
 use Rattle.osdp_bus_laws.proofs.OneDevice.{Reserves, comsets_append, done_with, freed_some, pending}
 use Rattle.osdp_bus_laws.proofs.Places.{both_false, free_beside, none_at}

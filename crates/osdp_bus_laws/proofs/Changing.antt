@@ -1,11 +1,5 @@
 -- What holds of the devices of a bus at all times, and is kept where one of them changes.
-use Rattle.std.proofs.Common.{◌≡◌, ◌∙◌, ap, sym, subst, inl, inr, ℕ, true, false, List, [], ◌∷◌, ◌++◌, length, Option, Some, None, refl}
-use Rattle.std.specs.Prelude.{◌≢◌, is_some, slice_get, slice_set}
-use Rattle.osdp_controller.specs.declared.report.Report.{Report}
-use Rattle.osdp_bus.specs.declared.entry.Entry.{Entry}
-use Rattle.osdp_bus.specs.Buses.{Devices, waiting_after}
-use Rattle.osdp_bus.specs.Entries.{holds}
-use Rattle.osdp_bus_laws.specs.Addresses.{Names}
+use Rattle.osdp_bus_laws.proofs.Common.{◌≡◌, ◌∙◌, ap, sym, subst, inl, inr, ℕ, true, false, List, [], ◌∷◌, ◌++◌, length, Option, Some, None, refl, ◌≢◌, is_some, slice_get, slice_set, Report, Entry, Devices, waiting_after, holds, Names}
 use Rattle.osdp_bus_laws.proofs.OneDevice.{IsDevice}
 use Rattle.osdp_bus_laws.proofs.Places.{IsAt, added, is_false, replaced}
 

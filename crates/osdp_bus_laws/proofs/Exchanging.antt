@@ -1,9 +1,5 @@
 -- One exchange at most on the line.
-use Rattle.std.proofs.Common.{◌≡◌, ◌∙◌, ap, subst, ℕ, true, Option, Some, None, refl, arith}
-use Rattle.osdp_bus.specs.Buses.{BusState, device_of, has_report, holder}
-use Rattle.osdp_bus.specs.Entries.{holds}
-use Rattle.osdp_bus.proofs.Waiting.{IsFound, found}
-use Rattle.osdp_bus_laws.specs.Exchanges.{HasOneExchange, IsOutstandingAt}
+use Rattle.osdp_bus_laws.proofs.Common.{◌≡◌, ◌∙◌, ap, subst, ℕ, true, Option, Some, None, refl, arith, BusState, device_of, has_report, holder, holds, IsFound, found, HasOneExchange, IsOutstandingAt}
 use Rattle.osdp_bus_laws.proofs.Sound.{SoundBus, nobody}
 
 pub has_exchange : (entry : ℕ) (b : BusState) → holder b ≡ Some entry → IsOutstandingAt entry b

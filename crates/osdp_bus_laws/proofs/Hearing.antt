@@ -1,12 +1,5 @@
 -- What holds of the devices of a bus through what comes in: what each packet to a device keeps.
-use Rattle.std.proofs.Common.{◌≡◌, ℕ, List, [], ◌∷◌, Option, Some, None, refl}
-use Rattle.std.specs.Prelude.{slice_get}
-use Rattle.osdp_frame.specs.Packet.{Packet}
-use Rattle.osdp_frame.specs.Reading.{RunItem, PacketItem, SkippedItem, RefusedItem}
-use Rattle.osdp_bus.specs.declared.entry.Entry.{Entry}
-use Rattle.osdp_bus.specs.Buses.{Devices}
-use Rattle.osdp_bus.specs.Entries.{first_from, is_at}
-use Rattle.osdp_bus.specs.Hearing.{hears_at, hears_item, hears_items, hears_with}
+use Rattle.osdp_bus_laws.proofs.Common.{◌≡◌, ℕ, List, [], ◌∷◌, Option, Some, None, refl, slice_get, Packet, RunItem, PacketItem, SkippedItem, RefusedItem, Entry, Devices, first_from, is_at, hears_at, hears_item, hears_items, hears_with}
 
 module _ (now : ℕ) (P : Devices → Type 0)
     (kept : (p : Packet) (i : ℕ) (d : Entry) (ds : Devices) → slice_get ds.entries i ≡ Some d → P ds → P (hears_with p now i (Some d) ds)) where

@@ -1,27 +1,6 @@
 -- The tick of a due holder is its own.
-use Rattle.std.proofs.Common.{◌≡◌, ◌∙◌, ap, sym, subst, inl, inr, ℕ, ◌+◌, ◌||◌, ◌&&◌, Bool, true, false, List, Option, Some, None, refl}
-use Rattle.std.specs.Prelude.{◌⊎◌, if◌then◌else◌, is_some, nat_le, nat_lt, not}
-use Rattle.std.specs.Option.{option_map_or}
-use Rattle.osdp_frame.specs.Packet.{Packet}
-use Rattle.osdp_msg.specs.declared.command.Command.{Command}
-use Rattle.osdp_controller.specs.declared.report.LostCause.TheVariants.{NoReply}
-use Rattle.osdp_controller.specs.declared.report.Report.{Report}
-use Rattle.osdp_controller.specs.declared.report.Report.TheVariants.{Lost}
-use Rattle.osdp_controller.specs.declared.session.Session.{Session}
-use Rattle.osdp_controller.specs.declared.state.State.{State}
-use Rattle.osdp_controller.specs.declared.state.State.TheVariants.{Waiting, Pausing}
-use Rattle.osdp_controller.specs.Machine.{acts, is_outstanding}
-use Rattle.osdp_controller.specs.Sessions.{frame_of, seen as seen_by}
-use Rattle.osdp_controller.specs.States.{is_closed}
-use Rattle.osdp_controller.specs.Ticking.{Ticked, gives_up, sends_frame, stays as stays_in, ticks_in, ticks, tries_again}
-use Rattle.osdp_controller.proofs.Choices.{either_way}
-use Rattle.osdp_controller_laws.specs.Commands.{asked_in}
-use Rattle.osdp_bus.specs.declared.entry.Entry.{Entry}
-use Rattle.osdp_bus.specs.Buses.{BusState, device_of, has_report, holder, seen, waiting_after}
-use Rattle.osdp_bus.specs.Entries.{entry_ticks, holds, is_entry_due}
-use Rattle.osdp_bus.specs.Ticking.{BusTicked, bus_ticks, is_due_at, is_held_and_due, next_due, stays, ticks_at, ticks_by, ticks_held, ticks_on, ticks_with}
+use Rattle.osdp_bus_laws.proofs.Common.{◌≡◌, ◌∙◌, ap, sym, subst, inl, inr, ℕ, ◌+◌, ◌||◌, ◌&&◌, Bool, true, false, List, Option, Some, None, refl, ◌⊎◌, if◌then◌else◌, is_some, nat_le, nat_lt, not, option_map_or, Packet, Command, NoReply, Report, Lost, Session, State, Waiting, Pausing, acts, is_outstanding, frame_of, seen_by, is_closed, Ticked, gives_up, sends_frame, stays_in, ticks_in, ticks, tries_again, either_way, asked_in, Entry, BusState, device_of, has_report, holder, seen, waiting_after, entry_ticks, holds, is_entry_due, BusTicked, bus_ticks, is_due_at, is_held_and_due, next_due, stays, ticks_at, ticks_by, ticks_held, ticks_on, ticks_with, IsDueEntry, asking, judged}
 use Rattle.osdp_bus_laws.specs.Holding.{HoldersTick, HoldsAt, IsStillDue, SendsItsOwn, TellsItsEnd, TicksItsHolder}
-use Rattle.osdp_bus_laws.specs.Turns.{IsDueEntry, asking, judged}
 use Rattle.osdp_bus_laws.proofs.Exchanging.{has_one_exchange}
 use Rattle.osdp_bus_laws.proofs.Places.{is_false}
 use Rattle.osdp_bus_laws.proofs.Resending.{framed}

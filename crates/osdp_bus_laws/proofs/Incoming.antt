@@ -1,21 +1,10 @@
 -- Packets go to the device of their address, and cuts change nothing.
-use Rattle.std.proofs.Common.{◌≡◌, ◌∙◌, ap, sym, subst, inl, ℕ, ◌-◌, ◌≤◌, Bool, true, false, max, List, [], ◌∷◌, ◌++◌, Option, Some, None, refl, arith, append_assoc, append-nil}
-use Rattle.std.specs.Prelude.{◌≢◌, if◌then◌else◌, slice_get}
-use Rattle.std.proofs.lemmas.Bool.{eqb-true, eq-eqb, lt-leb}
+use Rattle.osdp_bus_laws.proofs.Common.{◌≡◌, ◌∙◌, ap, sym, subst, inl, ℕ, ◌-◌, ◌≤◌, Bool, true, false, max, List, [], ◌∷◌, ◌++◌, Option, Some, None, refl, arith, append_assoc, append-nil, ◌≢◌, if◌then◌else◌, slice_get, eqb-true, eq-eqb, lt-leb, items, left_over, Packet, BusConfig, Entry, BusState, Devices, is_silent, seen, address_of, entry_hears, first_from, is_at, after_bytes, ends_run, ends_silent, hears_at, hears_bytes, hears_items, hears_packet, hears_with, left_over-append, IsFound, found}
 use Rattle.osdp_frame.specs.Bytes.{AreBytes}
-use Rattle.osdp_frame.specs.Items.{items, left_over}
-use Rattle.osdp_frame.specs.Packet.{Packet}
 use Rattle.osdp_frame.specs.Silence.{is_silent_for}
 use Rattle.osdp_frame_laws.proofs.Readings.{items-append}
 use Rattle.osdp_frame.proofs.Head.{AreBytes-append}
-use Rattle.osdp_bus.specs.declared.config.BusConfig.{BusConfig}
-use Rattle.osdp_bus.specs.declared.entry.Entry.{Entry}
-use Rattle.osdp_bus.specs.Buses.{BusState, Devices, is_silent, seen}
-use Rattle.osdp_bus.specs.Entries.{address_of, entry_hears, first_from, is_at}
-use Rattle.osdp_bus.specs.Hearing.{after_bytes, ends_run, ends_silent, hears_at, hears_bytes, hears_items, hears_packet, hears_with}
 use Rattle.osdp_bus.proofs.Runs.{hears_items-append}
-use Rattle.osdp_frame_laws.proofs.LeftOver.{left_over-append}
-use Rattle.osdp_bus.proofs.Waiting.{IsFound, found}
 use Rattle.osdp_bus_laws.specs.Packets.{CutsChangeNothing, GoesToItsAddress, PacketsGoToTheirAddress}
 use Rattle.osdp_bus_laws.proofs.Changing.{Sound}
 use Rattle.osdp_controller_laws.proofs.Kept.{hears_at_moment}

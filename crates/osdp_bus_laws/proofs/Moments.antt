@@ -1,11 +1,5 @@
 -- The greatest moment seen, and the moment at which an ended run is heard.
-use Rattle.std.proofs.Common.{◌≡◌, ◌∙◌, ap, sym, ℕ, max, List, [], ◌∷◌, Option, Some, None, refl}
-use Rattle.osdp_bus.specs.declared.fault.BusFault.{BusFault}
-use Rattle.osdp_bus.specs.Buses.{BusState, seen}
-use Rattle.osdp_bus.specs.Hearing.{after_bytes}
-use Rattle.osdp_bus.specs.Machine.{after_begin_at, begin_refusal_at, changed_unless}
-use Rattle.osdp_bus.specs.Ticking.{bus_ticks}
-use Rattle.osdp_bus_laws.specs.Calls.{Call, Begin, OnBytes, OnSilence, Tick, after_call}
+use Rattle.osdp_bus_laws.proofs.Common.{◌≡◌, ◌∙◌, ap, sym, ℕ, max, List, [], ◌∷◌, Option, Some, None, refl, BusFault, BusState, seen, after_bytes, after_begin_at, begin_refusal_at, changed_unless, bus_ticks, Call, Begin, OnBytes, OnSilence, Tick, after_call}
 use Rattle.osdp_bus_laws.specs.Moments.{Brings, MomentsAreSeen, RunsAreHeardAtTheirEnd}
 use Rattle.osdp_bus_laws.proofs.Silences.{bus_ends_its_runs}
 use Rattle.osdp_bus_laws.proofs.Sound.{SoundBus}

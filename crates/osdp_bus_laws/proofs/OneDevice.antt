@@ -1,38 +1,14 @@
 -- What one device of a bus keeps to, whatever comes.
-use Rattle.std.proofs.Common.{◌≡◌, ◌∙◌, ap, sym, subst, inl, inr, ℕ, Bool, true, false, List, [], ◌∷◌, ◌++◌, Option, Some, None, refl, append_assoc, append-nil}
-use Rattle.std.specs.Prelude.{◌⊎◌, if◌then◌else◌, is_some, option_to_list}
-use Rattle.osdp_frame.specs.Packet.{Packet}
-use Rattle.osdp_msg.specs.declared.command.Command.{Command}
-use Rattle.osdp_msg.specs.declared.command.Command.TheVariants.{Comset}
-use Rattle.osdp_msg.specs.declared.command_fields.Communication.{Communication}
+use Rattle.osdp_bus_laws.proofs.Common.{◌≡◌, ◌∙◌, ap, sym, subst, inl, inr, ℕ, Bool, true, false, List, [], ◌∷◌, ◌++◌, Option, Some, None, refl, append_assoc, append-nil, ◌⊎◌, if◌then◌else◌, is_some, option_to_list, Packet, Command, Comset, Communication, NoReply, Report, Opened, Settled, Moved, Event, PollAnswered, Unread, Lost, State, Waiting, Pausing, Heard, comset_of, hears, IsMachine, Machine, is_outstanding, is_closed, ticks, GoesOn, IsAnswered, IsGivenUp, asked_by, asked_in, command_of, told_command, WhyTold, exchange_in, closed_is, begins_with_frame, keeps_settings, frames_in_steps, tells_lost, keeps_each, Entry, address_of, entry_hears, entry_ticks, holds, reserved_after, step_of, told_of, Names, ReservesItsComset, comsets_in}
 use Rattle.osdp_controller.specs.declared.config.ControllerConfig.{ControllerConfig}
 use Rattle.osdp_controller.specs.declared.exchange.Exchange.{Exchange}
 use Rattle.osdp_controller.specs.declared.exchange.Exchange.TheVariants.{Asking}
-use Rattle.osdp_controller.specs.declared.report.LostCause.TheVariants.{NoReply}
-use Rattle.osdp_controller.specs.declared.report.Report.{Report}
-use Rattle.osdp_controller.specs.declared.report.Report.TheVariants.{Opened, Settled, Moved, Event, PollAnswered, Unread, Lost}
-use Rattle.osdp_controller.specs.declared.state.State.{State}
-use Rattle.osdp_controller.specs.declared.state.State.TheVariants.{Waiting, Pausing}
 use Rattle.osdp_controller.specs.Exchanges.{submitted_command}
-use Rattle.osdp_controller.specs.Hearing.{Heard, comset_of, hears}
-use Rattle.osdp_controller.specs.Machine.{IsMachine, Machine, is_outstanding}
-use Rattle.osdp_controller.specs.States.{is_closed}
-use Rattle.osdp_controller.specs.Ticking.{ticks}
 use Rattle.osdp_controller_laws.specs.Calls.{told_address}
-use Rattle.osdp_controller_laws.specs.Commands.{GoesOn, IsAnswered, IsGivenUp, asked_by, asked_in, command_of, told_command}
-use Rattle.osdp_controller_laws.specs.Laws.{WhyTold, exchange_in}
 use Rattle.osdp_controller_laws.specs.Runs.{Tick, Hear, after_call}
 use Rattle.osdp_controller_laws.proofs.Causes.{tells_why}
-use Rattle.osdp_controller_laws.proofs.Closed.{closed_is}
 use Rattle.osdp_controller_laws.proofs.Endings.{tells_ends}
 use Rattle.osdp_controller_laws.proofs.InOrder.{commands_by_place, none_outstanding}
-use Rattle.osdp_controller_laws.proofs.OneCall.{begins_with_frame, keeps_settings}
-use Rattle.osdp_controller_laws.proofs.Stepwise.{frames_in_steps}
-use Rattle.osdp_controller_laws.proofs.Ticks.{tells_lost}
-use Rattle.osdp_controller_laws.proofs.Well.{keeps_each}
-use Rattle.osdp_bus.specs.declared.entry.Entry.{Entry}
-use Rattle.osdp_bus.specs.Entries.{address_of, entry_hears, entry_ticks, holds, reserved_after, step_of, told_of}
-use Rattle.osdp_bus_laws.specs.Addresses.{Names, ReservesItsComset, comsets_in}
 
 -- ---- COMSETs on their way, and what is reserved
 

@@ -1,13 +1,5 @@
 -- What `submit` comes to: a call, or none.
-use Rattle.std.proofs.Common.{◌≡◌, ap, refl, ℕ, Bool, true, false, [], ◌∷◌, Option, Some, None}
-use Rattle.std.specs.Prelude.{if◌then◌else◌}
-use Rattle.osdp_controller.specs.Hearing.{comset_of}
-use Rattle.osdp_msg.specs.declared.command.Command.{Command}
-use Rattle.osdp_bus.specs.declared.entry.Entry.{Entry}
-use Rattle.osdp_bus.specs.declared.fault.BusFault.TheVariants.{AddressOutOfRange}
-use Rattle.osdp_bus.specs.Buses.{BusState, device_of}
-use Rattle.osdp_bus.specs.Machine.{after_submit_at, changed_unless, leads_nowhere, order_refusal_at, order_refusal_of, submit_refusal_of}
-use Rattle.osdp_bus_laws.specs.Calls.{Submit, after_calls, orders}
+use Rattle.osdp_bus_laws.proofs.Common.{◌≡◌, ap, refl, ℕ, Bool, true, false, [], ◌∷◌, Option, Some, None, if◌then◌else◌, comset_of, Command, Entry, AddressOutOfRange, BusState, device_of, after_submit_at, changed_unless, leads_nowhere, order_refusal_at, order_refusal_of, submit_refusal_of, Submit, after_calls, orders}
 
 -- a COMSET to an address that no device has changes nothing
 pub nowhere_stays : {Changed : Type 0} (entry : ℕ) (command : Command) (o : Option Entry) (b : BusState) (old new : Changed)

@@ -1,12 +1,6 @@
 -- Places of a list of devices: what is found where one takes the place of another, or comes after them all.
-use Rattle.std.proofs.Common.{◌≡◌, ◌∙◌, ap, sym, inl, inr, ℕ, zero, suc, ◌+◌, ◌-◌, ◌<◌, ◌≤◌, Bool, true, false, ◌||◌, ◌==◌, List, [], ◌∷◌, ◌++◌, length, take, drop, Option, Some, None, refl, arith}
-use Rattle.std.specs.Prelude.{◌⊎◌, ◌≢◌, nat_lt, if◌then◌else◌, option_and_then, slice_get, slice_set}
-use Rattle.std.specs.List.{list_any}
+use Rattle.osdp_bus_laws.proofs.Common.{◌≡◌, ◌∙◌, ap, sym, inl, inr, ℕ, zero, suc, ◌+◌, ◌-◌, ◌<◌, ◌≤◌, Bool, true, false, ◌||◌, ◌==◌, List, [], ◌∷◌, ◌++◌, length, take, drop, Option, Some, None, refl, arith, ◌⊎◌, ◌≢◌, nat_lt, if◌then◌else◌, option_and_then, slice_get, slice_set, list_any, eqb-true, ltb-true, ltb-false, Entry, is_taken, is_taken_beside, takes_up, any_at}
 use Rattle.std.proofs.Math.Dec.{eqb-suc-suc, eqb-suc-zero, eqb-zero-suc}
-use Rattle.std.proofs.lemmas.Bool.{eqb-true, ltb-true, ltb-false}
-use Rattle.osdp_bus.specs.declared.entry.Entry.{Entry}
-use Rattle.osdp_bus.specs.Entries.{is_taken, is_taken_beside, takes_up}
-use Rattle.osdp_bus.proofs.Waiting.{any_at}
 
 -- at the place stands the new device, elsewhere what stood there
 abbrev pub IsAt : List Entry → ℕ → Entry → ℕ → Entry → Type 0

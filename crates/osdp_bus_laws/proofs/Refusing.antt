@@ -1,30 +1,6 @@
 -- Each refusal comes exactly where its cause holds, in the order in which the causes are judged.
-use Rattle.std.proofs.Common.{◌≡◌, ◌∙◌, ap, sym, subst, inl, inr, ℕ, zero, suc, ◌+◌, ◌-◌, ◌<◌, ◌≤◌, ◌&&◌, ◌||◌, Bool, true, false, List, [], ◌∷◌, ◌++◌, length, take, drop, Option, Some, None, refl, arith}
-use Rattle.std.specs.Prelude.{◌≢◌, ◌⊎◌, if◌then◌else◌, is_some, nat_le, nat_lt, option_map, option_to_list, slice_get, slice_set}
-use Rattle.std.specs.List.{list_any}
-use Rattle.std.specs.Option.{option_map_or}
-use Rattle.std.proofs.lemmas.Bool.{eqb-true, leb-true, leb-false, ltb-true, ltb-false}
-use Rattle.std.proofs.lemmas.Option.{slice_get_within}
-use Rattle.osdp_msg.specs.declared.command.Command.{Command}
-use Rattle.osdp_msg.specs.declared.command.Command.TheVariants.{Poll, Comset}
-use Rattle.osdp_msg.specs.declared.command_fields.Communication.{Communication}
-use Rattle.osdp_msg.specs.declared.limits.Room.{Room}
+use Rattle.osdp_bus_laws.proofs.Common.{◌≡◌, ◌∙◌, ap, sym, subst, inl, inr, ℕ, zero, suc, ◌+◌, ◌-◌, ◌<◌, ◌≤◌, ◌&&◌, ◌||◌, Bool, true, false, List, [], ◌∷◌, ◌++◌, length, take, drop, Option, Some, None, refl, arith, ◌≢◌, ◌⊎◌, if◌then◌else◌, is_some, nat_le, nat_lt, option_map, option_to_list, slice_get, slice_set, list_any, option_map_or, eqb-true, leb-true, leb-false, ltb-true, ltb-false, slice_get_within, Command, Poll, Comset, Communication, Room, State, Closed, has_comset, comset_of, Machine, bytes_kept, command_size, has_room, or_no_device, refused_unless_closed, submit_refusal, is_closed, may_begin, Entry, BusFault, TooMany, AddressTaken, OutOfRange, AddressOutOfRange, Full, PollSubmitted, NotClosed, BusState, device_of, address_of, is_at, is_reserved, is_taken, is_taken_beside, takes_up, add_refusal, after_add, after_begin_at, after_retarget_at, after_submit_at, begin_refusal_at, begin_refusal_of, bus_fault, changed_unless, entry_withdraws, is_comset_refused, leads_nowhere, most_entries, or_taken, order_refusal_at, order_refusal_of, retarget_refusal_at, retarget_refusal_of, submit_refusal_at, submit_refusal_of, withdrawal_of, Names, comsets_in, Call, Add, Begin, Submit, Withdraw, Retarget, OnBytes, OnSilence, Tick, NextReport, after_call}
 use Rattle.osdp_controller.specs.declared.fault.ControllerFault.TheVariants.{Full as FullOf, NotClosed as NotClosedOf, OutOfRange as OutOfRangeOf}
-use Rattle.osdp_controller.specs.declared.state.State.{State}
-use Rattle.osdp_controller.specs.declared.state.State.TheVariants.{Closed}
-use Rattle.osdp_controller.specs.Comsets.{has_comset}
-use Rattle.osdp_controller.specs.Hearing.{comset_of}
-use Rattle.osdp_controller.specs.Machine.{Machine, bytes_kept, command_size, has_room, or_no_device, refused_unless_closed, submit_refusal}
-use Rattle.osdp_controller.specs.States.{is_closed}
-use Rattle.osdp_controller_laws.proofs.Closed.{may_begin}
-use Rattle.osdp_bus.specs.declared.entry.Entry.{Entry}
-use Rattle.osdp_bus.specs.declared.fault.BusFault.{BusFault}
-use Rattle.osdp_bus.specs.declared.fault.BusFault.TheVariants.{TooMany, AddressTaken, OutOfRange, AddressOutOfRange, Full, PollSubmitted, NotClosed}
-use Rattle.osdp_bus.specs.Buses.{BusState, device_of}
-use Rattle.osdp_bus.specs.Entries.{address_of, is_at, is_reserved, is_taken, is_taken_beside, takes_up}
-use Rattle.osdp_bus.specs.Machine.{add_refusal, after_add, after_begin_at, after_retarget_at, after_submit_at, begin_refusal_at, begin_refusal_of, bus_fault, changed_unless, entry_withdraws, is_comset_refused, leads_nowhere, most_entries, or_taken, order_refusal_at, order_refusal_of, retarget_refusal_at, retarget_refusal_of, submit_refusal_at, submit_refusal_of, withdrawal_of}
-use Rattle.osdp_bus_laws.specs.Addresses.{Names, comsets_in}
-use Rattle.osdp_bus_laws.specs.Calls.{Call, Add, Begin, Submit, Withdraw, Retarget, OnBytes, OnSilence, Tick, NextReport, after_call}
 use Rattle.osdp_bus_laws.specs.Refusals.{Accepts, AwaitsMove, HasNoRoom, IsBarredComset, IsNoEntry, IsNowhere, IsOpen, IsTakenByAnother, IsTakenUp, Judges, JudgesInOrder, JudgesOrder, OfEntry, RefusesInOrder, refusal_of, refused_with}
 use Rattle.osdp_bus_laws.proofs.Calling.{names_take, no_comsets}
 use Rattle.osdp_bus_laws.proofs.Ordering.{order_made}

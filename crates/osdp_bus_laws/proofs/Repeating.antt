@@ -1,28 +1,12 @@
 -- What a bus remembers of each entry is what was taken of it.
 use Rattle.std.proofs.Common.{◌≡◌, ◌∙◌, ap, sym, subst, inl, inr, ℕ, zero, suc, ◌<◌, ◌==◌, ◌&&◌, Bool, true, false, max, not, List, [], ◌∷◌, ◌++◌, length, replicate, Option, Some, None, refl, arith, append_assoc, append-nil}
-use Rattle.std.specs.Prelude.{◌⊎◌, ◌≢◌, if◌then◌else◌, option_to_list, slice_get, slice_set}
-use Rattle.std.specs.Option.{option_map_or}
+use Rattle.osdp_bus_laws.proofs.Common.{◌⊎◌, ◌≢◌, if◌then◌else◌, option_to_list, slice_get, slice_set, option_map_or, eqb-true, eqb-false, slice_get_within, Packet, items, either_way, Report, Entry, BusFault, BusState, Devices, device_of, has_report, holder, is_silent, is_told_maybe_again, new_bus, seen, waiting_after, entry_hears, entry_ticks, step_of, told_of, after_bytes, ends_run, ends_silent, hears_bytes, hears_with, add_refusal, after_add, after_begin_at, after_next_report, after_retarget_at, after_submit_at, begin_refusal_at, changed_unless, changes_entry, entry_begins, entry_retargets, entry_submits, entry_withdraws, remembered_after, retarget_refusal_at, submit_refusal_at, BusTicked, bus_ticks, is_due_at, next_due, stays, ticks_at, ticks_by, ticks_free, ticks_held, ticks_on, ticks_with, Call, Add, Begin, Submit, Withdraw, Retarget, OnBytes, OnSilence, Tick, NextReport, after_call, after_calls, taken_along, taken_in}
 use Rattle.std.specs.Str.{bytes_eq}
-use Rattle.std.proofs.lemmas.Bool.{eqb-true, eqb-false}
-use Rattle.std.proofs.lemmas.Option.{slice_get_within}
 use Rattle.std.proofs.lemmas.Slice.Eq.{bytes_eq-Decides}
-use Rattle.osdp_frame.specs.Packet.{Packet}
-use Rattle.osdp_frame.specs.Items.{items}
-use Rattle.osdp_controller.proofs.Choices.{either_way}
-use Rattle.osdp_controller.specs.declared.report.Report.{Report}
 use Rattle.osdp_controller.specs.declared.report.Report.TheVariants as report
 use Rattle.osdp_msg.specs.declared.event.Event.{Event}
-use Rattle.osdp_bus.specs.declared.entry.Entry.{Entry}
-use Rattle.osdp_bus.specs.declared.fault.BusFault.{BusFault}
-use Rattle.osdp_bus.specs.Buses.{BusState, Devices, device_of, has_report, holder, is_silent, is_told_maybe_again, new_bus, seen, waiting_after}
-use Rattle.osdp_bus.specs.Entries.{entry_hears, entry_ticks, step_of, told_of}
-use Rattle.osdp_bus.specs.Hearing.{after_bytes, ends_run, ends_silent, hears_bytes, hears_with}
-use Rattle.osdp_bus.specs.Machine.{add_refusal, after_add, after_begin_at, after_next_report, after_retarget_at, after_submit_at, begin_refusal_at, changed_unless, changes_entry, entry_begins, entry_retargets, entry_submits, entry_withdraws, remembered_after, retarget_refusal_at, submit_refusal_at}
 use Rattle.osdp_bus.specs.Remembering.{Remembered, event_bytes, may_be_again, memory_at, nothing_yet, remembers, remembers_at}
-use Rattle.osdp_bus.specs.Ticking.{BusTicked, bus_ticks, is_due_at, next_due, stays, ticks_at, ticks_by, ticks_free, ticks_held, ticks_on, ticks_with}
-use Rattle.osdp_bus_laws.specs.Calls.{Call, Add, Begin, Submit, Withdraw, Retarget, OnBytes, OnSilence, Tick, NextReport, after_call, after_calls}
 use Rattle.osdp_bus_laws.specs.Repeating.{CameBefore, IsNoEvent, IsOpening, MarksExactly, MarksWhatMayComeAgain, NoEventAmong, OpeningAmong, of_entry}
-use Rattle.osdp_bus_laws.specs.Reports.{taken_along, taken_in}
 use Rattle.osdp_bus_laws.proofs.Hearing.{items_keep}
 use Rattle.osdp_bus_laws.proofs.Sound.{either_held}
 

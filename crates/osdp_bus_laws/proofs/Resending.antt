@@ -1,35 +1,9 @@
 -- While an exchange holds the line its frame is the one that went out last.
-use Rattle.std.proofs.Common.{◌≡◌, ◌∙◌, ap, sym, inl, inr, ℕ, ◌||◌, Bool, true, false, max, List, [], ◌∷◌, ◌++◌, length, Option, Some, None, refl}
-use Rattle.std.specs.Prelude.{is_some, option_map, slice_get, slice_set}
-use Rattle.std.specs.Option.{option_map_or, option_or}
-use Rattle.osdp_frame.specs.Items.{items}
-use Rattle.osdp_frame.specs.Packet.{Packet}
-use Rattle.osdp_frame.specs.Reading.{RunItem}
+use Rattle.osdp_bus_laws.proofs.Common.{◌≡◌, ◌∙◌, ap, sym, inl, inr, ℕ, ◌||◌, Bool, true, false, max, List, [], ◌∷◌, ◌++◌, length, Option, Some, None, refl, is_some, option_map, slice_get, slice_set, option_map_or, option_or, items, Packet, RunItem, Session, State, Closed, Waiting, Pausing, Machine, is_outstanding, refused_unless_closed, retarget_refusal, sent_in, frame_of, either_way, exchange_in, CallOf, TickOf, Hear, after_call_of, sent_by_of, was_closed, begins_with_frame, Entry, BusFault, BusState, Devices, device_of, has_report, holder, is_silent, new_bus, seen, entry_hears, entry_ticks, holds, is_taken_beside, step_of, after_bytes, ends_run, ends_silent, hears_bytes, hears_items, hears_with, add_refusal, after_add, after_begin_at, after_retarget_at, after_submit_at, begin_refusal_at, bus_fault, changed_unless, changes_entry, entry_begins, entry_retargets, entry_submits, entry_withdraws, new_device, retarget_refusal_at, retarget_refusal_of, submit_refusal_at, BusTicked, bus_ticks, is_due_at, next_due, stays, ticks_at, ticks_by, ticks_free, ticks_held, ticks_on, ticks_with, has_comset, Call, Add, Begin, Submit, Withdraw, Retarget, OnBytes, OnSilence, Tick, NextReport, after_call, after_calls, own_frame, asking, judged}
 use Rattle.osdp_frame.specs.Spelling.{Spells, spelling}
 use Rattle.osdp_frame.proofs.Spelled.{spelled_is}
-use Rattle.osdp_controller.specs.declared.session.Session.{Session}
-use Rattle.osdp_controller.specs.declared.state.State.{State}
-use Rattle.osdp_controller.specs.declared.state.State.TheVariants.{Closed, Waiting, Pausing}
-use Rattle.osdp_controller.specs.Machine.{Machine, is_outstanding, refused_unless_closed, retarget_refusal, sent_in}
-use Rattle.osdp_controller.specs.Sessions.{frame_of}
-use Rattle.osdp_controller.proofs.Choices.{either_way}
-use Rattle.osdp_controller_laws.specs.Laws.{exchange_in}
-use Rattle.osdp_controller_laws.specs.Runs.{Call as CallOf, Tick as TickOf, Hear, after_call as after_call_of, sent_by as sent_by_of}
-use Rattle.osdp_controller_laws.proofs.Closed.{was_closed}
 use Rattle.osdp_controller_laws.proofs.Lasting.{Holds, holds_call, more}
-use Rattle.osdp_controller_laws.proofs.OneCall.{begins_with_frame}
-use Rattle.osdp_bus.specs.declared.entry.Entry.{Entry}
-use Rattle.osdp_bus.specs.declared.fault.BusFault.{BusFault}
-use Rattle.osdp_bus.specs.Buses.{BusState, Devices, device_of, has_report, holder, is_silent, new_bus, seen}
-use Rattle.osdp_bus.specs.Entries.{entry_hears, entry_ticks, holds, is_taken_beside, step_of}
-use Rattle.osdp_bus.specs.Hearing.{after_bytes, ends_run, ends_silent, hears_bytes, hears_items, hears_with}
-use Rattle.osdp_bus.specs.Machine.{add_refusal, after_add, after_begin_at, after_retarget_at, after_submit_at, begin_refusal_at, bus_fault, changed_unless, changes_entry, entry_begins, entry_retargets, entry_submits, entry_withdraws, new_device, retarget_refusal_at, retarget_refusal_of, submit_refusal_at}
-use Rattle.osdp_bus.specs.Ticking.{BusTicked, bus_ticks, is_due_at, next_due, stays, ticks_at, ticks_by, ticks_free, ticks_held, ticks_on, ticks_with}
-use Rattle.osdp_controller.specs.Comsets.{has_comset}
-use Rattle.osdp_bus_laws.specs.Calls.{Call, Add, Begin, Submit, Withdraw, Retarget, OnBytes, OnSilence, Tick, NextReport, after_call, after_calls}
 use Rattle.osdp_bus_laws.specs.Resending.{HoldersSendTheSame, IsTheLastAgain, last_sent, sent_by}
-use Rattle.osdp_bus_laws.specs.Exchanges.{own_frame}
-use Rattle.osdp_bus_laws.specs.Turns.{asking, judged}
 use Rattle.osdp_bus_laws.proofs.Calling.{map_none, no_device, or_none, sound_call, sound_new}
 use Rattle.osdp_bus_laws.proofs.Changing.{HoldsAlone}
 use Rattle.osdp_bus_laws.proofs.Hearing.{items_keep}

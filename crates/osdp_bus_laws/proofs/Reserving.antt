@@ -1,23 +1,5 @@
 -- How long an address stays reserved, and a report waits.
-use Rattle.std.proofs.Common.{◌≡◌, ◌∙◌, ap, sym, ℕ, Bool, true, false, ◌==◌, ◌&&◌, max, List, [], ◌∷◌, Option, Some, None, refl}
-use Rattle.std.specs.Prelude.{if◌then◌else◌, is_none, is_some, option_map, slice_set}
-use Rattle.std.specs.Option.{option_map_or}
-use Rattle.osdp_msg.specs.declared.command.Command.{Command}
-use Rattle.osdp_msg.specs.declared.command_fields.Communication.{Communication}
-use Rattle.osdp_controller.specs.declared.report.Report.{Report}
-use Rattle.osdp_controller.specs.declared.report.Report.TheVariants.{Opened}
-use Rattle.osdp_controller.specs.Comsets.{is_comset}
-use Rattle.osdp_controller.specs.Hearing.{comset_of}
-use Rattle.osdp_controller.specs.Machine.{submit_refusal}
-use Rattle.osdp_bus.specs.declared.entry.Entry.{Entry}
-use Rattle.osdp_bus.specs.declared.fault.BusFault.{BusFault}
-use Rattle.osdp_bus.specs.declared.fault.BusFault.TheVariants.{AddressTaken}
-use Rattle.osdp_bus.specs.Buses.{BusState, device_of, seen}
-use Rattle.osdp_bus.specs.Entries.{is_taken_beside, reserved_for, reserved_told}
-use Rattle.osdp_bus.specs.Machine.{add_refusal, after_add, after_begin_at, after_retarget_at, after_submit_at, begin_refusal_at, bus_fault, changed_unless, changes_entry, entry_begins, entry_retargets, entry_submits, entry_withdraws, is_comset_refused, new_device, reserved_without, retarget_refusal_at, retarget_refusal_of, submit_refusal_at, submit_refusal_of, withdrawn_of}
-use Rattle.osdp_bus_laws.specs.Addresses.{NoneFrees, ReservationsLast, accepts, frees, is_comset_done, is_some_comset, reserved_at, tells_done, withdraws_comset}
-use Rattle.osdp_bus_laws.specs.Calls.{Call, Add, Begin, Submit, Withdraw, Retarget, OnBytes, OnSilence, Tick, NextReport, after_call, after_calls, arisen}
-use Rattle.osdp_bus_laws.specs.Exchanges.{KeepsReports}
+use Rattle.osdp_bus_laws.proofs.Common.{◌≡◌, ◌∙◌, ap, sym, ℕ, Bool, true, false, ◌==◌, ◌&&◌, max, List, [], ◌∷◌, Option, Some, None, refl, if◌then◌else◌, is_none, is_some, option_map, slice_set, option_map_or, Command, Communication, Report, Opened, is_comset, comset_of, submit_refusal, Entry, BusFault, AddressTaken, BusState, device_of, seen, is_taken_beside, reserved_for, reserved_told, add_refusal, after_add, after_begin_at, after_retarget_at, after_submit_at, begin_refusal_at, bus_fault, changed_unless, changes_entry, entry_begins, entry_retargets, entry_submits, entry_withdraws, is_comset_refused, new_device, reserved_without, retarget_refusal_at, retarget_refusal_of, submit_refusal_at, submit_refusal_of, withdrawn_of, NoneFrees, ReservationsLast, accepts, frees, is_comset_done, is_some_comset, reserved_at, tells_done, withdraws_comset, Call, Add, Begin, Submit, Withdraw, Retarget, OnBytes, OnSilence, Tick, NextReport, after_call, after_calls, arisen, KeepsReports}
 use Rattle.osdp_bus_laws.proofs.Calling.{sound_call, unless_taken}
 use Rattle.osdp_bus_laws.proofs.Places.{both_false, reserved_added, reserved_set, reserved_there}
 use Rattle.osdp_bus_laws.proofs.Sound.{SoundBus, sound_seen}

@@ -1,11 +1,5 @@
 -- A device is sent to another address.
-use Rattle.std.proofs.Common.{◌≡◌, ◌∙◌, ap, ℕ, Option, Some, None, refl}
-use Rattle.std.specs.Prelude.{slice_set}
-use Rattle.std.specs.Option.{option_map_or}
-use Rattle.osdp_bus.specs.declared.entry.Entry.{Entry}
-use Rattle.osdp_bus.specs.Buses.{BusState, device_of}
-use Rattle.osdp_bus.specs.Machine.{after_retarget_at, changed_unless, entry_retargets, retarget_refusal_at, retarget_refusal_of}
-use Rattle.osdp_bus_laws.specs.Calls.{Retarget, after_call}
+use Rattle.osdp_bus_laws.proofs.Common.{◌≡◌, ◌∙◌, ap, ℕ, Option, Some, None, refl, slice_set, option_map_or, Entry, BusState, device_of, after_retarget_at, changed_unless, entry_retargets, retarget_refusal_at, retarget_refusal_of, Retarget, after_call}
 use Rattle.osdp_bus_laws.specs.Retargeting.{IsSentTo, RetargetsSetTheAddress}
 use Rattle.osdp_bus_laws.proofs.Turning.{set_here, set_other}
 

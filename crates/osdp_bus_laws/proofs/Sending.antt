@@ -1,28 +1,6 @@
 -- What goes out while an exchange holds the line, and what the beginning of a session leaves.
-use Rattle.std.proofs.Common.{◌≡◌, ◌∙◌, ap, sym, subst, ℕ, ◌+◌, ◌≤◌, true, max, List, Some, refl}
-use Rattle.std.specs.Prelude.{IfSome, nat_le, nat_lt, option_map, slice_set}
-use Rattle.std.specs.Option.{option_map_or}
-use Rattle.std.proofs.lemmas.Bool.{leb-true}
-use Rattle.osdp_frame.specs.Packet.{Packet}
-use Rattle.osdp_msg.specs.declared.command.Command.{Command}
-use Rattle.osdp_controller.specs.declared.session.Session.{Session}
-use Rattle.osdp_controller.specs.declared.state.State.{State}
-use Rattle.osdp_controller.specs.declared.state.State.TheVariants.{Waiting, Pausing}
-use Rattle.osdp_controller.specs.Machine.{is_outstanding}
-use Rattle.osdp_controller.specs.Sessions.{frame_of, seen as seen_by}
-use Rattle.osdp_controller.specs.States.{moment_of}
-use Rattle.osdp_controller.specs.Ticking.{Ticked, gives_up, sends_frame, stays as stays_in, ticks_in, tries_again}
-use Rattle.osdp_controller.proofs.Choices.{either_way}
-use Rattle.osdp_controller_laws.specs.Laws.{exchange_in}
-use Rattle.osdp_bus.specs.declared.entry.Entry.{Entry}
-use Rattle.osdp_bus.specs.Buses.{BusState, device_of, has_report, holder, seen}
-use Rattle.osdp_bus.specs.Entries.{holds}
-use Rattle.osdp_bus.specs.Machine.{after_begin_at, changed_unless, entry_begins}
-use Rattle.osdp_bus.specs.Ticking.{BusTicked, bus_ticks, is_due_at, stays, ticks_at, ticks_by, ticks_held, ticks_on, ticks_with}
-use Rattle.osdp_bus_laws.specs.Calls.{Begin, after_call}
-use Rattle.osdp_bus_laws.specs.Exchanges.{own_frame}
+use Rattle.osdp_bus_laws.proofs.Common.{◌≡◌, ◌∙◌, ap, sym, subst, ℕ, ◌+◌, ◌≤◌, true, max, List, Some, refl, IfSome, nat_le, nat_lt, option_map, slice_set, option_map_or, leb-true, Packet, Command, Session, State, Waiting, Pausing, is_outstanding, frame_of, seen_by, moment_of, Ticked, gives_up, sends_frame, stays_in, ticks_in, tries_again, either_way, exchange_in, Entry, BusState, device_of, has_report, holder, seen, holds, after_begin_at, changed_unless, entry_begins, BusTicked, bus_ticks, is_due_at, stays, ticks_at, ticks_by, ticks_held, ticks_on, ticks_with, Begin, after_call, own_frame, asking, judged}
 use Rattle.osdp_bus_laws.specs.Sending.{HoldersSendTheirFrame, IsReached, SessionsBeginAlone}
-use Rattle.osdp_bus_laws.specs.Turns.{asking, judged}
 use Rattle.osdp_bus_laws.proofs.Sound.{either_held}
 use Rattle.osdp_bus_laws.proofs.Turning.{set_here, set_other}
 

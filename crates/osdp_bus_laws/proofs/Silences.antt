@@ -1,18 +1,6 @@
 -- A run is over once the line has been silent for the gap.
-use Rattle.std.proofs.Common.{◌≡◌, ◌∙◌, ap, subst, ℕ, ◌≤◌, true, false, max, [], ◌∷◌, Option, Some, None, refl}
-use Rattle.std.specs.Prelude.{if◌then◌else◌}
-use Rattle.osdp_frame.specs.Items.{items}
-use Rattle.osdp_frame_laws.proofs.LeftOver.{items_nothing}
+use Rattle.osdp_bus_laws.proofs.Common.{◌≡◌, ◌∙◌, ap, subst, ℕ, ◌≤◌, true, false, max, [], ◌∷◌, Option, Some, None, refl, if◌then◌else◌, items, items_nothing, BusFault, BusState, has_report, holder, is_silent, seen, holds, ends_run, ends_silent, hears_bytes, hears_items, after_begin_at, begin_refusal_at, changed_unless, bus_ticks, stays, ticks_by, ticks_free, ticks_on, IsFound, found, either_way, Call, Begin, OnBytes, OnSilence, Tick, after_call}
 use Rattle.osdp_frame_laws.proofs.Silences.{change_of, changes_at_gap}
-use Rattle.osdp_bus.specs.declared.fault.BusFault.{BusFault}
-use Rattle.osdp_bus.specs.Buses.{BusState, has_report, holder, is_silent, seen}
-use Rattle.osdp_bus.specs.Entries.{holds}
-use Rattle.osdp_bus.specs.Hearing.{ends_run, ends_silent, hears_bytes, hears_items}
-use Rattle.osdp_bus.specs.Machine.{after_begin_at, begin_refusal_at, changed_unless}
-use Rattle.osdp_bus.specs.Ticking.{bus_ticks, stays, ticks_by, ticks_free, ticks_on}
-use Rattle.osdp_bus.proofs.Waiting.{IsFound, found}
-use Rattle.osdp_controller.proofs.Choices.{either_way}
-use Rattle.osdp_bus_laws.specs.Calls.{Call, Begin, OnBytes, OnSilence, Tick, after_call}
 use Rattle.osdp_bus_laws.specs.Silences.{BringsNoByte, Changes, BusEndsItsRuns}
 use Rattle.osdp_bus_laws.proofs.Sound.{IsNobody, SoundBus, nobody, still_nobody}
 use Rattle.osdp_bus_laws.proofs.Staying.{stays_begin, stays_call, stays_silent, stays_tick}

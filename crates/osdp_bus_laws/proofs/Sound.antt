@@ -1,18 +1,6 @@
 -- Whatever is called and comes, what holds of the devices of a bus is kept.
-use Rattle.std.proofs.Common.{◌≡◌, ◌∙◌, ap, sym, subst, inl, inr, ℕ, ◌||◌, Bool, true, false, List, [], ◌∷◌, ◌++◌, Option, Some, None, refl}
+use Rattle.osdp_bus_laws.proofs.Common.{◌≡◌, ◌∙◌, ap, sym, subst, inl, inr, ℕ, ◌||◌, Bool, true, false, List, [], ◌∷◌, ◌++◌, Option, Some, None, refl, option_map_or, items, Packet, RunItem, Entry, BusState, Devices, device_of, has_report, holder, is_silent, seen, entry_hears, entry_ticks, holds, is_entry_due, step_of, told_of, after_bytes, ends_run, ends_silent, hears_bytes, hears_item, hears_items, hears_with, IsBusConfig, BusTicked, bus_ticks, is_due_at, is_held_and_due, next_due, stays, ticks_at, ticks_by, ticks_free, ticks_held, ticks_on, ticks_with, IsFound, found, either_way}
 use Rattle.std.specs.Prelude.{not, ◌&&◌, is_some, slice_get}
-use Rattle.std.specs.Option.{option_map_or}
-use Rattle.osdp_frame.specs.Items.{items}
-use Rattle.osdp_frame.specs.Packet.{Packet}
-use Rattle.osdp_frame.specs.Reading.{RunItem}
-use Rattle.osdp_bus.specs.declared.entry.Entry.{Entry}
-use Rattle.osdp_bus.specs.Buses.{BusState, Devices, device_of, has_report, holder, is_silent, seen}
-use Rattle.osdp_bus.specs.Entries.{entry_hears, entry_ticks, holds, is_entry_due, step_of, told_of}
-use Rattle.osdp_bus.specs.Hearing.{after_bytes, ends_run, ends_silent, hears_bytes, hears_item, hears_items, hears_with}
-use Rattle.osdp_bus.specs.Settings.{IsBusConfig}
-use Rattle.osdp_bus.specs.Ticking.{BusTicked, bus_ticks, is_due_at, is_held_and_due, next_due, stays, ticks_at, ticks_by, ticks_free, ticks_held, ticks_on, ticks_with}
-use Rattle.osdp_bus.proofs.Waiting.{IsFound, found}
-use Rattle.osdp_controller.proofs.Choices.{either_way}
 use Rattle.osdp_bus_laws.proofs.Changing.{Comes, HoldsAlone, Sound, comes_of, sound_set}
 use Rattle.osdp_bus_laws.proofs.Hearing.{item_keeps, items_keep}
 use Rattle.osdp_bus_laws.proofs.OneDevice.{device_heard, device_ticked, heard_holds, heard_told, names_heard, names_ticked, ticked_told}

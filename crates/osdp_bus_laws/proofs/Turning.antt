@@ -1,22 +1,5 @@
 -- The first in turn that is due begins an exchange.
-use Rattle.std.proofs.Common.{◌≡◌, ◌∙◌, ap, sym, subst, inl, inr, ℕ, zero, suc, ◌+◌, ◌-◌, ◌≤◌, ◌<◌, ◌||◌, Bool, true, false, List, [], ◌∷◌, take, drop, Option, Some, None, refl, arith}
-use Rattle.std.specs.Prelude.{◌≢◌, if◌then◌else◌, is_some, nat_eq, nat_lt, option_map, slice_get, slice_set}
-use Rattle.std.specs.Option.{option_or}
-use Rattle.std.proofs.lemmas.Bool.{eqb-true, eqb-false, ltb-true, ltb-false}
-use Rattle.osdp_frame.specs.Packet.{Packet}
-use Rattle.osdp_frame.specs.Items.{items}
-use Rattle.osdp_controller.specs.declared.report.Report.{Report}
-use Rattle.osdp_controller.specs.Sessions.{frame_of}
-use Rattle.osdp_controller.specs.Ticking.{ticks}
-use Rattle.osdp_controller_laws.proofs.Stepwise.{sends_its_frame}
-use Rattle.osdp_controller_laws.proofs.Ticks.{counts_sends}
-use Rattle.osdp_bus.specs.declared.entry.Entry.{Entry}
-use Rattle.osdp_bus.specs.Buses.{BusState, device_of, has_report, seen, waiting_after}
-use Rattle.osdp_bus.specs.Entries.{entry_ticks, first_from, holds, is_entry_due, step_of}
-use Rattle.osdp_bus.specs.Ticking.{bus_ticks, next_due, stays, ticks_at, ticks_by, ticks_on, ticks_with}
-use Rattle.osdp_bus.proofs.Waiting.{IsAround, IsFound, around, found}
-use Rattle.osdp_bus_laws.specs.Exchanges.{own_frame}
-use Rattle.osdp_bus_laws.specs.Turns.{BeginsExchange, IsBefore, IsDueEntry, IsFree, IsNext, TakesTurns, asking, judged}
+use Rattle.osdp_bus_laws.proofs.Common.{◌≡◌, ◌∙◌, ap, sym, subst, inl, inr, ℕ, zero, suc, ◌+◌, ◌-◌, ◌≤◌, ◌<◌, ◌||◌, Bool, true, false, List, [], ◌∷◌, take, drop, Option, Some, None, refl, arith, ◌≢◌, if◌then◌else◌, is_some, nat_eq, nat_lt, option_map, slice_get, slice_set, option_or, eqb-true, eqb-false, ltb-true, ltb-false, Packet, items, Report, frame_of, ticks, sends_its_frame, counts_sends, Entry, BusState, device_of, has_report, seen, waiting_after, entry_ticks, first_from, holds, is_entry_due, step_of, bus_ticks, next_due, stays, ticks_at, ticks_by, ticks_on, ticks_with, IsAround, IsFound, around, found, own_frame, BeginsExchange, IsBefore, IsDueEntry, IsFree, IsNext, TakesTurns, asking, judged}
 use Rattle.osdp_bus_laws.proofs.OneDevice.{ticked_told}
 use Rattle.osdp_bus_laws.proofs.Places.{in_dropped, in_taken, is_false, none_at}
 use Rattle.osdp_bus_laws.proofs.Sound.{IsNobody, nobody, still_nobody}

@@ -1,26 +1,13 @@
 -- A run of bytes that comes to a bus, and is over: what it holds is heard by the first controller at its address.
-use Rattle.std.proofs.Common.{◌≡◌, ◌⊎◌, All, ◌+◌, ℕ, zero, suc, max, Bool, true, false, cond, List, [], ◌∷◌, ◌++◌, map, Some, None, refl, sym, subst, ap, ◌∙◌, inl, inr, arith}
-use Rattle.std.proofs.lemmas.Bool.Decides.{eqb_tells}
-use Rattle.std.proofs.lemmas.List.{append-nil}
-use Rattle.std.specs.Prelude.{slice_get, slice_set}
+use Rattle.osdp_bus_links.proofs.Common.{◌≡◌, ◌⊎◌, All, ◌+◌, ℕ, zero, suc, max, Bool, true, false, cond, List, [], ◌∷◌, ◌++◌, map, Some, None, refl, sym, subst, ap, ◌∙◌, inl, inr, arith, eqb_tells, append-nil, slice_get, slice_set, Packet, silent_frame, first_from, is_at, after_silence, hears_at, hears_bytes, hears_items, hears_packet, hears_with, nothing_silent, IsPlainlySaid, each_of, heard_so, Site, changed, first_gets, gets, site_at, HearsAsAMove, IsHeard, IsNoRefusalOf, TellsEach, device_of, heard}
 use Rattle.osdp_frame.specs.Bytes.{AreBytes}
 use Rattle.osdp_frame.specs.Items.{items, left_over, packets_in, reading, whole_packets}
-use Rattle.osdp_frame.specs.Packet.{Packet}
 use Rattle.osdp_frame.specs.Reading.{RunItem, PacketItem, SkippedItem, RefusedItem}
 use Rattle.osdp_controller.specs.Machine as controllers
-use Rattle.osdp_controller_laws.proofs.Closed.{silent_frame}
 use Rattle.osdp_bus.specs.Buses.{BusState, Devices, seen, waiting_after}
 use Rattle.osdp_bus.specs.Entries as devices
-use Rattle.osdp_bus.specs.Entries.{first_from, is_at}
-use Rattle.osdp_bus.specs.Hearing.{after_silence, hears_at, hears_bytes, hears_items, hears_packet, hears_with}
-use Rattle.osdp_bus.proofs.Waiting.{nothing_silent}
 use Rattle.osdp_bus.proofs.Runs.{hears_items-append}
-use Rattle.osdp_link_laws.specs.Peers.{IsPlainlySaid}
-use Rattle.osdp_link_laws.proofs.Lines.{each_of}
-use Rattle.osdp_link_laws.proofs.Reports.{heard_so}
 use Rattle.osdp_shared_line.specs.Line as line
-use Rattle.osdp_shared_line.specs.Line.{Site, changed, first_gets, gets, site_at}
-use Rattle.osdp_bus_links.specs.Links.{HearsAsAMove, IsHeard, IsNoRefusalOf, TellsEach, device_of, heard}
 use Rattle.osdp_bus_links.proofs.Devices.{freed_same, get_device, set_device}
 use Rattle.osdp_bus_links.proofs.Telling.{EndsAreTold, refuses_none, told_nothing, told_one}
 

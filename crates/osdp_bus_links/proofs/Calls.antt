@@ -1,23 +1,13 @@
 -- The calls of a bus's user, as moves of the links.
-use Rattle.std.proofs.Common.{◌≡◌, ◌||◌, ℕ, max, not, Bool, true, false, cond, List, [], map, Option, Some, None, refl, sym, subst, ap, ◌∙◌}
-use Rattle.std.specs.Prelude.{slice_get, slice_set, is_some}
+use Rattle.osdp_bus_links.proofs.Common.{◌≡◌, ◌||◌, ℕ, max, not, Bool, true, false, cond, List, [], map, Option, Some, None, refl, sym, subst, ap, ◌∙◌, slice_get, slice_set, is_some, Command, Communication, comset_of, ControllerFault, Answer, is_taken_beside, after_begin_at, after_submit_at, begin_refusal_at, begin_refusal_of, bus_fault, submit_refusal_at, submit_refusal_of, Net, Reopen, Site, Submit, after_net, asked_for, changed, keeping, left_by, link_of, reserved_unless, site_at, submits, BeginsAsAMove, IsBusOf, IsSubmitted, SubmitsAsAMove, device_of}
 use Rattle.std.specs.Option.{option_map, option_map_or}
-use Rattle.osdp_msg.specs.declared.command.Command.{Command}
-use Rattle.osdp_msg.specs.declared.command_fields.Communication.{Communication}
-use Rattle.osdp_controller.specs.Hearing.{comset_of}
 use Rattle.osdp_controller.specs.Machine as controllers
-use Rattle.osdp_controller.specs.declared.fault.ControllerFault.{ControllerFault}
-use Rattle.osdp_reader.specs.declared.handler.Answer.{Answer}
 use Rattle.osdp_bus.specs.Buses.{BusState, seen}
-use Rattle.osdp_bus.specs.Entries.{is_taken_beside}
 use Rattle.osdp_bus.specs.Machine as bus
-use Rattle.osdp_bus.specs.Machine.{after_begin_at, after_submit_at, begin_refusal_at, begin_refusal_of, bus_fault, submit_refusal_at, submit_refusal_of}
 use Rattle.osdp_bus.specs.declared.fault.BusFault.TheVariants.{AddressTaken}
 use Rattle.osdp_bus.specs.declared.entry.Entry.{Entry}
 use Rattle.osdp_link_laws.specs.Link as link
 use Rattle.osdp_shared_line.specs.Line as line
-use Rattle.osdp_shared_line.specs.Line.{Net, Reopen, Site, Submit, after_net, asked_for, changed, keeping, left_by, link_of, reserved_unless, site_at, submits}
-use Rattle.osdp_bus_links.specs.Links.{BeginsAsAMove, IsBusOf, IsSubmitted, SubmitsAsAMove, device_of}
 use Rattle.osdp_bus_links.proofs.Devices.{asked_same, beside_same, changed_same, get_device, get_none, set_device}
 
 refused_same : {H : Type 0} (o : Option Communication) (k : ℕ) (s : Site H) (ss : List (Site H)) (b : BusState) → b.devices.entries ≡ map device_of ss

@@ -1,34 +1,12 @@
 -- What a move of a schedule is to a site: each site was there before, and what is kept for its COMSET is what the moves of its link make of it.
-use Rattle.std.proofs.Common.{◌≡◌, ◌≢◌, ℕ, Bool, true, false, cond, eqb, List, [], ◌∷◌, Option, Some, None, refl, sym, subst, ap, ◌∙◌, inl, inr}
-use Rattle.std.proofs.lemmas.Bool.Decides.{eqb_tells}
-use Rattle.std.specs.Prelude.{is_some}
-use Rattle.osdp_frame.specs.Packet.{Packet}
-use Rattle.osdp_msg.specs.declared.command.Command.{Command}
+use Rattle.osdp_bus_links.proofs.Common.{◌≡◌, ◌≢◌, ℕ, Bool, true, false, cond, eqb, List, [], ◌∷◌, Option, Some, None, refl, sym, subst, ap, ◌∙◌, inl, inr, eqb_tells, is_some, Packet, Command, Communication, Heard, comset_of, hears, seen, ControllerFault, Report, Closed, Answer, Delivered, Delivery, Lost, Move, Repeated, told_by_front, both, each_append, each_of, Each, Net, NetMove, Queue, Reopen, SetBusy, Site, Submit, Tick, ToPanel, ToReader, address_of, after_net, changed, first_gets, gets, is_comset_refused, is_told, link_of, site_at, tagged, HeardByOwn, front_to_panel, move_of, one_if, own, own_front, view, or_false, was_there, closed_hears, first_other, first_own, changed_from, map_from, own_first, some_same, IsScheduled}
 use Rattle.osdp_msg.specs.declared.command.Command.TheVariants as command
-use Rattle.osdp_msg.specs.declared.command_fields.Communication.{Communication}
-use Rattle.osdp_controller.specs.Hearing.{Heard, comset_of, hears}
 use Rattle.osdp_controller.specs.Machine as controllers
-use Rattle.osdp_controller.specs.Sessions.{seen}
-use Rattle.osdp_controller.specs.declared.fault.ControllerFault.{ControllerFault}
-use Rattle.osdp_controller.specs.declared.report.Report.{Report}
 use Rattle.osdp_controller.specs.declared.report.Report.TheVariants as report
-use Rattle.osdp_controller.specs.declared.state.State.TheVariants.{Closed}
-use Rattle.osdp_reader.specs.declared.handler.Answer.{Answer}
 use Rattle.osdp_link_laws.specs.Link as link
-use Rattle.osdp_link_laws.specs.Link.{Delivered, Delivery, Lost, Move, Repeated}
-use Rattle.osdp_link_laws.specs.Refusals.{told_by_front}
-use Rattle.osdp_link_laws.proofs.Lines.{both, each_append, each_of}
-use Rattle.osdp_link_laws.proofs.Stages.{Each}
 use Rattle.osdp_shared_line.specs.Line as line
-use Rattle.osdp_shared_line.specs.Line.{Net, NetMove, Queue, Reopen, SetBusy, Site, Submit, Tick, ToPanel, ToReader, address_of, after_net, changed, first_gets, gets, is_comset_refused, is_told, link_of, site_at, tagged}
 use Rattle.osdp_shared_line.specs.Runs.{moves_at, moves_of}
 use Rattle.osdp_shared_line.specs.Views as views
-use Rattle.osdp_shared_line.specs.Views.{HeardByOwn, front_to_panel, move_of, one_if, own, own_front, view}
-use Rattle.osdp_shared_line.proofs.Changing.{or_false}
-use Rattle.osdp_shared_line.proofs.Delivering.{was_there}
-use Rattle.osdp_shared_line.proofs.Hearing.{closed_hears, first_other, first_own}
-use Rattle.osdp_shared_line.proofs.Sites.{changed_from, map_from, own_first, some_same}
-use Rattle.osdp_bus_links.specs.Premises.{IsScheduled}
 use Rattle.osdp_bus_links.proofs.Names.{IsUsual, MayAsk, MayMove, MayMoves, accepted_for, asked_for, freed_by, freed_for, reserved_after, reserved_after_moves}
 use Rattle.osdp_bus_links.proofs.Reserved.{tick_frees_none}
 

@@ -1,20 +1,6 @@
 -- A link that a first session has begun on, and moves have led to: it keeps to its names.
-use Rattle.std.proofs.Common.{◌≡◌, ◌<◌, ℕ, List, [], ◌∷◌, ◌++◌, Option, Some, None, IfSome, sym, subst, ap, ◌∙◌, inl}
-use Rattle.std.specs.Prelude.{option_to_list}
-use Rattle.osdp_msg.specs.CommandTable.{CommandFits}
-use Rattle.osdp_msg.specs.declared.command.Command.{Command}
-use Rattle.osdp_controller.specs.declared.report.Report.{Report}
-use Rattle.osdp_reader.specs.declared.handler.Answer.{Answer}
-use Rattle.osdp_link_laws.specs.Headline.{Begins, MaySubmit, MovesFit}
+use Rattle.osdp_bus_links.proofs.Common.{◌≡◌, ◌<◌, ℕ, List, [], ◌∷◌, ◌++◌, Option, Some, None, IfSome, sym, subst, ap, ◌∙◌, inl, option_to_list, CommandFits, Command, Report, Answer, Begins, MaySubmit, MovesFit, IsToldAsAsked, NameOneDevice, NamesOne, TellAsAsked, ReadsWhatIsAnswered, ReadsWhatIsAsked, NoComset, reports, told_by, each_append, each_of, each_rest, Each, moves_more, run_more, asked_in}
 use Rattle.osdp_link_laws.specs.Link.{Link, Move, after_move, run}
-use Rattle.osdp_link_laws.specs.Names.{IsToldAsAsked, NameOneDevice, NamesOne, TellAsAsked}
-use Rattle.osdp_link_laws.specs.Peers.{ReadsWhatIsAnswered, ReadsWhatIsAsked}
-use Rattle.osdp_link_laws.specs.Progress.{NoComset}
-use Rattle.osdp_link_laws.specs.Refusals.{reports, told_by}
-use Rattle.osdp_link_laws.proofs.Lines.{each_append, each_of, each_rest}
-use Rattle.osdp_link_laws.proofs.Stages.{Each}
-use Rattle.osdp_shared_line.proofs.Linking.{moves_more, run_more}
-use Rattle.osdp_shared_line.specs.Addresses.{asked_in}
 use Rattle.osdp_bus_links.proofs.ControllerNames.{ToldAsAsked}
 use Rattle.osdp_bus_links.proofs.Names.{BeginsTogether, IsUsual, MayMoves, reserved_after, reserved_after_moves}
 use Rattle.osdp_bus_links.proofs.Naming.{CommandNames, InOrder, Keeps, ReplyNames, SetsOnly, keeps_move}

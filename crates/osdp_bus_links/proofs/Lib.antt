@@ -1,3 +1,4 @@
+pub mod Common
 pub mod Devices
 pub mod Calls
 pub mod Telling

@@ -1,14 +1,6 @@
 -- What the theory of one link says of each site: its view is a link that stands, and keeps to the names of its site.
-use Rattle.std.proofs.Common.{◌≡◌, ℕ, List, ◌++◌, Some, sym, subst}
-use Rattle.osdp_msg.specs.declared.command.Command.{Command}
-use Rattle.osdp_reader.specs.declared.handler.Answer.{Answer}
-use Rattle.osdp_link_laws.specs.Headline.{MovesFit}
+use Rattle.osdp_bus_links.proofs.Common.{◌≡◌, ℕ, List, ◌++◌, Some, sym, subst, Command, Answer, MovesFit, NameOneDevice, TellAsAsked, ReadEachOther, Each, Net, Site, site_at, IsMoved, view}
 use Rattle.osdp_link_laws.specs.Link.{Link, Move, run}
-use Rattle.osdp_link_laws.specs.Names.{NameOneDevice, TellAsAsked}
-use Rattle.osdp_link_laws.specs.Peers.{ReadEachOther}
-use Rattle.osdp_link_laws.proofs.Stages.{Each}
-use Rattle.osdp_shared_line.specs.Line.{Net, Site, site_at}
-use Rattle.osdp_shared_line.specs.Views.{IsMoved, view}
 use Rattle.osdp_bus_links.proofs.Names.{IsUsual, MayMoves, reserved_after_moves}
 use Rattle.osdp_bus_links.proofs.Leading.{IsLed, keeps_all, led_on}
 use Rattle.osdp_bus_links.proofs.Naming.{Keeps}

@@ -1,40 +1,13 @@
 -- After each move the reader is at an address of its link, and no packet on the line can send an end to any other.
-use Rattle.std.proofs.Common.{◌≡◌, ◌≢◌, ◌⊎◌, ◌<◌, ℕ, Bool, true, false, List, [], ◌∷◌, ◌++◌, Option, Some, None, IfSome, Result, Ok, Err, refl, sym, subst, ap, ◌∙◌, inl, inr, arith, append_assoc}
-use Rattle.std.proofs.lemmas.List.{append-nil}
-use Rattle.std.proofs.lemmas.Bool.Decides.{eqb_tells}
-use Rattle.std.specs.Prelude.{option_to_list}
-use Rattle.osdp_frame.specs.Packet.{Packet}
-use Rattle.osdp_msg.specs.CommandTable.{CommandFits}
-use Rattle.osdp_msg.specs.ReplyTable.{ReplyFits}
-use Rattle.osdp_msg.specs.declared.command.Command.{Command}
-use Rattle.osdp_msg.specs.declared.command_fields.Communication.{Communication}
-use Rattle.osdp_msg.specs.declared.event.Event.{Event}
-use Rattle.osdp_controller.specs.Answers.{meaning_of as said_by}
-use Rattle.osdp_controller.specs.Hearing.{comset_of, hears}
+use Rattle.osdp_bus_links.proofs.Common.{◌≡◌, ◌≢◌, ◌⊎◌, ◌<◌, ℕ, Bool, true, false, List, [], ◌∷◌, ◌++◌, Option, Some, None, IfSome, Result, Ok, Err, refl, sym, subst, ap, ◌∙◌, inl, inr, arith, append_assoc, append-nil, eqb_tells, option_to_list, Packet, CommandFits, ReplyFits, Command, Communication, Event, said_by, comset_of, hears, seen, ticks_in, ControllerFault, State, was_closed, MsgFault, command_in, SetsReader, address_in, asked_in, Answer, lacks_room, MoveFits, SaysWhatFitsIf, IsCommandTo, IsReplyFrom, NamesOne, ReadsWhatIsAnswered, ReadsWhatIsAsked, told_by, told_by_front, each_append, each_map, each_of, Each}
 use Rattle.osdp_controller.specs.Machine as controllers
-use Rattle.osdp_controller.specs.Sessions.{seen}
-use Rattle.osdp_controller.specs.Ticking.{ticks_in}
-use Rattle.osdp_controller.specs.declared.fault.ControllerFault.{ControllerFault}
-use Rattle.osdp_controller.specs.declared.state.State.{State}
-use Rattle.osdp_controller_laws.proofs.Closed.{was_closed}
-use Rattle.osdp_msg.specs.declared.fault.MsgFault.{MsgFault}
 use Rattle.osdp_reader.specs.Table as reader
-use Rattle.osdp_reader.specs.Table.{command_in}
-use Rattle.osdp_shared_line.specs.Addresses.{SetsReader, address_in, asked_in}
-use Rattle.osdp_reader.specs.declared.handler.Answer.{Answer}
-use Rattle.osdp_reader.specs.Queue.{lacks_room}
-use Rattle.osdp_link_laws.specs.Headline.{MoveFits, SaysWhatFitsIf}
 use Rattle.osdp_link_laws.specs.Link as link
 use Rattle.osdp_link_laws.specs.Link.{Delivered, Delivery, Link, Lost, Move, Queue as QueueEvent, Reopen, Repeated, SetBusy, Submit, Tick, ToController, ToReader, after_move}
-use Rattle.osdp_link_laws.specs.Names.{IsCommandTo, IsReplyFrom, NamesOne}
 use Rattle.osdp_bus_links.proofs.Names.{IsName, MayAsk, MayMove, MovesController, MovesReader, accepted_for, asked_for, freed_by, IsUsual, reserved_after}
-use Rattle.osdp_link_laws.specs.Peers.{ReadsWhatIsAnswered, ReadsWhatIsAsked}
-use Rattle.osdp_link_laws.specs.Refusals.{told_by, told_by_front}
 use Rattle.osdp_bus_links.proofs.ControllerNames.{HeardWell, StaysHere, ToldAsAsked, heard_well}
-use Rattle.osdp_link_laws.proofs.Lines.{each_append, each_map, each_of}
 use Rattle.osdp_bus_links.proofs.ReaderNames.{IsFrom, IsStill, KeepsStill, ReaderGoes, ReaderStays, reader_well}
 use Rattle.osdp_bus_links.proofs.Reserved.{One, Sends, TickedWell, moves_below, new_is, one_accepted, tick_frees_none, ticked_well}
-use Rattle.osdp_link_laws.proofs.Stages.{Each}
 
 -- what a command on the line, and a reply, may name
 abbrev pub CommandNames : ℕ → Option ℕ → Packet → Type 0

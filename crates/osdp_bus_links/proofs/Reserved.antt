@@ -1,28 +1,7 @@
 -- One COMSET at most is under way, to the address that is kept for it.
-use Rattle.std.proofs.Common.{◌≡◌, ◌<◌, ◌+◌, ℕ, Bool, true, false, cond, leb, ltb, List, [], ◌∷◌, ◌++◌, Option, Some, None, IfSome, refl, sym, subst, ap, ◌∙◌, arith}
-use Rattle.std.proofs.lemmas.Bool.{leb-true}
-use Rattle.osdp_frame.specs.Packet.{Packet, next_sequence}
-use Rattle.osdp_msg.specs.CommandTable.{CommandFits}
-use Rattle.osdp_msg.specs.declared.command.Command.{Command}
+use Rattle.osdp_bus_links.proofs.Common.{◌≡◌, ◌<◌, ◌+◌, ℕ, Bool, true, false, cond, leb, ltb, List, [], ◌∷◌, ◌++◌, Option, Some, None, IfSome, refl, sym, subst, ap, ◌∙◌, arith, leb-true, Packet, next_sequence, CommandFits, Command, Communication, comset_of, frame_of, seen, Ticked, begins, gives_up, sends_frame, stays, ticks_in, tries_again, Exchange, Opening, Polling, Asking, Outstanding, Session, State, Closed, Quiet, Idle, Waiting, Pausing, ReadsWhatIsAsked, NoComset, both, each_append, each_rest, tick_so, Each, new_address, SetsReader, address_in, asked_by, asked_in}
 use Rattle.osdp_msg.specs.declared.command.Command.TheVariants as command
-use Rattle.osdp_msg.specs.declared.command_fields.Communication.{Communication}
-use Rattle.osdp_controller.specs.Hearing.{comset_of}
-use Rattle.osdp_controller.specs.Sessions.{frame_of, seen}
-use Rattle.osdp_controller.specs.Ticking.{Ticked, begins, gives_up, sends_frame, stays, ticks_in, tries_again}
-use Rattle.osdp_controller.specs.declared.exchange.Exchange.{Exchange}
-use Rattle.osdp_controller.specs.declared.exchange.Exchange.TheVariants.{Opening, Polling, Asking}
-use Rattle.osdp_controller.specs.declared.exchange.Outstanding.{Outstanding}
-use Rattle.osdp_controller.specs.declared.session.Session.{Session}
-use Rattle.osdp_controller.specs.declared.state.State.{State}
-use Rattle.osdp_controller.specs.declared.state.State.TheVariants.{Closed, Quiet, Idle, Waiting, Pausing}
 use Rattle.osdp_bus_links.proofs.Names.{MovesReader, asked_for, freed_by, MayAsk}
-use Rattle.osdp_link_laws.specs.Peers.{ReadsWhatIsAsked}
-use Rattle.osdp_link_laws.specs.Progress.{NoComset}
-use Rattle.osdp_link_laws.proofs.Lines.{both, each_append, each_rest}
-use Rattle.osdp_link_laws.proofs.Reports.{tick_so}
-use Rattle.osdp_link_laws.proofs.Stages.{Each}
-use Rattle.osdp_reader.specs.Table.{new_address}
-use Rattle.osdp_shared_line.specs.Addresses.{SetsReader, address_in, asked_by, asked_in}
 
 abbrev Front : Option Communication → Option ℕ → List Command → Type 0
 Front None r cs = Unit {0}

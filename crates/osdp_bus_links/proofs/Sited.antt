@@ -1,20 +1,7 @@
 -- What the panel may still read was said by readers that are there.
-use Rattle.std.proofs.Common.{◌≡◌, ℕ, zero, suc, Bool, true, false, cond, List, [], ◌∷◌, map, Option, Some, None, refl, sym, subst, inl, inr}
-use Rattle.std.proofs.lemmas.Bool.Decides.{eqb_tells}
-use Rattle.osdp_frame.specs.Packet.{Packet}
-use Rattle.osdp_msg.specs.declared.command.Command.{Command}
-use Rattle.osdp_controller.specs.Hearing.{comset_of}
-use Rattle.osdp_reader.specs.declared.handler.Answer.{Answer}
+use Rattle.osdp_bus_links.proofs.Common.{◌≡◌, ℕ, zero, suc, Bool, true, false, cond, List, [], ◌∷◌, map, Option, Some, None, refl, sym, subst, inl, inr, eqb_tells, Packet, Command, comset_of, Answer, Delivered, Delivery, Lost, Repeated, after_move, each_append, each_map, Each, Net, NetMove, Queue, Reopen, SetBusy, Site, Submit, Tick, ToPanel, ToReader, after_net, changed, first_gets, gets, is_told, left_by, link_of, run, site_at, tagged, own, gets_one, own_first, own_rest, IsScheduled}
 use Rattle.osdp_link_laws.specs.Link as link
-use Rattle.osdp_link_laws.specs.Link.{Delivered, Delivery, Lost, Repeated, after_move}
-use Rattle.osdp_link_laws.proofs.Lines.{each_append, each_map}
-use Rattle.osdp_link_laws.proofs.Stages.{Each}
 use Rattle.osdp_shared_line.specs.Line as line
-use Rattle.osdp_shared_line.specs.Line.{Net, NetMove, Queue, Reopen, SetBusy, Site, Submit, Tick, ToPanel, ToReader, after_net, changed, first_gets, gets, is_told, left_by, link_of, run, site_at, tagged}
-use Rattle.osdp_shared_line.specs.Views.{own}
-use Rattle.osdp_shared_line.proofs.Delivering.{gets_one}
-use Rattle.osdp_shared_line.proofs.Sites.{own_first, own_rest}
-use Rattle.osdp_bus_links.specs.Premises.{IsScheduled}
 
 -- what is one's own after the front
 own_tail : (P : Packet → Type 0) (k : ℕ) (p : ℕ × Packet) (ps : List (ℕ × Packet)) → Each P (own k (p ∷ ps)) → Each P (own k ps)

@@ -1,24 +1,8 @@
 -- What a bus accepts it gives to nobody else: where nobody restarts and no address is set but by COMSETs, all addresses at which a device is, or
 -- may come, are its controller's or kept for it.
-use Rattle.std.proofs.Common.{◌≡◌, ◌||◌, ◌==◌, ℕ, not, Bool, true, false, List, [], ◌∷◌, ◌++◌, Option, Some, None, refl, sym, subst, ap, ◌∙◌, inl, inr}
-use Rattle.std.proofs.lemmas.Bool.Decides.{eqb_tells}
-use Rattle.std.specs.Prelude.{is_some}
-use Rattle.osdp_frame.specs.Packet.{Packet}
-use Rattle.osdp_msg.specs.declared.command.Command.{Command}
-use Rattle.osdp_msg.specs.declared.command_fields.Communication.{Communication}
-use Rattle.osdp_controller.specs.Hearing.{comset_of}
+use Rattle.osdp_bus_links.proofs.Common.{◌≡◌, ◌||◌, ◌==◌, ℕ, not, Bool, true, false, List, [], ◌∷◌, ◌++◌, Option, Some, None, refl, sym, subst, ap, ◌∙◌, inl, inr, eqb_tells, is_some, Packet, Command, Communication, comset_of, Answer, each_of, is_true, Each, HasNoOther, IsAsked, IsSaid, IsSetUp, IsThere, MayComeTo, NetMoveFits, NetMovesFit, NobodyElseHears, Sets, SetsReader, Somewhere, asked_in, EachMoveIsItsOwn, OpensQuietly, move_of, own, view, none_beside, or_false, move_fits, own_first, own_rest, some_same, AllOthersFit, BusSuffices, IsScheduled, NothingIsKept, OthersFit}
 use Rattle.osdp_controller.specs.Machine as controllers
-use Rattle.osdp_reader.specs.declared.handler.Answer.{Answer}
-use Rattle.osdp_link_laws.proofs.Lines.{each_of}
-use Rattle.osdp_link_laws.proofs.Numbers.{is_true}
-use Rattle.osdp_link_laws.proofs.Stages.{Each}
-use Rattle.osdp_shared_line.specs.Addresses.{HasNoOther, IsAsked, IsSaid, IsSetUp, IsThere, MayComeTo, NetMoveFits, NetMovesFit, NobodyElseHears, Sets, SetsReader, Somewhere, asked_in}
 use Rattle.osdp_shared_line.specs.Line.{Net, NetMove, Queue, Reopen, SetBusy, Site, Submit, Tick, ToPanel, ToReader, address_of, after_net, is_command_accepted, is_comset_refused, is_reserved, is_taken_beside, run, takes_up}
-use Rattle.osdp_shared_line.specs.Views.{EachMoveIsItsOwn, OpensQuietly, move_of, own, view}
-use Rattle.osdp_shared_line.proofs.Changing.{none_beside, or_false}
-use Rattle.osdp_shared_line.proofs.Linking.{move_fits}
-use Rattle.osdp_shared_line.proofs.Sites.{own_first, own_rest, some_same}
-use Rattle.osdp_bus_links.specs.Premises.{AllOthersFit, BusSuffices, IsScheduled, NothingIsKept, OthersFit}
 use Rattle.osdp_bus_links.proofs.Keeping.{before, moves_may}
 use Rattle.osdp_bus_links.proofs.Leading.{starts}
 use Rattle.osdp_bus_links.proofs.Linked.{AreLinked, IsLinked, OfALink, linked_after}

@@ -1,18 +1,8 @@
 -- Which site is told the report that waits, and that its session ends exactly where that is told.
-use Rattle.std.proofs.Common.{◌≡◌, ◌≢◌, ◌||◌, ◌<◌, ◌+◌, ℕ, zero, suc, Bool, true, false, cond, List, [], ◌∷◌, ◌++◌, map, Option, Some, None, refl, sym, subst, ap, ◌∙◌, arith}
-use Rattle.std.proofs.lemmas.List.{append-nil}
-use Rattle.osdp_frame.specs.Packet.{Packet}
+use Rattle.osdp_bus_links.proofs.Common.{◌≡◌, ◌≢◌, ◌||◌, ◌<◌, ◌+◌, ℕ, zero, suc, Bool, true, false, cond, List, [], ◌∷◌, ◌++◌, map, Option, Some, None, refl, sym, subst, ap, ◌∙◌, arith, append-nil, Packet, Report, Session, waiting_after, is_false, is_true, MayBring, Site, changed, is_told, site_at, some_same, IsNoRefusalOf, IsTold, TellsEach, TellsFrom, report_for}
 use Rattle.osdp_controller.specs.States.{is_closed}
-use Rattle.osdp_controller.specs.declared.report.Report.{Report}
-use Rattle.osdp_controller.specs.declared.session.Session.{Session}
 use Rattle.osdp_controller_laws.specs.Commands.{TellsEnds}
-use Rattle.osdp_bus.specs.Buses.{waiting_after}
-use Rattle.osdp_link_laws.proofs.Numbers.{is_false, is_true}
 use Rattle.osdp_link_laws.proofs.Refusals.{refuses_none as none_refused}
-use Rattle.osdp_link_laws.proofs.Reports.{MayBring}
-use Rattle.osdp_shared_line.specs.Line.{Site, changed, is_told, site_at}
-use Rattle.osdp_shared_line.proofs.Sites.{some_same}
-use Rattle.osdp_bus_links.specs.Links.{IsNoRefusalOf, IsTold, TellsEach, TellsFrom, report_for}
 
 -- ---- ends
 

@@ -1,26 +1,12 @@
 -- A tick of a bus that holds no bytes is one of one of its controllers, or none.
-use Rattle.std.proofs.Common.{◌≡◌, ◌||◌, ℕ, not, Bool, true, false, if◌then◌else◌, List, [], ◌∷◌, map, Option, Some, None, refl, sym, subst, ap, ◌∙◌}
-use Rattle.std.proofs.lemmas.List.{append-nil}
-use Rattle.std.specs.Prelude.{is_some, slice_get, slice_set, option_to_list}
-use Rattle.osdp_frame.specs.Packet.{Packet}
-use Rattle.osdp_msg.specs.declared.command.Command.{Command}
+use Rattle.osdp_bus_links.proofs.Common.{◌≡◌, ◌||◌, ℕ, not, Bool, true, false, if◌then◌else◌, List, [], ◌∷◌, map, Option, Some, None, refl, sym, subst, ap, ◌∙◌, append-nil, is_some, slice_get, slice_set, option_to_list, Packet, Command, Session, State, silent_tick, Answer, ends_run, ends_silent, after_next_report, nothing_ends, nothing_silent, tick_so, Net, NetMove, Site, Tick, changed, is_told, link_of, run, site_at, tagged, IsBusOf, IsNoRefusalOf, TellsEach, TicksAsAMove, device_of, due_by, one_ticks, packets_on, who_ticks}
 use Rattle.osdp_controller.specs.Machine as controllers
 use Rattle.osdp_controller.specs.Sessions as clocks
-use Rattle.osdp_controller.specs.declared.session.Session.{Session}
-use Rattle.osdp_controller.specs.declared.state.State.{State}
 use Rattle.osdp_controller.specs.Ticking as controller
-use Rattle.osdp_controller_laws.proofs.Closed.{silent_tick}
-use Rattle.osdp_reader.specs.declared.handler.Answer.{Answer}
 use Rattle.osdp_bus.specs.Buses.{BusState, has_report, holder, seen, waiting_after}
 use Rattle.osdp_bus.specs.Entries as devices
-use Rattle.osdp_bus.specs.Hearing.{ends_run, ends_silent}
-use Rattle.osdp_bus.specs.Machine.{after_next_report}
 use Rattle.osdp_bus.specs.Ticking.{BusTicked, bus_ticks, is_due_at, is_held_and_due, next_due, stays, ticks_at, ticks_by, ticks_free, ticks_held, ticks_on, ticks_with}
-use Rattle.osdp_bus.proofs.Waiting.{nothing_ends, nothing_silent}
-use Rattle.osdp_link_laws.proofs.Reports.{tick_so}
 use Rattle.osdp_shared_line.specs.Line as line
-use Rattle.osdp_shared_line.specs.Line.{Net, NetMove, Site, Tick, changed, is_told, link_of, run, site_at, tagged}
-use Rattle.osdp_bus_links.specs.Links.{IsBusOf, IsNoRefusalOf, TellsEach, TicksAsAMove, device_of, due_by, one_ticks, packets_on, who_ticks}
 use Rattle.osdp_bus_links.proofs.Devices.{get_device, get_none, set_device}
 use Rattle.osdp_bus_links.proofs.Telling.{EndsAreTold, said_to_each, told_nothing, told_one}
 

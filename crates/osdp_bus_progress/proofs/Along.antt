@@ -1,39 +1,12 @@
 -- What holds of a bus over each schedule in which no session begins again: moments, ranges, and one exchange at most.
-use Rattle.std.proofs.Common.{◌≡◌, ◌≤◌, ◌-◌, ℕ, zero, suc, Bool, true, false, if◌then◌else◌, List, [], ◌∷◌, ◌++◌, map, Option, Some, None, inl, inr, refl, sym, subst, ap, ◌∙◌, arith}
-use Rattle.std.specs.Prelude.{slice_get, slice_set}
-use Rattle.std.specs.Option.{option_map_or}
-use Rattle.osdp_frame.specs.Items.{items, packets_in}
-use Rattle.osdp_frame.specs.Packet.{Packet}
+use Rattle.osdp_bus_progress.proofs.Common.{◌≡◌, ◌≤◌, ◌-◌, ℕ, zero, suc, Bool, true, false, if◌then◌else◌, List, [], ◌∷◌, ◌++◌, map, Option, Some, None, inl, inr, refl, sym, subst, ap, ◌∙◌, arith, slice_get, slice_set, option_map_or, items, packets_in, Packet, Command, new_machine, seen_at, Report, IsInRange, StaysInRange, longest_wait, Answer, entry_hears, entry_ticks, holds, after_bytes, ends_run, ends_silent, hears_bytes, hears_items, after_next_report, after_submit_at, entry_submits, submit_refusal_at, controller_config, BusTicked, bus_ticks, is_due_at, next_due, stays, ticks_at, ticks_by, ticks_free, ticks_held, ticks_on, ticks_with, BusConfig, Entry, BusFault, IsAt, replaced, HeldBefore, IsNobody, WereHeld, either_held, held_items, nobody, still_nobody, Each, handed, left, moment_after, SimStep, Given, LineState, begun_bus, begun_device, after_step, all_hear_each, hears_run, is_there, issued, report_told, IsInSession}
 use Rattle.osdp_frame.specs.Reading.{RunItem}
-use Rattle.osdp_msg.specs.declared.command.Command.{Command}
 use Rattle.osdp_controller.proofs.Choices.{either_way}
-use Rattle.osdp_controller.specs.Machine.{new_machine}
-use Rattle.osdp_controller.specs.Sessions.{seen as seen_at}
-use Rattle.osdp_controller.specs.declared.report.Report.{Report}
-use Rattle.osdp_controller_laws.specs.Calls.{IsInRange, StaysInRange, longest_wait}
 use Rattle.osdp_controller_laws.specs.Runs.{Begin, Hear, Tick}
-use Rattle.osdp_reader.specs.declared.handler.Answer.{Answer}
 use Rattle.osdp_bus.specs.Buses.{BusState, Devices, device_of, has_report, holder, is_silent, seen}
-use Rattle.osdp_bus.specs.Entries.{entry_hears, entry_ticks, holds}
-use Rattle.osdp_bus.specs.Hearing.{after_bytes, ends_run, ends_silent, hears_bytes, hears_items}
-use Rattle.osdp_bus.specs.Machine.{after_next_report, after_submit_at, entry_submits, submit_refusal_at}
-use Rattle.osdp_bus.specs.Settings.{controller_config}
-use Rattle.osdp_bus.specs.Ticking.{BusTicked, bus_ticks, is_due_at, next_due, stays, ticks_at, ticks_by, ticks_free, ticks_held, ticks_on, ticks_with}
-use Rattle.osdp_bus.specs.declared.config.BusConfig.{BusConfig}
-use Rattle.osdp_bus.specs.declared.entry.Entry.{Entry}
-use Rattle.osdp_bus.specs.declared.fault.BusFault.{BusFault}
 use Rattle.osdp_bus_laws.proofs.Hearing.{items_keep}
-use Rattle.osdp_bus_laws.proofs.Places.{IsAt, replaced}
-use Rattle.osdp_bus_laws.proofs.Sound.{HeldBefore, IsNobody, WereHeld, either_held, held_items, nobody, still_nobody}
-use Rattle.osdp_link_laws.proofs.Stages.{Each}
-use Rattle.osdp_sim.specs.Line.{handed, left}
-use Rattle.osdp_sim.specs.Steps.{moment_after}
-use Rattle.osdp_sim.specs.declared.step.SimStep.{SimStep}
 use Rattle.osdp_sim.specs.declared.step.SimStep.TheVariants as step
 use Rattle.osdp_sim_bus.specs.Runs as simulation
-use Rattle.osdp_sim_bus.specs.State.{Given, LineState, begun_bus, begun_device}
-use Rattle.osdp_sim_bus.specs.Steps.{after_step, all_hear_each, hears_run, is_there, issued, report_told}
-use Rattle.osdp_sim_laws.specs.Accounts.{IsInSession}
 use Rattle.osdp_sim_laws.proofs.Moments.{InTime, clock_on, hears_so, last_moment, tick_so}
 use Rattle.osdp_bus_progress.proofs.Unmoved.{heard_bus, heard_clock, told_bus, told_clock}
 

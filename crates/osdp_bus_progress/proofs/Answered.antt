@@ -1,32 +1,9 @@
 -- What `run_bus` answers after a line that was cleared and rounds that lose nothing.
-use Rattle.std.proofs.Common.{◌≡◌, ◌≤◌, ◌<◌, ◌++◌, ℕ, zero, suc, false, All, List, [], ◌∷◌, length, Some, Ok, refl, sym, subst, ap, ◌∙◌, arith}
+use Rattle.osdp_bus_progress.proofs.Common.{◌≡◌, ◌≤◌, ◌<◌, ◌++◌, ℕ, zero, suc, false, All, List, [], ◌∷◌, length, Some, Ok, refl, sym, subst, ap, ◌∙◌, arith, Command, Answer, SetsNoAddress, each_all, each_append, each_of, Each, runs_on, Account, rounds, SimStep, Busy, HasAnAccountEach, lists_of_all, LineState, ReaderSite, accounts, set_up, after_step, IsInSession, done, losses, IsNoOrder, none_reopen, rounds_within, AccountsAreOnce, SameIssued, idle_sites, issued_idle, StaysAt, stays_all, stays_then, unmapped, get_within, ComesOn, EachAnswerRecovers, EachRecovers, NoneMoves, all_ready, clear}
 use Rattle.std.proofs.lemmas.Option.{slice_get-map}
 use Rattle.std.specs.Prelude.{◌/◌, ◌-◌, ◌+◌, min, option_map, slice_get}
-use Rattle.osdp_msg.specs.declared.command.Command.{Command}
-use Rattle.osdp_reader.specs.declared.handler.Answer.{Answer}
-use Rattle.osdp_link_laws.specs.Progress.{SetsNoAddress}
-use Rattle.osdp_link_laws.proofs.Lines.{each_all, each_append, each_of}
-use Rattle.osdp_link_laws.proofs.Stages.{Each}
-use Rattle.osdp_sim.proofs.Schedules.{runs_on}
-use Rattle.osdp_sim.specs.Account.{Account}
-use Rattle.osdp_sim.specs.Rounds.{rounds}
-use Rattle.osdp_sim.specs.declared.step.SimStep.{SimStep}
-use Rattle.osdp_sim.specs.declared.step.SimStep.TheVariants.{Busy}
-use Rattle.osdp_sim_bus.specs.Laws.{HasAnAccountEach}
 use Rattle.osdp_sim_bus.specs.Runs as simulation
-use Rattle.osdp_sim_bus.specs.Runs.{lists_of_all}
-use Rattle.osdp_sim_bus.specs.State.{LineState, ReaderSite, accounts, set_up}
-use Rattle.osdp_sim_bus.specs.Steps.{after_step}
-use Rattle.osdp_sim_laws.specs.Accounts.{IsInSession}
-use Rattle.osdp_sim_laws.specs.Progress.{done, losses}
-use Rattle.osdp_sim_laws.proofs.Accepting.{IsNoOrder}
 use Rattle.osdp_sim_laws.proofs.Answered.{all_done}
-use Rattle.osdp_sim_laws.proofs.Begun.{none_reopen}
-use Rattle.osdp_sim_laws.proofs.Coming.{rounds_within}
-use Rattle.osdp_sim_bus_laws.specs.Accounts.{AccountsAreOnce}
-use Rattle.osdp_sim_bus_laws.proofs.Idling.{SameIssued, idle_sites, issued_idle}
-use Rattle.osdp_sim_bus_laws.proofs.Places.{StaysAt, stays_all, stays_then, unmapped, within as get_within}
-use Rattle.osdp_bus_progress.specs.Progress.{ComesOn, EachAnswerRecovers, EachRecovers, NoneMoves, all_ready, clear}
 use Rattle.osdp_bus_progress.proofs.Clearing.{in_session}
 use Rattle.osdp_bus_progress.proofs.Coming.{get_each, there_is}
 use Rattle.osdp_bus_progress.proofs.Ends.{rounds_idle}

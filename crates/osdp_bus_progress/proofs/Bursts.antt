@@ -1,46 +1,15 @@
 -- How many bursts are on the line: each step adds one at most in each direction, since one reader alone answers a packet.
-use Rattle.std.proofs.Common.{◌≡◌, ◌≢◌, ◌≤◌, ◌+◌, ◌-◌, ℕ, zero, suc, Bool, true, false, if◌then◌else◌, List, [], ◌∷◌, length, map, Option, Some, None, inl, inr, refl, sym, subst, ap, ◌∙◌, arith}
-use Rattle.std.proofs.lemmas.List.{length-append}
-use Rattle.std.specs.List.{flat_map}
+use Rattle.osdp_bus_progress.proofs.Common.{◌≡◌, ◌≢◌, ◌≤◌, ◌+◌, ◌-◌, ℕ, zero, suc, Bool, true, false, if◌then◌else◌, List, [], ◌∷◌, length, map, Option, Some, None, inl, inr, refl, sym, subst, ap, ◌∙◌, arith, length-append, flat_map, packets_in, reading, IsPacket, Packet, spelling, Command, Report, Answer, after_next_report, submit_refusal_at, bus_ticks, BusConfig, BusFault, each_of, Each, Net, site_at, IsSetUp, HeardByOwn, apart_all, apart_first, by_own, some_same, packets_on, HasCome, begins, first_well, goes_on, handed, left, sent, damage_fault, moment_after, Deliver, Drop, Repeat, Damage, SimStep, AreSettings, FitAlong, is_well, Given, LineState, ReaderSite, set_up, StepFits, after_step, all_hear_each, fault_of, hears_run, is_there, issued, report_told, site_says, waited, FollowsSites, SchedulesAreMoves, SitesOf, moves_of, first_net, follows_first, is_set_up, nothing_is_kept, LinkLaws}
 use Rattle.std.specs.Prelude.{◌⊎◌, ◌<◌}
-use Rattle.osdp_frame.specs.Items.{packets_in, reading}
-use Rattle.osdp_frame.specs.Packet.{IsPacket, Packet}
-use Rattle.osdp_frame.specs.Spelling.{spelling}
-use Rattle.osdp_msg.specs.declared.command.Command.{Command}
-use Rattle.osdp_controller.specs.declared.report.Report.{Report}
 use Rattle.osdp_reader.specs.Table as reader
 use Rattle.osdp_reader.specs.State.{ReaderState}
-use Rattle.osdp_reader.specs.declared.handler.Answer.{Answer}
-use Rattle.osdp_bus.specs.Machine.{after_next_report, submit_refusal_at}
-use Rattle.osdp_bus.specs.Ticking.{bus_ticks}
-use Rattle.osdp_bus.specs.declared.config.BusConfig.{BusConfig}
-use Rattle.osdp_bus.specs.declared.fault.BusFault.{BusFault}
-use Rattle.osdp_link_laws.proofs.Lines.{each_of}
-use Rattle.osdp_link_laws.proofs.Stages.{Each}
 use Rattle.osdp_shared_line.specs.Line as line
-use Rattle.osdp_shared_line.specs.Line.{Net, site_at}
-use Rattle.osdp_shared_line.specs.Addresses.{IsSetUp}
-use Rattle.osdp_shared_line.specs.Views.{HeardByOwn}
 use Rattle.osdp_shared_line.proofs.Hearing.{for_reader}
-use Rattle.osdp_shared_line.proofs.Running.{apart_all, apart_first, by_own}
-use Rattle.osdp_shared_line.proofs.Sites.{some_same}
-use Rattle.osdp_bus_links.specs.Links.{packets_on}
 use Rattle.osdp_sim.proofs.Bursts.{no_packets}
-use Rattle.osdp_sim.proofs.Schedules.{HasCome, begins, first_well, goes_on}
-use Rattle.osdp_sim.specs.Line.{handed, left, sent}
-use Rattle.osdp_sim.specs.Steps.{damage_fault, moment_after}
 use Rattle.osdp_sim.specs.declared.step.Move as way
-use Rattle.osdp_sim.specs.declared.step.Move.TheVariants.{Deliver, Drop, Repeat, Damage}
-use Rattle.osdp_sim.specs.declared.step.SimStep.{SimStep}
 use Rattle.osdp_sim.specs.declared.step.SimStep.TheVariants as step
 use Rattle.osdp_sim_bus.specs.Runs as simulation
-use Rattle.osdp_sim_bus.specs.Runs.{AreSettings, FitAlong, is_well}
-use Rattle.osdp_sim_bus.specs.State.{Given, LineState, ReaderSite, set_up}
-use Rattle.osdp_sim_bus.specs.Steps.{StepFits, after_step, all_hear_each, fault_of, hears_run, is_there, issued, report_told, site_says, waited}
 use Rattle.osdp_sim_laws.specs.OneLink.{ReadsPackets}
-use Rattle.osdp_sim_bus_laws.specs.Moves.{FollowsSites, SchedulesAreMoves, SitesOf, moves_of}
-use Rattle.osdp_sim_bus_laws.proofs.Beginning.{first_net, follows_first, is_set_up, nothing_is_kept}
-use Rattle.osdp_bus_progress.specs.SeveralLinks.{LinkLaws}
 
 pub at_each : {A : Type 0} (P : A → Type 0) (k : ℕ) (x : A) (xs : List A) → Each P xs → site_at k xs ≡ Some x → P x
 at_each P k x [] all is = absurd cc

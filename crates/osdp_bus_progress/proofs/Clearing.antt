@@ -1,35 +1,8 @@
 -- A line is cleared: its readers are set ready, and what is on it is lost.
-use Rattle.std.proofs.Common.{◌≡◌, ◌≤◌, ◌-◌, ℕ, zero, suc, false, ◌&&◌, cond, List, [], ◌∷◌, ◌++◌, length, map, Option, Some, None, is_some, refl, sym, subst, ap, ◌∙◌, arith}
-use Rattle.std.specs.Prelude.{nat_le, slice_get, slice_set}
+use Rattle.osdp_bus_progress.proofs.Common.{◌≡◌, ◌≤◌, ◌-◌, ℕ, zero, suc, false, ◌&&◌, cond, List, [], ◌∷◌, ◌++◌, length, map, Option, Some, None, is_some, refl, sym, subst, ap, ◌∙◌, arith, nat_le, slice_get, slice_set, option_map_or, le-leb, length-map, All-append, All-cons, All-head, All-nil, All-tail, packets_in, Command, Answer, after_next_report, Report, SetsNoAddress, each_all, holds_on, runs_on, well_on, Account, handed, left, rounds, Drop, SimStep, Busy, ToController, ToReader, TellsAtOnce, LineState, ReaderSite, accounts, set_up, StepFits, after_step, all_hear_each, changed_site, fault_of, hears_run, report_told, site_is_busy, takes_report, IsInSession, losses, EachComesOn, EachComesThrough, EachRecovers, IsClear, IsReady, NoneMoves, all_ready, clear, ClearsTheLine, SeveralLinks}
 use Rattle.std.specs.List.{All}
-use Rattle.std.specs.Option.{option_map_or}
-use Rattle.std.proofs.lemmas.Bool.{le-leb}
-use Rattle.std.proofs.lemmas.List.{length-map}
-use Rattle.std.proofs.lemmas.List.Elements.{All-append, All-cons, All-head, All-nil, All-tail}
-use Rattle.osdp_frame.specs.Items.{packets_in}
-use Rattle.osdp_msg.specs.declared.command.Command.{Command}
-use Rattle.osdp_reader.specs.declared.handler.Answer.{Answer}
-use Rattle.osdp_bus.specs.Machine.{after_next_report}
-use Rattle.osdp_controller.specs.declared.report.Report.{Report}
-use Rattle.osdp_link_laws.specs.Progress.{SetsNoAddress}
-use Rattle.osdp_link_laws.proofs.Lines.{each_all}
-use Rattle.osdp_sim.proofs.Schedules.{holds_on, runs_on, well_on}
-use Rattle.osdp_sim.specs.Account.{Account}
-use Rattle.osdp_sim.specs.Line.{handed, left}
-use Rattle.osdp_sim.specs.Rounds.{rounds}
-use Rattle.osdp_sim.specs.declared.step.Move.TheVariants.{Drop}
-use Rattle.osdp_sim.specs.declared.step.SimStep.{SimStep}
-use Rattle.osdp_sim.specs.declared.step.SimStep.TheVariants.{Busy, ToController, ToReader}
-use Rattle.osdp_sim_bus.specs.Laws.{TellsAtOnce}
 use Rattle.osdp_sim_bus.specs.Runs as simulation
-use Rattle.osdp_sim_bus.specs.State.{LineState, ReaderSite, accounts, set_up}
-use Rattle.osdp_sim_bus.specs.Steps.{StepFits, after_step, all_hear_each, changed_site, fault_of, hears_run, report_told, site_is_busy, takes_report}
-use Rattle.osdp_sim_laws.specs.Accounts.{IsInSession}
-use Rattle.osdp_sim_laws.specs.Progress.{losses}
 use Rattle.osdp_sim_laws.proofs.Clearing.{losses_within}
-use Rattle.osdp_bus_progress.specs.Progress.{EachComesOn, EachComesThrough, EachRecovers, IsClear, IsReady, NoneMoves, all_ready, clear}
-use Rattle.osdp_bus_progress.specs.Resting.{ClearsTheLine}
-use Rattle.osdp_bus_progress.specs.SeveralLinks.{SeveralLinks}
 use Rattle.osdp_bus_progress.proofs.Bursts.{AtMost, as_many_as_steps}
 
 -- ---- the readers

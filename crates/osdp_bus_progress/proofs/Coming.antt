@@ -1,70 +1,26 @@
 -- Something comes through for each of several readers.
-use Rattle.std.proofs.Common.{◌≡◌, ◌≤◌, ◌<◌, ◌+◌, ◌++◌, ℕ, zero, suc, All, List, [], ◌∷◌, length, map, Some, inl, inr, refl, sym, subst, ap, ◌∙◌, arith, append_assoc}
+use Rattle.osdp_bus_progress.proofs.Common.{◌≡◌, ◌≤◌, ◌<◌, ◌+◌, ◌++◌, ℕ, zero, suc, All, List, [], ◌∷◌, length, map, Some, inl, inr, refl, sym, subst, ap, ◌∙◌, arith, append_assoc, append-nil, length-map, Packet, spelling, Command, new_machine, IsInRange, longest_wait, Begin, Answer, controller_config, BusConfig, MovesFit, Link, SetsNoAddress, each_all, each_append, each_of, each_rest, moves_so, begins_so, set_no_other, steady_ordinary, Each, IsSetUp, NetMovesFit, Net, NetMove, run, site_at, IsEmpty, own, view, apart_all, apart_first, some_same, device_of, packets_on, Account, round, rounds, SimStep, Given, LineState, ReaderSite, accounts, set_up, StepFits, after_step, fault_of, IsInSession, IsOf, none_earlier, none_reopen, rounds_within, holds_on, runs_on, well_on, AreItsMoves, FollowsSites, moves_of, IsRun, first_net, first_site, follows_first, has_site, is_set_up, nothing_is_kept, unmapped, get_within, get_site, same_count, ComesOn, EachComesThrough, IsClear, IsReady, EachRoundRests, IsAtRest, SeveralLinks, at_length, fits_first, fits_then, net_more, keeps_own}
 use Rattle.std.proofs.Math.Nat.{div-mul-le_self, suc-mul}
-use Rattle.std.proofs.lemmas.List.{append-nil, length-map}
 use Rattle.std.specs.Prelude.{◌/◌, ◌*◌, ◌-◌, slice_get}
-use Rattle.osdp_frame.specs.Packet.{Packet}
-use Rattle.osdp_frame.specs.Spelling.{spelling}
-use Rattle.osdp_msg.specs.declared.command.Command.{Command}
-use Rattle.osdp_controller.specs.Machine.{new_machine}
-use Rattle.osdp_controller_laws.specs.Calls.{IsInRange, longest_wait}
-use Rattle.osdp_controller_laws.specs.Runs.{Begin}
-use Rattle.osdp_reader.specs.declared.handler.Answer.{Answer}
-use Rattle.osdp_bus.specs.Settings.{controller_config}
-use Rattle.osdp_bus.specs.declared.config.BusConfig.{BusConfig}
-use Rattle.osdp_link_laws.specs.Headline.{MovesFit}
 use Rattle.osdp_link_laws.specs.Link as link
-use Rattle.osdp_link_laws.specs.Link.{Link}
 use Rattle.osdp_link_laws.specs.Ordinary.{IsOrdinary, IsSteady}
 use Rattle.osdp_link_laws.specs.Progress as progress
-use Rattle.osdp_link_laws.specs.Progress.{SetsNoAddress}
 use Rattle.osdp_link_laws.specs.Sessions.{all_submitted, ended_commands}
-use Rattle.osdp_link_laws.proofs.Lines.{each_all, each_append, each_of, each_rest}
-use Rattle.osdp_link_laws.proofs.Ordinary.{moves_so}
-use Rattle.osdp_link_laws.proofs.OrdinaryRuns.{begins_so, set_no_other, steady_ordinary}
-use Rattle.osdp_link_laws.proofs.Stages.{Each}
-use Rattle.osdp_shared_line.specs.Addresses.{IsSetUp, NetMovesFit}
 use Rattle.osdp_shared_line.specs.Line as line
-use Rattle.osdp_shared_line.specs.Line.{Net, NetMove, run, site_at}
-use Rattle.osdp_shared_line.specs.Progress.{IsEmpty}
 use Rattle.osdp_shared_line.specs.Runs.{IsItsLink}
 use Rattle.osdp_shared_line.specs.Runs as runs
-use Rattle.osdp_shared_line.specs.Views.{own, view}
-use Rattle.osdp_shared_line.proofs.Running.{apart_all, apart_first}
-use Rattle.osdp_shared_line.proofs.Sites.{some_same}
-use Rattle.osdp_bus_links.specs.Links.{device_of, packets_on}
 use Rattle.osdp_bus_links.specs.Premises.{IsScheduled}
 use Rattle.osdp_bus_links.proofs.Keeping.{moves_usual}
 use Rattle.osdp_bus_links.proofs.Names.{are_steady}
-use Rattle.osdp_sim.specs.Account.{Account}
-use Rattle.osdp_sim.specs.Rounds.{round, rounds}
-use Rattle.osdp_sim.specs.declared.step.SimStep.{SimStep}
 use Rattle.osdp_sim_bus.specs.Runs as simulation
-use Rattle.osdp_sim_bus.specs.State.{Given, LineState, ReaderSite, accounts, set_up}
-use Rattle.osdp_sim_bus.specs.Steps.{StepFits, after_step, fault_of}
-use Rattle.osdp_sim_laws.specs.Accounts.{IsInSession, IsOf}
-use Rattle.osdp_sim_laws.proofs.Accounts.{none_earlier}
-use Rattle.osdp_sim_laws.proofs.Begun.{none_reopen}
-use Rattle.osdp_sim_laws.proofs.Coming.{rounds_within}
-use Rattle.osdp_sim.proofs.Schedules.{holds_on, runs_on, well_on}
-use Rattle.osdp_sim_bus_laws.specs.Moves.{AreItsMoves, FollowsSites, moves_of}
-use Rattle.osdp_sim_bus_laws.specs.Accounts.{IsRun}
-use Rattle.osdp_sim_bus_laws.proofs.Beginning.{first_net, first_site, follows_first, has_site, is_set_up, nothing_is_kept}
 use Rattle.osdp_sim_bus_laws.proofs.Begun.{sessions_counted}
-use Rattle.osdp_sim_bus_laws.proofs.Places.{unmapped, within as get_within}
 use Rattle.osdp_sim_bus_laws.proofs.Scheduling.{moves_more}
-use Rattle.osdp_sim_bus_laws.proofs.Sites.{get_site, same_count}
-use Rattle.osdp_bus_progress.specs.Progress.{ComesOn, EachComesThrough, IsClear, IsReady}
-use Rattle.osdp_bus_progress.specs.Resting.{EachRoundRests, IsAtRest}
-use Rattle.osdp_bus_progress.specs.SeveralLinks.{SeveralLinks}
 use Rattle.osdp_bus_progress.proofs.Along.{first_at, run_at_all}
 use Rattle.osdp_bus_progress.proofs.Bursts.{at_each}
 use Rattle.osdp_bus_progress.proofs.Ends.{NoEnd, lasts_there, none_before_rounds}
 use Rattle.osdp_bus_progress.proofs.Round.{AtRest, sited}
 use Rattle.osdp_bus_progress.proofs.Rounds.{HasRounds, all_rounds, all_turns}
 use Rattle.osdp_bus_progress.proofs.Turns.{IsAway, IsTurn, once_around, some_turn}
-use Rattle.osdp_shared_line.proofs.Rounds.{at_length, fits_first, fits_then, net_more}
-use Rattle.osdp_shared_line.proofs.Storing.{keeps_own}
 
 -- ---- lists
 

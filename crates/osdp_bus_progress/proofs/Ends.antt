@@ -1,27 +1,9 @@
 -- A session that has ended has an end in its account, and no end leaves it.
-use Rattle.std.proofs.Common.{◌≡◌, ℕ, zero, suc, List, [], ◌∷◌, ◌++◌, length, Some, ap, arith}
-use Rattle.std.specs.Prelude.{slice_get}
-use Rattle.osdp_msg.specs.declared.command.Command.{Command}
+use Rattle.osdp_bus_progress.proofs.Common.{◌≡◌, ℕ, zero, suc, List, [], ◌∷◌, ◌++◌, length, Some, ap, arith, slice_get, Command, Report, Closed, Answer, Each, Net, site_at, Account, with_report, rounds, SimStep, LineState, ReaderSite, after_step, IsNoOrder, some_begun, FollowsSites, count, IsIdle, idle_sites, StaysAt, stays_all, stays_then, get_site}
 use Rattle.osdp_controller.specs.States.{is_closed}
-use Rattle.osdp_controller.specs.declared.report.Report.{Report}
 use Rattle.osdp_controller.specs.declared.report.Report.TheVariants as report
-use Rattle.osdp_controller.specs.declared.state.State.TheVariants.{Closed}
-use Rattle.osdp_reader.specs.declared.handler.Answer.{Answer}
-use Rattle.osdp_link_laws.proofs.Stages.{Each}
 use Rattle.osdp_shared_line.specs.Line as line
-use Rattle.osdp_shared_line.specs.Line.{Net, site_at}
-use Rattle.osdp_sim.specs.Account.{Account, with_report}
-use Rattle.osdp_sim.specs.Rounds.{rounds}
-use Rattle.osdp_sim.specs.declared.step.SimStep.{SimStep}
 use Rattle.osdp_sim_bus.specs.Runs as simulation
-use Rattle.osdp_sim_bus.specs.State.{LineState, ReaderSite}
-use Rattle.osdp_sim_bus.specs.Steps.{after_step}
-use Rattle.osdp_sim_laws.proofs.Accepting.{IsNoOrder}
-use Rattle.osdp_sim_laws.proofs.Accounts.{some_begun}
-use Rattle.osdp_sim_bus_laws.specs.Moves.{FollowsSites, count}
-use Rattle.osdp_sim_bus_laws.proofs.Idling.{IsIdle, idle_sites}
-use Rattle.osdp_sim_bus_laws.proofs.Places.{StaysAt, stays_all, stays_then}
-use Rattle.osdp_sim_bus_laws.proofs.Sites.{get_site}
 
 none_before : {A : Type 0} (xs : List A) (x : A) → xs ++ x ∷ [] ≡ [] → xs ≡ []
 none_before [] x none = absurd cc

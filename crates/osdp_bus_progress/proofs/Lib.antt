@@ -1,3 +1,4 @@
+pub mod Common
 pub mod Unmoved
 pub mod Along
 pub mod Turns

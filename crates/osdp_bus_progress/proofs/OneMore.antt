@@ -1,43 +1,10 @@
 -- Between rounds of a bus: each reader has its round, its controller is idle after it, and each round of it but the first brings one more.
-use Rattle.std.proofs.Common.{◌≡◌, ◌≤◌, ◌<◌, ◌+◌, ◌-◌, ◌++◌, ℕ, suc, true, cond, All, List, [], ◌∷◌, length, Some, inl, inr, refl, sym, subst, ap, ◌∙◌, arith, append_assoc}
-use Rattle.std.specs.Prelude.{min, slice_get}
-use Rattle.osdp_msg.specs.declared.command.Command.{Command}
-use Rattle.osdp_controller.specs.Machine.{is_due}
-use Rattle.osdp_controller.specs.declared.state.State.TheVariants.{Idle}
-use Rattle.osdp_reader.specs.declared.handler.Answer.{Answer}
-use Rattle.osdp_bus.specs.declared.config.BusConfig.{BusConfig}
-use Rattle.osdp_bus.specs.declared.entry.Entry.{Entry}
-use Rattle.osdp_link_laws.specs.Headline.{MovesFit}
+use Rattle.osdp_bus_progress.proofs.Common.{◌≡◌, ◌≤◌, ◌<◌, ◌+◌, ◌-◌, ◌++◌, ℕ, suc, true, cond, All, List, [], ◌∷◌, length, Some, inl, inr, refl, sym, subst, ap, ◌∙◌, arith, append_assoc, min, slice_get, Command, is_due, Idle, Answer, BusConfig, Entry, MovesFit, Link, each_all, each_append, each_of, is_true, moves_so, begins_so, steady_ordinary, NetMovesFit, Net, run, view, some_same, device_of, Account, rounds, SimStep, runs_on, Given, LineState, ReaderSite, accounts, set_up, after_step, IsInSession, rounds_within, FollowsSites, moves_of, first_net, first_site, unmapped, get_within, get_site, IsRun, AreRounds, EachHasItsRound, EachIsIdle, EachRoundBringsOneMore, HasNotEnded, IsItsRound, after_rounds, SeveralLinks}
 use Rattle.osdp_link_laws.specs.Link as link
-use Rattle.osdp_link_laws.specs.Link.{Link}
 use Rattle.osdp_link_laws.specs.Progress as progress
-use Rattle.osdp_link_laws.proofs.Lines.{each_all, each_append, each_of}
-use Rattle.osdp_link_laws.proofs.Numbers.{is_true}
-use Rattle.osdp_link_laws.proofs.Ordinary.{moves_so}
-use Rattle.osdp_link_laws.proofs.OrdinaryRuns.{begins_so, steady_ordinary}
-use Rattle.osdp_shared_line.specs.Addresses.{NetMovesFit}
-use Rattle.osdp_shared_line.specs.Line.{Net, run}
 use Rattle.osdp_shared_line.specs.Runs as runs
-use Rattle.osdp_shared_line.specs.Views.{view}
-use Rattle.osdp_shared_line.proofs.Sites.{some_same}
-use Rattle.osdp_bus_links.specs.Links.{device_of}
-use Rattle.osdp_sim.specs.Account.{Account}
-use Rattle.osdp_sim.specs.Rounds.{rounds}
-use Rattle.osdp_sim.specs.declared.step.SimStep.{SimStep}
-use Rattle.osdp_sim.proofs.Schedules.{runs_on}
 use Rattle.osdp_sim_bus.specs.Runs as simulation
-use Rattle.osdp_sim_bus.specs.State.{Given, LineState, ReaderSite, accounts, set_up}
-use Rattle.osdp_sim_bus.specs.Steps.{after_step}
-use Rattle.osdp_sim_laws.specs.Accounts.{IsInSession}
 use Rattle.osdp_sim_laws.specs.Resting.{BringsOneMore}
-use Rattle.osdp_sim_laws.proofs.Coming.{rounds_within}
-use Rattle.osdp_sim_bus_laws.specs.Moves.{FollowsSites, moves_of}
-use Rattle.osdp_sim_bus_laws.proofs.Beginning.{first_net, first_site}
-use Rattle.osdp_sim_bus_laws.proofs.Places.{unmapped, within as get_within}
-use Rattle.osdp_sim_bus_laws.proofs.Sites.{get_site}
-use Rattle.osdp_sim_bus_laws.specs.Accounts.{IsRun}
-use Rattle.osdp_bus_progress.specs.Resting.{AreRounds, EachHasItsRound, EachIsIdle, EachRoundBringsOneMore, HasNotEnded, IsItsRound, after_rounds}
-use Rattle.osdp_bus_progress.specs.SeveralLinks.{SeveralLinks}
 use Rattle.osdp_bus_progress.proofs.Coming as coming
 use Rattle.osdp_bus_progress.proofs.Coming.{as_long, split_rounds}
 use Rattle.osdp_bus_progress.proofs.Ends.{NoEnd, lasts_there, none_before_rounds}

@@ -1,54 +1,15 @@
 -- A round of a bus: it is an exchange of the entry whose turn it is.
-use Rattle.std.proofs.Common.{◌≡◌, ◌≤◌, ◌<◌, ◌+◌, ℕ, zero, suc, max, true, false, cond, eqb, List, [], ◌∷◌, ◌++◌, length, map, Option, Some, None, refl, sym, subst, ap, ◌∙◌, inl, inr, arith, append_assoc}
-use Rattle.std.proofs.lemmas.Bool.Decides.{eqb_tells}
-use Rattle.std.proofs.lemmas.List.{append-nil, length-map}
-use Rattle.std.specs.Prelude.{slice_get}
-use Rattle.osdp_frame.specs.Items.{packets_in}
-use Rattle.osdp_msg.specs.declared.command.Command.{Command}
-use Rattle.osdp_controller.specs.Machine.{is_due, is_outstanding}
-use Rattle.osdp_controller.specs.Sessions.{later as later_by, seen as seen_at}
-use Rattle.osdp_controller.specs.declared.state.State.{State}
-use Rattle.osdp_controller.specs.declared.state.State.TheVariants.{Closed, Idle, Waiting, Pausing}
-use Rattle.osdp_controller_laws.specs.Calls.{ComesDue, StaysInRange, longest_wait}
-use Rattle.osdp_reader.specs.declared.handler.Answer.{Answer}
-use Rattle.osdp_bus.specs.Buses.{BusState, holder, seen}
-use Rattle.osdp_bus.specs.Entries.{holds}
-use Rattle.osdp_bus.specs.Machine.{after_next_report}
-use Rattle.osdp_bus.specs.Ticking.{BusTicked, bus_ticks, ticks_with}
-use Rattle.osdp_bus.specs.declared.entry.Entry.{Entry}
-use Rattle.osdp_bus_laws.proofs.Exchanging.{has_exchange}
-use Rattle.osdp_bus_laws.specs.Turns.{IsBefore}
-use Rattle.osdp_bus_laws.proofs.Places.{is_false as unless_true}
-use Rattle.osdp_link_laws.specs.Headline.{MovesFit}
+use Rattle.osdp_bus_progress.proofs.Common.{◌≡◌, ◌≤◌, ◌<◌, ◌+◌, ℕ, zero, suc, max, true, false, cond, eqb, List, [], ◌∷◌, ◌++◌, length, map, Option, Some, None, refl, sym, subst, ap, ◌∙◌, inl, inr, arith, append_assoc, eqb_tells, append-nil, length-map, slice_get, packets_in, Command, is_due, is_outstanding, later_by, seen_at, State, Closed, Idle, Waiting, Pausing, ComesDue, StaysInRange, longest_wait, Answer, BusState, holder, seen, holds, after_next_report, BusTicked, bus_ticks, ticks_with, Entry, has_exchange, IsBefore, unless_true, MovesFit, Delivered, Link, is_true, NetMovesFit, Net, NetMove, Tick, ToPanel, address_of, run, site_at, IsEmpty, all_read, net_round, view, IsRound, at_length, fits_first, one_round, some_same, keeps_own, device_of, one_ticks, who_ticks, handed, rounds, moment_after, Deliver, LineState, after_step, waited, FollowsSites, each_reads, moment_of, moves_for, moves_of, same_count, LinkLaws}
 use Rattle.osdp_link_laws.specs.Link as link
-use Rattle.osdp_link_laws.specs.Link.{Delivered, Link}
 use Rattle.osdp_link_laws.specs.Progress as progress
 use Rattle.osdp_link_laws.proofs.Due.{closed_rests}
-use Rattle.osdp_link_laws.proofs.Numbers.{is_true}
-use Rattle.osdp_shared_line.specs.Addresses.{NetMovesFit}
 use Rattle.osdp_shared_line.specs.Line as line
-use Rattle.osdp_shared_line.specs.Line.{Net, NetMove, Tick, ToPanel, address_of, run, site_at}
-use Rattle.osdp_shared_line.specs.Progress.{IsEmpty, all_read, net_round}
-use Rattle.osdp_shared_line.specs.Views.{view}
 use Rattle.osdp_shared_line.proofs.Apart.{Apart, reader_address}
-use Rattle.osdp_shared_line.proofs.Rounds.{IsRound, at_length, fits_first, one_round}
-use Rattle.osdp_shared_line.proofs.Sites.{some_same}
 use Rattle.osdp_shared_line.proofs.Readers.{IsNoAddress, StoresFrom}
-use Rattle.osdp_shared_line.proofs.Storing.{keeps_own}
-use Rattle.osdp_bus_links.specs.Links.{device_of, one_ticks, who_ticks}
 use Rattle.osdp_bus_links.proofs.Devices.{get_device, get_none}
-use Rattle.osdp_sim.specs.Line.{handed}
-use Rattle.osdp_sim.specs.Rounds.{rounds}
-use Rattle.osdp_sim.specs.Steps.{moment_after}
-use Rattle.osdp_sim.specs.declared.step.Move.TheVariants.{Deliver}
 use Rattle.osdp_sim.specs.declared.step.SimStep.TheVariants as step
-use Rattle.osdp_sim_bus.specs.State.{LineState}
-use Rattle.osdp_sim_bus.specs.Steps.{after_step, waited}
 use Rattle.osdp_sim_bus.proofs.Counts.{same_many}
 use Rattle.osdp_sim_laws.proofs.Resting.{EndsOrRests, IsLed, led_on, round_rests}
-use Rattle.osdp_sim_bus_laws.specs.Moves.{FollowsSites, each_reads, moment_of, moves_for, moves_of}
-use Rattle.osdp_sim_bus_laws.proofs.Sites.{same_count}
-use Rattle.osdp_bus_progress.specs.SeveralLinks.{LinkLaws}
 use Rattle.osdp_bus_progress.proofs.Along.{BusAt, DeviceAt, step_at}
 use Rattle.osdp_bus_progress.proofs.Ends.{NoEnd, lasts_there}
 use Rattle.osdp_bus_progress.proofs.Turns.{BusTicks, IsAfter, IsFirst, IsTurn, Lasts, LastingDue, first_around, next_turn, tick_is}

@@ -1,29 +1,11 @@
 -- Rounds of a bus: each is an exchange of one entry, the turn goes around those whose sessions last, and an entry that had one is idle.
 use Rattle.std.proofs.Common.{◌≡◌, ◌≤◌, ◌<◌, ◌+◌, ◌-◌, ◌⊎◌, ℕ, zero, suc, cond, eqb, List, [], ◌∷◌, length, Some, None, refl, sym, subst, ap, ◌∙◌, inl, inr, arith}
-use Rattle.std.proofs.lemmas.Bool.Decides.{eqb_tells}
-use Rattle.osdp_msg.specs.declared.command.Command.{Command}
-use Rattle.osdp_controller_laws.specs.Calls.{ComesDue, StaysInRange}
-use Rattle.osdp_reader.specs.declared.handler.Answer.{Answer}
-use Rattle.osdp_bus.specs.Buses.{holder}
-use Rattle.osdp_link_laws.specs.Headline.{MovesFit}
+use Rattle.osdp_bus_progress.proofs.Common.{eqb_tells, Command, ComesDue, StaysInRange, Answer, holder, MovesFit, Delivered, Link, is_false, is_true, NetMovesFit, Net, NetMove, Tick, ToPanel, address_of, run, site_at, IsEmpty, net_round, view, IsRound, at_length, fits_then, net_more, rounds, LineState, FollowsSites, moves_of, some_same, IsItsRound, LinkLaws}
 use Rattle.osdp_link_laws.specs.Link as link
-use Rattle.osdp_link_laws.specs.Link.{Delivered, Link}
 use Rattle.osdp_link_laws.specs.Progress as progress
-use Rattle.osdp_link_laws.proofs.Numbers.{is_false, is_true}
-use Rattle.osdp_shared_line.specs.Addresses.{NetMovesFit}
 use Rattle.osdp_shared_line.specs.Line as line
-use Rattle.osdp_shared_line.specs.Line.{Net, NetMove, Tick, ToPanel, address_of, run, site_at}
-use Rattle.osdp_shared_line.specs.Progress.{IsEmpty, net_round}
-use Rattle.osdp_shared_line.specs.Views.{view}
 use Rattle.osdp_shared_line.proofs.Reading.{IsSeen}
-use Rattle.osdp_shared_line.proofs.Rounds.{IsRound, at_length, fits_then, net_more}
-use Rattle.osdp_sim.specs.Rounds.{rounds}
 use Rattle.osdp_sim_bus.specs.Runs as simulation
-use Rattle.osdp_sim_bus.specs.State.{LineState}
-use Rattle.osdp_sim_bus_laws.specs.Moves.{FollowsSites, moves_of}
-use Rattle.osdp_shared_line.proofs.Sites.{some_same}
-use Rattle.osdp_bus_progress.specs.Resting.{IsItsRound}
-use Rattle.osdp_bus_progress.specs.SeveralLinks.{LinkLaws}
 use Rattle.osdp_bus_progress.proofs.Round.{AtRest, NextRound, after_round, next_round, round_net}
 use Rattle.osdp_bus_progress.proofs.Ends.{NoEnd, lasts_there, none_before_rounds}
 use Rattle.osdp_bus_progress.proofs.Turns.{IsAway, away_next, once_around}

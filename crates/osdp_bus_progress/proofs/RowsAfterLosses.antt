@@ -1,27 +1,10 @@
 -- A line that is cleared, and rounds after it: the laws of progress, at these numbers.
-use Rattle.std.proofs.Common.{◌≡◌, ◌∙◌, ap, subst, sym, All, List, [], ◌∷◌, ◌++◌, length, Some, Ok, refl, arith}
-use Rattle.std.proofs.lemmas.List.Elements.{All-cons, All-nil}
-use Rattle.std.specs.Prelude.{slice_get}
+use Rattle.osdp_bus_progress.proofs.Common.{◌≡◌, ◌∙◌, ap, subst, sym, All, List, [], ◌∷◌, ◌++◌, length, Some, Ok, refl, arith, All-cons, All-nil, slice_get, EachAnswerRecovers, HasItsShare, with_answers, SetsNoAddress, handler_after, handler_answer, new_handler, Account, lists_of, rounds, Drop, Issue, Queue, ToReader, Wait, HasAnAccountEach, lists_of_all, Given, AcceptsByRoom, IsInSession, FourRoundsBringThree, SixRoundsBringThreeOfTwo, both_lost, bus, one_lost, readers, buz, config, first_key, out}
 use Rattle.osdp_bus_progress.specs.Progress as buses
-use Rattle.osdp_bus_progress.specs.Progress.{EachAnswerRecovers, HasItsShare}
-use Rattle.osdp_link_laws.specs.OneHandler.{with_answers}
-use Rattle.osdp_link_laws.specs.Progress.{SetsNoAddress}
-use Rattle.osdp_script.specs.Handler.{handler_after, handler_answer, new_handler}
 use Rattle.osdp_script.specs.Identity.{script_config}
 use Rattle.osdp_script.specs.declared.handler.ScriptReader.{ScriptReader}
-use Rattle.osdp_sim.specs.Account.{Account, lists_of}
-use Rattle.osdp_sim.specs.Rounds.{rounds}
-use Rattle.osdp_sim.specs.declared.step.Move.TheVariants.{Drop}
-use Rattle.osdp_sim.specs.declared.step.SimStep.TheVariants.{Issue, Queue, ToReader, Wait}
-use Rattle.osdp_sim_bus.specs.Laws.{HasAnAccountEach}
-use Rattle.osdp_sim_bus.specs.Runs.{lists_of_all}
-use Rattle.osdp_sim_bus.specs.State.{Given}
 use Rattle.osdp_sim_bus_laws.specs.Accepted.{EachAccepts, IsNoComset}
-use Rattle.osdp_sim_laws.specs.Accepted.{AcceptsByRoom}
-use Rattle.osdp_sim_laws.specs.Accounts.{IsInSession}
 use Rattle.osdp_sim_laws.specs.Progress.{AnswerRecovers, clear}
-use Rattle.osdp_bus_progress.specs.RowsAfterLosses.{FourRoundsBringThree, SixRoundsBringThreeOfTwo, both_lost, bus, one_lost, readers}
-use Rattle.osdp_bus_progress.specs.RowsOfRounds.{buz, config, first_key, out}
 use Rattle.osdp_bus_progress.proofs.RowsOfRounds.{no_moves}
 
 -- a step that begins no session again is one by its kind alone

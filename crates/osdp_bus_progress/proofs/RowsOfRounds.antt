@@ -1,21 +1,11 @@
 -- Three rounds: the exact law of clean schedules, at these numbers.
-use Rattle.std.proofs.Common.{◌≡◌, ◌∙◌, ap, subst, sym, ℕ, ◌-◌, All, List, [], ◌∷◌, ◌++◌, length, take, Ok, refl, arith}
-use Rattle.std.proofs.lemmas.List.Elements.{All-cons, All-nil}
+use Rattle.osdp_bus_progress.proofs.Common.{◌≡◌, ◌∙◌, ap, subst, sym, ℕ, ◌-◌, All, List, [], ◌∷◌, ◌++◌, length, take, Ok, refl, arith, All-cons, All-nil, with_answers, SetsNoAddress, Command, handler_after, handler_answer, new_handler, lists_of, clean, AcceptsByRoom, IsAcceptedByRoom, Issue, Queue, ThreeRoundsSettleTwoAndReportOne, buz, config, first_key, orders, out, second_key}
 use Rattle.osdp_frame.specs.declared.check_kind.CheckKind.TheVariants.{Crc}
 use Rattle.osdp_bus.proofs.Defaults.{controller_in_range}
 use Rattle.osdp_controller.specs.Settings.{IsConfig}
-use Rattle.osdp_link_laws.specs.OneHandler.{with_answers}
-use Rattle.osdp_link_laws.specs.Progress.{SetsNoAddress}
-use Rattle.osdp_msg.specs.declared.command.Command.{Command}
 use Rattle.osdp_msg.specs.declared.event.Event.{Event}
-use Rattle.osdp_script.specs.Handler.{handler_after, handler_answer, new_handler}
-use Rattle.osdp_sim.specs.Account.{lists_of}
-use Rattle.osdp_sim.specs.Rounds.{clean}
 use Rattle.osdp_sim.specs.Runs.{AreSettings}
-use Rattle.osdp_sim_laws.specs.Accepted.{AcceptsByRoom, IsAcceptedByRoom}
-use Rattle.osdp_sim.specs.declared.step.SimStep.TheVariants.{Issue, Queue}
 use Rattle.osdp_sim_laws.specs.Clean.{GoesInTurn, IsInTurn, IsOrder}
-use Rattle.osdp_bus_progress.specs.RowsOfRounds.{ThreeRoundsSettleTwoAndReportOne, buz, config, first_key, orders, out, second_key}
 
 is_config : IsConfig config.controller
 is_config = controller_in_range 5 Crc 3 (omega arith) (omega arith, omega arith)

@@ -1,15 +1,7 @@
 -- Of two commands that were taken one was settled.
-use Rattle.std.proofs.Common.{◌≡◌, ◌∙◌, ◌≤◌, ap, sym, List, [], ◌∷◌, ◌++◌, length, Ok, arith}
-use Rattle.osdp_link_laws.proofs.Lines.{each_of}
-use Rattle.osdp_link_laws.specs.OneHandler.{with_answers}
-use Rattle.osdp_msg.specs.declared.command.Command.{Command}
+use Rattle.osdp_bus_progress.proofs.Common.{◌≡◌, ◌∙◌, ◌≤◌, ap, sym, List, [], ◌∷◌, ◌++◌, length, Ok, arith, each_of, with_answers, Command, handler_after, handler_answer, new_handler, lists_of, AnswersHoldOnce, IsInSession, none_reopen, buz, config, out}
 use Rattle.osdp_msg.specs.declared.reply.Reply.{Reply}
 use Rattle.osdp_msg.specs.declared.reply.Reply.TheVariants.{Ack}
-use Rattle.osdp_script.specs.Handler.{handler_after, handler_answer, new_handler}
-use Rattle.osdp_sim.specs.Account.{lists_of}
-use Rattle.osdp_sim_laws.specs.Accounts.{AnswersHoldOnce, IsInSession}
-use Rattle.osdp_sim_laws.proofs.Begun.{none_reopen}
-use Rattle.osdp_bus_progress.specs.RowsOfRounds.{buz, config, out}
 use Rattle.osdp_bus_progress.specs.RowsOfTaken.{OfTwoTakenOneIsSettled}
 
 same_first : {A : Type 0} (x y : A) (xs ys : List A) → x ∷ xs ≡ y ∷ ys → x ≡ y

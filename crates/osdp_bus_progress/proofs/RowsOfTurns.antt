@@ -1,8 +1,5 @@
 -- Whose round each is, and what it brings: the laws of rounds over a bus, at these numbers.
-use Rattle.std.proofs.Common.{ap, suc, length, arith}
-use Rattle.osdp_bus_progress.specs.Resting.{EachHasItsRound, EachIsIdle, EachRoundBringsOneMore}
-use Rattle.osdp_script.specs.Handler.{handler_after, handler_answer}
-use Rattle.osdp_bus_progress.specs.RowsAfterLosses.{bus, readers}
+use Rattle.osdp_bus_progress.proofs.Common.{ap, suc, length, arith, EachHasItsRound, EachIsIdle, EachRoundBringsOneMore, handler_after, handler_answer, bus, readers}
 use Rattle.osdp_bus_progress.specs.RowsOfTurns.{ItsSecondRoundSettles, OneOfTwoIsItsRound, both_issued}
 
 pub one_of_two : EachHasItsRound handler_answer handler_after → OneOfTwoIsItsRound

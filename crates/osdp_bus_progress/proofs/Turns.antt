@@ -1,22 +1,9 @@
 -- Whose turn it is where each entry is due whose session lasts: that of who holds the line, or else of the first in turn that is due.
-use Rattle.std.proofs.Common.{◌≡◌, ◌≤◌, ◌<◌, ◌+◌, ◌-◌, ℕ, zero, suc, max, ◌||◌, ◌&&◌, Bool, true, false, if◌then◌else◌, List, [], ◌∷◌, length, Option, Some, None, inl, inr, refl, sym, subst, ap, ◌∙◌, arith}
-use Rattle.std.proofs.lemmas.Bool.{ltb-true, ltb-false}
+use Rattle.osdp_bus_progress.proofs.Common.{◌≡◌, ◌≤◌, ◌<◌, ◌+◌, ◌-◌, ℕ, zero, suc, max, ◌||◌, ◌&&◌, Bool, true, false, if◌then◌else◌, List, [], ◌∷◌, length, Option, Some, None, inl, inr, refl, sym, subst, ap, ◌∙◌, arith, ltb-true, ltb-false, option_map_or, is_outstanding, State, Closed, holds, is_entry_due, ends_run, ends_silent, asks_holder, bus_ticks, is_due_at, is_held_and_due, next_due, stays, ticks_at, ticks_by, ticks_free, ticks_held, ticks_on, ticks_with, Entry, has_exchange, nobody, IsBefore, IsDueEntry, due_by, who_ticks}
 use Rattle.std.specs.Prelude.{not, ◌⊎◌, is_some, nat_lt, slice_get}
-use Rattle.std.specs.Option.{option_map_or}
-use Rattle.osdp_controller.specs.Machine.{is_outstanding}
-use Rattle.osdp_controller.specs.declared.state.State.{State}
-use Rattle.osdp_controller.specs.declared.state.State.TheVariants.{Closed}
 use Rattle.osdp_bus.specs.Buses.{BusState, device_of, has_report, holder, seen}
-use Rattle.osdp_bus.specs.Entries.{holds, is_entry_due}
-use Rattle.osdp_bus.specs.Hearing.{ends_run, ends_silent}
-use Rattle.osdp_bus.specs.Ticking.{asks_holder, bus_ticks, is_due_at, is_held_and_due, next_due, stays, ticks_at, ticks_by, ticks_free, ticks_held, ticks_on, ticks_with}
-use Rattle.osdp_bus.specs.declared.entry.Entry.{Entry}
-use Rattle.osdp_bus_laws.proofs.Exchanging.{has_exchange}
-use Rattle.osdp_bus_laws.proofs.Sound.{nobody}
 use Rattle.osdp_bus_laws.proofs.Turning.{due_is_next, none_is_due, strictly}
-use Rattle.osdp_bus_laws.specs.Turns.{IsBefore, IsDueEntry}
 use Rattle.osdp_bus.proofs.Waiting.{nothing_ends, nothing_silent}
-use Rattle.osdp_bus_links.specs.Links.{due_by, who_ticks}
 use Rattle.osdp_bus_progress.proofs.Along.{AllAre, OneHolds}
 
 -- the entry that is asked first: around, where the number is past the last

@@ -1,17 +1,6 @@
 -- What leaves the bus, its moment or its turn as they are.
-use Rattle.std.proofs.Common.{◌≡◌, ℕ, Bool, true, false, if◌then◌else◌, List, [], ◌∷◌, Option, Some, None, refl, ap, ◌∙◌}
-use Rattle.osdp_frame.specs.Packet.{Packet}
-use Rattle.osdp_msg.specs.declared.command.Command.{Command}
-use Rattle.osdp_controller.specs.declared.report.Report.{Report}
-use Rattle.osdp_reader.specs.declared.handler.Answer.{Answer}
-use Rattle.osdp_bus.specs.Buses.{BusState, is_silent, seen}
-use Rattle.osdp_bus.specs.Hearing.{ends_run}
-use Rattle.osdp_bus.specs.Machine.{after_next_report}
-use Rattle.osdp_sim.specs.Line.{handed, left}
-use Rattle.osdp_sim.specs.declared.step.Move.TheVariants.{Deliver}
+use Rattle.osdp_bus_progress.proofs.Common.{◌≡◌, ℕ, Bool, true, false, if◌then◌else◌, List, [], ◌∷◌, Option, Some, None, refl, ap, ◌∙◌, Packet, Command, Report, Answer, BusState, is_silent, seen, ends_run, after_next_report, handed, left, Deliver, LineState, after_step, all_hear, all_hear_each, hears_run, report_told}
 use Rattle.osdp_sim.specs.declared.step.SimStep.TheVariants as step
-use Rattle.osdp_sim_bus.specs.State.{LineState}
-use Rattle.osdp_sim_bus.specs.Steps.{after_step, all_hear, all_hear_each, hears_run, report_told}
 
 -- ---- whose turn is next: nothing but a tick changes it
 

@@ -1,22 +1,5 @@
 -- A line on which no bytes are held acts once a moment is reached for which one of its controllers waits.
-use Rattle.std.proofs.Common.{◌≡◌, ◌∙◌, ap, sym, ℕ, zero, suc, ◌≤◌, ◌||◌, Bool, true, false, max, List, [], ◌∷◌, Some, None, arith}
-use Rattle.std.specs.List.{list_any}
-use Rattle.osdp_controller.specs.declared.state.State.{State}
-use Rattle.osdp_controller.specs.declared.state.State.TheVariants.{Closed}
-use Rattle.osdp_controller.specs.Machine.{is_outstanding}
-use Rattle.osdp_controller.specs.Sessions.{seen as seen_by}
-use Rattle.osdp_controller.specs.States.{is_idle}
-use Rattle.osdp_time_laws.proofs.Duties.{until_of}
-use Rattle.osdp_time_laws.proofs.Instances.{reached_in}
-use Rattle.osdp_bus.specs.declared.entry.Entry.{Entry}
-use Rattle.osdp_bus.specs.Buses.{BusState, device_of, has_report, holder}
-use Rattle.osdp_bus.specs.Deadlines.{acts}
-use Rattle.osdp_bus.specs.Entries.{holds, is_entry_due}
-use Rattle.osdp_bus.specs.Machine.{new_device}
-use Rattle.osdp_bus.proofs.Waiting.{free_acts, held_acts}
-use Rattle.osdp_bus_laws.specs.Calls.{Call}
-use Rattle.osdp_bus_time_laws.specs.Clock.{IsOwed}
-use Rattle.osdp_bus_time_laws.specs.Instances.{short_line}
+use Rattle.osdp_bus_time_laws.proofs.Common.{◌≡◌, ◌∙◌, ap, sym, ℕ, zero, suc, ◌≤◌, ◌||◌, Bool, true, false, max, List, [], ◌∷◌, Some, None, arith, list_any, State, Closed, is_outstanding, seen_by, is_idle, until_of, reached_in, Entry, BusState, device_of, has_report, holder, acts, holds, is_entry_due, new_device, free_acts, held_acts, Call, IsOwed, short_line}
 use Rattle.osdp_bus_time_laws.proofs.Moments.{as_bare}
 
 -- a controller with no command that waits while it is idle is due only once the moment is reached

@@ -1,38 +1,13 @@
 -- An exchange of an entry takes the command that waits at the front.
-use Rattle.std.proofs.Common.{◌≡◌, ◌∙◌, ap, sym, subst, ℕ, true, false, max, List, [], ◌∷◌, Some, refl}
-use Rattle.std.specs.Prelude.{nat_le}
-use Rattle.osdp_frame.specs.Packet.{Packet, next_sequence}
-use Rattle.osdp_msg.specs.declared.command.Command.{Command}
-use Rattle.osdp_controller.specs.declared.exchange.Exchange.TheVariants.{Polling}
+use Rattle.osdp_bus_time_laws.proofs.Common.{◌≡◌, ◌∙◌, ap, sym, subst, ℕ, true, false, max, List, [], ◌∷◌, Some, refl, nat_le, Packet, next_sequence, Command, Polling, Session, State, Closed, Quiet, Idle, Waiting, Pausing, meaning_of, Heard, hears, is_idle, either_way, takes_front, is_quiet, is_under_way, Entry, BusState, device_of, entry_ticks, holds, BusTicked, ticks_with, Call, after_call, Begins, asking, begun_ticked, is_false, set_here, still_free, PollsElse, TakesTheFront}
 use Rattle.osdp_controller.specs.declared.meaning.ReplyMeaning.{ReplyMeaning}
-use Rattle.osdp_controller.specs.declared.session.Session.{Session}
-use Rattle.osdp_controller.specs.declared.state.State.{State}
-use Rattle.osdp_controller.specs.declared.state.State.TheVariants.{Closed, Quiet, Idle, Waiting, Pausing}
-use Rattle.osdp_controller.specs.Answers.{meaning_of}
-use Rattle.osdp_controller.specs.Hearing.{Heard, hears}
 use Rattle.osdp_controller.specs.Machine.{acts, is_outstanding}
 use Rattle.osdp_controller.specs.Private.{numbered_in}
 use Rattle.osdp_controller.specs.Sessions.{seen}
-use Rattle.osdp_controller.specs.States.{is_idle}
 use Rattle.osdp_controller.specs.Ticking.{Ticked, begins, idle_ticks, stays, ticks_in}
-use Rattle.osdp_controller.proofs.Choices.{either_way}
 use Rattle.osdp_controller_laws.specs.Commands.{command_of}
 use Rattle.osdp_controller_laws.specs.Laws.{exchange_in}
 use Rattle.osdp_controller_laws.proofs.Frames.{OfEach, either_frame, of_pause, of_wait}
-use Rattle.osdp_controller_laws.proofs.Ticks.{takes_front}
-use Rattle.osdp_time_laws.specs.Laws.{is_quiet}
-use Rattle.osdp_time_laws.specs.Orders.{is_under_way}
-use Rattle.osdp_bus.specs.declared.entry.Entry.{Entry}
-use Rattle.osdp_bus.specs.Buses.{BusState, device_of}
-use Rattle.osdp_bus.specs.Entries.{entry_ticks, holds}
-use Rattle.osdp_bus.specs.Ticking.{BusTicked, ticks_with}
-use Rattle.osdp_bus_laws.specs.Calls.{Call, after_call}
-use Rattle.osdp_bus_laws.specs.Fairness.{Begins}
-use Rattle.osdp_bus_laws.specs.Turns.{asking}
-use Rattle.osdp_bus_laws.proofs.Fairness.{begun_ticked}
-use Rattle.osdp_bus_laws.proofs.Places.{is_false}
-use Rattle.osdp_bus_laws.proofs.Turning.{set_here, still_free}
-use Rattle.osdp_bus_time_laws.specs.Laws.{PollsElse, TakesTheFront}
 use Rattle.osdp_bus_time_laws.proofs.Places.{asking_place, one_device}
 
 -- ---- no packet makes a session wait for its opening

@@ -1,43 +1,8 @@
 -- What holds of each device of a bus, beside what a bus keeps of them together: its settings are those of the bus but for the address, it has seen no later
 -- moment than the bus, and what it waits for lies no further away than its own wait.
-use Rattle.std.proofs.Common.{◌≡◌, ◌∙◌, ap, sym, subst, inl, inr, ℕ, ◌≤◌, ◌||◌, Bool, true, false, max, List, [], ◌∷◌, ◌++◌, length, Option, Some, None, refl, arith}
-use Rattle.std.specs.Prelude.{not, slice_get, slice_set}
-use Rattle.std.specs.Option.{option_map_or}
-use Rattle.osdp_frame.specs.Items.{items}
-use Rattle.osdp_frame.specs.Packet.{Packet}
-use Rattle.osdp_msg.specs.declared.command.Command.{Command}
-use Rattle.osdp_controller.specs.declared.config.ControllerConfig.{ControllerConfig}
-use Rattle.osdp_controller.specs.declared.state.State.{State}
-use Rattle.osdp_controller.specs.declared.state.State.TheVariants.{Closed}
-use Rattle.osdp_controller.specs.Machine.{Machine}
-use Rattle.osdp_controller.specs.Sessions.{seen as seen_by}
-use Rattle.osdp_controller.proofs.Choices.{either_way}
+use Rattle.osdp_bus_time_laws.proofs.Common.{◌≡◌, ◌∙◌, ap, sym, subst, inl, inr, ℕ, ◌≤◌, ◌||◌, Bool, true, false, max, List, [], ◌∷◌, ◌++◌, length, Option, Some, None, refl, arith, not, slice_get, slice_set, option_map_or, items, Packet, Command, ControllerConfig, State, Closed, Machine, seen_by, either_way, CallOf, TickOf, HearOf, after_call_of, hears_at_moment, IsTimely, WaitsItsTime, tick_at_moment, later_within, stays_timely, BusConfig, Entry, BusFault, BusState, Devices, device_of, has_report, holder, is_silent, new_bus, seen, entry_hears, entry_ticks, after_bytes, ends_run, hears_items, hears_with, add_refusal, after_add, after_begin_at, after_retarget_at, after_submit_at, begin_refusal_at, changed_unless, changes_entry, entry_begins, entry_retargets, entry_submits, entry_withdraws, new_device, retarget_refusal_at, submit_refusal_at, IsBusConfig, controller_config, BusTicked, bus_ticks, is_due_at, is_held_and_due, next_due, stays, ticks_at, ticks_by, ticks_held, ticks_on, ticks_with, Call, Add, Begin, Submit, Withdraw, Retarget, OnBytes, OnSilence, Tick, NextReport, after_call, after_calls, asking, judged, sound_call, sound_new, FirstIs, first_is, items_keep, moments_are_seen, IsAt, added, replaced, SoundBus, stays_begin, stays_call, stays_silent, stays_tick}
 use Rattle.osdp_controller_laws.specs.Calls.{address_after}
-use Rattle.osdp_controller_laws.specs.Runs.{Call as CallOf, Tick as TickOf, Hear as HearOf, after_call as after_call_of}
-use Rattle.osdp_controller_laws.proofs.Kept.{hears_at_moment}
 use Rattle.osdp_controller_laws.proofs.OneCall.{keeps_settings}
-use Rattle.osdp_time_laws.specs.Acceptance.{IsTimely, WaitsItsTime}
-use Rattle.osdp_time_laws.proofs.Ends.{tick_at_moment}
-use Rattle.osdp_time_laws.proofs.Phases.{later_within}
-use Rattle.osdp_time_laws.proofs.Timely.{stays_timely}
-use Rattle.osdp_bus.specs.declared.config.BusConfig.{BusConfig}
-use Rattle.osdp_bus.specs.declared.entry.Entry.{Entry}
-use Rattle.osdp_bus.specs.declared.fault.BusFault.{BusFault}
-use Rattle.osdp_bus.specs.Buses.{BusState, Devices, device_of, has_report, holder, is_silent, new_bus, seen}
-use Rattle.osdp_bus.specs.Entries.{entry_hears, entry_ticks}
-use Rattle.osdp_bus.specs.Hearing.{after_bytes, ends_run, hears_items, hears_with}
-use Rattle.osdp_bus.specs.Machine.{add_refusal, after_add, after_begin_at, after_retarget_at, after_submit_at, begin_refusal_at, changed_unless, changes_entry, entry_begins, entry_retargets, entry_submits, entry_withdraws, new_device, retarget_refusal_at, submit_refusal_at}
-use Rattle.osdp_bus.specs.Settings.{IsBusConfig, controller_config}
-use Rattle.osdp_bus.specs.Ticking.{BusTicked, bus_ticks, is_due_at, is_held_and_due, next_due, stays, ticks_at, ticks_by, ticks_held, ticks_on, ticks_with}
-use Rattle.osdp_bus_laws.specs.Calls.{Call, Add, Begin, Submit, Withdraw, Retarget, OnBytes, OnSilence, Tick, NextReport, after_call, after_calls}
-use Rattle.osdp_bus_laws.specs.Turns.{asking, judged}
-use Rattle.osdp_bus_laws.proofs.Calling.{sound_call, sound_new}
-use Rattle.osdp_bus_laws.proofs.Fairness.{FirstIs, first_is}
-use Rattle.osdp_bus_laws.proofs.Hearing.{items_keep}
-use Rattle.osdp_bus_laws.proofs.Moments.{moments_are_seen}
-use Rattle.osdp_bus_laws.proofs.Places.{IsAt, added, replaced}
-use Rattle.osdp_bus_laws.proofs.Sound.{SoundBus}
-use Rattle.osdp_bus_laws.proofs.Staying.{stays_begin, stays_call, stays_silent, stays_tick}
 use Rattle.osdp_bus_time_laws.proofs.Moments.{grows}
 
 -- ---- what each packet, tick and change of a device keeps holds of all of them after a call

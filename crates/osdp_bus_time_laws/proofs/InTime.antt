@@ -1,14 +1,6 @@
 -- Whatever the line does: each turn as long as the settings allow.
-use Rattle.std.proofs.Common.{◌≡◌, ◌∙◌, ap, sym, subst, ℕ, zero, suc, ◌+◌, ◌-◌, ◌*◌, ◌≤◌, ◌<◌, List, [], ◌∷◌, length, refl, arith}
-use Rattle.std.proofs.Math.Nat.{suc-mul}
-use Rattle.osdp_time_laws.specs.Bounds.{longest_exchange}
+use Rattle.osdp_bus_time_laws.proofs.Common.{◌≡◌, ◌∙◌, ap, sym, subst, ℕ, zero, suc, ◌+◌, ◌-◌, ◌*◌, ◌≤◌, ◌<◌, List, [], ◌∷◌, length, refl, arith, suc-mul, longest_exchange, BusState, controller_config, Call, Begin, Submit, after_call, KeepsTime, GoesOutBy, LinesAddUp, OpeningsInTime, OrdersInTime, exchange_of, time_of, BeginsBy, HasFew, KeepsTurns, OutstandingTakes, TurnsTake, others_of, turns_of}
 use Rattle.osdp_time_laws.specs.Lines.{turns_time}
-use Rattle.osdp_bus.specs.Buses.{BusState}
-use Rattle.osdp_bus.specs.Settings.{controller_config}
-use Rattle.osdp_bus_laws.specs.Calls.{Call, Begin, Submit, after_call}
-use Rattle.osdp_bus_time_laws.specs.Clock.{KeepsTime}
-use Rattle.osdp_bus_time_laws.specs.Laws.{GoesOutBy, LinesAddUp, OpeningsInTime, OrdersInTime, exchange_of, time_of}
-use Rattle.osdp_bus_time_laws.specs.Turns.{BeginsBy, HasFew, KeepsTurns, OutstandingTakes, TurnsTake, others_of, turns_of}
 use Rattle.osdp_bus_time_laws.proofs.Devices.{Well, same_config, well_call}
 use Rattle.osdp_bus_time_laws.proofs.Opened.{begun_there, openings_begin}
 use Rattle.osdp_bus_time_laws.proofs.Ordered.{orders_go_out}

@@ -1,24 +1,5 @@
 -- The bound of an opening is reached.
-use Rattle.std.proofs.Common.{◌≡◌, ◌∙◌, ap, sym, subst, inl, inr, ℕ, ◌≤◌, ◌||◌, Bool, true, false, max, [], ◌∷◌, Option, Some, None, refl, arith}
-use Rattle.std.specs.Prelude.{◌⊎◌, if◌then◌else◌}
-use Rattle.osdp_controller.specs.Sessions.{seen as seen_by}
-use Rattle.osdp_controller.specs.States.{is_idle}
-use Rattle.osdp_time_laws.proofs.Duties.{until_of}
-use Rattle.osdp_time_laws.proofs.Instances.{reached_in}
-use Rattle.osdp_bus.specs.declared.entry.Entry.{Entry}
-use Rattle.osdp_bus.specs.Buses.{BusState, has_report, holder, seen}
-use Rattle.osdp_bus.specs.Deadlines.{acts}
-use Rattle.osdp_bus.specs.Entries.{entry_ticks, holds, is_entry_due}
-use Rattle.osdp_bus.specs.Machine.{entry_begins, new_device}
-use Rattle.osdp_bus.specs.Hearing.{ends_silent}
-use Rattle.osdp_bus.specs.Settings.{IsBusConfig}
-use Rattle.osdp_bus.specs.Ticking.{BusTicked, bus_ticks, is_due_at, stays, ticks_by, ticks_free, ticks_held, ticks_on}
-use Rattle.osdp_bus.proofs.Waiting.{free_acts, held_acts, nothing_ends, nothing_silent}
-use Rattle.osdp_bus_laws.specs.Calls.{Tick, NextReport, after_call, after_calls}
-use Rattle.osdp_bus_laws.specs.Exchanges.{IsOutstandingAt}
-use Rattle.osdp_bus_time_laws.specs.Clock.{KeepsTime}
-use Rattle.osdp_bus_time_laws.specs.Instances.{OpeningIsReached, before_opening, opening_calls, short_line, two_begun}
-use Rattle.osdp_bus_time_laws.specs.Turns.{HasFew}
+use Rattle.osdp_bus_time_laws.proofs.Common.{◌≡◌, ◌∙◌, ap, sym, subst, inl, inr, ℕ, ◌≤◌, ◌||◌, Bool, true, false, max, [], ◌∷◌, Option, Some, None, refl, arith, ◌⊎◌, if◌then◌else◌, seen_by, is_idle, until_of, reached_in, Entry, BusState, has_report, holder, seen, acts, entry_ticks, holds, is_entry_due, entry_begins, new_device, ends_silent, IsBusConfig, BusTicked, bus_ticks, is_due_at, stays, ticks_by, ticks_free, ticks_held, ticks_on, free_acts, held_acts, nothing_ends, nothing_silent, Tick, NextReport, after_call, after_calls, IsOutstandingAt, KeepsTime, OpeningIsReached, before_opening, opening_calls, short_line, two_begun, HasFew}
 
 -- ---- a tick where no bytes are held and no report waits
 

@@ -1,3 +1,4 @@
+pub mod Common
 pub mod Moments
 pub mod Places
 pub mod Devices

@@ -1,19 +1,6 @@
 -- Moments from one call of a bus to the next, and the duties that begin at them.
-use Rattle.std.proofs.Common.{◌≡◌, ◌∙◌, ap, inl, inr, ℕ, ◌≤◌, ◌||◌, Bool, true, false, max, List, [], ◌∷◌, Option, Some, None, refl, arith}
-use Rattle.std.specs.Prelude.{◌⊎◌, is_some}
+use Rattle.osdp_bus_time_laws.proofs.Common.{◌≡◌, ◌∙◌, ap, inl, inr, ℕ, ◌≤◌, ◌||◌, Bool, true, false, max, List, [], ◌∷◌, Option, Some, None, refl, arith, ◌⊎◌, is_some, CallOf, BeginOf, TickOf, IsByOf, TicksBy, Entry, BusFault, BusState, device_of, has_report, holder, acts, holds, is_entry_due, begin_refusal_at, any_at, free_acts, free_ends, held_acts, held_ends, Call, Begin, OnBytes, OnSilence, Tick, after_call, moments_are_seen, DoneBy, IsBy, ends_duty}
 use Rattle.osdp_frame.specs.Silence.{is_silent_for}
-use Rattle.osdp_controller_laws.specs.Runs.{Call as CallOf, Begin as BeginOf, Tick as TickOf}
-use Rattle.osdp_time_laws.specs.Clock.{IsBy as IsByOf, TicksBy}
-use Rattle.osdp_bus.specs.declared.entry.Entry.{Entry}
-use Rattle.osdp_bus.specs.declared.fault.BusFault.{BusFault}
-use Rattle.osdp_bus.specs.Buses.{BusState, device_of, has_report, holder}
-use Rattle.osdp_bus.specs.Deadlines.{acts}
-use Rattle.osdp_bus.specs.Entries.{holds, is_entry_due}
-use Rattle.osdp_bus.specs.Machine.{begin_refusal_at}
-use Rattle.osdp_bus.proofs.Waiting.{any_at, free_acts, free_ends, held_acts, held_ends}
-use Rattle.osdp_bus_laws.specs.Calls.{Call, Begin, OnBytes, OnSilence, Tick, after_call}
-use Rattle.osdp_bus_laws.proofs.Moments.{moments_are_seen}
-use Rattle.osdp_bus_time_laws.specs.Clock.{DoneBy, IsBy, ends_duty}
 
 -- the moment that is seen after a call: the same, or the greater one of it and the moment of the call
 abbrev Sees : Call → BusState → Type 0

@@ -1,17 +1,5 @@
 -- A session that begins has its opening ID handed out in its turn.
-use Rattle.std.proofs.Common.{◌≡◌, ◌∙◌, ap, sym, subst, inl, ℕ, ◌+◌, ◌≤◌, max, Option, Some, None, refl, arith}
-use Rattle.std.specs.Prelude.{slice_set}
-use Rattle.std.specs.Option.{option_map_or}
-use Rattle.osdp_controller.specs.declared.config.ControllerConfig.{ControllerConfig}
-use Rattle.osdp_controller.specs.Sessions.{seen as seen_by}
-use Rattle.osdp_time_laws.proofs.Phases.{later_within}
-use Rattle.osdp_bus.specs.declared.entry.Entry.{Entry}
-use Rattle.osdp_bus.specs.Buses.{BusState, device_of, seen}
-use Rattle.osdp_bus.specs.Machine.{after_begin_at, begin_refusal_at, begin_refusal_of, changed_unless, changes_entry, entry_begins}
-use Rattle.osdp_bus_laws.specs.Calls.{Begin, after_call}
-use Rattle.osdp_bus_laws.proofs.Turning.{set_here}
-use Rattle.osdp_bus_time_laws.specs.Laws.{OpeningsBegin}
-use Rattle.osdp_bus_time_laws.specs.Turns.{BeginsBy, others_of}
+use Rattle.osdp_bus_time_laws.proofs.Common.{◌≡◌, ◌∙◌, ap, sym, subst, inl, ℕ, ◌+◌, ◌≤◌, max, Option, Some, None, refl, arith, slice_set, option_map_or, ControllerConfig, seen_by, later_within, Entry, BusState, device_of, seen, after_begin_at, begin_refusal_at, begin_refusal_of, changed_unless, changes_entry, entry_begins, Begin, after_call, set_here, OpeningsBegin, BeginsBy, others_of}
 use Rattle.osdp_bus_time_laws.proofs.Devices.{Well, same_config, well_call}
 use Rattle.osdp_bus_time_laws.proofs.Places.{AtPlace}
 use Rattle.osdp_bus_time_laws.proofs.Turning.{Ready, ends_later, has_its_turn}

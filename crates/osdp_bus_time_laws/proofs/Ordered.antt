@@ -1,40 +1,5 @@
 -- The exchanges of an entry, one after the other: an order has its turn after those before it, and a POLL where no command waits.
-use Rattle.std.proofs.Common.{◌≡◌, ◌∙◌, ap, sym, subst, inl, inr, ℕ, zero, suc, ◌+◌, ◌*◌, ◌≤◌, Bool, true, false, max, List, [], ◌∷◌, length, Option, Some, None, refl, arith}
-use Rattle.std.specs.Prelude.{◌⊎◌, if◌then◌else◌, drop, nat_eq, slice_set}
-use Rattle.std.specs.Option.{option_map_or}
-use Rattle.std.proofs.Math.Nat.{suc-mul}
-use Rattle.std.proofs.lemmas.Bool.{eqb-true, eqb-false}
-use Rattle.std.proofs.lemmas.List.{length-append}
-use Rattle.osdp_msg.specs.declared.command.Command.{Command}
-use Rattle.osdp_controller.specs.declared.config.ControllerConfig.{ControllerConfig}
-use Rattle.osdp_controller.specs.declared.session.Session.{Session}
-use Rattle.osdp_controller.specs.declared.state.State.{State}
-use Rattle.osdp_controller.specs.declared.state.State.TheVariants.{Idle, Waiting, Pausing}
-use Rattle.osdp_controller.specs.Machine.{is_outstanding}
-use Rattle.osdp_controller.specs.States.{is_closed, is_idle}
-use Rattle.osdp_controller.specs.Ticking.{ticks}
-use Rattle.osdp_controller_laws.proofs.Ticks.{takes_front}
-use Rattle.osdp_time_laws.specs.Acceptance.{WaitsItsTime}
-use Rattle.osdp_time_laws.specs.Orders.{is_under_way}
-use Rattle.osdp_time_laws.proofs.Duties.{until_of}
-use Rattle.osdp_time_laws.proofs.Orders.{at_rest, lives, next_product}
-use Rattle.osdp_bus.specs.declared.config.BusConfig.{BusConfig}
-use Rattle.osdp_bus.specs.declared.entry.Entry.{Entry}
-use Rattle.osdp_bus.specs.Buses.{BusState, device_of, has_report}
-use Rattle.osdp_bus.specs.Entries.{entry_ticks, holds}
-use Rattle.osdp_bus.specs.Machine.{after_submit_at, changed_unless, entry_submits, entry_withdraws, submit_refusal_at}
-use Rattle.osdp_bus.specs.Ticking.{BusTicked, bus_ticks, ticks_with}
-use Rattle.osdp_bus_laws.specs.Calls.{Call, Submit, Tick, after_call}
-use Rattle.osdp_bus_laws.specs.Exchanges.{IsOutstandingAt}
-use Rattle.osdp_bus_laws.specs.Fairness.{Begins}
-use Rattle.osdp_bus_laws.specs.Turns.{asking}
-use Rattle.osdp_bus_laws.proofs.Exchanging.{has_one_exchange}
-use Rattle.osdp_bus_laws.proofs.Fairness.{begun_ticked, stands_after}
-use Rattle.osdp_bus_laws.proofs.Moments.{moments_are_seen}
-use Rattle.osdp_bus_laws.proofs.Turning.{set_here}
-use Rattle.osdp_bus_time_laws.specs.Clock.{KeepsTime, ends_duty}
-use Rattle.osdp_bus_time_laws.specs.Laws.{ExchangesComeRound, GoesOutBy, IsUnderWay, OrdersGoOut}
-use Rattle.osdp_bus_time_laws.specs.Turns.{BeginsBy, EndsBy, HasFew, KeepsTurns, NoneBegins, TurnsTake, others_of, turns_of}
+use Rattle.osdp_bus_time_laws.proofs.Common.{◌≡◌, ◌∙◌, ap, sym, subst, inl, inr, ℕ, zero, suc, ◌+◌, ◌*◌, ◌≤◌, Bool, true, false, max, List, [], ◌∷◌, length, Option, Some, None, refl, arith, ◌⊎◌, if◌then◌else◌, drop, nat_eq, slice_set, option_map_or, suc-mul, eqb-true, eqb-false, length-append, Command, ControllerConfig, Session, State, Idle, Waiting, Pausing, is_outstanding, is_closed, is_idle, ticks, takes_front, WaitsItsTime, is_under_way, until_of, at_rest, lives, next_product, BusConfig, Entry, BusState, device_of, has_report, entry_ticks, holds, after_submit_at, changed_unless, entry_submits, entry_withdraws, submit_refusal_at, BusTicked, bus_ticks, ticks_with, Call, Submit, Tick, after_call, IsOutstandingAt, Begins, asking, has_one_exchange, begun_ticked, stands_after, moments_are_seen, set_here, KeepsTime, ends_duty, ExchangesComeRound, GoesOutBy, IsUnderWay, OrdersGoOut, BeginsBy, EndsBy, HasFew, KeepsTurns, NoneBegins, TurnsTake, others_of, turns_of}
 use Rattle.osdp_bus_time_laws.proofs.Devices.{Kept, Well, same_config, well_call}
 use Rattle.osdp_bus_time_laws.proofs.Places.{AtPlace, Outcome, asking_place, call_place, one_device, tick_place}
 use Rattle.osdp_bus_time_laws.proofs.Sums.{all_turns}

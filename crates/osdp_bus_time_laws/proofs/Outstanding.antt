@@ -1,54 +1,11 @@
 -- The exchange that is outstanding ends in time.
 use Rattle.std.proofs.Common.{◌≡◌, ◌∙◌, ◌⊎◌, ap, sym, subst, inl, inr, ℕ, ◌+◌, ◌≤◌, ◌<◌, ◌||◌, Bool, true, false, max, List, [], ◌∷◌, Some, refl, arith}
-use Rattle.std.specs.Prelude.{All, is_some, nat_le}
+use Rattle.osdp_bus_time_laws.proofs.Common.{All, is_some, nat_le, All-head, All-tail, Packet, next_sequence, Command, ControllerConfig, Opening, Polling, Session, State, Closed, Quiet, Idle, Waiting, Pausing, hears, is_outstanding, seen_by, is_closed, either_way, CallOf, HearOf, TickOf, after_call_of, hears_at_moment, longest_exchange, TicksBy, is_tick, IsNotBusy, BeginsOne, Few, begun_tick, one_less, whole, whole_is, Due, due_ahead, due_at, due_kept, due_seen, until_of, tick_at_moment, Holds, Phase, frame_holds, phase_near, phase_passed, phase_seen, still, tick_holds, timely_then, Entry, BusState, device_of, has_report, seen, acts, entry_hears, entry_ticks, holds, is_entry_due, controller_config, BusTicked, bus_ticks, ticks_with, Call, Tick, after_call, IsOutstandingAt, Begins, asking, judged, has_one_exchange, Who, begun_ticked, stands_after, who, moments_are_seen, heard_holds, is_false, SoundBus, sound_run, sound_seen, sound_silent, begins_frame, set_here, still_free, DoneBy, IsOwed, KeepsTime, ends_duty, ExchangesEnd, exchange_of, EndsBy, NoneBegins, OutstandingTakes, TurnsTake}
 use Rattle.std.proofs.lemmas.Bool.Decides.{leb_tells}
-use Rattle.std.proofs.lemmas.List.Elements.{All-head, All-tail}
-use Rattle.osdp_frame.specs.Packet.{Packet, next_sequence}
-use Rattle.osdp_msg.specs.declared.command.Command.{Command}
 use Rattle.osdp_msg.specs.ReplyTable as replies
-use Rattle.osdp_controller.specs.declared.config.ControllerConfig.{ControllerConfig}
-use Rattle.osdp_controller.specs.declared.exchange.Exchange.TheVariants.{Opening, Polling}
-use Rattle.osdp_controller.specs.declared.session.Session.{Session}
-use Rattle.osdp_controller.specs.declared.state.State.{State}
-use Rattle.osdp_controller.specs.declared.state.State.TheVariants.{Closed, Quiet, Idle, Waiting, Pausing}
-use Rattle.osdp_controller.specs.Hearing.{hears}
-use Rattle.osdp_controller.specs.Machine.{is_outstanding}
-use Rattle.osdp_controller.specs.Sessions.{seen as seen_by}
-use Rattle.osdp_controller.specs.States.{is_closed}
 use Rattle.osdp_controller.specs.Ticking.{Ticked, begins, stays, ticks_in}
-use Rattle.osdp_controller.proofs.Choices.{either_way}
-use Rattle.osdp_controller_laws.specs.Runs.{Call as CallOf, Hear as HearOf, Tick as TickOf, after_call as after_call_of}
-use Rattle.osdp_controller_laws.proofs.Kept.{hears_at_moment}
-use Rattle.osdp_time_laws.specs.Bounds.{longest_exchange}
-use Rattle.osdp_time_laws.specs.Clock.{TicksBy, is_tick}
 use Rattle.osdp_time_laws.specs.Instances.{busy}
-use Rattle.osdp_time_laws.specs.Laws.{IsNotBusy}
 use Rattle.osdp_time_laws.proofs.Accepted.{phase_now}
-use Rattle.osdp_time_laws.proofs.Beginnings.{Begins as BeginsOne, Few, begun_tick, one_less, whole, whole_is}
-use Rattle.osdp_time_laws.proofs.Duties.{Due, due_ahead, due_at, due_kept, due_seen, until_of}
-use Rattle.osdp_time_laws.proofs.Ends.{tick_at_moment}
-use Rattle.osdp_time_laws.proofs.Phases.{Holds, Phase, frame_holds, phase_near, phase_passed, phase_seen, still, tick_holds}
-use Rattle.osdp_time_laws.proofs.Timely.{timely_then}
-use Rattle.osdp_bus.specs.declared.entry.Entry.{Entry}
-use Rattle.osdp_bus.specs.Buses.{BusState, device_of, has_report, seen}
-use Rattle.osdp_bus.specs.Deadlines.{acts}
-use Rattle.osdp_bus.specs.Entries.{entry_hears, entry_ticks, holds, is_entry_due}
-use Rattle.osdp_bus.specs.Settings.{controller_config}
-use Rattle.osdp_bus.specs.Ticking.{BusTicked, bus_ticks, ticks_with}
-use Rattle.osdp_bus_laws.specs.Calls.{Call, Tick, after_call}
-use Rattle.osdp_bus_laws.specs.Exchanges.{IsOutstandingAt}
-use Rattle.osdp_bus_laws.specs.Fairness.{Begins}
-use Rattle.osdp_bus_laws.specs.Turns.{asking, judged}
-use Rattle.osdp_bus_laws.proofs.Exchanging.{has_one_exchange}
-use Rattle.osdp_bus_laws.proofs.Fairness.{Who, begun_ticked, stands_after, who}
-use Rattle.osdp_bus_laws.proofs.Moments.{moments_are_seen}
-use Rattle.osdp_bus_laws.proofs.OneDevice.{heard_holds}
-use Rattle.osdp_bus_laws.proofs.Places.{is_false}
-use Rattle.osdp_bus_laws.proofs.Sound.{SoundBus, sound_run, sound_seen, sound_silent}
-use Rattle.osdp_bus_laws.proofs.Turning.{begins_frame, set_here, still_free}
-use Rattle.osdp_bus_time_laws.specs.Clock.{DoneBy, IsOwed, KeepsTime, ends_duty}
-use Rattle.osdp_bus_time_laws.specs.Laws.{ExchangesEnd, exchange_of}
-use Rattle.osdp_bus_time_laws.specs.Turns.{EndsBy, NoneBegins, OutstandingTakes, TurnsTake}
 use Rattle.osdp_bus_time_laws.proofs.Devices.{Well, kept_asking, same_config, well_call}
 use Rattle.osdp_bus_time_laws.proofs.Moments.{acts_held, as_tick, by_tick, done_ticks, grows, ticks_of}
 use Rattle.osdp_bus_time_laws.proofs.Places.{AtPlace, Outcome, call_place, one_device, tick_place}

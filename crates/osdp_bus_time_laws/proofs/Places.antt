@@ -1,34 +1,7 @@
 -- What a call leaves of the device of an entry, by what each packet that it hears keeps.
-use Rattle.std.proofs.Common.{◌≡◌, ◌∙◌, ap, sym, subst, inl, inr, ℕ, zero, suc, ◌||◌, Bool, true, false, max, List, [], ◌∷◌, ◌++◌, Option, Some, None, refl}
-use Rattle.std.specs.Prelude.{◌⊎◌, ◌≢◌, ◌&&◌, if◌then◌else◌, nat_eq, not, option_map, slice_get, slice_set}
-use Rattle.std.specs.Option.{option_map_or}
-use Rattle.std.proofs.lemmas.Bool.{eqb-true, eqb-false}
-use Rattle.osdp_frame.specs.Items.{items}
-use Rattle.osdp_frame.specs.Packet.{Packet}
-use Rattle.osdp_msg.specs.declared.command.Command.{Command}
-use Rattle.osdp_controller.specs.Machine.{begin_refusal, refused_unless_closed, retarget_refusal}
+use Rattle.osdp_bus_time_laws.proofs.Common.{◌≡◌, ◌∙◌, ap, sym, subst, inl, inr, ℕ, zero, suc, ◌||◌, Bool, true, false, max, List, [], ◌∷◌, ◌++◌, Option, Some, None, refl, ◌⊎◌, ◌≢◌, ◌&&◌, if◌then◌else◌, nat_eq, not, option_map, slice_get, slice_set, option_map_or, eqb-true, eqb-false, items, Packet, Command, begin_refusal, refused_unless_closed, retarget_refusal, is_closed, either_way, Entry, BusFault, BusState, Devices, device_of, has_report, holder, is_silent, seen, entry_hears, entry_ticks, holds, is_entry_due, is_taken_beside, after_bytes, ends_run, ends_silent, hears_items, hears_with, add_refusal, after_add, after_begin_at, after_retarget_at, after_submit_at, begin_refusal_at, begin_refusal_of, bus_fault, changed_unless, changes_entry, entry_begins, entry_retargets, entry_submits, entry_withdraws, new_device, retarget_refusal_at, retarget_refusal_of, submit_refusal_at, BusTicked, bus_ticks, is_due_at, is_held_and_due, next_due, stays, ticks_at, ticks_by, ticks_held, ticks_on, ticks_with, Call, Add, Begin, Submit, Withdraw, Retarget, OnBytes, OnSilence, Tick, NextReport, after_call, Begins, asking, judged, map_none, no_device, or_none, has_one_exchange, items_keep, moments_are_seen, IsNobody, SoundBus, held_items, held_there, nobody, sound_run, sound_seen, sound_silent, still_nobody, stays_silent, due_is_next, set_here, set_other, ends_duty}
 use Rattle.osdp_controller.specs.Comsets.{has_comset}
-use Rattle.osdp_controller.specs.States.{is_closed}
-use Rattle.osdp_controller.proofs.Choices.{either_way}
 use Rattle.osdp_controller_laws.proofs.Closed.{was_closed}
-use Rattle.osdp_bus.specs.declared.entry.Entry.{Entry}
-use Rattle.osdp_bus.specs.declared.fault.BusFault.{BusFault}
-use Rattle.osdp_bus.specs.Buses.{BusState, Devices, device_of, has_report, holder, is_silent, seen}
-use Rattle.osdp_bus.specs.Entries.{entry_hears, entry_ticks, holds, is_entry_due, is_taken_beside}
-use Rattle.osdp_bus.specs.Hearing.{after_bytes, ends_run, ends_silent, hears_items, hears_with}
-use Rattle.osdp_bus.specs.Machine.{add_refusal, after_add, after_begin_at, after_retarget_at, after_submit_at, begin_refusal_at, begin_refusal_of, bus_fault, changed_unless, changes_entry, entry_begins, entry_retargets, entry_submits, entry_withdraws, new_device, retarget_refusal_at, retarget_refusal_of, submit_refusal_at}
-use Rattle.osdp_bus.specs.Ticking.{BusTicked, bus_ticks, is_due_at, is_held_and_due, next_due, stays, ticks_at, ticks_by, ticks_held, ticks_on, ticks_with}
-use Rattle.osdp_bus_laws.specs.Calls.{Call, Add, Begin, Submit, Withdraw, Retarget, OnBytes, OnSilence, Tick, NextReport, after_call}
-use Rattle.osdp_bus_laws.specs.Fairness.{Begins}
-use Rattle.osdp_bus_laws.specs.Turns.{asking, judged}
-use Rattle.osdp_bus_laws.proofs.Calling.{map_none, no_device, or_none}
-use Rattle.osdp_bus_laws.proofs.Exchanging.{has_one_exchange}
-use Rattle.osdp_bus_laws.proofs.Hearing.{items_keep}
-use Rattle.osdp_bus_laws.proofs.Moments.{moments_are_seen}
-use Rattle.osdp_bus_laws.proofs.Sound.{IsNobody, SoundBus, held_items, held_there, nobody, sound_run, sound_seen, sound_silent, still_nobody}
-use Rattle.osdp_bus_laws.proofs.Staying.{stays_silent}
-use Rattle.osdp_bus_laws.proofs.Turning.{due_is_next, set_here, set_other}
-use Rattle.osdp_bus_time_laws.specs.Clock.{ends_duty}
 
 -- what holds of the device of an entry
 abbrev pub AtPlace : ℕ → (Entry → Type 0) → Devices → Type 0

@@ -1,41 +1,8 @@
 -- A device of which nothing is read: its exchange is a round of sends, and it is told lost in time.
-use Rattle.std.proofs.Common.{◌≡◌, ◌∙◌, ap, sym, subst, inl, inr, ℕ, ◌+◌, Bool, true, false, List, [], ◌∷◌, Option, Some, None, refl}
-use Rattle.std.specs.Prelude.{All, nat_le, nat_lt}
-use Rattle.std.proofs.lemmas.List.Elements.{All-cons, All-nil}
-use Rattle.osdp_msg.specs.declared.command.Command.{Command}
-use Rattle.osdp_controller.specs.declared.config.ControllerConfig.{ControllerConfig}
+use Rattle.osdp_bus_time_laws.proofs.Common.{◌≡◌, ◌∙◌, ap, sym, subst, inl, inr, ℕ, ◌+◌, Bool, true, false, List, [], ◌∷◌, Option, Some, None, refl, All, nat_le, nat_lt, All-cons, All-nil, Command, ControllerConfig, NoReply, Lost, Session, State, Waiting, Pausing, is_outstanding, seen_by, either_way, CallOf, round_time, TicksBy, IsNotBusy, no_busy, whole, whole_is, Phase, Entry, BusState, device_of, waiting_after, entry_ticks, holds, is_entry_due, step_of, controller_config, Call, after_call, IsOutstandingAt, Begins, has_one_exchange, stands_after, who, is_false, DoneBy, IsOwed, KeepsTime, ends_duty, exchange_of, NothingIsRead, IsLost, SilenceIsTold, SilenceIsToldInTime, ToldBy, round_of, EndsBy}
 use Rattle.osdp_controller.specs.declared.report.LostCause.{LostCause}
-use Rattle.osdp_controller.specs.declared.report.LostCause.TheVariants.{NoReply}
-use Rattle.osdp_controller.specs.declared.report.Report.TheVariants.{Lost}
-use Rattle.osdp_controller.specs.declared.session.Session.{Session}
-use Rattle.osdp_controller.specs.declared.state.State.{State}
-use Rattle.osdp_controller.specs.declared.state.State.TheVariants.{Waiting, Pausing}
 use Rattle.osdp_controller.specs.Exchanges.{submitted_command}
-use Rattle.osdp_controller.specs.Machine.{is_outstanding}
-use Rattle.osdp_controller.specs.Sessions.{seen as seen_by}
 use Rattle.osdp_controller.specs.Ticking.{Ticked, gives_up, sends_frame, stays, ticks_in, tries_again}
-use Rattle.osdp_controller.proofs.Choices.{either_way}
-use Rattle.osdp_controller_laws.specs.Runs.{Call as CallOf}
-use Rattle.osdp_time_laws.specs.Bounds.{round_time}
-use Rattle.osdp_time_laws.specs.Clock.{TicksBy}
-use Rattle.osdp_time_laws.specs.Laws.{IsNotBusy}
-use Rattle.osdp_time_laws.proofs.Beginnings.{no_busy, whole, whole_is}
-use Rattle.osdp_time_laws.proofs.Phases.{Phase}
-use Rattle.osdp_bus.specs.declared.entry.Entry.{Entry}
-use Rattle.osdp_bus.specs.Buses.{BusState, device_of, waiting_after}
-use Rattle.osdp_bus.specs.Entries.{entry_ticks, holds, is_entry_due, step_of}
-use Rattle.osdp_bus.specs.Settings.{controller_config}
-use Rattle.osdp_bus_laws.specs.Calls.{Call, after_call}
-use Rattle.osdp_bus_laws.specs.Exchanges.{IsOutstandingAt}
-use Rattle.osdp_bus_laws.specs.Fairness.{Begins}
-use Rattle.osdp_bus_laws.proofs.Exchanging.{has_one_exchange}
-use Rattle.osdp_bus_laws.proofs.Fairness.{stands_after, who}
-use Rattle.osdp_bus_laws.proofs.Places.{is_false}
-use Rattle.osdp_bus_time_laws.specs.Clock.{DoneBy, IsOwed, KeepsTime, ends_duty}
-use Rattle.osdp_bus_time_laws.specs.Laws.{exchange_of}
-use Rattle.osdp_bus_time_laws.specs.Reading.{NothingIsRead}
-use Rattle.osdp_bus_time_laws.specs.Telling.{IsLost, SilenceIsTold, SilenceIsToldInTime, ToldBy, round_of}
-use Rattle.osdp_bus_time_laws.specs.Turns.{EndsBy}
 use Rattle.osdp_bus_time_laws.proofs.Devices.{Well, kept_asking, same_config, well_call}
 use Rattle.osdp_bus_time_laws.proofs.InTime.{same_others}
 use Rattle.osdp_bus_time_laws.proofs.Moments.{as_tick, ticks_of}

@@ -1,14 +1,8 @@
 -- The bound of an order is reached, by a line of two entries.
-use Rattle.std.proofs.Common.{ℕ, ◌≤◌, List, [], ◌∷◌, refl, arith}
+use Rattle.osdp_bus_time_laws.proofs.Common.{ℕ, ◌≤◌, List, [], ◌∷◌, refl, arith, BusState, OnBytes, Tick, after_call, moments_are_seen, KeepsTime, OrderIsReached, ack_bytes, both_open, order_calls, ordered, HasFew}
 use Rattle.osdp_frame.specs.Items.{items, left_over}
 use Rattle.osdp_frame.specs.Held.{decided}
 use Rattle.osdp_msg.specs.ReplyTable.{reply_at, reply_fault, reply_of}
-use Rattle.osdp_bus.specs.Buses.{BusState}
-use Rattle.osdp_bus_laws.specs.Calls.{OnBytes, Tick, after_call}
-use Rattle.osdp_bus_laws.proofs.Moments.{moments_are_seen}
-use Rattle.osdp_bus_time_laws.specs.Clock.{KeepsTime}
-use Rattle.osdp_bus_time_laws.specs.Instances.{OrderIsReached, ack_bytes, both_open, order_calls, ordered}
-use Rattle.osdp_bus_time_laws.specs.Turns.{HasFew}
 use Rattle.osdp_bus_time_laws.proofs.Acting.{device_in, no_other, owed_from}
 use Rattle.osdp_bus_time_laws.proofs.Instances.{short_config}
 

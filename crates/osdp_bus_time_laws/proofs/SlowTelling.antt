@@ -1,22 +1,8 @@
 -- The bound by which a silent device is told lost is reached, by a line of two entries.
-use Rattle.std.proofs.Common.{◌≡◌, ◌∙◌, ap, sym, inl, inr, ℕ, ◌≤◌, ◌||◌, Bool, true, false, max, [], ◌∷◌, None, refl, arith}
-use Rattle.std.specs.Prelude.{◌⊎◌, All}
-use Rattle.std.specs.List.{list_any}
-use Rattle.std.proofs.lemmas.List.Elements.{All-nil}
+use Rattle.osdp_bus_time_laws.proofs.Common.{◌≡◌, ◌∙◌, ap, sym, inl, inr, ℕ, ◌≤◌, ◌||◌, Bool, true, false, max, [], ◌∷◌, None, refl, arith, ◌⊎◌, All, list_any, All-nil, NoReply, until_of, Entry, BusState, has_report, holder, acts, address_of, is_entry_due, NextReport, Tick, after_call, KeepsTime, SilenceIsReached, both_idle, silent_calls, IsOfAnother, NothingIsRead, HasFew}
 use Rattle.osdp_frame.specs.Items.{items, left_over}
 use Rattle.osdp_frame.specs.Held.{decided}
 use Rattle.osdp_msg.specs.ReplyTable.{reply_at, reply_fault, reply_of}
-use Rattle.osdp_controller.specs.declared.report.LostCause.TheVariants.{NoReply}
-use Rattle.osdp_time_laws.proofs.Duties.{until_of}
-use Rattle.osdp_bus.specs.declared.entry.Entry.{Entry}
-use Rattle.osdp_bus.specs.Buses.{BusState, has_report, holder}
-use Rattle.osdp_bus.specs.Deadlines.{acts}
-use Rattle.osdp_bus.specs.Entries.{address_of, is_entry_due}
-use Rattle.osdp_bus_laws.specs.Calls.{NextReport, Tick, after_call}
-use Rattle.osdp_bus_time_laws.specs.Clock.{KeepsTime}
-use Rattle.osdp_bus_time_laws.specs.Instances.{SilenceIsReached, both_idle, silent_calls}
-use Rattle.osdp_bus_time_laws.specs.Reading.{IsOfAnother, NothingIsRead}
-use Rattle.osdp_bus_time_laws.specs.Turns.{HasFew}
 use Rattle.osdp_bus_time_laws.proofs.Acting.{device_in, free_due, no_other, owed_from, reached_of}
 use Rattle.osdp_bus_time_laws.proofs.Instances.{short_config}
 

@@ -1,9 +1,5 @@
 -- Turns of entries, added up: those that come before an entry, from the one that is asked first on.
-use Rattle.std.proofs.Common.{◌≡◌, ap, subst, inl, inr, ℕ, zero, suc, ◌+◌, ◌-◌, ◌≤◌, ◌<◌, Bool, true, false, refl, arith}
-use Rattle.std.specs.Prelude.{◌≢◌, if◌then◌else◌, nat_le, nat_lt}
-use Rattle.std.proofs.lemmas.Bool.{le-leb, lt-leb, leb-true, leb-false, ltb-true, ltb-false}
-use Rattle.osdp_bus_laws.specs.Turns.{IsBefore}
-use Rattle.osdp_bus_time_laws.specs.Turns.{others_of, turns_of}
+use Rattle.osdp_bus_time_laws.proofs.Common.{◌≡◌, ap, subst, inl, inr, ℕ, zero, suc, ◌+◌, ◌-◌, ◌≤◌, ◌<◌, Bool, true, false, refl, arith, ◌≢◌, if◌then◌else◌, nat_le, nat_lt, le-leb, lt-leb, leb-true, leb-false, ltb-true, ltb-false, IsBefore, others_of, turns_of}
 
 as_next : (n : ℕ) → n + 1 ≡ suc n
 as_next n = omega arith

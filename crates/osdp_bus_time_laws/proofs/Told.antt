@@ -1,25 +1,6 @@
 -- What is told is taken in time, and a device that falls silent is told lost in time.
-use Rattle.std.proofs.Common.{◌≡◌, ◌∙◌, ap, sym, subst, inl, inr, ℕ, ◌+◌, ◌≤◌, ◌||◌, Bool, true, false, List, [], ◌∷◌, Option, Some, None, refl, arith}
-use Rattle.std.specs.Prelude.{◌⊎◌, is_some, nat_eq, not}
-use Rattle.std.proofs.lemmas.Bool.{eqb-true, eqb-false}
-use Rattle.osdp_controller.specs.declared.report.Report.TheVariants.{Lost}
-use Rattle.osdp_controller.specs.declared.state.State.{State}
-use Rattle.osdp_controller.specs.declared.state.State.TheVariants.{Idle}
-use Rattle.osdp_controller.specs.Machine.{is_outstanding}
-use Rattle.osdp_controller.specs.States.{is_closed, is_idle}
-use Rattle.osdp_bus.specs.declared.entry.Entry.{Entry}
-use Rattle.osdp_bus.specs.Buses.{BusState, device_of, has_report}
-use Rattle.osdp_bus.specs.Deadlines.{acts}
-use Rattle.osdp_bus.specs.Entries.{holds}
-use Rattle.osdp_bus_laws.specs.Calls.{Call, Tick, after_call}
-use Rattle.osdp_bus_laws.specs.Exchanges.{IsOutstandingAt}
-use Rattle.osdp_bus_laws.specs.Fairness.{Begins}
-use Rattle.osdp_bus_laws.proofs.Exchanging.{has_one_exchange}
-use Rattle.osdp_bus_laws.proofs.Fairness.{stands_after}
+use Rattle.osdp_bus_time_laws.proofs.Common.{◌≡◌, ◌∙◌, ap, sym, subst, inl, inr, ℕ, ◌+◌, ◌≤◌, ◌||◌, Bool, true, false, List, [], ◌∷◌, Option, Some, None, refl, arith, ◌⊎◌, is_some, nat_eq, not, eqb-true, eqb-false, Lost, State, Idle, is_outstanding, is_closed, is_idle, Entry, BusState, device_of, has_report, acts, holds, Call, Tick, after_call, IsOutstandingAt, Begins, has_one_exchange, stands_after, DoneBy, KeepsTime, ends_duty, IsIdle, IsLost, OpenAreAsked, ReportsAreTaken, TakenBy, ToldBy, BeginsBy, EndsBy, KeepsTurns, NoneBegins, others_of}
 use Rattle.osdp_bus_laws.proofs.Reserving.{keeps_reports}
-use Rattle.osdp_bus_time_laws.specs.Clock.{DoneBy, KeepsTime, ends_duty}
-use Rattle.osdp_bus_time_laws.specs.Telling.{IsIdle, IsLost, OpenAreAsked, ReportsAreTaken, TakenBy, ToldBy}
-use Rattle.osdp_bus_time_laws.specs.Turns.{BeginsBy, EndsBy, KeepsTurns, NoneBegins, others_of}
 use Rattle.osdp_bus_time_laws.proofs.Devices.{Well, well_call}
 use Rattle.osdp_bus_time_laws.proofs.Moments.{grows, within_limit}
 use Rattle.osdp_bus_time_laws.proofs.Ordered.{rest_due}

@@ -1,45 +1,8 @@
 -- An entry that is due from a moment on has its turn: a turn of each other entry later at the most.
-use Rattle.std.proofs.Common.{◌≡◌, ◌∙◌, ap, sym, subst, inl, inr, ℕ, zero, suc, ◌+◌, ◌≤◌, ◌<◌, ◌||◌, Bool, true, false, max, List, [], ◌∷◌, ◌++◌, length, Option, Some, None, refl, arith}
-use Rattle.std.specs.Prelude.{◌⊎◌, ◌≢◌, if◌then◌else◌, drop, is_some, nat_eq, nat_lt, not, slice_get}
-use Rattle.std.proofs.lemmas.Bool.{eqb-true, eqb-false, ltb-true, ltb-false}
-use Rattle.std.proofs.lemmas.List.{length-append}
-use Rattle.osdp_frame.specs.Items.{items}
-use Rattle.osdp_frame.specs.Packet.{Packet}
-use Rattle.osdp_msg.specs.declared.command.Command.{Command}
+use Rattle.osdp_bus_time_laws.proofs.Common.{◌≡◌, ◌∙◌, ap, sym, subst, inl, inr, ℕ, zero, suc, ◌+◌, ◌≤◌, ◌<◌, ◌||◌, Bool, true, false, max, List, [], ◌∷◌, ◌++◌, length, Option, Some, None, refl, arith, ◌⊎◌, ◌≢◌, if◌then◌else◌, drop, is_some, nat_eq, nat_lt, not, slice_get, eqb-true, eqb-false, ltb-true, ltb-false, length-append, items, Packet, Command, State, Heard, is_outstanding, seen_by, is_closed, is_idle, CallOf, TicksBy, is_tick, Due, due_kept, due_seen, until_of, due_idle, Entry, BusState, Devices, device_of, has_report, holder, is_silent, seen, waiting_after, acts, entry_hears, holds, is_entry_due, told_of, ends_run, hears_items, hears_with, entry_submits, entry_withdraws, bus_ticks, next_due, Call, Begin, OnBytes, OnSilence, Tick, after_call, IsOutstandingAt, Begins, IsBefore, IsDueEntry, IsFree, asking, judged, has_exchange, items_keep, moments_are_seen, heard_holds, heard_told, IsAt, is_false, replaced, IsNobody, nobody, either_way, stays_silent, due_is_next, none_is_due, takes_turns, DoneBy, IsOwed, KeepsTime, ends_duty, BeginsBy, EndsBy, HasFew, NoneBegins, TurnsTake, others_of}
 use Rattle.osdp_controller.specs.declared.report.Report.{Report}
-use Rattle.osdp_controller.specs.declared.state.State.{State}
-use Rattle.osdp_controller.specs.Hearing.{Heard}
-use Rattle.osdp_controller.specs.Machine.{is_outstanding}
-use Rattle.osdp_controller.specs.Sessions.{seen as seen_by}
-use Rattle.osdp_controller.specs.States.{is_closed, is_idle}
-use Rattle.osdp_controller_laws.specs.Runs.{Call as CallOf}
 use Rattle.osdp_controller_laws.proofs.Stepwise.{frames_in_steps}
-use Rattle.osdp_time_laws.specs.Clock.{TicksBy, is_tick}
-use Rattle.osdp_time_laws.proofs.Duties.{Due, due_kept, due_seen, until_of}
-use Rattle.osdp_time_laws.proofs.Orders.{due_idle}
-use Rattle.osdp_bus.specs.declared.entry.Entry.{Entry}
-use Rattle.osdp_bus.specs.Buses.{BusState, Devices, device_of, has_report, holder, is_silent, seen, waiting_after}
-use Rattle.osdp_bus.specs.Deadlines.{acts}
-use Rattle.osdp_bus.specs.Entries.{entry_hears, holds, is_entry_due, told_of}
-use Rattle.osdp_bus.specs.Hearing.{ends_run, hears_items, hears_with}
-use Rattle.osdp_bus.specs.Machine.{entry_submits, entry_withdraws}
-use Rattle.osdp_bus.specs.Ticking.{bus_ticks, next_due}
-use Rattle.osdp_bus_laws.specs.Calls.{Call, Begin, OnBytes, OnSilence, Tick, after_call}
-use Rattle.osdp_bus_laws.specs.Exchanges.{IsOutstandingAt}
-use Rattle.osdp_bus_laws.specs.Fairness.{Begins}
-use Rattle.osdp_bus_laws.specs.Turns.{IsBefore, IsDueEntry, IsFree, asking, judged}
-use Rattle.osdp_bus_laws.proofs.Exchanging.{has_exchange}
 use Rattle.osdp_bus_laws.proofs.Fairness.{Quiet, Who, quiet_asking, quiet_judged, stands_after, turn_after, who}
-use Rattle.osdp_bus_laws.proofs.Hearing.{items_keep}
-use Rattle.osdp_bus_laws.proofs.Moments.{moments_are_seen}
-use Rattle.osdp_bus_laws.proofs.OneDevice.{heard_holds, heard_told}
-use Rattle.osdp_bus_laws.proofs.Places.{IsAt, is_false, replaced}
-use Rattle.osdp_bus_laws.proofs.Sound.{IsNobody, nobody}
-use Rattle.osdp_controller.proofs.Choices.{either_way}
-use Rattle.osdp_bus_laws.proofs.Staying.{stays_silent}
-use Rattle.osdp_bus_laws.proofs.Turning.{due_is_next, none_is_due, takes_turns}
-use Rattle.osdp_bus_time_laws.specs.Clock.{DoneBy, IsOwed, KeepsTime, ends_duty}
-use Rattle.osdp_bus_time_laws.specs.Turns.{BeginsBy, EndsBy, HasFew, NoneBegins, TurnsTake, others_of}
 use Rattle.osdp_bus_time_laws.proofs.Devices.{Well, well_call}
 use Rattle.osdp_bus_time_laws.proofs.Moments.{acts_free, as_tick, by_tick, done_ticks, grows}
 use Rattle.osdp_bus_time_laws.proofs.Outstanding.{due_then, endless, endless_ended, moments}

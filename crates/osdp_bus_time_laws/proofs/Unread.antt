@@ -1,36 +1,7 @@
 -- What a call leaves of who holds the line where it reads nothing of it: its exchange stands as it was, or it ticks once it is due.
-use Rattle.std.proofs.Common.{◌≡◌, ◌∙◌, ap, sym, subst, inl, inr, ℕ, ◌≤◌, ◌||◌, Bool, true, false, max, List, [], ◌∷◌, ◌++◌, Option, Some, None, refl, arith}
-use Rattle.std.specs.Prelude.{◌⊎◌, ◌&&◌, if◌then◌else◌, All, is_some, nat_eq, not, slice_get, slice_set}
-use Rattle.std.specs.Option.{option_map_or}
-use Rattle.std.proofs.lemmas.Bool.{eqb-true, eqb-false}
-use Rattle.std.proofs.lemmas.List.Elements.{All-cons, All-head, All-nil, All-tail}
-use Rattle.osdp_frame.specs.Items.{items, whole_packets}
-use Rattle.osdp_frame.specs.Packet.{Packet}
+use Rattle.osdp_bus_time_laws.proofs.Common.{◌≡◌, ◌∙◌, ap, sym, subst, inl, inr, ℕ, ◌≤◌, ◌||◌, Bool, true, false, max, List, [], ◌∷◌, ◌++◌, Option, Some, None, refl, arith, ◌⊎◌, ◌&&◌, if◌then◌else◌, All, is_some, nat_eq, not, slice_get, slice_set, option_map_or, eqb-true, eqb-false, All-cons, All-head, All-nil, All-tail, items, whole_packets, Packet, meaning_of, Heard, hears, hears_in, ignores, is_outstanding, seen_by, is_closed, hears_at_moment, Entry, BusState, Devices, device_of, has_report, holder, is_silent, seen, waiting_after, address_of, entry_hears, entry_ticks, first_from, holds, is_at, is_entry_due, step_of, after_bytes, ends_run, hears_at, hears_item, hears_items, hears_with, add_refusal, after_add, after_begin_at, after_retarget_at, after_submit_at, begin_refusal_at, entry_submits, entry_withdraws, new_device, retarget_refusal_at, submit_refusal_at, BusTicked, bus_ticks, is_due_at, is_held_and_due, stays, ticks_at, ticks_by, ticks_held, ticks_on, ticks_with, Call, Add, Begin, Submit, Withdraw, Retarget, OnBytes, OnSilence, Tick, NextReport, after_call, asking, judged, has_one_exchange, moments_are_seen, is_false, SoundBus, held_there, sound_run, sound_seen, sound_silent, stays_silent, set_here, set_other, ends_duty, IsOfAnother, ReadsNothing, read_by_holder, read_if_silent, read_in, read_to_end, NoneBegins}
 use Rattle.osdp_frame.specs.Reading.{RunItem, PacketItem, SkippedItem, RefusedItem}
-use Rattle.osdp_controller.specs.Answers.{meaning_of}
-use Rattle.osdp_controller.specs.Hearing.{Heard, hears, hears_in, ignores}
-use Rattle.osdp_controller.specs.Machine.{is_outstanding}
-use Rattle.osdp_controller.specs.Sessions.{seen as seen_by}
-use Rattle.osdp_controller.specs.States.{is_closed}
-use Rattle.osdp_controller_laws.proofs.Kept.{hears_at_moment}
-use Rattle.osdp_bus.specs.declared.entry.Entry.{Entry}
-use Rattle.osdp_bus.specs.Buses.{BusState, Devices, device_of, has_report, holder, is_silent, seen, waiting_after}
-use Rattle.osdp_bus.specs.Entries.{address_of, entry_hears, entry_ticks, first_from, holds, is_at, is_entry_due, step_of}
-use Rattle.osdp_bus.specs.Hearing.{after_bytes, ends_run, hears_at, hears_item, hears_items, hears_with}
-use Rattle.osdp_bus.specs.Machine.{add_refusal, after_add, after_begin_at, after_retarget_at, after_submit_at, begin_refusal_at, entry_submits, entry_withdraws, new_device, retarget_refusal_at, submit_refusal_at}
-use Rattle.osdp_bus.specs.Ticking.{BusTicked, bus_ticks, is_due_at, is_held_and_due, stays, ticks_at, ticks_by, ticks_held, ticks_on, ticks_with}
-use Rattle.osdp_bus_laws.specs.Calls.{Call, Add, Begin, Submit, Withdraw, Retarget, OnBytes, OnSilence, Tick, NextReport, after_call}
 use Rattle.osdp_bus_laws.specs.Moments.{Brings}
-use Rattle.osdp_bus_laws.specs.Turns.{asking, judged}
-use Rattle.osdp_bus_laws.proofs.Exchanging.{has_one_exchange}
-use Rattle.osdp_bus_laws.proofs.Moments.{moments_are_seen}
-use Rattle.osdp_bus_laws.proofs.Places.{is_false}
-use Rattle.osdp_bus_laws.proofs.Sound.{SoundBus, held_there, sound_run, sound_seen, sound_silent}
-use Rattle.osdp_bus_laws.proofs.Staying.{stays_silent}
-use Rattle.osdp_bus_laws.proofs.Turning.{set_here, set_other}
-use Rattle.osdp_bus_time_laws.specs.Clock.{ends_duty}
-use Rattle.osdp_bus_time_laws.specs.Reading.{IsOfAnother, ReadsNothing, read_by_holder, read_if_silent, read_in, read_to_end}
-use Rattle.osdp_bus_time_laws.specs.Turns.{NoneBegins}
 use Rattle.osdp_bus_time_laws.proofs.Devices.{Well}
 use Rattle.osdp_bus_time_laws.proofs.Moments.{grows}
 use Rattle.osdp_bus_time_laws.proofs.Outstanding.{stands_not_closed}

@@ -1,9 +1,7 @@
 -- What adding a device comes to, by what the handle held.
-use Rattle.std.proofs.Common.{◌≡◌, ℕ, Option, Some, Result, ◌∙◌, ap, subst}
+use Rattle.osdp_c.proofs.Common.{◌≡◌, ℕ, Option, Some, Result, ◌∙◌, ap, subst, AddsTo, added_entry, added_status, panel_of, with_panel, number}
 use Rattle.osdp_bus.specs.declared.fault.BusFault.{BusFault}
 use Rattle.osdp_orders.specs.Orders.{AddEnds}
-use Rattle.osdp_c_values.specs.Panels.{AddsTo, added_entry, added_status, panel_of, with_panel}
-use Rattle.osdp_c_values.specs.Statuses.{number}
 use Rattle.osdp_c_values.specs.declared.machine.PanelMachine.{PanelMachine}
 
 pub added_in : (address : ℕ) (m m' : PanelMachine) (r : Result ℕ BusFault) (held after : Option PanelMachine) (answer out out' : ℕ) → Some m ≡ held

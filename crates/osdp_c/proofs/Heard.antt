@@ -1,10 +1,5 @@
 -- What a call that hears comes to, by what the handle held.
-use Rattle.std.proofs.Common.{◌≡◌, ℕ, Option, Some, None, refl, sym, subst}
-use Rattle.osdp_tool_monitor.specs.Hearing.{LineEvent}
-use Rattle.osdp_c_values.specs.declared.status.Status.{Status}
-use Rattle.osdp_c_values.specs.HeldMonitors.{HeldMonitor}
-use Rattle.osdp_c_values.specs.Monitors.{EventEnds, EventEndsIn}
-use Rattle.osdp_c_values.specs.Statuses.{number}
+use Rattle.osdp_c.proofs.Common.{◌≡◌, ℕ, Option, Some, None, refl, sym, subst, LineEvent, Status, HeldMonitor, EventEnds, EventEndsIn, number}
 
 pub heard_in : (event : LineEvent) (m m' : HeldMonitor) (ended : Status) (held after : Option HeldMonitor) (answer : ℕ) → Some m ≡ held → EventEnds event m ended m'
     → answer ≡ number ended → after ≡ Some m' → EventEndsIn event held answer after

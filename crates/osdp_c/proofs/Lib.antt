@@ -1,3 +1,4 @@
+pub mod Common
 pub mod Added
 pub mod Heard
 mod OneAnswer

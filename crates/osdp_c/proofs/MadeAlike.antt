@@ -1,20 +1,15 @@
 -- Machines that are made of the same settings.
-use Rattle.std.proofs.Common.{◌≡◌, ◌∙◌, ◌⊎◌, inl, inr, ℕ, Bool, List, Option, Some, None, Result, Ok, Err, refl, sym, ap, subst}
+use Rattle.osdp_c.proofs.Common.{◌≡◌, ◌∙◌, ◌⊎◌, inl, inr, ℕ, Bool, List, Option, Some, None, Result, Ok, Err, refl, sym, ap, subst, AreBoth, AreMadeAlike, HaveHeardTheSame, LacksMemory, MonitorsAreMadeAlike, ReadersAreMadeAlike, ReadersWithRoomAreMadeAlike, Status, HeldMonitor, number, MsgFault}
 use Rattle.arrayvec.specs.ArrayVec.{ArrayVec}
-use Rattle.osdp_c.specs.Outcomes.{AreBoth, AreMadeAlike, HaveHeardTheSame, LacksMemory, MonitorsAreMadeAlike, ReadersAreMadeAlike, ReadersWithRoomAreMadeAlike}
 use Rattle.osdp_c_values.specs.declared.machine.ReaderMachine.{ReaderMachine}
 use Rattle.osdp_c_values.specs.declared.monitor_fault.MonitorFault.{MonitorFault}
 use Rattle.osdp_c_values.specs.declared.monitor_fault.MonitorFault.TheVariants as monitor
 use Rattle.osdp_c_values.specs.declared.settings.ReaderSettings.{ReaderSettings}
-use Rattle.osdp_c_values.specs.declared.status.Status.{Status}
 use Rattle.osdp_c_values.specs.declared.status.Status.TheVariants as status
-use Rattle.osdp_c_values.specs.HeldMonitors.{HeldMonitor}
 use Rattle.osdp_c_values.specs.Monitors as monitors
 use Rattle.osdp_c_values.specs.Readers as readers
 use Rattle.osdp_c_values.specs.Settings.{default_room}
-use Rattle.osdp_c_values.specs.Statuses.{number}
 use Rattle.osdp_msg.specs.declared.capability.Capability.{Capability}
-use Rattle.osdp_msg.specs.declared.fault.MsgFault.{MsgFault}
 use Rattle.osdp_msg.specs.declared.limits.Room.{Room}
 use Rattle.osdp_reader.specs.declared.fault.ReaderFault.{ReaderFault}
 use Rattle.osdp_reader.specs.declared.fault.ReaderFault.TheVariants.{NoMemory, OutOfRange}

@@ -1,13 +1,6 @@
 -- What the answers of a monitor's calls tell of it.
-use Rattle.std.proofs.Common.{◌≡◌, ◌∙◌, ℕ, Bool, true, false, Option, Some, ap, arith}
-use Rattle.osdp_c.specs.Outcomes.{AnswersTellOfIt, NoMonitorHears, TellsOfIt}
+use Rattle.osdp_c.proofs.Common.{◌≡◌, ◌∙◌, ℕ, Bool, true, false, Option, Some, ap, arith, AnswersTellOfIt, NoMonitorHears, TellsOfIt, Status, Done, Monitor, HeldMonitor, EventEnds, IsStopped, number, LineEvent}
 use Rattle.osdp_c_values.specs.declared.monitor_fault.MonitorFault.TheVariants.{NoMemory, TooLong, Stopped}
-use Rattle.osdp_c_values.specs.declared.status.Status.{Status}
-use Rattle.osdp_c_values.specs.declared.status.Status.TheVariants.{Done, Monitor}
-use Rattle.osdp_c_values.specs.HeldMonitors.{HeldMonitor}
-use Rattle.osdp_c_values.specs.Monitors.{EventEnds, IsStopped}
-use Rattle.osdp_c_values.specs.Statuses.{number}
-use Rattle.osdp_tool_monitor.specs.Hearing.{LineEvent}
 
 not_both : (b : Bool) → b ≡ false → b ≡ true → ⊥
 not_both b stands goes = cc

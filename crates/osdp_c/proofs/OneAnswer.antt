@@ -1,15 +1,10 @@
 -- What is written, read and sent is one thing.
-use Rattle.std.proofs.Common.{◌≡◌, ◌∙◌, ℕ, Bool, true, false, List, Option, Some, None, Result, Ok, Err, refl, sym, ap, subst, arith}
+use Rattle.osdp_c.proofs.Common.{◌≡◌, ◌∙◌, ℕ, Bool, true, false, List, Option, Some, None, Result, Ok, Err, refl, sym, ap, subst, arith, CommandsAreReadOnce, CommandsHaveOneAnswer, DeadlinesAreTold, EventsAreReadOnce, OneBurstGoesOut, RepliesHaveOneAnswer, RepliesTellOneEvent, moment_in, Status, Done, TooSmall, IsSentIf, IsSentIn, number, MsgFault}
 use Rattle.osdp_bus.specs.Deadlines.{IsDeadline}
 use Rattle.osdp_bus.specs.Ticking.{bus_ticks}
-use Rattle.osdp_c.specs.Outcomes.{CommandsAreReadOnce, CommandsHaveOneAnswer, DeadlinesAreTold, EventsAreReadOnce, OneBurstGoesOut, RepliesHaveOneAnswer, RepliesTellOneEvent, moment_in}
 use Rattle.osdp_c_values.specs.declared.arrays.BurstStruct.{BurstStruct}
-use Rattle.osdp_c_values.specs.declared.status.Status.{Status}
-use Rattle.osdp_c_values.specs.declared.status.Status.TheVariants.{Done, TooSmall}
 use Rattle.osdp_c_values.specs.Clocks.{accepts}
 use Rattle.osdp_c_values.specs.Moments.{moment_struct}
-use Rattle.osdp_c_values.specs.Panels.{IsSentIf, IsSentIn}
-use Rattle.osdp_c_values.specs.Statuses.{number}
 use Rattle.osdp_c_values.specs.Structs.{burst_of}
 use Rattle.osdp_c_values.specs.Texts.{IsTold, TextEnds}
 use Rattle.osdp_frame.proofs.Spelled.{spelled_is}
@@ -18,7 +13,6 @@ use Rattle.osdp_msg.specs.CommandTable.{command_of}
 use Rattle.osdp_msg.specs.CommandText.{command_text}
 use Rattle.osdp_msg.specs.declared.command.Command.{Command}
 use Rattle.osdp_msg.specs.declared.event.Event.{Event}
-use Rattle.osdp_msg.specs.declared.fault.MsgFault.{MsgFault}
 use Rattle.osdp_msg.specs.Events.{event_reply}
 use Rattle.osdp_msg.specs.ReplyTable.{reply_of}
 use Rattle.osdp_msg.specs.ReplyText.{reply_text}

@@ -1,3 +1,4 @@
+pub mod Common
 pub mod AllTold
 pub mod Putting
 mod SlotForms

@@ -1,16 +1,10 @@
 -- Pieces that are put one after another.
-use Rattle.std.proofs.Common.{◌≡◌, ◌+◌, ◌<◌, ◌≤◌, ℕ, List, [], ◌∷◌, ◌++◌, codes, length, map, take, drop, get_or, refl, sym, ap, subst, ◌∙◌, arith, append_assoc, append-nil, length-append}
-use Rattle.std.specs.Prelude.{Result, Ok, Err, IsErr}
-use Rattle.std.specs.Fmt.{decimal}
-use Rattle.std.specs.List.{flat_map}
+use Rattle.osdp_c_values.proofs.Common.{◌≡◌, ◌+◌, ◌<◌, ◌≤◌, ℕ, List, [], ◌∷◌, ◌++◌, codes, length, map, take, drop, get_or, refl, sym, ap, subst, ◌∙◌, arith, append_assoc, append-nil, length-append, Result, Ok, Err, IsErr, decimal, flat_map, flat_map-append, Word, bytes, number, printed, IsAt, IsPut, following, two_digits}
 use Rattle.std.proofs.lemmas.List.{drop-drop, flat_map_more, length-take-le, take-append-drop, take_all, take_more}
-use Rattle.std.proofs.lemmas.Grind.{flat_map-append}
 use Rattle.std.proofs.lemmas.List.Folds.{length-flat_map-take}
 use Rattle.std.proofs.Math.Seq.{drop-append-add, take-append_seam}
 use Rattle.hex.specs.Hex.{encode_upper, encode_with}
-use Rattle.osdp_words.specs.Word.{Word, bytes, number, printed}
 use Rattle.osdp_c_values.specs.declared.pieces.NoRoom.{NoRoom}
-use Rattle.osdp_c_values.specs.Pieces.{IsAt, IsPut, following, two_digits}
 
 -- nothing is put
 pub nothing_put : (at : ℕ) (old : List ℕ) → IsAt at old at old []

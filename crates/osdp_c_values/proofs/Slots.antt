@@ -1,42 +1,11 @@
 -- The functions of a slot, whichever machine it has: they are proved once, for the code that each slot's own functions have.
-use Rattle.std.proofs.Common.{◌≡◌, ℕ, List, [], ◌∷◌, ◌++◌, refl, sym, ap, subst, true≢false}
-use seplogic.Ra.Ura.{Ura}
-use mir.Syntax.{Sym, Fn, Body, Callee, Local, value_local, local, ty_ptr, seq, assign, place, field, rv_opd, copy, aggregate, int, w64, return}
-use mir.Raw.{raw as bare}
-use mir.Val.{Val, vptr, vstruct, vcons, vnil, of_list}
-use base.Fml.{Lft, Fml}
-use base.Logic.{SProp, ent, emp, id⊢, never, fst∗}
+use Rattle.osdp_c_values.proofs.Common.{◌≡◌, ℕ, List, [], ◌∷◌, ◌++◌, refl, sym, ap, subst, true≢false, Ura, Sym, Fn, Body, Callee, Local, value_local, local, ty_ptr, seq, assign, place, field, rv_opd, copy, aggregate, int, w64, return, bare, Val, vptr, vstruct, vcons, vnil, of_list, Lft, Fml, SProp, ent, emp, id⊢, never, fst∗, fact, fact_i, Running, MachineTables, tables, RawPtr, yes, under, hidden, RattleType, Valss, owns, Ptr, block_ptr, null_ptr, ptr_val, in_a_block, plain, types_at, lone, layout, Laws, nothing, heard, Owning, row, shape, within, exits_of, struct_layout, Ended, Clauses, closing, Meets, Stays, stay_dropped, walk_of, Goes-dropped, WpFn, Closed, Logic, sem, stop, fld, of_opd, lit, no_more, and_then, returns, enter, alloc_all, pass_all, free_all, look_at, get, get_in, sets, agg, sub, whole, Goes-blank, Ptr-Good, one, proved_at, leaves, box_owns}
 use base.Stored.{Coded}
-use contract.Monad.{fact, fact_i}
-use contract.Running.{Running, MachineTables, tables}
-use denote.Builtin.{RawPtr}
-use denote.Exit.{yes, under, hidden}
-use denote.RattleType.{RattleType, Valss, owns}
-use denote.RawPtr.{Ptr, block_ptr, null_ptr, ptr_val, in_a_block}
-use denote.Signature.{plain, types_at}
-use denote.Memory.{lone}
-use denote.Param.{layout}
-use denote.Param.Laws.{Laws}
-use denote.Steps.{nothing, heard}
 use denote.Struct.Field.{RawPtr-field, rows}
-use denote.Struct.Owning.{Owning, row, shape}
-use denote.Struct.Struct.{within, exits_of, layout as struct_layout}
 use denote.Struct.Values.{intos}
-use denote.Triple.Clauses.{Ended, Clauses, closing}
 use denote.Triple.Entry.{alive}
-use denote.Triple.Spec.{Meets}
-use denote.Triple.Walked.{Stays, stay_dropped, walk_of, Goes-dropped}
 use prog.Model.{Model}
-use prog.Wp.{WpFn, Closed}
 use types.Kit.{‵, raw, ◌⊛◌, Item, Goal, Seq, Step, step, ◌$◌, ◌∵◌, !, qed, by, move, keep, drop, split, fsplit, fsplit3, fjoin, fpick, fpack, feq_i, feq_l, suffices, rewrite, use0, use1}
-use types.Logic.{Logic, sem}
-use types.Run.{stop, fld, of_opd, lit, no_more, and_then, returns, enter}
-use types.ByLocal.{alloc_all, pass_all, free_all, look_at, get, get_in, sets}
-use types.Part.{agg, sub, whole}
-use Rattle.core.proofs.alloc.Calls.{Goes-blank}
-use Rattle.core.proofs.atomic.Steps.{Ptr-Good}
-use Rattle.core.proofs.cell.Inside.{one}
-use Rattle.std.proofs.raw_atomic.Walks.{proved_at, leaves}
 use Rattle.std.specs.Option.{IsSome}
 use Rattle.std.specs.contracts.alloc.Global as heap
 use Rattle.std.proofs.alloc.Global.TheLaws as heap_laws
@@ -44,7 +13,6 @@ use Rattle.std.specs.declared.alloc.Global.{Global}
 use Rattle.std.specs.declared.option.Option.{Option}
 use Rattle.std.specs.declared.option.Option.TheVariants.{None, Some}
 use Rattle.std.specs.contracts.impls.GlobalAllocator.TheImpl.{ghosts}
-use Rattle.std_alloc.specs.Box.Ownership.{box_owns}
 use Rattle.osdp_c_values.specs.Owning.{slot_owns}
 use Rattle.osdp_c_values.specs.contracts.loose.Loose as loose
 use Rattle.osdp_c_values.proofs.Words.{two_words, Loose, words_fit, loose_opens, loose_closes}

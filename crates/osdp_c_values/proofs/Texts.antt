@@ -1,8 +1,6 @@
 -- Texts that stand in a room.
-use Rattle.std.proofs.Common.{◌≡◌, ◌≤◌, ◌+◌, ℕ, Bool, true, false, List, [], ◌∷◌, ◌++◌, length, drop, set, nat_lt, if◌then◌else◌, refl, sym, ap, ◌∙◌, arith, zero-add, append_assoc, append-nil}
-use Rattle.std.proofs.lemmas.List.{drop_all, drop_more, length_push, set_at, set_past}
+use Rattle.osdp_c_values.proofs.Common.{◌≡◌, ◌≤◌, ◌+◌, ℕ, Bool, true, false, List, [], ◌∷◌, ◌++◌, length, drop, set, nat_lt, if◌then◌else◌, refl, sym, ap, ◌∙◌, arith, zero-add, append_assoc, append-nil, drop_all, drop_more, length_push, set_at, set_past, IsAt}
 use Rattle.std.proofs.lemmas.Bool.Decides.{nat_tests}
-use Rattle.osdp_c_values.specs.Pieces.{IsAt}
 use Rattle.osdp_c_values.specs.Structs.{filled}
 use Rattle.osdp_c_values.specs.declared.status.Status.TheVariants.{Done}
 use Rattle.osdp_c_values.specs.Texts.{IsTold, ended_text}

@@ -1,39 +1,12 @@
 -- From the rule for programs, as it is said of a line in use, follows the rule on its net's moves, and so the premise on addresses.
-use Rattle.std.proofs.Common.{◌≡◌, ◌≢◌, ◌<◌, ◌||◌, ℕ, true, false, not, List, ◌++◌, All, length, Option, Some, None, sym, subst, ap, ◌∙◌, arith, inl, inr, ◌≤◌}
-use Rattle.std.specs.Prelude.{is_some}
-use Rattle.osdp_msg.specs.declared.limits.Room.{Room}
-use Rattle.osdp_frame.specs.Packet.{Packet}
-use Rattle.osdp_msg.specs.CommandTable.{CommandFits}
-use Rattle.osdp_msg.specs.declared.command.Command.{Command}
-use Rattle.osdp_msg.specs.declared.command_fields.Communication.{Communication}
-use Rattle.osdp_controller.specs.Comsets.{has_comset}
-use Rattle.osdp_controller.specs.Hearing.{comset_of}
+use Rattle.osdp_calls.proofs.Common.{◌≡◌, ◌≢◌, ◌<◌, ◌||◌, ℕ, true, false, not, List, ◌++◌, All, length, Option, Some, None, sym, subst, ap, ◌∙◌, arith, inl, inr, ◌≤◌, is_some, Room, Packet, CommandFits, Command, Communication, has_comset, comset_of, Machine, retarget_refusal, submit_refusal, State, Closed, ControllerConfig, device_of, IsBusConfig, BusConfig, Entry, each_of, ReaderState, Answer, HasNoOther, IsNameOf, IsSetUp, NetMoveFits, Sets, Somewhere, Net, RestartPanel, Retarget, Site, Submit, restarts, site_at, Note, RuleSuffices, some_same, InUse, Station, IsAsked, IsNoOthers, IsSaid, IsThere, PanelIsApart, IsKnown, KeepsRule, PanelKeepsRule, NewPanel, begun_of, at_length}
 use Rattle.osdp_controller.specs.Machine as controllers
-use Rattle.osdp_controller.specs.Machine.{Machine, retarget_refusal, submit_refusal}
-use Rattle.osdp_controller.specs.declared.state.State.{State}
-use Rattle.osdp_controller.specs.declared.state.State.TheVariants.{Closed}
-use Rattle.osdp_controller.specs.declared.config.ControllerConfig.{ControllerConfig}
-use Rattle.osdp_bus.specs.Buses.{device_of}
 use Rattle.osdp_bus.specs.Entries as devices
 use Rattle.osdp_bus.specs.Machine as bus
-use Rattle.osdp_bus.specs.Settings.{IsBusConfig}
-use Rattle.osdp_bus.specs.declared.config.BusConfig.{BusConfig}
-use Rattle.osdp_bus.specs.declared.entry.Entry.{Entry}
 use Rattle.osdp_bus_laws.specs.Calls as panel
-use Rattle.osdp_link_laws.proofs.Lines.{each_of}
-use Rattle.osdp_reader.specs.State.{ReaderState}
-use Rattle.osdp_reader.specs.declared.handler.Answer.{Answer}
 use Rattle.osdp_shared_line.specs.Addresses as addresses
-use Rattle.osdp_shared_line.specs.Addresses.{HasNoOther, IsNameOf, IsSetUp, NetMoveFits, Sets, Somewhere}
 use Rattle.osdp_shared_line.specs.Line as line
-use Rattle.osdp_shared_line.specs.Line.{Net, RestartPanel, Retarget, Site, Submit, restarts, site_at}
 use Rattle.osdp_shared_line.specs.Programs as programs
-use Rattle.osdp_shared_line.specs.Programs.{Note, RuleSuffices}
-use Rattle.osdp_shared_line.proofs.Sites.{some_same}
-use Rattle.osdp_calls.specs.Lines.{InUse, Station}
-use Rattle.osdp_calls.specs.Premises.{IsAsked, IsNoOthers, IsSaid, IsThere, PanelIsApart}
-use Rattle.osdp_calls.specs.Programs.{IsKnown, KeepsRule, PanelKeepsRule}
-use Rattle.osdp_calls.specs.Calls.{NewPanel, begun_of}
 use Rattle.osdp_calls.proofs.Agreeing.{AllAgree, at_entry}
 use Rattle.osdp_calls.proofs.Along.{Path, next_fits}
 use Rattle.osdp_calls.proofs.Controllers.{closed_of, config_same, waiting_same}
@@ -44,7 +17,6 @@ use Rattle.osdp_calls.proofs.Orders.{asked_same, beside_free, no_device_none, no
 use Rattle.osdp_calls.proofs.Powers.{address_at, are_settings, settings_of, there_is}
 use Rattle.osdp_calls.proofs.Same.{Controls, IsNetOf, IsSame}
 use Rattle.osdp_calls.proofs.Stations.{Sites, of_site, of_station}
-use Rattle.osdp_shared_line.proofs.Rounds.{at_length}
 
 module _ {H : Type 0} where
   -- ---- the same addresses are known

@@ -1,29 +1,7 @@
 -- What is noted of the entries of a line in use agrees with what is noted along the moves of its net, as a controller ticks.
-use Rattle.std.proofs.Common.{◌≡◌, ◌≢◌, ◌⊎◌, ℕ, Bool, true, false, cond, List, [], ◌∷◌, ◌++◌, Option, Some, None, refl, sym, subst, ap, ◌∙◌, inl, inr}
-use Rattle.std.proofs.lemmas.Bool.Decides.{eqb_tells}
-use Rattle.std.specs.Prelude.{◌==◌, ◌&&◌, is_some, slice_get}
-use Rattle.osdp_frame.specs.Packet.{Packet}
-use Rattle.osdp_msg.specs.declared.command.Command.{Command}
+use Rattle.osdp_calls.proofs.Common.{◌≡◌, ◌≢◌, ◌⊎◌, ℕ, Bool, true, false, cond, List, [], ◌∷◌, ◌++◌, Option, Some, None, refl, sym, subst, ap, ◌∙◌, inl, inr, eqb_tells, ◌==◌, ◌&&◌, is_some, slice_get, Packet, Command, is_closed, Report, BusState, device_of, entry_ticks, step_of, ticks_at, ticks_with, Entry, told_at, told_by_device, told_by_ticking, ReadsWhatIsAsked, each_append, each_map, is_false, is_true, tick_so, Each, Answer, Net, NetMove, Reopen, Site, Tick, after_net, run, site_at, at_changed, at_other, some_same, all_hear, begins_session, begins_with, begun_of, changes_at, panel_says, waiting_of, InUse, Station, noted_report, noted_reports}
 use Rattle.osdp_controller.specs.Sessions as clocks
-use Rattle.osdp_controller.specs.States.{is_closed}
-use Rattle.osdp_controller.specs.declared.report.Report.{Report}
-use Rattle.osdp_bus.specs.Buses.{BusState, device_of}
-use Rattle.osdp_bus.specs.Entries.{entry_ticks, step_of}
-use Rattle.osdp_bus.specs.Ticking.{ticks_at, ticks_with}
-use Rattle.osdp_bus.specs.declared.entry.Entry.{Entry}
-use Rattle.osdp_bus_laws.specs.Reports.{told_at, told_by_device, told_by_ticking}
-use Rattle.osdp_link_laws.specs.Peers.{ReadsWhatIsAsked}
-use Rattle.osdp_link_laws.proofs.Lines.{each_append, each_map}
-use Rattle.osdp_link_laws.proofs.Numbers.{is_false, is_true}
-use Rattle.osdp_link_laws.proofs.Reports.{tick_so}
-use Rattle.osdp_link_laws.proofs.Stages.{Each}
-use Rattle.osdp_reader.specs.declared.handler.Answer.{Answer}
-use Rattle.osdp_shared_line.specs.Line.{Net, NetMove, Reopen, Site, Tick, after_net, run, site_at}
 use Rattle.osdp_shared_line.specs.Programs.{Note, is_opened, noted_at, notes_after}
-use Rattle.osdp_shared_line.proofs.Sites.{at_changed, at_other, some_same}
-use Rattle.osdp_calls.specs.Calls.{all_hear, begins_session, begins_with, begun_of, changes_at, panel_says, waiting_of}
-use Rattle.osdp_calls.specs.Lines.{InUse, Station}
-use Rattle.osdp_calls.specs.Programs.{noted_report, noted_reports}
 use Rattle.osdp_calls.proofs.Agreeing.{AllAgree, begun_heard, told_note}
 use Rattle.osdp_calls.proofs.Along.{IsFree, along_then, notes_along, still_along, still_free}
 use Rattle.osdp_calls.proofs.Lasting.{heard_keeps, says_keep}

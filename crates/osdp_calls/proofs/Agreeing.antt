@@ -1,35 +1,7 @@
 -- What is noted of the entries of a line in use agrees with what is noted along the moves of its net, as the panel reads.
-use Rattle.std.proofs.Common.{◌≡◌, ◌≢◌, ◌≤◌, ℕ, Bool, true, false, cond, List, [], ◌∷◌, ◌++◌, length, Option, Some, None, refl, sym, subst, ap, ◌∙◌, arith, inl, inr}
-use Rattle.std.proofs.lemmas.Bool.Decides.{eqb_tells}
-use Rattle.std.specs.Prelude.{◌==◌, ◌&&◌, is_some, slice_get}
-use Rattle.osdp_frame.specs.Packet.{Packet}
-use Rattle.osdp_frame.specs.Reading.{PacketItem}
-use Rattle.osdp_msg.specs.declared.command.Command.{Command}
-use Rattle.osdp_controller.specs.Hearing.{Heard, hears, ignores}
-use Rattle.osdp_controller.specs.Machine.{Machine}
+use Rattle.osdp_calls.proofs.Common.{◌≡◌, ◌≢◌, ◌≤◌, ℕ, Bool, true, false, cond, List, [], ◌∷◌, ◌++◌, length, Option, Some, None, refl, sym, subst, ap, ◌∙◌, arith, inl, inr, eqb_tells, ◌==◌, ◌&&◌, is_some, slice_get, Packet, PacketItem, Command, Heard, hears, ignores, Machine, Report, Session, Devices, device_of, told_of, hears_packet, Entry, told_at, told_by_item, Repeated, each_map, Each, Answer, IsSetUp, NobodyElseHears, Net, NetMove, Site, ToPanel, address_of, changed, site_at, Note, RuleSuffices, all_addresses, is_opened, noted_at, noted_opened, noted_panel, HeardByOwn, closed_hears, at_changed, at_other, some_same, all_hear, begun_of, change_at, changes_at, hears_of, last_of, hears_all, told_by_all, Burst, InUse, Station, noted_reports, at_length}
 use Rattle.osdp_controller.specs.Sessions as clocks
-use Rattle.osdp_controller.specs.declared.report.Report.{Report}
-use Rattle.osdp_controller.specs.declared.session.Session.{Session}
-use Rattle.osdp_bus.specs.Buses.{Devices, device_of}
 use Rattle.osdp_bus.specs.Entries as devices
-use Rattle.osdp_bus.specs.Entries.{told_of}
-use Rattle.osdp_bus.specs.Hearing.{hears_packet}
-use Rattle.osdp_bus.specs.declared.entry.Entry.{Entry}
-use Rattle.osdp_bus_laws.specs.Reports.{told_at, told_by_item}
-use Rattle.osdp_link_laws.specs.Link.{Repeated}
-use Rattle.osdp_link_laws.proofs.Lines.{each_map}
-use Rattle.osdp_link_laws.proofs.Stages.{Each}
-use Rattle.osdp_reader.specs.declared.handler.Answer.{Answer}
-use Rattle.osdp_shared_line.specs.Addresses.{IsSetUp, NobodyElseHears}
-use Rattle.osdp_shared_line.specs.Line.{Net, NetMove, Site, ToPanel, address_of, changed, site_at}
-use Rattle.osdp_shared_line.specs.Programs.{Note, RuleSuffices, all_addresses, is_opened, noted_at, noted_opened, noted_panel}
-use Rattle.osdp_shared_line.specs.Views.{HeardByOwn}
-use Rattle.osdp_shared_line.proofs.Hearing.{closed_hears}
-use Rattle.osdp_shared_line.proofs.Sites.{at_changed, at_other, some_same}
-use Rattle.osdp_calls.specs.Calls.{all_hear, begun_of, change_at, changes_at, hears_of, last_of}
-use Rattle.osdp_calls.specs.Handing.{hears_all, told_by_all}
-use Rattle.osdp_calls.specs.Lines.{Burst, InUse, Station}
-use Rattle.osdp_calls.specs.Programs.{noted_reports}
 use Rattle.osdp_calls.proofs.Along.{IsFree, Path, free_rule, heard_by_own, notes_along, path_on, still_along, still_free}
 use Rattle.osdp_calls.proofs.Controllers.{config_same, hears_same, ignored_quiet, waiting_same}
 use Rattle.osdp_calls.proofs.Losing.{IsLoss, IsStill, loss_still}
@@ -41,7 +13,6 @@ use Rattle.osdp_calls.proofs.Runs.{NotPast, unheard}
 use Rattle.osdp_calls.proofs.Same.{Controls, IsNetOf, IsSame, IsToOpen}
 use Rattle.osdp_calls.proofs.Stations.{Sites}
 use Rattle.osdp_calls.proofs.Strangers.{AreOfOthers, IsElsewhere, Ordered, ordered_heard, others_hear}
-use Rattle.osdp_shared_line.proofs.Rounds.{at_length}
 
 equal_of : (a b : ℕ) → (a == b) ≡ true → a ≡ b
 equal_of a b is = elim (eqb_tells a b) [ inl same ↦ same.1 | inr other ↦ absurd (false_so (sym other.0 ∙ is)) ]

@@ -1,15 +1,9 @@
 -- What an end may still read: as it reads on, as more is said, and as a session opens.
-use Rattle.std.proofs.Common.{◌≡◌, ◌≢◌, ◌≤◌, ◌<◌, ℕ, zero, suc, ◌+◌, not, Bool, true, false, cond, List, [], ◌∷◌, ◌++◌, length, Some, refl, sym, ap, ◌∙◌, inl, inr, arith, append-nil}
+use Rattle.osdp_calls.proofs.Common.{◌≡◌, ◌≢◌, ◌≤◌, ◌<◌, ℕ, zero, suc, ◌+◌, not, Bool, true, false, cond, List, [], ◌∷◌, ◌++◌, length, Some, refl, sym, ap, ◌∙◌, inl, inr, arith, append-nil, leb_tells, Packet, is_false, is_true, Each, site_at, Burst, Opening, ahead_of_device, ahead_of_panel, concerns, is_ahead_of_device, is_ahead_of_panel, is_before, is_past_for_device, is_past_for_panel, those}
 use Rattle.std.proofs.lemmas.Bool.{le-leb}
-use Rattle.std.proofs.lemmas.Bool.Decides.{leb_tells}
 use Rattle.std.specs.Prelude.{◌&&◌, ◌||◌, ◌==◌, nat_le, nat_lt}
 use Rattle.std.specs.List.{list_any}
-use Rattle.osdp_frame.specs.Packet.{Packet}
-use Rattle.osdp_link_laws.proofs.Numbers.{is_false, is_true}
-use Rattle.osdp_link_laws.proofs.Stages.{Each}
-use Rattle.osdp_shared_line.specs.Line.{site_at}
 use Rattle.osdp_shared_line.proofs.Changing.{or_false}
-use Rattle.osdp_calls.specs.Lines.{Burst, Opening, ahead_of_device, ahead_of_panel, concerns, is_ahead_of_device, is_ahead_of_panel, is_before, is_past_for_device, is_past_for_panel, those}
 use Rattle.osdp_calls.proofs.Losing.{Sub, those_sub}
 
 -- ---- tests

@@ -1,14 +1,7 @@
 -- What a program notes along the moves of a net, and its rule.
-use Rattle.std.proofs.Common.{◌≡◌, ℕ, List, [], ◌∷◌, ◌++◌, Option, Some, None, refl, sym, subst, ap, ◌∙◌}
-use Rattle.osdp_msg.specs.declared.command.Command.{Command}
-use Rattle.osdp_reader.specs.declared.handler.Answer.{Answer}
-use Rattle.osdp_link_laws.proofs.Stages.{Each}
-use Rattle.osdp_shared_line.specs.Addresses.{IsSetUp, NetMoveFits, NetMovesFit, NobodyElseHears}
-use Rattle.osdp_shared_line.specs.Line.{Net, NetMove, Reopen, RestartPanel, RestartReader, Retarget, Site, Submit, ToPanel, after_net, run, site_at}
+use Rattle.osdp_calls.proofs.Common.{◌≡◌, ℕ, List, [], ◌∷◌, ◌++◌, Option, Some, None, refl, sym, subst, ap, ◌∙◌, Command, Answer, Each, IsSetUp, NetMoveFits, NetMovesFit, NobodyElseHears, Net, NetMove, Reopen, RestartPanel, RestartReader, Retarget, Site, Submit, ToPanel, after_net, run, site_at, HeardByOwn, fits_then, net_more}
 use Rattle.osdp_shared_line.specs.Programs.{KeepRule, KeepsRule, Note, RestFits, RuleSuffices, no_notes, note_after, noted_at, notes_after}
-use Rattle.osdp_shared_line.specs.Views.{HeardByOwn}
 use Rattle.osdp_calls.proofs.Losing.{IsStill}
-use Rattle.osdp_shared_line.proofs.Rounds.{fits_then, net_more}
 
 module _ {H : Type 0} where
   -- a move on which the rule asks nothing

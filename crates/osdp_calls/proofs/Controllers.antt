@@ -1,16 +1,6 @@
 -- A controller of the bus and that of its site, from call to call.
-use Rattle.std.proofs.Common.{◌≡◌, ◌≤◌, ℕ, ◌+◌, max, Bool, true, false, cond, Option, Some, None, refl, sym, ap, ◌∙◌, arith}
-use Rattle.std.specs.Prelude.{◌&&◌, ◌^◌, ◌-◌, min}
-use Rattle.osdp_frame.specs.Packet.{Packet}
-use Rattle.osdp_msg.specs.declared.command.Command.{Command}
-use Rattle.osdp_controller.specs.Answers.{meaning_of}
-use Rattle.osdp_controller.specs.Hearing.{Heard, hears, hears_in, ignores, is_from_reader}
-use Rattle.osdp_controller.specs.Machine.{Machine, after_begin, after_retarget, after_submit, refused_unless_closed}
+use Rattle.osdp_calls.proofs.Common.{◌≡◌, ◌≤◌, ℕ, ◌+◌, max, Bool, true, false, cond, Option, Some, None, refl, sym, ap, ◌∙◌, arith, ◌&&◌, ◌^◌, ◌-◌, min, Packet, Command, meaning_of, Heard, hears, hears_in, ignores, is_from_reader, Machine, after_begin, after_retarget, after_submit, refused_unless_closed, Ticked, ticks, ticks_in, Session, State, Closed, Quiet}
 use Rattle.osdp_controller.specs.Sessions.{seen}
-use Rattle.osdp_controller.specs.Ticking.{Ticked, ticks, ticks_in}
-use Rattle.osdp_controller.specs.declared.session.Session.{Session}
-use Rattle.osdp_controller.specs.declared.state.State.{State}
-use Rattle.osdp_controller.specs.declared.state.State.TheVariants.{Closed, Quiet}
 use Rattle.osdp_calls.proofs.Same.{Controls, IsSame, IsToOpen, at_moment}
 
 -- ---- moments

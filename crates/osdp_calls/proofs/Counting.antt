@@ -1,18 +1,7 @@
 -- What the moves of a net hand to the link of a site, one after another, is what the moves of that link do.
-use Rattle.std.proofs.Common.{◌≡◌, ℕ, Bool, cond, List, [], ◌∷◌, ◌++◌, Option, Some, None, refl, sym, subst, ap, ◌∙◌, append_assoc}
-use Rattle.std.specs.Prelude.{◌==◌, option_map, option_to_list}
-use Rattle.osdp_frame.specs.Packet.{Packet}
-use Rattle.osdp_msg.specs.declared.command.Command.{Command}
-use Rattle.osdp_reader.specs.declared.handler.Answer.{Answer}
+use Rattle.osdp_calls.proofs.Common.{◌≡◌, ℕ, Bool, cond, List, [], ◌∷◌, ◌++◌, Option, Some, None, refl, sym, subst, ap, ◌∙◌, append_assoc, ◌==◌, option_map, option_to_list, Packet, Command, Answer, Delivered, Delivery, Link, Lost, Move, Repeated, after_move, both, Each, IsSetUp, NetMoveFits, NetMovesFit, NobodyElseHears, moves_at, moves_of, EachMoveIsItsOwn, HeardByOwn, OpensQuietly, front_to_panel, lost, move_of, one_if, other_reply, own_front, own_place, own_reply, sees, view, fits_first, net_more}
 use Rattle.osdp_link_laws.specs.Link as link
-use Rattle.osdp_link_laws.specs.Link.{Delivered, Delivery, Link, Lost, Move, Repeated, after_move}
-use Rattle.osdp_link_laws.proofs.Lines.{both}
-use Rattle.osdp_link_laws.proofs.Stages.{Each}
-use Rattle.osdp_shared_line.specs.Addresses.{IsSetUp, NetMoveFits, NetMovesFit, NobodyElseHears}
 use Rattle.osdp_shared_line.specs.Line.{LoseToPanel, LoseToReader, Net, NetMove, Queue, Reopen, RestartPanel, RestartReader, Retarget, SetBusy, SetHandler, Site, Submit, Tick, ToPanel, ToReader, Withdraw, WithdrawEvent, address_of, after_net, is_retarget_refused, run, site_at}
-use Rattle.osdp_shared_line.specs.Runs.{moves_at, moves_of}
-use Rattle.osdp_shared_line.specs.Views.{EachMoveIsItsOwn, HeardByOwn, OpensQuietly, front_to_panel, lost, move_of, one_if, other_reply, own_front, own_place, own_reply, sees, view}
-use Rattle.osdp_shared_line.proofs.Rounds.{fits_first, net_more}
 
 module _ {H : Type 0} where
   -- ---- moves that give no command and no event

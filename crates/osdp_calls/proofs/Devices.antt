@@ -1,29 +1,10 @@
 -- Each call of a device is a list of moves of its site.
-use Rattle.std.proofs.Common.{◌≡◌, ◌≤◌, ℕ, Bool, true, false, cond, List, [], ◌∷◌, ◌++◌, length, All, Option, Some, None, IfSome, refl, sym, subst, ap, ◌∙◌}
-use Rattle.std.specs.Prelude.{◌==◌}
-use Rattle.osdp_msg.specs.ReplyTable.{ReplyFits}
-use Rattle.osdp_msg.specs.declared.command.Command.{Command}
-use Rattle.osdp_msg.specs.declared.event.Event.{Event}
-use Rattle.osdp_bus.specs.declared.entry.Entry.{Entry}
-use Rattle.osdp_frame.specs.Receiving.{Received}
-use Rattle.osdp_device.specs.Telling.{items_of, next_told}
+use Rattle.osdp_calls.proofs.Common.{◌≡◌, ◌≤◌, ℕ, Bool, true, false, cond, List, [], ◌∷◌, ◌++◌, length, All, Option, Some, None, IfSome, refl, sym, subst, ap, ◌∙◌, ◌==◌, ReplyFits, Command, Event, Entry, Received, items_of, next_told, Repeated, unless_full, each_append, each_map, each_of, Each, Answer, lacks_room, Net, NetMove, Queue, Site, ToReader, after_net, changed, left_by, link_of, site_at, at_changed, some_same, queued_at, SubmitEvent, after_next, answers, by_device, changes_at, first_answered, last_of, on_station, queues, read_up_to, reply_to, withdraws_event, Burst, InUse, Station, is_past_for_device, NextInOrder, NextInRange}
 use Rattle.osdp_link_laws.specs.Link as link
-use Rattle.osdp_link_laws.specs.Link.{Repeated}
-use Rattle.osdp_link_laws.specs.Sessions.{unless_full}
-use Rattle.osdp_link_laws.proofs.Lines.{each_append, each_map, each_of}
-use Rattle.osdp_link_laws.proofs.Stages.{Each}
 use Rattle.osdp_reader.specs.State.{ReaderState, after_set_handler, after_submit, after_withdraw_event}
 use Rattle.osdp_reader.specs.Table.{hears}
-use Rattle.osdp_reader.specs.declared.handler.Answer.{Answer}
-use Rattle.osdp_reader.specs.Queue.{lacks_room}
 use Rattle.osdp_shared_line.specs.Line as line
-use Rattle.osdp_shared_line.specs.Line.{Net, NetMove, Queue, Site, ToReader, after_net, changed, left_by, link_of, site_at}
-use Rattle.osdp_shared_line.proofs.Sites.{at_changed, some_same}
-use Rattle.osdp_calls.specs.Accepted.{queued_at}
 use Rattle.osdp_calls.specs.Calls as calls
-use Rattle.osdp_calls.specs.Calls.{SubmitEvent, after_next, answers, by_device, changes_at, first_answered, last_of, on_station, queues, read_up_to, reply_to, withdraws_event}
-use Rattle.osdp_calls.specs.Lines.{Burst, InUse, Station, is_past_for_device}
-use Rattle.osdp_calls.specs.Premises.{NextInOrder, NextInRange}
 use Rattle.osdp_calls.proofs.Losing.{IsLoss, IsStill, changed_twice, loss_still}
 use Rattle.osdp_calls.proofs.Matching.{FoundAt, Nobody, Somebody, found}
 use Rattle.osdp_calls.proofs.Nexts.{IsAnswered, IsNext, IsPassed, read_to, reads_all}

@@ -1,20 +1,6 @@
 -- The items of a run that are packets are what the controllers hear.
-use Rattle.std.proofs.Common.{◌≡◌, ◌||◌, ℕ, max, not, Bool, true, false, cond, List, [], ◌∷◌, ◌++◌, Option, Some, None, refl, sym, ap, ◌∙◌, append_assoc}
-use Rattle.std.specs.Prelude.{slice_get, slice_set}
-use Rattle.osdp_frame.specs.Items.{items, whole_packets}
-use Rattle.osdp_frame.specs.Packet.{Packet}
-use Rattle.osdp_frame.specs.Reading.{RunItem, PacketItem, SkippedItem, RefusedItem}
-use Rattle.osdp_controller.specs.declared.report.Report.{Report}
-use Rattle.osdp_bus.specs.Buses.{BusState, Devices, device_of, has_report, holder, is_silent, seen, waiting_after}
-use Rattle.osdp_bus.specs.Entries.{entry_ticks, first_from, is_at, step_of}
-use Rattle.osdp_bus.specs.Hearing.{ends_run, ends_silent, hears_items, hears_packet}
-use Rattle.osdp_bus.specs.Ticking.{BusTicked, bus_ticks, is_due_at, is_held_and_due, next_due, stays, ticks_at, ticks_by, ticks_with}
-use Rattle.osdp_bus.specs.declared.entry.Entry.{Entry}
+use Rattle.osdp_calls.proofs.Common.{◌≡◌, ◌||◌, ℕ, max, not, Bool, true, false, cond, List, [], ◌∷◌, ◌++◌, Option, Some, None, refl, sym, ap, ◌∙◌, append_assoc, slice_get, slice_set, items, whole_packets, Packet, RunItem, PacketItem, SkippedItem, RefusedItem, Report, BusState, Devices, device_of, has_report, holder, is_silent, seen, waiting_after, entry_ticks, first_from, is_at, step_of, ends_run, ends_silent, hears_items, hears_packet, BusTicked, bus_ticks, is_due_at, is_held_and_due, next_due, stays, ticks_at, ticks_by, ticks_with, Entry, told_at, told_by_device, told_by_end, told_by_entry, told_by_holder, told_by_items, told_by_silence, told_by_tick, told_by_ticking, told_in, judged, asked_at, asked_by_holder, read_at_end, read_at_silence, read_at_tick, read_by, read_by_holder, HandsOver, heard, hears_all, told_by_all}
 use Rattle.osdp_bus_laws.specs.Calls as bus
-use Rattle.osdp_bus_laws.specs.Reports.{told_at, told_by_device, told_by_end, told_by_entry, told_by_holder, told_by_items, told_by_silence, told_by_tick, told_by_ticking, told_in}
-use Rattle.osdp_bus_laws.specs.Turns.{judged}
-use Rattle.osdp_calls.specs.Calls.{asked_at, asked_by_holder, read_at_end, read_at_silence, read_at_tick, read_by, read_by_holder}
-use Rattle.osdp_calls.specs.Handing.{HandsOver, heard, hears_all, told_by_all}
 
 hears_parts : (now : ℕ) (parts : List RunItem) (ds : Devices) → hears_items now parts ds ≡ hears_all now (whole_packets parts) ds
 hears_parts now [] ds = refl

@@ -1,30 +1,9 @@
 -- Programs that keep to the rule keep the premise on addresses, call after call.
-use Rattle.std.proofs.Common.{◌≡◌, ◌≤◌, ℕ, max, Bool, true, false, cond, List, [], ◌∷◌, ◌++◌, length, Option, Some, None, refl, sym, subst, ap, ◌∙◌, inl, inr}
-use Rattle.std.specs.Prelude.{◌==◌, is_some, slice_get}
-use Rattle.osdp_frame.specs.Packet.{Packet}
-use Rattle.osdp_msg.specs.declared.command.Command.{Command}
-use Rattle.osdp_controller.specs.Hearing.{comset_of}
-use Rattle.osdp_bus.specs.Buses.{BusState, device_of, seen}
+use Rattle.osdp_calls.proofs.Common.{◌≡◌, ◌≤◌, ℕ, max, Bool, true, false, cond, List, [], ◌∷◌, ◌++◌, length, Option, Some, None, refl, sym, subst, ap, ◌∙◌, inl, inr, ◌==◌, is_some, slice_get, Packet, Command, comset_of, BusState, device_of, seen, changed_unless, bus_ticks, ticks_at, ticks_with, Entry, told_by_ticking, told_in, ReadsWhatIsAsked, each_map, each_of, Each, Answer, IsSetUp, NobodyElseHears, Net, Submit, Retarget, site_at, KeepRule, Note, RuleSuffices, also_at, two_addresses, Call, NewDevice, NewPanel, OfPanel, after_call, all_hear, asked_at, begins_session, begins_with, begun_of, change_at, issues, last_of, panel_says, read_by, said_for, waiting_of, told_by_all, Burst, InUse, Opening, Station, ahead_of_panel, Addresses, InOrder, InRange, PanelAddresses, QuietOpening, KeepsRule, PanelKeepsRule, noted_of, notes_after}
 use Rattle.osdp_bus.specs.Entries as devices
 use Rattle.osdp_bus.specs.Machine as bus
-use Rattle.osdp_bus.specs.Machine.{changed_unless}
-use Rattle.osdp_bus.specs.Ticking.{bus_ticks, ticks_at, ticks_with}
-use Rattle.osdp_bus.specs.declared.entry.Entry.{Entry}
 use Rattle.osdp_bus_laws.specs.Calls as panel
-use Rattle.osdp_bus_laws.specs.Reports.{told_by_ticking, told_in}
 use Rattle.osdp_bus_laws.proofs.Moments.{moments_are_seen}
-use Rattle.osdp_link_laws.specs.Peers.{ReadsWhatIsAsked}
-use Rattle.osdp_link_laws.proofs.Lines.{each_map, each_of}
-use Rattle.osdp_link_laws.proofs.Stages.{Each}
-use Rattle.osdp_reader.specs.declared.handler.Answer.{Answer}
-use Rattle.osdp_shared_line.specs.Addresses.{IsSetUp, NobodyElseHears}
-use Rattle.osdp_shared_line.specs.Line.{Net, Submit, Retarget, site_at}
-use Rattle.osdp_shared_line.specs.Programs.{KeepRule, Note, RuleSuffices, also_at, two_addresses}
-use Rattle.osdp_calls.specs.Calls.{Call, NewDevice, NewPanel, OfPanel, after_call, all_hear, asked_at, begins_session, begins_with, begun_of, change_at, issues, last_of, panel_says, read_by, said_for, waiting_of}
-use Rattle.osdp_calls.specs.Handing.{told_by_all}
-use Rattle.osdp_calls.specs.Lines.{Burst, InUse, Opening, Station, ahead_of_panel}
-use Rattle.osdp_calls.specs.Premises.{Addresses, InOrder, InRange, PanelAddresses, QuietOpening}
-use Rattle.osdp_calls.specs.Programs.{KeepsRule, PanelKeepsRule, noted_of, notes_after}
 use Rattle.osdp_calls.proofs.Accepting.{panel_premise, retarget_premise, retarget_rule, submit_premise, submit_rule}
 use Rattle.osdp_calls.proofs.Agreed.{all_ticked, ticked_free, ticking_told, ticks_to}
 use Rattle.osdp_calls.proofs.Agreeing.{AllAgree, Ruled, all_read, reads_those, told_note, told_note_then, told_notes}

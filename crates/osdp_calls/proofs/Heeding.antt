@@ -1,31 +1,9 @@
 -- After each call what is noted of the entries agrees with what is noted along the moves that the call comes to.
 use Rattle.std.proofs.Common.{◌≡◌, ◌≢◌, ℕ, zero, suc, max, Bool, true, false, cond, List, [], ◌∷◌, ◌++◌, map, Option, Some, None, refl, sym, subst, ap, ◌∙◌, inl, inr, is_some}
-use Rattle.std.proofs.lemmas.Bool.Decides.{eqb_tells}
-use Rattle.std.specs.Option.{option_map_or}
-use Rattle.std.specs.Prelude.{◌==◌, ◌&&◌, slice_get, slice_set}
-use Rattle.osdp_msg.specs.declared.limits.Room.{Room}
-use Rattle.osdp_msg.specs.declared.command.Command.{Command}
-use Rattle.osdp_controller.specs.Hearing.{comset_of}
-use Rattle.osdp_controller.specs.declared.config.ControllerConfig.{ControllerConfig}
-use Rattle.osdp_controller.specs.declared.state.State.{State}
-use Rattle.osdp_controller.specs.declared.state.State.TheVariants.{Closed}
-use Rattle.osdp_bus.specs.Buses.{BusState, device_of, seen}
+use Rattle.osdp_calls.proofs.Common.{eqb_tells, option_map_or, ◌==◌, ◌&&◌, slice_get, slice_set, Room, Command, comset_of, ControllerConfig, State, Closed, BusState, device_of, seen, changed_unless, changes_entry, new_device, BusConfig, Entry, BusFault, is_false, is_true, Each, Answer, Net, NetMove, RestartPanel, Retarget, Site, Submit, address_of, is_command_accepted, is_retarget_accepted, site_at, Note, also_at, noted_at, two_addresses, at_changed, at_other, some_same, Call, NewPanel, OfPanel, all_forget, begun_of, change_at, changes_at, is_to_begin, issues, panel_made_anew, takes_back, withdrawn, InUse, Station, noted_of, notes_after}
 use Rattle.osdp_bus.specs.Entries as devices
 use Rattle.osdp_bus.specs.Machine as bus
-use Rattle.osdp_bus.specs.Machine.{changed_unless, changes_entry, new_device}
-use Rattle.osdp_bus.specs.declared.config.BusConfig.{BusConfig}
-use Rattle.osdp_bus.specs.declared.entry.Entry.{Entry}
-use Rattle.osdp_bus.specs.declared.fault.BusFault.{BusFault}
 use Rattle.osdp_bus_laws.specs.Calls as panel
-use Rattle.osdp_link_laws.proofs.Numbers.{is_false, is_true}
-use Rattle.osdp_link_laws.proofs.Stages.{Each}
-use Rattle.osdp_reader.specs.declared.handler.Answer.{Answer}
-use Rattle.osdp_shared_line.specs.Line.{Net, NetMove, RestartPanel, Retarget, Site, Submit, address_of, is_command_accepted, is_retarget_accepted, site_at}
-use Rattle.osdp_shared_line.specs.Programs.{Note, also_at, noted_at, two_addresses}
-use Rattle.osdp_shared_line.proofs.Sites.{at_changed, at_other, some_same}
-use Rattle.osdp_calls.specs.Calls.{Call, NewPanel, OfPanel, all_forget, begun_of, change_at, changes_at, is_to_begin, issues, panel_made_anew, takes_back, withdrawn}
-use Rattle.osdp_calls.specs.Lines.{InUse, Station}
-use Rattle.osdp_calls.specs.Programs.{noted_of, notes_after}
 use Rattle.osdp_calls.proofs.Accepting.{command_accepted, retarget_accepted}
 use Rattle.osdp_calls.proofs.Agreeing.{AllAgree, address_same, at_entry, begun_change}
 use Rattle.osdp_calls.proofs.Along.{notes_along, still_along}

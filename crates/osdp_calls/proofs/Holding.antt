@@ -1,24 +1,8 @@
 -- Every list of calls that keep the premises is a list of moves of a net, so what holds of each site holds of each entry.
-use Rattle.std.proofs.Common.{◌≡◌, ℕ, List, [], ◌∷◌, ◌++◌, Some, refl, sym, subst, ap, ◌∙◌, inl, inr}
-use Rattle.osdp_msg.specs.declared.command.Command.{Command}
-use Rattle.osdp_bus.specs.Buses.{device_of}
-use Rattle.osdp_bus.specs.declared.entry.Entry.{Entry}
+use Rattle.osdp_calls.proofs.Common.{◌≡◌, ℕ, List, [], ◌∷◌, ◌++◌, Some, refl, sym, subst, ap, ◌∙◌, inl, inr, Command, device_of, Entry, passed, after_silence, after_take, after_tick, Link, Move, queued, submitted, each_append, each_map, each_of, Each, ReaderState, Answer, NetMovesFit, NoTwoAreTogether, Net, NetMove, RestartPanel, Site, after_net, run, site_at, accepted_by, all_accepted, all_queued, queued_by, Call, Next, NewDevice, NewPanel, OfPanel, Pending, SetBusy, SetHandler, Silence, Step, SubmitEvent, Take, TickDevice, after_call, after_calls, read_by, WithdrawEvent, InUse, Station, fits_both, net_more}
 use Rattle.osdp_bus_laws.specs.Calls as bus
-use Rattle.osdp_device.specs.Deciding.{passed}
-use Rattle.osdp_frame.specs.Receiving.{after_silence, after_take, after_tick}
 use Rattle.osdp_link_laws.specs.Link as link
-use Rattle.osdp_link_laws.specs.Link.{Link, Move}
 use Rattle.osdp_link_laws.specs.Sessions as sessions
-use Rattle.osdp_link_laws.specs.Sessions.{queued, submitted}
-use Rattle.osdp_link_laws.proofs.Lines.{each_append, each_map, each_of}
-use Rattle.osdp_link_laws.proofs.Stages.{Each}
-use Rattle.osdp_reader.specs.State.{ReaderState}
-use Rattle.osdp_reader.specs.declared.handler.Answer.{Answer}
-use Rattle.osdp_shared_line.specs.Addresses.{NetMovesFit, NoTwoAreTogether}
-use Rattle.osdp_shared_line.specs.Line.{Net, NetMove, RestartPanel, Site, after_net, run, site_at}
-use Rattle.osdp_calls.specs.Accepted.{accepted_by, all_accepted, all_queued, queued_by}
-use Rattle.osdp_calls.specs.Calls.{Call, Next, NewDevice, NewPanel, OfPanel, Pending, SetBusy, SetHandler, Silence, Step, SubmitEvent, Take, TickDevice, after_call, after_calls, read_by, WithdrawEvent}
-use Rattle.osdp_calls.specs.Lines.{InUse, Station}
 use Rattle.osdp_calls.specs.Premises.{Addresses, AllKeep, InOrder, InRange, IsSetUp, QuietOpening}
 use Rattle.osdp_calls.specs.Promises.{CallsKeepApart}
 use Rattle.osdp_calls.proofs.Counting.{counted, in_net, in_net_more}
@@ -35,7 +19,6 @@ use Rattle.osdp_calls.proofs.Stations.{Makes, busying, make_none, of_station}
 use Rattle.osdp_calls.proofs.Strangers.{ordered}
 use Rattle.osdp_calls.proofs.Steps.{IsOf, IsOfOne, Made, StepsTo, by_plain}
 use Rattle.osdp_calls.proofs.Ticks.{ticking}
-use Rattle.osdp_shared_line.proofs.Rounds.{fits_both, net_more}
 
 module _ {H : Type 0} (answer_of : H → Command → Answer) (after : H → Command → H) where
   -- ---- a call

@@ -1,20 +1,6 @@
 -- Stations stay, whatever is called.
-use Rattle.std.proofs.Common.{◌≡◌, ℕ, zero, suc, List, [], ◌∷◌, Option, Some, None, refl, ◌∙◌}
-use Rattle.std.specs.Prelude.{is_some}
-use Rattle.osdp_frame.specs.Packet.{Packet}
-use Rattle.osdp_msg.specs.declared.command.Command.{Command}
-use Rattle.osdp_controller.specs.declared.report.Report.{Report}
-use Rattle.osdp_bus.specs.Buses.{BusState, device_of}
-use Rattle.osdp_bus.specs.Machine.{begin_refusal_at, changed_unless, submit_refusal_at, withdrawal_at}
-use Rattle.osdp_bus.specs.Ticking.{bus_ticks}
-use Rattle.osdp_bus.specs.declared.entry.Entry.{Entry}
-use Rattle.osdp_bus.specs.declared.fault.BusFault.{BusFault}
+use Rattle.osdp_calls.proofs.Common.{◌≡◌, ℕ, zero, suc, List, [], ◌∷◌, Option, Some, None, refl, ◌∙◌, is_some, Packet, Command, Report, BusState, device_of, begin_refusal_at, changed_unless, submit_refusal_at, withdrawal_at, bus_ticks, Entry, BusFault, told_in, Answer, site_at, Call, NewDevice, NewPanel, Next, OfPanel, Pending, SetBusy, SetHandler, Silence, SubmitEvent, Take, TickDevice, WithdrawEvent, after_call, after_next, all_forget, all_hear, asked_at, begins_session, begins_with, begun_of, change_at, changes_at, hears_of, last_of, nexts, noted, panel_says, said_at, takes_back, waiting_of, withdrawn, Step, after_calls, InUse, Station}
 use Rattle.osdp_bus_laws.specs.Calls as bus
-use Rattle.osdp_bus_laws.specs.Reports.{told_in}
-use Rattle.osdp_reader.specs.declared.handler.Answer.{Answer}
-use Rattle.osdp_shared_line.specs.Line.{site_at}
-use Rattle.osdp_calls.specs.Calls.{Call, NewDevice, NewPanel, Next, OfPanel, Pending, SetBusy, SetHandler, Silence, SubmitEvent, Take, TickDevice, WithdrawEvent, after_call, after_next, all_forget, all_hear, asked_at, begins_session, begins_with, begun_of, change_at, changes_at, hears_of, last_of, nexts, noted, panel_says, said_at, takes_back, waiting_of, withdrawn, Step, after_calls}
-use Rattle.osdp_calls.specs.Lines.{InUse, Station}
 use Rattle.osdp_calls.proofs.Matching.{changed_some}
 
 module _ {H : Type 0} (k : ℕ) where

@@ -1,3 +1,4 @@
+pub mod Common
 pub mod Losing
 pub mod Matching
 pub mod Lasting

@@ -1,18 +1,8 @@
 -- What a list of moves of a net comes to, and what is lost on the line.
-use Rattle.std.proofs.Common.{◌≡◌, ℕ, zero, suc, Bool, true, false, cond, List, [], ◌∷◌, ◌++◌, length, Some, refl, sym, subst, ap, ◌∙◌, append_assoc}
-use Rattle.osdp_frame.specs.Packet.{Packet}
-use Rattle.osdp_msg.specs.declared.command.Command.{Command}
-use Rattle.osdp_reader.specs.declared.handler.Answer.{Answer}
-use Rattle.osdp_link_laws.specs.Link.{lost_at}
-use Rattle.osdp_link_laws.proofs.Lines.{each_append}
-use Rattle.osdp_link_laws.proofs.Stages.{Each}
-use Rattle.osdp_shared_line.specs.Addresses.{NetMoveFits, NetMovesFit}
+use Rattle.osdp_calls.proofs.Common.{◌≡◌, ℕ, zero, suc, Bool, true, false, cond, List, [], ◌∷◌, ◌++◌, length, Some, refl, sym, subst, ap, ◌∙◌, append_assoc, Packet, Command, Answer, lost_at, each_append, Each, NetMoveFits, NetMovesFit, at_changed, Burst, those, fits_both, net_more}
 use Rattle.osdp_shared_line.specs.Line as line
 use Rattle.osdp_shared_line.specs.Line.{LoseToPanel, LoseToReader, Net, NetMove, Queue, Reopen, RestartPanel, RestartReader, Retarget, SetHandler, Site, Submit, ToPanel, Withdraw, WithdrawEvent, after_net, changed, run, site_at}
-use Rattle.osdp_shared_line.proofs.Sites.{at_changed}
-use Rattle.osdp_calls.specs.Lines.{Burst, those}
 use Rattle.osdp_link_laws.proofs.Doing.{lost_there}
-use Rattle.osdp_shared_line.proofs.Rounds.{fits_both, net_more}
 
 -- ---- a list without some of it
 

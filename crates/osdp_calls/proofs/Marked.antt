@@ -1,28 +1,7 @@
 -- Call by call, what is told of an entry's events, session by session.
-use Rattle.std.proofs.Common.{◌≡◌, ◌≢◌, ℕ, zero, suc, max, Bool, true, false, cond, List, [], ◌∷◌, ◌++◌, map, Option, Some, None, refl, sym, subst, ap, ◌∙◌, inl, inr}
-use Rattle.std.proofs.lemmas.Bool.Decides.{eqb_tells}
-use Rattle.std.specs.Prelude.{◌==◌, slice_get, slice_set}
-use Rattle.std.specs.Option.{option_map_or}
-use Rattle.osdp_frame.specs.Packet.{Packet}
-use Rattle.osdp_msg.specs.declared.command.Command.{Command}
-use Rattle.osdp_msg.specs.declared.event.Event.{Event}
-use Rattle.osdp_controller.specs.declared.report.Report.{Report}
+use Rattle.osdp_calls.proofs.Common.{◌≡◌, ◌≢◌, ℕ, zero, suc, max, Bool, true, false, cond, List, [], ◌∷◌, ◌++◌, map, Option, Some, None, refl, sym, subst, ap, ◌∙◌, inl, inr, eqb_tells, ◌==◌, slice_get, slice_set, option_map_or, Packet, Command, Event, Report, BusState, Devices, device_of, seen, entry_hears, entry_ticks, first_from, is_at, step_of, told_of, hears_at, hears_packet, hears_with, add_refusal, after_add, after_begin_at, after_retarget_at, after_submit_at, begin_refusal_at, begin_refusal_of, changed_unless, changes_entry, entry_begins, entry_retargets, entry_submits, entry_withdraws, new_device, retarget_refusal_at, submit_refusal_at, withdrawal_at, bus_ticks, ticks_at, ticks_with, Entry, BusFault, told_at, told_by_device, told_by_entry, told_by_ticking, told_in, told_with, Account, site_at, at_changed, at_other, some_same, after_panel, all_hear, asked_at, begins_session, begins_with, begun_of, change_at, changes_at, hears_of, is_to_begin, issues, last_of, panel_says, read_by, takes_back, waiting_of, withdrawn, heard, hears_all, told_by_all, InUse, Station}
 use Rattle.osdp_controller.specs.declared.report.Report.TheVariants as report
-use Rattle.osdp_bus.specs.Buses.{BusState, Devices, device_of, seen}
-use Rattle.osdp_bus.specs.Entries.{entry_hears, entry_ticks, first_from, is_at, step_of, told_of}
-use Rattle.osdp_bus.specs.Hearing.{hears_at, hears_packet, hears_with}
-use Rattle.osdp_bus.specs.Machine.{add_refusal, after_add, after_begin_at, after_retarget_at, after_submit_at, begin_refusal_at, begin_refusal_of, changed_unless, changes_entry, entry_begins, entry_retargets, entry_submits, entry_withdraws, new_device, retarget_refusal_at, submit_refusal_at, withdrawal_at}
-use Rattle.osdp_bus.specs.Ticking.{bus_ticks, ticks_at, ticks_with}
-use Rattle.osdp_bus.specs.declared.entry.Entry.{Entry}
-use Rattle.osdp_bus.specs.declared.fault.BusFault.{BusFault}
 use Rattle.osdp_bus_laws.specs.Calls as bus
-use Rattle.osdp_bus_laws.specs.Reports.{told_at, told_by_device, told_by_entry, told_by_ticking, told_in, told_with}
-use Rattle.osdp_link_laws.specs.Link.{Account}
-use Rattle.osdp_shared_line.specs.Line.{site_at}
-use Rattle.osdp_shared_line.proofs.Sites.{at_changed, at_other, some_same}
-use Rattle.osdp_calls.specs.Calls.{after_panel, all_hear, asked_at, begins_session, begins_with, begun_of, change_at, changes_at, hears_of, is_to_begin, issues, last_of, panel_says, read_by, takes_back, waiting_of, withdrawn}
-use Rattle.osdp_calls.specs.Handing.{heard, hears_all, told_by_all}
-use Rattle.osdp_calls.specs.Lines.{InUse, Station}
 use Rattle.osdp_calls.proofs.Handing.{hands_over}
 use Rattle.osdp_calls.proofs.Marking.{Agrees, Told, after_told, begun_after, heard_marks, next, next_told, sessions_after, tick_marks}
 use Rattle.osdp_calls.proofs.Noticing.{got_new, got_other}

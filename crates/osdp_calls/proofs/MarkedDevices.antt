@@ -1,29 +1,8 @@
 -- Calls of devices tell nothing of events: after each call, and after a call of the panel.
-use Rattle.std.proofs.Common.{◌≡◌, ℕ, Bool, true, false, List, [], ◌∷◌, map, Option, Some, None, refl, sym, subst, ap}
-use Rattle.osdp_frame.specs.Packet.{Packet}
-use Rattle.osdp_msg.specs.declared.command.Command.{Command}
-use Rattle.osdp_msg.specs.declared.command.Command.TheVariants.{Poll}
-use Rattle.osdp_msg.specs.declared.event.Event.{Event}
-use Rattle.osdp_msg.specs.declared.reply.Reply.{Reply}
-use Rattle.osdp_controller.specs.declared.report.Report.{Report}
-use Rattle.osdp_bus.specs.Buses.{BusState}
-use Rattle.osdp_bus.specs.declared.entry.Entry.{Entry}
+use Rattle.osdp_calls.proofs.Common.{◌≡◌, ℕ, Bool, true, false, List, [], ◌∷◌, map, Option, Some, None, refl, sym, subst, ap, Packet, Command, Poll, Event, Reply, Report, BusState, Entry, told_in, passed, items_of, after_silence, after_take, after_tick, Account, front_of, taken, taken_command, after_set_busy, after_set_handler, Answer, Kind, lacks_room, site_at, Call, NewDevice, NewPanel, Next, OfPanel, Pending, SetBusy, SetHandler, Silence, SubmitEvent, Take, TickDevice, WithdrawEvent, after_call, after_next, after_panel, answers, change_at, first_answered, last_of, made_anew, nexts, noted, queues, read_up_to, withdraws_event, KeepsPanel, InUse, Station}
 use Rattle.osdp_bus_laws.specs.Calls as bus
-use Rattle.osdp_bus_laws.specs.Reports.{told_in}
-use Rattle.osdp_device.specs.Deciding.{passed}
-use Rattle.osdp_device.specs.Telling.{items_of}
-use Rattle.osdp_frame.specs.Receiving.{after_silence, after_take, after_tick}
-use Rattle.osdp_link_laws.specs.Link.{Account, front_of, taken, taken_command}
-use Rattle.osdp_reader.specs.State.{after_set_busy, after_set_handler}
 use Rattle.osdp_reader.specs.Table.{hears, kind_of}
-use Rattle.osdp_reader.specs.declared.handler.Answer.{Answer}
-use Rattle.osdp_reader.specs.declared.kind.Kind.{Kind}
 use Rattle.osdp_reader.specs.declared.kind.Kind.TheVariants as kinds
-use Rattle.osdp_reader.specs.Queue.{lacks_room}
-use Rattle.osdp_shared_line.specs.Line.{site_at}
-use Rattle.osdp_calls.specs.Calls.{Call, NewDevice, NewPanel, Next, OfPanel, Pending, SetBusy, SetHandler, Silence, SubmitEvent, Take, TickDevice, WithdrawEvent, after_call, after_next, after_panel, answers, change_at, first_answered, last_of, made_anew, nexts, noted, queues, read_up_to, withdraws_event}
-use Rattle.osdp_calls.specs.Ends.{KeepsPanel}
-use Rattle.osdp_calls.specs.Lines.{InUse, Station}
 use Rattle.osdp_calls.proofs.Ends.{next_bus, next_stations, said_bus}
 use Rattle.osdp_calls.proofs.Marking.{Agrees, Told, next}
 use Rattle.osdp_calls.proofs.Places.{those}

@@ -1,17 +1,9 @@
 -- What a controller tells of events, session by session: as it hears a packet, and as it ticks.
-use Rattle.std.proofs.Common.{◌≡◌, ℕ, ◌+◌, leb, ltb, Bool, true, false, List, [], ◌∷◌, ◌++◌, length, Option, Some, None, refl, sym, subst, ap, ◌∙◌, append_assoc}
+use Rattle.osdp_calls.proofs.Common.{◌≡◌, ℕ, ◌+◌, leb, ltb, Bool, true, false, List, [], ◌∷◌, ◌++◌, length, Option, Some, None, refl, sym, subst, ap, ◌∙◌, append_assoc, bytes_eq, Packet, next_sequence, Command, Communication, Event, Reply, said_by, Heard, answered, answered_unread, com_of, command_answered, comset_of, hears, hears_busy, hears_in, ignores, is_ack, is_from_reader, is_numbered, loses, moved_by, opening_answered, pausing_hears, pd_id_of, poll_told, rests, waiting_hears, Report, Session, State, Closed, Quiet, Idle, Waiting, Pausing, Remembered, event_bytes, may_be_again, remembers, both, is_equal_to, last_event, marked_in, unmarked}
 use Rattle.std.proofs.lemmas.List.{append-nil, map-append}
 use Rattle.std.specs.Prelude.{◌&&◌, not}
-use Rattle.std.specs.Str.{bytes_eq}
-use Rattle.osdp_frame.specs.Packet.{Packet, next_sequence}
 use Rattle.osdp_msg.specs.Events.{event_in}
-use Rattle.osdp_msg.specs.declared.command.Command.{Command}
-use Rattle.osdp_msg.specs.declared.command_fields.Communication.{Communication}
-use Rattle.osdp_msg.specs.declared.event.Event.{Event}
-use Rattle.osdp_msg.specs.declared.reply.Reply.{Reply}
 use Rattle.osdp_msg.specs.declared.reply_fields.PdId.{PdId}
-use Rattle.osdp_controller.specs.Answers.{meaning_of as said_by}
-use Rattle.osdp_controller.specs.Hearing.{Heard, answered, answered_unread, com_of, command_answered, comset_of, hears, hears_busy, hears_in, ignores, is_ack, is_from_reader, is_numbered, loses, moved_by, opening_answered, pausing_hears, pd_id_of, poll_told, rests, waiting_hears}
 use Rattle.osdp_controller.specs.Sessions.{later, seen}
 use Rattle.osdp_controller.specs.Ticking.{Ticked, begins, gives_up, sends_frame, stays, ticks_in, tries_again}
 use Rattle.osdp_controller.specs.declared.exchange.Exchange.{Exchange}
@@ -21,14 +13,7 @@ use Rattle.osdp_controller.specs.declared.meaning.ReplyMeaning.{ReplyMeaning}
 use Rattle.osdp_controller.specs.declared.meaning.ReplyMeaning.TheVariants.{NotTaken, Damaged, NumberRefused, Plain, Unreadable}
 use Rattle.osdp_controller.specs.declared.report.LostCause.{LostCause}
 use Rattle.osdp_controller.specs.declared.report.LostCause.TheVariants as causes
-use Rattle.osdp_controller.specs.declared.report.Report.{Report}
 use Rattle.osdp_controller.specs.declared.report.Report.TheVariants as report
-use Rattle.osdp_controller.specs.declared.session.Session.{Session}
-use Rattle.osdp_controller.specs.declared.state.State.{State}
-use Rattle.osdp_controller.specs.declared.state.State.TheVariants.{Closed, Quiet, Idle, Waiting, Pausing}
-use Rattle.osdp_bus.specs.Remembering.{Remembered, event_bytes, may_be_again, remembers}
-use Rattle.osdp_link_laws.proofs.Lines.{both}
-use Rattle.osdp_calls.specs.Marks.{is_equal_to, last_event, marked_in, unmarked}
 
 -- ---- what has been told of an entry: its events, each with its mark, and what is remembered of them
 

@@ -1,9 +1,6 @@
 -- The entries of a bus, their devices' stations and the sites of a net, place by place.
-use Rattle.std.proofs.Common.{◌≡◌, ◌≢◌, ◌≤◌, ℕ, zero, suc, ◌+◌, true, List, [], ◌∷◌, length, Option, Some, None, refl, sym, subst, ap, arith}
+use Rattle.osdp_calls.proofs.Common.{◌≡◌, ◌≢◌, ◌≤◌, ℕ, zero, suc, ◌+◌, true, List, [], ◌∷◌, length, Option, Some, None, refl, sym, subst, ap, arith, Entry, Site, changed, site_at, Station}
 use Rattle.std.specs.Prelude.{is_some, map, slice_get, slice_set}
-use Rattle.osdp_bus.specs.declared.entry.Entry.{Entry}
-use Rattle.osdp_shared_line.specs.Line.{Site, changed, site_at}
-use Rattle.osdp_calls.specs.Lines.{Station}
 
 pub data Match {H : Type 0} (P : ℕ → Entry → Station H → Site H → Type 0) : ℕ → List Entry → List (Station H) → List (Site H) → Type 0 where
   Done : (i : ℕ) (ds : List Entry) → Match P i ds [] []

@@ -1,25 +1,9 @@
 -- What a device reads: what stands before it is lost to it, and what it reads stays in front of it and may be read again.
-use Rattle.std.proofs.Common.{◌≡◌, ◌≤◌, ◌<◌, ℕ, zero, suc, ◌+◌, not, Bool, true, false, cond, List, [], ◌∷◌, ◌++◌, length, Option, Some, None, IfSome, refl, sym, subst, ap, ◌∙◌, arith, append-nil, append_assoc, inl, inr}
-use Rattle.std.specs.Prelude.{option_to_list}
-use Rattle.osdp_frame.specs.Packet.{Packet}
-use Rattle.osdp_msg.specs.ReplyTable.{ReplyFits}
-use Rattle.osdp_msg.specs.declared.command.Command.{Command}
-use Rattle.osdp_device.specs.Saying.{speaks}
+use Rattle.osdp_calls.proofs.Common.{◌≡◌, ◌≤◌, ◌<◌, ℕ, zero, suc, ◌+◌, not, Bool, true, false, cond, List, [], ◌∷◌, ◌++◌, length, Option, Some, None, IfSome, refl, sym, subst, ap, ◌∙◌, arith, append-nil, append_assoc, inl, inr, option_to_list, Packet, ReplyFits, Command, speaks, Repeated, each_append, Each, ReaderState, Answer, in_front, Net, NetMove, Site, ToReader, after_net, changed, left_by, link_of, run, site_at, tagged, at_changed, some_same, answers, by_device, first_answered, last_of, reply_to, Burst, InUse, Opening, Station, ahead_of_device, is_past_for_device, AreInOrder, at_length, net_more}
 use Rattle.osdp_link_laws.specs.Headline.{SaysWhatFitsIf}
 use Rattle.osdp_link_laws.specs.Link as link
-use Rattle.osdp_link_laws.specs.Link.{Repeated}
-use Rattle.osdp_link_laws.proofs.Lines.{each_append}
-use Rattle.osdp_link_laws.proofs.Stages.{Each}
-use Rattle.osdp_reader.specs.State.{ReaderState}
 use Rattle.osdp_reader.specs.Table.{hears, kind_of}
-use Rattle.osdp_reader.specs.declared.handler.Answer.{Answer}
-use Rattle.osdp_shared_line.specs.Addresses.{in_front}
 use Rattle.osdp_shared_line.specs.Line as line
-use Rattle.osdp_shared_line.specs.Line.{Net, NetMove, Site, ToReader, after_net, changed, left_by, link_of, run, site_at, tagged}
-use Rattle.osdp_shared_line.proofs.Sites.{at_changed, some_same}
-use Rattle.osdp_calls.specs.Calls.{answers, by_device, first_answered, last_of, reply_to}
-use Rattle.osdp_calls.specs.Lines.{Burst, InUse, Opening, Station, ahead_of_device, is_past_for_device}
-use Rattle.osdp_calls.specs.Premises.{AreInOrder}
 use Rattle.osdp_calls.proofs.Ahead.{AreWithin, device_front, device_further, device_told_device, device_told_panel, from_device}
 use Rattle.osdp_calls.proofs.Losing.{IsLoss, Loses, changed_twice, joins, lose_to_reader, then_reaches, with_coming}
 use Rattle.osdp_calls.proofs.Matching.{FoundAt, Nobody, Somebody, changed_same, found, matched, set_station}
@@ -27,7 +11,6 @@ use Rattle.osdp_calls.proofs.Replying.{IsReply, hears_replies, reader_with, sile
 use Rattle.osdp_calls.proofs.Same.{IsNetOf, IsRightly, IsSiteOf, placed_so, read_so, sites_so}
 use Rattle.osdp_calls.proofs.Stations.{LosesTo, Makes, Refines, Sites, make_move, make_none}
 use Rattle.osdp_calls.proofs.Strangers.{IsUnanswered, unanswered_first}
-use Rattle.osdp_shared_line.proofs.Rounds.{at_length, net_more}
 
 pub length_more : {A : Type 0} (xs : List A) (x : A) → length (xs ++ x ∷ []) ≡ length xs + 1
 length_more [] x = refl

@@ -1,32 +1,9 @@
 -- What a program notes of an entry, and its site's note, as the controller reads a packet, and as it ticks.
-use Rattle.std.proofs.Common.{◌≡◌, ◌≢◌, ℕ, zero, suc, ◌+◌, Bool, true, false, cond, List, [], ◌∷◌, ◌++◌, Option, Some, None, refl, sym, subst, ap, ◌∙◌, arith, inl, inr, ◌≤◌}
-use Rattle.std.proofs.lemmas.Bool.Decides.{eqb_tells}
-use Rattle.std.specs.Prelude.{◌==◌, ◌&&◌, slice_get, slice_set}
-use Rattle.osdp_frame.specs.Packet.{Packet}
-use Rattle.osdp_frame.specs.Reading.{PacketItem}
-use Rattle.osdp_msg.specs.declared.command.Command.{Command}
-use Rattle.osdp_controller.specs.Hearing.{Heard, hears}
+use Rattle.osdp_calls.proofs.Common.{◌≡◌, ◌≢◌, ℕ, zero, suc, ◌+◌, Bool, true, false, cond, List, [], ◌∷◌, ◌++◌, Option, Some, None, refl, sym, subst, ap, ◌∙◌, arith, inl, inr, ◌≤◌, eqb_tells, ◌==◌, ◌&&◌, slice_get, slice_set, Packet, PacketItem, Command, Heard, hears, ticks, ticks_in, Report, Session, State, Closed, Quiet, Idle, Waiting, Pausing, Devices, hears_at, hears_packet, hears_with, Entry, told_at, told_by_entry, told_by_item, told_with, ReadsWhatIsAsked, is_false, is_true, Sets, Somewhere, Note, all_addresses, is_opened, hears_well, closed_hears, some_same, noted_report, noted_reports}
 use Rattle.osdp_controller.specs.Sessions as clocks
-use Rattle.osdp_controller.specs.Ticking.{ticks, ticks_in}
-use Rattle.osdp_controller.specs.declared.report.Report.{Report}
-use Rattle.osdp_controller.specs.declared.session.Session.{Session}
-use Rattle.osdp_controller.specs.declared.state.State.{State}
-use Rattle.osdp_controller.specs.declared.state.State.TheVariants.{Closed, Quiet, Idle, Waiting, Pausing}
-use Rattle.osdp_bus.specs.Buses.{Devices}
 use Rattle.osdp_bus.specs.Entries.{address_of, entry_hears, first_from, is_at, told_of}
-use Rattle.osdp_bus.specs.Hearing.{hears_at, hears_packet, hears_with}
-use Rattle.osdp_bus.specs.declared.entry.Entry.{Entry}
-use Rattle.osdp_bus_laws.specs.Reports.{told_at, told_by_entry, told_by_item, told_with}
-use Rattle.osdp_link_laws.specs.Peers.{ReadsWhatIsAsked}
-use Rattle.osdp_link_laws.proofs.Numbers.{is_false, is_true}
-use Rattle.osdp_shared_line.specs.Addresses.{Sets, Somewhere}
-use Rattle.osdp_shared_line.specs.Programs.{Note, all_addresses, is_opened}
-use Rattle.osdp_shared_line.proofs.Controllers.{hears_well}
-use Rattle.osdp_shared_line.proofs.Hearing.{closed_hears}
 use Rattle.osdp_shared_line.proofs.Noting.{opening_asks_none}
 use Rattle.osdp_shared_line.proofs.Openings.{IsOpening, hears_opening, ticks_opening}
-use Rattle.osdp_shared_line.proofs.Sites.{some_same}
-use Rattle.osdp_calls.specs.Programs.{noted_report, noted_reports}
 
 pub false_so : false ≡ true → ⊥
 false_so is = cc

@@ -1,17 +1,11 @@
 -- A session opens: what was said before and concerns it is lost out of the middle, to its device and to the panel.
-use Rattle.std.proofs.Common.{◌≡◌, ◌≤◌, [], ◌∷◌, length, Some, refl, sym, subst, ap, ◌∙◌}
-use Rattle.osdp_msg.specs.declared.command.Command.{Command}
-use Rattle.osdp_bus.specs.declared.entry.Entry.{Entry}
-use Rattle.osdp_reader.specs.declared.handler.Answer.{Answer}
-use Rattle.osdp_shared_line.specs.Line.{Net, Site, site_at}
-use Rattle.osdp_calls.specs.Lines.{InUse, Opening, Station, ahead_of_device, ahead_of_panel}
+use Rattle.osdp_calls.proofs.Common.{◌≡◌, ◌≤◌, [], ◌∷◌, length, Some, refl, sym, subst, ap, ◌∙◌, Command, Entry, Answer, Net, Site, site_at, InUse, Opening, Station, ahead_of_device, ahead_of_panel, slice_get, slice_set}
 use Rattle.osdp_calls.proofs.Ahead.{device_opened, others_opened, panel_opened}
 use Rattle.osdp_calls.proofs.Losing.{Loses, lose_to_panel, lose_to_reader, then_loses, with_coming, with_panel}
 use Rattle.osdp_calls.proofs.Matching.{Match, changed_same, set_others, set_same}
 use Rattle.osdp_calls.proofs.Same.{IsNetOf, placed_so}
 use Rattle.osdp_calls.proofs.Nexts.{loses_to}
 use Rattle.osdp_calls.proofs.Stations.{LosesTo, Sites}
-use Rattle.std.specs.Prelude.{slice_get, slice_set}
 
 module _ {H : Type 0} (answer_of : H → Command → Answer) (after : H → Command → H) where
   pub opens : (o : Opening) (d : Entry) (t : Station H) (s : Site H) (l : InUse H) (n : Net H) → IsNetOf l n → o.place ≤ length l.said

@@ -1,40 +1,17 @@
 -- The calls of a panel's program that read nothing: sessions, commands and addresses.
 use Rattle.std.proofs.Common.{◌≡◌, ◌||◌, ◌&&◌, ◌-◌, ◌*◌, ℕ, zero, suc, ◌+◌, max, Bool, true, false, cond, List, [], ◌∷◌, ◌++◌, length, map, take, drop, Option, Some, None, refl, sym, subst, ap, ◌∙◌, arith, append-nil, inl, inr}
-use Rattle.std.specs.Option.{option_map_or}
-use Rattle.std.specs.Prelude.{is_some, nat_le, nat_lt, option_map, option_to_list, slice_get, slice_set}
-use Rattle.osdp_frame.specs.Packet.{Packet}
-use Rattle.osdp_msg.specs.CommandTable.{CommandFits}
-use Rattle.osdp_msg.specs.Limits.{most_data}
-use Rattle.osdp_msg.specs.declared.command.Command.{Command}
-use Rattle.osdp_msg.specs.declared.command.Command.TheVariants.{Poll}
-use Rattle.osdp_msg.specs.declared.command_fields.Communication.{Communication}
-use Rattle.osdp_controller.specs.Comsets.{has_comset}
-use Rattle.osdp_controller.specs.Hearing.{comset_of}
+use Rattle.osdp_calls.proofs.Common.{option_map_or, is_some, nat_le, nat_lt, option_map, option_to_list, slice_get, slice_set, Packet, CommandFits, most_data, Command, Poll, Communication, has_comset, comset_of, Machine, begin_refusal, bytes_waiting, command_size, retarget_refusal, submit_refusal, Closed, BusState, seen, reserved_for, after_begin_at, after_submit_at, begin_refusal_at, bus_fault, changed_unless, changes_entry, entry_begins, submit_refusal_at, Entry, BusFault, Answer, HasNoOther, Sets, Somewhere, asked_in, Net, NetMove, Retarget, Site, Submit, Withdraw, after_net, changed, site_at, some_same, OfPanel, begun_of, change_at, changes_at, is_to_begin, issues, takes_back, withdrawn, InUse, Station, IsAsked, IsNoOthers, IsSaid, IsThere, MayBeAt}
 use Rattle.osdp_controller.specs.Machine as controllers
-use Rattle.osdp_controller.specs.Machine.{Machine, begin_refusal, bytes_waiting, command_size, retarget_refusal, submit_refusal}
 use Rattle.osdp_controller.specs.Held.{on_its_way}
 use Rattle.osdp_controller.specs.declared.fault.ControllerFault.{ControllerFault}
 use Rattle.osdp_controller.specs.declared.fault.ControllerFault.TheVariants.{Full}
-use Rattle.osdp_controller.specs.declared.state.State.TheVariants.{Closed}
-use Rattle.osdp_bus.specs.Buses.{BusState, seen}
 use Rattle.osdp_bus.specs.Entries as devices
-use Rattle.osdp_bus.specs.Entries.{reserved_for}
 use Rattle.osdp_bus.specs.Machine as bus
-use Rattle.osdp_bus.specs.Machine.{after_begin_at, after_submit_at, begin_refusal_at, bus_fault, changed_unless, changes_entry, entry_begins, submit_refusal_at}
-use Rattle.osdp_bus.specs.declared.entry.Entry.{Entry}
-use Rattle.osdp_bus.specs.declared.fault.BusFault.{BusFault}
 use Rattle.osdp_bus.specs.declared.fault.BusFault.TheVariants.{AddressTaken}
 use Rattle.osdp_bus_laws.specs.Calls as panel
 use Rattle.osdp_link_laws.specs.Link as link
-use Rattle.osdp_reader.specs.declared.handler.Answer.{Answer}
 use Rattle.osdp_shared_line.specs.Addresses as addresses
-use Rattle.osdp_shared_line.specs.Addresses.{HasNoOther, Sets, Somewhere, asked_in}
 use Rattle.osdp_shared_line.specs.Line as line
-use Rattle.osdp_shared_line.specs.Line.{Net, NetMove, Retarget, Site, Submit, Withdraw, after_net, changed, site_at}
-use Rattle.osdp_shared_line.proofs.Sites.{some_same}
-use Rattle.osdp_calls.specs.Calls.{OfPanel, begun_of, change_at, changes_at, is_to_begin, issues, takes_back, withdrawn}
-use Rattle.osdp_calls.specs.Lines.{InUse, Station}
-use Rattle.osdp_calls.specs.Premises.{IsAsked, IsNoOthers, IsSaid, IsThere, MayBeAt}
 use Rattle.osdp_calls.proofs.Controllers.{closed_of, config_same, is_to_open, retargeted_same, submitted_same, waiting_same, withdrawn_same}
 use Rattle.osdp_calls.proofs.Matching.{And, Done, FoundAt, Match, Nobody, Somebody, changed_same, found, set, set_other, set_same}
 use Rattle.osdp_calls.proofs.Panel.{at_seen}

@@ -1,26 +1,9 @@
 -- What the panel reads: what stands before it is lost to it, and what it reads stays in front of it and may be read again.
-use Rattle.std.proofs.Common.{◌≡◌, ◌≤◌, ℕ, zero, suc, ◌+◌, max, not, Bool, true, false, cond, List, [], ◌∷◌, ◌++◌, length, Option, Some, None, refl, sym, subst, ap, ◌∙◌, inl, inr, arith}
-use Rattle.std.proofs.lemmas.Bool.Decides.{eqb_tells}
-use Rattle.std.specs.Prelude.{slice_get, slice_set}
-use Rattle.osdp_frame.specs.Packet.{Packet}
-use Rattle.osdp_frame.specs.Reading.{PacketItem}
-use Rattle.osdp_msg.specs.declared.command.Command.{Command}
-use Rattle.osdp_controller.specs.Hearing.{Heard, hears, ignores}
+use Rattle.osdp_calls.proofs.Common.{◌≡◌, ◌≤◌, ℕ, zero, suc, ◌+◌, max, not, Bool, true, false, cond, List, [], ◌∷◌, ◌++◌, length, Option, Some, None, refl, sym, subst, ap, ◌∙◌, inl, inr, arith, eqb_tells, slice_get, slice_set, Packet, PacketItem, Command, Heard, hears, ignores, Report, Devices, seen, waiting_after, first_from, is_at, reserved_after, hears_at, hears_packet, hears_with, Entry, told_at, told_by_entry, told_by_item, told_with, Repeated, after_report, Answer, Net, NetMove, Site, ToPanel, address_of, after_net, changed, first_gets, freed_by, gets, site_at, all_hear, change_at, changes_at, hears_of, Burst, InUse, Station, ahead_of_panel, is_past_for_panel}
 use Rattle.osdp_controller.specs.Sessions as clocks
-use Rattle.osdp_controller.specs.declared.report.Report.{Report}
 use Rattle.osdp_controller.specs.declared.report.Report.TheVariants as report
-use Rattle.osdp_bus.specs.Buses.{Devices, seen, waiting_after}
 use Rattle.osdp_bus.specs.Entries as devices
-use Rattle.osdp_bus.specs.Entries.{first_from, is_at, reserved_after}
-use Rattle.osdp_bus.specs.Hearing.{hears_at, hears_packet, hears_with}
-use Rattle.osdp_bus.specs.declared.entry.Entry.{Entry}
-use Rattle.osdp_bus_laws.specs.Reports.{told_at, told_by_entry, told_by_item, told_with}
-use Rattle.osdp_link_laws.specs.Link.{Repeated, after_report}
-use Rattle.osdp_reader.specs.declared.handler.Answer.{Answer}
 use Rattle.osdp_shared_line.specs.Line as line
-use Rattle.osdp_shared_line.specs.Line.{Net, NetMove, Site, ToPanel, address_of, after_net, changed, first_gets, freed_by, gets, site_at}
-use Rattle.osdp_calls.specs.Calls.{all_hear, change_at, changes_at, hears_of}
-use Rattle.osdp_calls.specs.Lines.{Burst, InUse, Station, ahead_of_panel, is_past_for_panel}
 use Rattle.osdp_calls.proofs.Ahead.{panel_front, panel_further}
 use Rattle.osdp_calls.proofs.Controllers.{config_same, controls_later, heard_same, hears_same, ignored_command, ignored_quiet, saw}
 use Rattle.osdp_calls.proofs.Losing.{Loses, lose_to_panel, with_panel}

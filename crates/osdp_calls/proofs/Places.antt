@@ -1,20 +1,6 @@
 -- What holds of the station at a place, where a station changes and where the panel calls.
-use Rattle.std.proofs.Common.{◌≡◌, ◌≢◌, ℕ, max, Bool, true, false, cond, List, [], ◌∷◌, Option, Some, None, refl, sym, subst, ap, ◌∙◌, inl, inr}
-use Rattle.std.proofs.lemmas.Bool.Decides.{eqb_tells}
-use Rattle.std.specs.Prelude.{◌==◌}
-use Rattle.osdp_frame.specs.Packet.{Packet}
-use Rattle.osdp_msg.specs.declared.command.Command.{Command}
-use Rattle.osdp_controller.specs.declared.report.Report.{Report}
-use Rattle.osdp_bus.specs.Buses.{BusState, device_of}
-use Rattle.osdp_bus.specs.Machine.{begin_refusal_at, changed_unless, submit_refusal_at, withdrawal_at}
-use Rattle.osdp_bus.specs.Ticking.{bus_ticks}
-use Rattle.osdp_bus.specs.declared.fault.BusFault.{BusFault}
+use Rattle.osdp_calls.proofs.Common.{◌≡◌, ◌≢◌, ℕ, max, Bool, true, false, cond, List, [], ◌∷◌, Option, Some, None, refl, sym, subst, ap, ◌∙◌, inl, inr, eqb_tells, ◌==◌, Packet, Command, Report, BusState, device_of, begin_refusal_at, changed_unless, submit_refusal_at, withdrawal_at, bus_ticks, BusFault, told_in, site_at, at_changed, at_other, after_panel, all_hear, asked_at, begins_session, begins_with, begun_of, change_at, changes_at, hears_of, is_to_begin, issues, last_of, noted, panel_says, said_at, takes_back, waiting_of, withdrawn, InUse, Station}
 use Rattle.osdp_bus_laws.specs.Calls as bus
-use Rattle.osdp_bus_laws.specs.Reports.{told_in}
-use Rattle.osdp_shared_line.specs.Line.{site_at}
-use Rattle.osdp_shared_line.proofs.Sites.{at_changed, at_other}
-use Rattle.osdp_calls.specs.Calls.{after_panel, all_hear, asked_at, begins_session, begins_with, begun_of, change_at, changes_at, hears_of, is_to_begin, issues, last_of, noted, panel_says, said_at, takes_back, waiting_of, withdrawn}
-use Rattle.osdp_calls.specs.Lines.{InUse, Station}
 
 module _ {A : Type 0} (get : ℕ → List A → Option A) where
   -- this holds of the one at a place

@@ -1,29 +1,8 @@
 -- Restarts: a device made anew, and the panel made anew with its devices at their addresses.
-use Rattle.std.proofs.Common.{◌≡◌, ◌≢◌, ◌<◌, ◌≤◌, ◌⊎◌, ℕ, zero, suc, ◌+◌, List, [], ◌∷◌, ◌++◌, length, map, All, Option, Some, None, refl, sym, subst, ap, ◌∙◌, arith, inl, inr}
-use Rattle.std.specs.Prelude.{option_to_list}
-use Rattle.osdp_msg.specs.declared.limits.Room.{Room}
-use Rattle.osdp_frame.specs.Packet.{Packet}
-use Rattle.osdp_msg.specs.Limits.{AreRoom}
-use Rattle.osdp_msg.specs.declared.command.Command.{Command}
-use Rattle.osdp_controller.specs.Machine.{AreSettings, Machine, new_machine}
-use Rattle.osdp_controller.specs.declared.config.ControllerConfig.{ControllerConfig}
-use Rattle.osdp_bus.specs.Machine.{new_device}
-use Rattle.osdp_bus.specs.Settings.{IsBusConfig, controller_config}
-use Rattle.osdp_bus.specs.declared.config.BusConfig.{BusConfig}
-use Rattle.osdp_bus.specs.declared.entry.Entry.{Entry}
+use Rattle.osdp_calls.proofs.Common.{◌≡◌, ◌≢◌, ◌<◌, ◌≤◌, ◌⊎◌, ℕ, zero, suc, ◌+◌, List, [], ◌∷◌, ◌++◌, length, map, All, Option, Some, None, refl, sym, subst, ap, ◌∙◌, arith, inl, inr, option_to_list, Room, Packet, AreRoom, Command, AreSettings, Machine, new_machine, ControllerConfig, new_device, IsBusConfig, controller_config, BusConfig, Entry, each_of, ReaderState, ReaderConfig, Answer, IsNameOf, Somewhere, Net, RestartPanel, RestartReader, Site, address_of, after_net, all_restart, restarts, site_at, some_same, NewDevice, NewPanel, all_forget, made_anew, on_station, panel_made_anew, InUse, Station, IsFreeFor, PanelIsApart, at_length}
 use Rattle.osdp_link_laws.specs.Link as link
-use Rattle.osdp_link_laws.proofs.Lines.{each_of}
-use Rattle.osdp_reader.specs.State.{ReaderState}
-use Rattle.osdp_reader.specs.declared.config.ReaderConfig.{ReaderConfig}
-use Rattle.osdp_reader.specs.declared.handler.Answer.{Answer}
 use Rattle.osdp_shared_line.specs.Addresses as addresses
-use Rattle.osdp_shared_line.specs.Addresses.{IsNameOf, Somewhere}
 use Rattle.osdp_shared_line.specs.Line as line
-use Rattle.osdp_shared_line.specs.Line.{Net, RestartPanel, RestartReader, Site, address_of, after_net, all_restart, restarts, site_at}
-use Rattle.osdp_shared_line.proofs.Sites.{some_same}
-use Rattle.osdp_calls.specs.Calls.{NewDevice, NewPanel, all_forget, made_anew, on_station, panel_made_anew}
-use Rattle.osdp_calls.specs.Lines.{InUse, Station}
-use Rattle.osdp_calls.specs.Premises.{IsFreeFor, PanelIsApart}
 use Rattle.osdp_calls.proofs.Controllers.{config_same, equal_same}
 use Rattle.osdp_calls.proofs.Matching.{And, Done, FoundAt, Match, Nobody, Somebody, found}
 use Rattle.osdp_calls.proofs.Nexts.{each_at}
@@ -31,7 +10,6 @@ use Rattle.osdp_calls.proofs.Orders.{no_other}
 use Rattle.osdp_calls.proofs.Same.{Controls, IsNetOf, IsSiteOf, controlled_so, read_so, sites_so}
 use Rattle.osdp_calls.proofs.Stations.{Sites, both_change, of_site}
 use Rattle.osdp_calls.proofs.Steps.{StepsTo, by_own}
-use Rattle.osdp_shared_line.proofs.Rounds.{at_length}
 
 -- the settings of the controllers of a bus with these addresses
 abbrev pub address_at : ℕ → List ℕ → ℕ

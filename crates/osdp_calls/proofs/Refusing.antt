@@ -1,38 +1,10 @@
 -- What a controller tells of a packet that it reads is what its link's controller tells of it, so it is no refused number.
-use Rattle.std.proofs.Common.{◌≡◌, ◌≢◌, ℕ, max, not, Bool, true, false, cond, All, IfSome, List, [], ◌∷◌, ◌++◌, Option, Some, None, refl, sym, subst, ap, ◌∙◌, arith, inl, inr}
-use Rattle.std.proofs.lemmas.Bool.Decides.{eqb_tells}
-use Rattle.std.specs.Prelude.{◌==◌, ◌&&◌, is_some}
-use Rattle.osdp_frame.specs.Packet.{Packet}
-use Rattle.osdp_msg.specs.declared.command.Command.{Command}
-use Rattle.osdp_controller.specs.Answers.{meaning_of}
-use Rattle.osdp_controller.specs.Hearing.{Heard, hears, hears_in, ignores, is_from_reader}
+use Rattle.osdp_calls.proofs.Common.{◌≡◌, ◌≢◌, ℕ, max, not, Bool, true, false, cond, All, IfSome, List, [], ◌∷◌, ◌++◌, Option, Some, None, refl, sym, subst, ap, ◌∙◌, arith, inl, inr, eqb_tells, ◌==◌, ◌&&◌, is_some, Packet, Command, meaning_of, Heard, hears, hears_in, ignores, is_from_reader, Report, Session, Closed, BusState, device_of, seen, first_from, is_at, step_of, hears_packet, Entry, told_at, told_by_device, told_by_entry, told_by_ticking, told_in, told_with, Account, Repeated, after_report, each_all, each_append, each_map, each_of, tick_so, Each, Answer, IsSetUp, NetMovesFit, NobodyElseHears, Net, NetMove, RestartPanel, Site, address_of, run, site_at, EachRefusesNoNumber, HeardByOwn, own, changed_from, some_same, OfPanel, Step, after_calls, all_hear, asked_at, change_at, changes_at, hears_of, read_by, heard, told_by_all, Burst, InUse, Station, is_past_for_panel, AllKeep, IsSetUpLine, Keeps, at_length, fits_both, net_more}
 use Rattle.osdp_controller.specs.Sessions as clocks
-use Rattle.osdp_controller.specs.declared.report.Report.{Report}
 use Rattle.osdp_controller.specs.declared.report.Report.TheVariants as report
-use Rattle.osdp_controller.specs.declared.session.Session.{Session}
-use Rattle.osdp_controller.specs.declared.state.State.TheVariants.{Closed}
-use Rattle.osdp_bus.specs.Buses.{BusState, device_of, seen}
-use Rattle.osdp_bus.specs.Entries.{first_from, is_at, step_of}
-use Rattle.osdp_bus.specs.Hearing.{hears_packet}
-use Rattle.osdp_bus.specs.declared.entry.Entry.{Entry}
 use Rattle.osdp_bus_laws.specs.Calls as bus
-use Rattle.osdp_bus_laws.specs.Reports.{told_at, told_by_device, told_by_entry, told_by_ticking, told_in, told_with}
 use Rattle.osdp_link_laws.specs.Link as link
-use Rattle.osdp_link_laws.specs.Link.{Account, Repeated, after_report}
 use Rattle.osdp_link_laws.specs.Refusals.{IsNoRefusal, told_by_front}
-use Rattle.osdp_link_laws.proofs.Lines.{each_all, each_append, each_map, each_of}
-use Rattle.osdp_link_laws.proofs.Reports.{tick_so}
-use Rattle.osdp_link_laws.proofs.Stages.{Each}
-use Rattle.osdp_reader.specs.declared.handler.Answer.{Answer}
-use Rattle.osdp_shared_line.specs.Addresses.{IsSetUp, NetMovesFit, NobodyElseHears}
-use Rattle.osdp_shared_line.specs.Line.{Net, NetMove, RestartPanel, Site, address_of, run, site_at}
-use Rattle.osdp_shared_line.specs.Runs.{EachRefusesNoNumber}
-use Rattle.osdp_shared_line.specs.Views.{HeardByOwn, own}
-use Rattle.osdp_shared_line.proofs.Sites.{changed_from, some_same}
-use Rattle.osdp_calls.specs.Calls.{OfPanel, Step, after_calls, all_hear, asked_at, change_at, changes_at, hears_of, read_by}
-use Rattle.osdp_calls.specs.Handing.{heard, told_by_all}
-use Rattle.osdp_calls.specs.Lines.{Burst, InUse, Station, is_past_for_panel}
-use Rattle.osdp_calls.specs.Premises.{AllKeep, IsSetUp as IsSetUpLine, Keeps}
 use Rattle.osdp_calls.proofs.Ahead.{panel_front}
 use Rattle.osdp_calls.proofs.Controllers.{hears_same, ignored_command, ignored_quiet}
 use Rattle.osdp_calls.proofs.Handing.{hands_over}
@@ -47,7 +19,6 @@ use Rattle.osdp_calls.proofs.Same.{Controls, IsNetOf, IsRightly, IsSame, IsToOpe
 use Rattle.osdp_calls.proofs.Setting.{first_net, first_site, first_there}
 use Rattle.osdp_calls.proofs.Stations.{Sites}
 use Rattle.osdp_calls.proofs.Strangers.{AreOfOthers, Ordered, hears_other, ordered, ordered_heard, others_hear}
-use Rattle.osdp_shared_line.proofs.Rounds.{at_length, fits_both, net_more}
 
 module _ {H : Type 0} (answer_of : H → Command → Answer) (after : H → Command → H) where
   -- a session that counts no restart ends by no refused number, whatever the panel's program calls next

@@ -1,21 +1,11 @@
 -- What readers say are replies, and a reader that stays silent stays as it is.
-use Rattle.std.proofs.Common.{◌≡◌, ℕ, Bool, true, false, cond, List, [], ◌∷◌, Option, Some, None, IfSome, Result, Ok, Err, refl, sym, ap}
+use Rattle.osdp_calls.proofs.Common.{◌≡◌, ℕ, Bool, true, false, cond, List, [], ◌∷◌, Option, Some, None, IfSome, Result, Ok, Err, refl, sym, ap, Packet, RunItem, PacketItem, SkippedItem, RefusedItem, Command, said_to, speaks, unless_silent, Told, told_by, told_or, event_for, offering, released, unoffered, ReaderState, Answer, Kind, first_answered, read_up_to}
 use Rattle.std.specs.Option.{option_map}
 use Rattle.std.specs.Prelude.{◌==◌, ◌||◌, not}
-use Rattle.osdp_frame.specs.Packet.{Packet}
 use Rattle.osdp_frame.specs.Held.{Held, later}
-use Rattle.osdp_frame.specs.Reading.{RunItem, PacketItem, SkippedItem, RefusedItem}
-use Rattle.osdp_msg.specs.declared.command.Command.{Command}
 use Rattle.osdp_msg.specs.declared.fault.MsgFault.{MsgFault}
-use Rattle.osdp_device.specs.Saying.{said_to, speaks, unless_silent}
-use Rattle.osdp_device.specs.Telling.{Told, told_by, told_or}
-use Rattle.osdp_reader.specs.Queue.{event_for, offering, released, unoffered}
-use Rattle.osdp_reader.specs.State.{ReaderState}
 use Rattle.osdp_reader.specs.Table.{Outcome, answer_to, begun, command_in, event_or_answer, hears, kind_of, moved, new_address, outcome, taken}
-use Rattle.osdp_reader.specs.declared.handler.Answer.{Answer}
-use Rattle.osdp_reader.specs.declared.kind.Kind.{Kind}
 use Rattle.osdp_reader.specs.declared.kind.Kind.TheVariants as kind
-use Rattle.osdp_calls.specs.Calls.{first_answered, read_up_to}
 
 abbrev pub IsReply : Packet → Type 0
 IsReply p = p.reply ≡ true

@@ -1,35 +1,11 @@
 -- So programs that keep to the rule keep the premise on addresses, over every list of calls.
 use Rattle.std.proofs.Common.{◌≡◌, ℕ, zero, suc, Bool, true, false, List, [], ◌∷◌, length, map, Option, Some, None, refl, sym, subst, ap, ◌∙◌, inl, inr, ◌++◌, is_some, ◌≤◌}
-use Rattle.osdp_frame.specs.Packet.{Packet}
-use Rattle.osdp_msg.specs.declared.command.Command.{Command}
-use Rattle.osdp_msg.specs.declared.event.Event.{Event}
-use Rattle.osdp_msg.specs.declared.limits.Room.{Room}
-use Rattle.osdp_controller.specs.declared.state.State.{State}
-use Rattle.osdp_controller.specs.declared.state.State.TheVariants.{Closed}
-use Rattle.osdp_bus.specs.Buses.{device_of}
+use Rattle.osdp_calls.proofs.Common.{Packet, Command, Event, Room, State, Closed, device_of, BusConfig, Entry, passed, Received, after_silence, after_take, after_tick, items_of, ReadsWhatIsAsked, Each, ReaderState, after_set_busy, after_set_handler, ReaderConfig, Answer, lacks_room, IsSetUp, NetMovesFit, NobodyElseHears, Net, NetMove, RestartPanel, RestartReader, after_net, site_at, KeepRule, Note, RuleSuffices, no_notes, noted_at, Call, Next, NewDevice, NewPanel, OfPanel, Pending, SetBusy, SetHandler, Silence, Step, SubmitEvent, Take, TickDevice, after_call, after_next, answers, begun_of, first_answered, made_anew, nexts, on_station, queues, read_up_to, WithdrawEvent, withdraws_event, InUse, Station, InOrder, InRange, QuietOpening, AllKeepRule, CallsRuleSuffices, KeepsRule, first_note, first_notes, noted_of, notes_after, some_same, each_map}
 use Rattle.osdp_bus.specs.Entries as devices
-use Rattle.osdp_bus.specs.declared.config.BusConfig.{BusConfig}
-use Rattle.osdp_bus.specs.declared.entry.Entry.{Entry}
 use Rattle.osdp_bus_laws.specs.Calls as panel
-use Rattle.osdp_device.specs.Deciding.{passed}
-use Rattle.osdp_frame.specs.Receiving.{Received, after_silence, after_take, after_tick}
-use Rattle.osdp_device.specs.Telling.{items_of}
-use Rattle.osdp_link_laws.specs.Peers.{ReadsWhatIsAsked}
-use Rattle.osdp_link_laws.proofs.Stages.{Each}
-use Rattle.osdp_reader.specs.State.{ReaderState, after_set_busy, after_set_handler}
-use Rattle.osdp_reader.specs.declared.config.ReaderConfig.{ReaderConfig}
-use Rattle.osdp_reader.specs.declared.handler.Answer.{Answer}
-use Rattle.osdp_reader.specs.Queue.{lacks_room}
-use Rattle.osdp_shared_line.specs.Addresses.{IsSetUp, NetMovesFit, NobodyElseHears}
-use Rattle.osdp_shared_line.specs.Line.{Net, NetMove, RestartPanel, RestartReader, after_net, site_at}
 use Rattle.osdp_shared_line.specs.Line as line
-use Rattle.osdp_shared_line.specs.Programs.{KeepRule, Note, RuleSuffices, no_notes, noted_at}
 use Rattle.osdp_shared_line.specs.Programs as programs
-use Rattle.osdp_calls.specs.Calls.{Call, Next, NewDevice, NewPanel, OfPanel, Pending, SetBusy, SetHandler, Silence, Step, SubmitEvent, Take, TickDevice, after_call, after_next, answers, begun_of, first_answered, made_anew, nexts, on_station, queues, read_up_to, WithdrawEvent, withdraws_event}
-use Rattle.osdp_calls.specs.Lines.{InUse, Station}
 use Rattle.osdp_calls.specs.Premises as premises
-use Rattle.osdp_calls.specs.Premises.{InOrder, InRange, QuietOpening}
-use Rattle.osdp_calls.specs.Programs.{AllKeepRule, CallsRuleSuffices, KeepsRule, first_note, first_notes, noted_of, notes_after}
 use Rattle.osdp_calls.proofs.Accepting.{panel_rule}
 use Rattle.osdp_calls.proofs.Agreeing.{AllAgree, Ruled, begun_change, begun_changed}
 use Rattle.osdp_calls.proofs.Along.{IsFree, Path, free_rule, notes_along, still_free}
@@ -43,8 +19,6 @@ use Rattle.osdp_calls.proofs.Setting.{Starts, first_from, first_net, first_site,
 use Rattle.osdp_calls.proofs.Setting as setting
 use Rattle.osdp_calls.proofs.Stations.{of_site, of_station}
 use Rattle.osdp_calls.proofs.Steps.{StepsTo}
-use Rattle.osdp_shared_line.proofs.Sites.{some_same}
-use Rattle.osdp_link_laws.proofs.Lines.{each_map}
 use Rattle.osdp_calls.proofs.Lasting.{change_keeps, call_keeps}
 use Rattle.osdp_calls.proofs.Matching.{is_there}
 

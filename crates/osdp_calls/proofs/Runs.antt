@@ -1,24 +1,10 @@
 -- Bytes, silences and the ends of runs: what a call of the panel reads, packet after packet.
-use Rattle.std.proofs.Common.{◌≡◌, ℕ, Bool, true, false, cond, List, [], ◌∷◌, ◌++◌, length, Some, refl, sym, subst, ap, ◌∙◌, arith, inl, inr}
-use Rattle.osdp_frame.specs.Items.{items, left_over, whole_packets}
-use Rattle.osdp_frame.specs.Packet.{Packet}
-use Rattle.osdp_frame.specs.Reading.{RunItem, PacketItem, SkippedItem, RefusedItem}
-use Rattle.osdp_msg.specs.declared.command.Command.{Command}
-use Rattle.osdp_bus.specs.Buses.{is_silent, seen}
-use Rattle.osdp_bus.specs.Hearing.{after_bytes, ends_run, ends_silent, hears_bytes, hears_item, hears_items, hears_packet}
-use Rattle.osdp_bus_laws.specs.Reports.{told_by_bytes, told_by_end, told_by_item, told_by_items, told_by_silence}
-use Rattle.osdp_link_laws.proofs.Stages.{Each}
-use Rattle.osdp_reader.specs.declared.handler.Answer.{Answer}
-use Rattle.osdp_shared_line.specs.Line.{Net, site_at}
-use Rattle.osdp_calls.specs.Calls.{all_hear, last_of, read_at_end, read_at_silence, read_of_bytes}
-use Rattle.osdp_calls.specs.Lines.{Burst, InUse, is_past_for_panel}
-use Rattle.osdp_calls.specs.Premises.{AreInOrder}
+use Rattle.osdp_calls.proofs.Common.{◌≡◌, ℕ, Bool, true, false, cond, List, [], ◌∷◌, ◌++◌, length, Some, refl, sym, subst, ap, ◌∙◌, arith, inl, inr, items, left_over, whole_packets, Packet, RunItem, PacketItem, SkippedItem, RefusedItem, Command, is_silent, seen, after_bytes, ends_run, ends_silent, hears_bytes, hears_item, hears_items, hears_packet, told_by_bytes, told_by_end, told_by_item, told_by_items, told_by_silence, Each, Answer, Net, site_at, all_hear, last_of, read_at_end, read_at_silence, read_of_bytes, Burst, InUse, is_past_for_panel, AreInOrder, at_length}
 use Rattle.osdp_calls.proofs.Nexts.{then_refines}
 use Rattle.osdp_calls.proofs.Panel.{at_seen, hears_one, panel_on, reads_here, told_then}
 use Rattle.osdp_calls.proofs.Same.{IsNetOf, sites_so}
 use Rattle.osdp_calls.proofs.Stations.{Refines, by_none}
 use Rattle.osdp_calls.proofs.Strangers.{IsElsewhere, Ordered, ordered_heard, ordered_silent, others_hear}
-use Rattle.osdp_shared_line.proofs.Rounds.{at_length}
 
 -- ---- places, one part after the other
 

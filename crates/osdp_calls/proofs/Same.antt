@@ -1,17 +1,6 @@
 -- A line in use as a net: the bus's controllers are those of the sites, what was said and may still be read is on its way.
-use Rattle.std.proofs.Common.{◌≡◌, ◌≤◌, ℕ, max, not, true, List, length, Option, Some, None, IfSome}
-use Rattle.osdp_frame.specs.Packet.{Packet}
-use Rattle.osdp_controller.specs.Machine.{Machine}
+use Rattle.osdp_calls.proofs.Common.{◌≡◌, ◌≤◌, ℕ, max, not, true, List, length, Option, Some, None, IfSome, Packet, Machine, Closed, Quiet, BusState, Entry, Received, Account, Each, ReaderState, Net, Site, Burst, InUse, Opening, Station, ahead_of_device, ahead_of_panel}
 use Rattle.osdp_controller.specs.Sessions.{later, seen}
-use Rattle.osdp_controller.specs.declared.state.State.TheVariants.{Closed, Quiet}
-use Rattle.osdp_bus.specs.Buses.{BusState}
-use Rattle.osdp_bus.specs.declared.entry.Entry.{Entry}
-use Rattle.osdp_frame.specs.Receiving.{Received}
-use Rattle.osdp_link_laws.specs.Link.{Account}
-use Rattle.osdp_link_laws.proofs.Stages.{Each}
-use Rattle.osdp_reader.specs.State.{ReaderState}
-use Rattle.osdp_shared_line.specs.Line.{Net, Site}
-use Rattle.osdp_calls.specs.Lines.{Burst, InUse, Opening, Station, ahead_of_device, ahead_of_panel}
 use Rattle.osdp_calls.proofs.Matching.{Match}
 
 -- the same controller, that has seen another moment; and closed

@@ -1,34 +1,12 @@
 -- What goes out at a call is what is said.
 use Rattle.std.proofs.Common.{◌≡◌, ◌||◌, ℕ, Bool, true, false, cond, List, [], ◌∷◌, ◌++◌, map, Option, Some, None, refl, sym, subst, ap, ◌∙◌, append-nil, append_assoc, is_some}
 use Rattle.std.specs.Option.{option_map}
-use Rattle.std.specs.Prelude.{option_to_list}
-use Rattle.osdp_frame.specs.Items.{whole_packets}
-use Rattle.osdp_frame.specs.Packet.{Packet}
-use Rattle.osdp_frame.specs.Reading.{RunItem, PacketItem, SkippedItem, RefusedItem}
-use Rattle.osdp_msg.specs.declared.command.Command.{Command}
-use Rattle.osdp_msg.specs.declared.command.Command.TheVariants.{Poll}
-use Rattle.osdp_msg.specs.declared.event.Event.{Event}
-use Rattle.osdp_msg.specs.declared.reply.Reply.{Reply}
-use Rattle.osdp_bus.specs.Buses.{new_bus}
-use Rattle.osdp_bus.specs.Machine.{after_add, changed_unless, new_device}
-use Rattle.osdp_bus.specs.Ticking.{BusTicked, bus_ticks}
-use Rattle.osdp_bus.specs.declared.config.BusConfig.{BusConfig}
+use Rattle.osdp_calls.proofs.Common.{option_to_list, whole_packets, Packet, RunItem, PacketItem, SkippedItem, RefusedItem, Command, Poll, Event, Reply, new_bus, after_add, changed_unless, new_device, BusTicked, bus_ticks, BusConfig, but_poll, said_to, speaks, taken_by, items_of, Account, front_of, taken, taken_command, each_all, each_of, both, Each, ReaderState, Answer, Kind, after_next, answers, asked_at, by_device, first_answered, panel_says, read_up_to, reply_to, said_for, Burst, InUse, Station, bus_with, site_at}
 use Rattle.osdp_bus_laws.specs.Calls as bus
-use Rattle.osdp_device.specs.Saying.{but_poll, said_to, speaks, taken_by}
-use Rattle.osdp_device.specs.Telling.{items_of}
-use Rattle.osdp_link_laws.specs.Link.{Account, front_of, taken, taken_command}
-use Rattle.osdp_link_laws.proofs.Lines.{each_all, each_of, both}
-use Rattle.osdp_link_laws.proofs.Stages.{Each}
-use Rattle.osdp_reader.specs.State.{ReaderState}
 use Rattle.osdp_reader.specs.Table.{hears, kind_of, outcome}
-use Rattle.osdp_reader.specs.declared.handler.Answer.{Answer}
-use Rattle.osdp_reader.specs.declared.kind.Kind.{Kind}
 use Rattle.osdp_reader.specs.declared.kind.Kind.TheVariants as kind
-use Rattle.osdp_calls.specs.Calls.{after_next, answers, asked_at, by_device, first_answered, panel_says, read_up_to, reply_to, said_for}
-use Rattle.osdp_calls.specs.Lines.{Burst, InUse, Station, bus_with}
 use Rattle.osdp_calls.specs.Sayings.{AddsMakeTheBus, ByDevice, IsSaid, NoneRefused, ReadsToFirst, SaysWhatGoesOut, acted_on, after_hearing, for_ours}
 use Rattle.osdp_calls.proofs.Replying.{told_first, reader_with}
-use Rattle.osdp_shared_line.specs.Line.{site_at}
 use Rattle.osdp_calls.proofs.Lasting.{noted_keeps}
 
 -- ---- who is asked says what goes out

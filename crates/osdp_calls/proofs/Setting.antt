@@ -1,23 +1,7 @@
 -- A line as it is set up is a net whose panel has just been made anew.
-use Rattle.std.proofs.Common.{◌≡◌, ◌≢◌, ◌⊎◌, ◌≤◌, ◌<◌, ℕ, zero, suc, true, ◌+◌, List, [], ◌∷◌, ◌++◌, length, map, All, Option, Some, None, IfSome, refl, sym, subst, ap, ◌∙◌, arith, inl, inr}
-use Rattle.osdp_msg.specs.declared.limits.Room.{Room}
-use Rattle.osdp_frame.specs.Packet.{Packet}
-use Rattle.osdp_msg.specs.declared.command.Command.{Command}
-use Rattle.osdp_controller.specs.Machine.{new_machine}
-use Rattle.osdp_controller.specs.Sessions.{new_session}
-use Rattle.osdp_controller.specs.declared.config.ControllerConfig.{ControllerConfig}
-use Rattle.osdp_controller.specs.declared.state.State.TheVariants.{Quiet}
-use Rattle.osdp_bus.specs.Machine.{new_device}
-use Rattle.osdp_bus.specs.Settings.{controller_config}
-use Rattle.osdp_bus.specs.declared.config.BusConfig.{BusConfig}
-use Rattle.osdp_link_laws.specs.Link.{new_account}
-use Rattle.osdp_reader.specs.declared.handler.Answer.{Answer}
+use Rattle.osdp_calls.proofs.Common.{◌≡◌, ◌≢◌, ◌⊎◌, ◌≤◌, ◌<◌, ℕ, zero, suc, true, ◌+◌, List, [], ◌∷◌, ◌++◌, length, map, All, Option, Some, None, IfSome, refl, sym, subst, ap, ◌∙◌, arith, inl, inr, Room, Packet, Command, new_machine, new_session, ControllerConfig, Quiet, new_device, controller_config, BusConfig, new_account, Answer, IsNameOf, Net, RestartPanel, Site, after_net, all_restart, restarts, site_at, some_same, InUse, Opening, Burst, Station, ahead_of_device, ahead_of_panel}
 use Rattle.osdp_reader_laws.specs.Storing.{StoresItsOwn}
 use Rattle.osdp_shared_line.specs.Addresses as addresses
-use Rattle.osdp_shared_line.specs.Addresses.{IsNameOf}
-use Rattle.osdp_shared_line.specs.Line.{Net, RestartPanel, Site, after_net, all_restart, restarts, site_at}
-use Rattle.osdp_shared_line.proofs.Sites.{some_same}
-use Rattle.osdp_calls.specs.Lines.{InUse, Opening, Burst, Station, ahead_of_device, ahead_of_panel}
 use Rattle.osdp_calls.specs.Premises.{IsSetUp}
 use Rattle.osdp_calls.proofs.Controllers.{equal_same}
 use Rattle.osdp_calls.proofs.Matching.{And, Done, Match}

@@ -1,33 +1,10 @@
 -- What one call comes to: moves of its own kind alone, and what they give is what the call has accepted.
-use Rattle.std.proofs.Common.{◌≡◌, ℕ, true, false, cond, List, [], ◌∷◌, ◌++◌, ◌⊎◌, Option, Some, None, refl, sym, subst, ap, ◌∙◌, append-nil, inl, inr}
-use Rattle.std.proofs.lemmas.Bool.Decides.{eqb_tells}
-use Rattle.std.specs.Prelude.{◌==◌, is_some}
-use Rattle.osdp_msg.specs.CommandTable.{CommandFits}
-use Rattle.osdp_msg.specs.declared.limits.Room.{Room}
-use Rattle.osdp_msg.specs.declared.command.Command.{Command}
-use Rattle.osdp_msg.specs.declared.event.Event.{Event}
-use Rattle.osdp_controller.specs.Hearing.{comset_of}
-use Rattle.osdp_controller.specs.Machine.{submit_refusal}
-use Rattle.osdp_controller.specs.declared.config.ControllerConfig.{ControllerConfig}
-use Rattle.osdp_bus.specs.Machine.{changed_unless, retarget_refusal_at, submit_refusal_at, withdrawal_at}
-use Rattle.osdp_bus.specs.declared.config.BusConfig.{BusConfig}
-use Rattle.osdp_bus.specs.declared.fault.BusFault.{BusFault}
+use Rattle.osdp_calls.proofs.Common.{◌≡◌, ℕ, true, false, cond, List, [], ◌∷◌, ◌++◌, ◌⊎◌, Option, Some, None, refl, sym, subst, ap, ◌∙◌, append-nil, inl, inr, eqb_tells, ◌==◌, is_some, CommandFits, Room, Command, Event, comset_of, submit_refusal, ControllerConfig, changed_unless, retarget_refusal_at, submit_refusal_at, withdrawal_at, BusConfig, BusFault, Link, Move, accepted, queued, submitted, unless_full, both, each_map, Each, Answer, lacks_room, NetMoveFits, NetMovesFit, Somewhere, one_if, view, accepted_by, queued_by, Call, NewDevice, NewPanel, OfPanel, Step, SubmitEvent, begun_of, withdrawn, InUse}
 use Rattle.osdp_bus_laws.specs.Calls as bus
 use Rattle.osdp_link_laws.specs.Link as link
-use Rattle.osdp_link_laws.specs.Link.{Link, Move}
-use Rattle.osdp_link_laws.specs.Sessions.{accepted, queued, submitted, unless_full}
-use Rattle.osdp_link_laws.proofs.Lines.{both, each_map}
-use Rattle.osdp_link_laws.proofs.Stages.{Each}
-use Rattle.osdp_reader.specs.declared.handler.Answer.{Answer}
-use Rattle.osdp_reader.specs.Queue.{lacks_room}
-use Rattle.osdp_shared_line.specs.Addresses.{NetMoveFits, NetMovesFit, Somewhere}
 use Rattle.osdp_shared_line.specs.Line.{Net, NetMove, Queue, RestartPanel, RestartReader, Retarget, SetBusy, Site, Submit, Tick, Withdraw, after_net, is_comset_refused, run, site_at}
 use Rattle.osdp_shared_line.specs.Line as line
-use Rattle.osdp_shared_line.specs.Views.{one_if, view}
-use Rattle.osdp_calls.specs.Accepted.{accepted_by, queued_by}
 use Rattle.osdp_calls.specs.Calls as calls
-use Rattle.osdp_calls.specs.Calls.{Call, NewDevice, NewPanel, OfPanel, Step, SubmitEvent, begun_of, withdrawn}
-use Rattle.osdp_calls.specs.Lines.{InUse}
 use Rattle.osdp_calls.proofs.Counting.{GivesNone, LinkGivesNone, at_site, counted, in_net, net_none}
 use Rattle.osdp_calls.proofs.Losing.{IsPlain, IsStill}
 use Rattle.osdp_calls.proofs.Matching.{IsOurs}

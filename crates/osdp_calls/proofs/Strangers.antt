@@ -1,35 +1,8 @@
 -- Packets of others: no controller is at their address, whatever the panel has read before in the same call, and no device answers them.
-use Rattle.std.proofs.Common.{◌≡◌, ◌≢◌, ◌≤◌, ◌+◌, ℕ, zero, suc, Bool, true, false, cond, not, ◌||◌, List, [], ◌∷◌, length, Option, Some, None, refl, sym, subst, ap, ◌∙◌, arith, inl, inr}
-use Rattle.std.specs.Prelude.{◌==◌, slice_get, slice_set}
-use Rattle.osdp_frame.specs.Items.{items}
-use Rattle.osdp_frame.specs.Packet.{Packet}
-use Rattle.osdp_frame.specs.Reading.{RunItem, PacketItem, SkippedItem, RefusedItem}
-use Rattle.osdp_msg.specs.declared.command.Command.{Command}
-use Rattle.osdp_controller.specs.Hearing.{hears}
-use Rattle.osdp_controller.specs.declared.report.Report.{Report}
-use Rattle.osdp_controller.specs.declared.session.Session.{Session}
-use Rattle.osdp_bus.specs.Buses.{BusState, Devices, is_silent}
+use Rattle.osdp_calls.proofs.Common.{◌≡◌, ◌≢◌, ◌≤◌, ◌+◌, ℕ, zero, suc, Bool, true, false, cond, not, ◌||◌, List, [], ◌∷◌, length, Option, Some, None, refl, sym, subst, ap, ◌∙◌, arith, inl, inr, ◌==◌, slice_get, slice_set, items, Packet, RunItem, PacketItem, SkippedItem, RefusedItem, Command, hears, Report, Session, BusState, Devices, is_silent, ends_run, ends_silent, hears_at, hears_items, hears_packet, hears_with, Entry, told_at, told_by_entry, told_with, speaks, both, each_all, is_false, Each, ReaderState, kind_by_number, kind_of, outcome, Answer, Kind, Sets, Somewhere, asked_in, Site, changed, site_at, hears_well, some_same, all_hear, change_at, changes_at, first_answered, hears_of, Burst, InUse, Station, AreInOrder, IsAsked, IsOfOthers, IsThere}
 use Rattle.osdp_bus.specs.Entries.{address_of, entry_hears, first_from, is_at, told_of}
-use Rattle.osdp_bus.specs.Hearing.{ends_run, ends_silent, hears_at, hears_items, hears_packet, hears_with}
-use Rattle.osdp_bus.specs.declared.entry.Entry.{Entry}
-use Rattle.osdp_bus_laws.specs.Reports.{told_at, told_by_entry, told_with}
-use Rattle.osdp_device.specs.Saying.{speaks}
-use Rattle.osdp_link_laws.proofs.Lines.{both, each_all}
-use Rattle.osdp_link_laws.proofs.Numbers.{is_false}
-use Rattle.osdp_link_laws.proofs.Stages.{Each}
-use Rattle.osdp_reader.specs.State.{ReaderState}
-use Rattle.osdp_reader.specs.Table.{kind_by_number, kind_of, outcome}
-use Rattle.osdp_reader.specs.declared.handler.Answer.{Answer}
-use Rattle.osdp_reader.specs.declared.kind.Kind.{Kind}
 use Rattle.osdp_reader.specs.declared.kind.Kind.TheVariants as kind
-use Rattle.osdp_shared_line.specs.Addresses.{Sets, Somewhere, asked_in}
-use Rattle.osdp_shared_line.specs.Line.{Site, changed, site_at}
-use Rattle.osdp_shared_line.proofs.Controllers.{hears_well}
 use Rattle.osdp_shared_line.proofs.Lists.{somewhere_front, somewhere_rest}
-use Rattle.osdp_shared_line.proofs.Sites.{some_same}
-use Rattle.osdp_calls.specs.Calls.{all_hear, change_at, changes_at, first_answered, hears_of}
-use Rattle.osdp_calls.specs.Lines.{Burst, InUse, Station}
-use Rattle.osdp_calls.specs.Premises.{AreInOrder, IsAsked, IsOfOthers, IsThere}
 use Rattle.osdp_calls.specs.Strangers.{OthersArePassedOver}
 use Rattle.osdp_calls.proofs.Matching.{Match, none_past, set_other}
 use Rattle.osdp_calls.proofs.Same.{IsSiteOf}

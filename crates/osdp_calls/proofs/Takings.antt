@@ -1,36 +1,12 @@
 -- What a panel's program takes of an entry's events, each with its mark, is what was told of the entry, and that is what its sessions have reported.
-use Rattle.std.proofs.Common.{◌≡◌, ◌≢◌, ℕ, suc, Bool, true, false, cond, List, [], ◌∷◌, ◌++◌, length, map, Option, Some, None, refl, sym, subst, ap, ◌∙◌, inl, inr, arith, append_assoc}
+use Rattle.osdp_calls.proofs.Common.{◌≡◌, ◌≢◌, ℕ, suc, Bool, true, false, cond, List, [], ◌∷◌, ◌++◌, length, map, Option, Some, None, refl, sym, subst, ap, ◌∙◌, inl, inr, arith, append_assoc, eqb_tells, ◌==◌, option_to_list, Command, Event, Report, BusState, device_of, is_told_maybe_again, new_bus, bytes_eq, event_bytes, Remembered, may_be_again, memory_at, nothing_yet, remembers, IsBusConfig, BusConfig, Entry, TellsEachOnce, taken_along, told_along, told_in, Account, each_of, is_false, is_true, Each, Answer, site_at, some_same, Call, NewDevice, NewPanel, Next, OfPanel, Pending, SetBusy, SetHandler, Silence, Step, SubmitEvent, Take, TickDevice, WithdrawEvent, after_call, after_calls, KeepsPanel, one_panel_call, panel_calls, InUse, Station, bus_with, CallsMarkRepeats, MarksWhatIsToldAgain, all_reported, all_taken, event_of, event_waiting, is_equal_to, last_event, marked, marked_in, taken_in, unmarked, NoneRefused}
 use Rattle.std.proofs.lemmas.List.{append-nil}
-use Rattle.std.proofs.lemmas.Bool.Decides.{eqb_tells}
-use Rattle.std.specs.Prelude.{◌==◌, option_to_list}
-use Rattle.osdp_msg.specs.declared.command.Command.{Command}
-use Rattle.osdp_msg.specs.declared.event.Event.{Event}
-use Rattle.osdp_controller.specs.declared.report.Report.{Report}
 use Rattle.osdp_controller.specs.declared.report.Report.TheVariants as report
-use Rattle.osdp_bus.specs.Buses.{BusState, device_of, is_told_maybe_again, new_bus}
-use Rattle.std.specs.Str.{bytes_eq}
 use Rattle.std.proofs.lemmas.Slice.Eq.{bytes_eq-Decides}
-use Rattle.osdp_bus.specs.Remembering.{event_bytes, Remembered, may_be_again, memory_at, nothing_yet, remembers}
-use Rattle.osdp_bus.specs.Settings.{IsBusConfig}
-use Rattle.osdp_bus.specs.declared.config.BusConfig.{BusConfig}
-use Rattle.osdp_bus.specs.declared.entry.Entry.{Entry}
 use Rattle.osdp_bus_laws.specs.Calls as bus
 use Rattle.osdp_bus_laws.specs.Repeating.{of_entry}
-use Rattle.osdp_bus_laws.specs.Reports.{TellsEachOnce, taken_along, told_along, told_in}
 use Rattle.osdp_bus_laws.specs.Reports as reports
 use Rattle.osdp_bus_laws.proofs.Repeating.{IsRemembered, along, none_at, recalls}
-use Rattle.osdp_link_laws.specs.Link.{Account}
-use Rattle.osdp_link_laws.proofs.Lines.{each_of}
-use Rattle.osdp_link_laws.proofs.Numbers.{is_false, is_true}
-use Rattle.osdp_link_laws.proofs.Stages.{Each}
-use Rattle.osdp_reader.specs.declared.handler.Answer.{Answer}
-use Rattle.osdp_shared_line.specs.Line.{site_at}
-use Rattle.osdp_shared_line.proofs.Sites.{some_same}
-use Rattle.osdp_calls.specs.Calls.{Call, NewDevice, NewPanel, Next, OfPanel, Pending, SetBusy, SetHandler, Silence, Step, SubmitEvent, Take, TickDevice, WithdrawEvent, after_call, after_calls}
-use Rattle.osdp_calls.specs.Ends.{KeepsPanel, one_panel_call, panel_calls}
-use Rattle.osdp_calls.specs.Lines.{InUse, Station, bus_with}
-use Rattle.osdp_calls.specs.Marks.{CallsMarkRepeats, MarksWhatIsToldAgain, all_reported, all_taken, event_of, event_waiting, is_equal_to, last_event, marked, marked_in, taken_in, unmarked}
-use Rattle.osdp_calls.specs.Sayings.{NoneRefused}
 use Rattle.osdp_calls.proofs.Ends.{more_calls, one_bus}
 use Rattle.osdp_calls.proofs.Heeding.{new_at}
 use Rattle.osdp_calls.proofs.Marked.{Tells, reported_in, those_then}

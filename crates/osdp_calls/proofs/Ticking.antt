@@ -1,35 +1,10 @@
 -- A tick of one of the bus's controllers: what it says goes to every device. Where a session was to begin, it begins with that.
-use Rattle.std.proofs.Common.{◌≡◌, ◌≢◌, ℕ, zero, suc, ◌+◌, Bool, true, false, cond, List, [], ◌∷◌, ◌++◌, length, Option, Some, None, IfSome, refl, sym, subst, ap, ◌∙◌, arith, append-nil}
+use Rattle.osdp_calls.proofs.Common.{◌≡◌, ◌≢◌, ℕ, zero, suc, ◌+◌, Bool, true, false, cond, List, [], ◌∷◌, ◌++◌, length, Option, Some, None, IfSome, refl, sym, subst, ap, ◌∙◌, arith, append-nil, Packet, next_sequence, Command, Machine, after_begin, begin_refusal, frame_of, is_closed, Ticked, ticks, ticks_in, OpeningExchange, Polling, Session, State, Closed, Quiet, Idle, Waiting, Pausing, waiting_after, reserved_after, ticks_at, ticks_with, Entry, told_at, told_by_device, told_by_ticking, after_report, both, each_all, each_append, tick_so, Each, Answer, Net, NetMove, Reopen, Site, Tick, address_of, after_net, changed, is_told, run, site_at, tagged, IsQuiet, at_changed, some_same, all_hear, begins_session, begins_with, begun_of, change_at, changes_at, panel_says, said_for, waiting_of, InUse, Opening, Station}
 use Rattle.std.specs.Prelude.{map, nat_le, nat_lt, option_to_list, slice_get, slice_set}
-use Rattle.osdp_frame.specs.Packet.{Packet, next_sequence}
-use Rattle.osdp_msg.specs.declared.command.Command.{Command}
-use Rattle.osdp_controller.specs.Machine.{Machine, after_begin, begin_refusal}
 use Rattle.osdp_controller.specs.Sessions as clocks
-use Rattle.osdp_controller.specs.Sessions.{frame_of}
-use Rattle.osdp_controller.specs.States.{is_closed}
 use Rattle.osdp_controller.specs.Ticking as ticking
-use Rattle.osdp_controller.specs.Ticking.{Ticked, ticks, ticks_in}
-use Rattle.osdp_controller.specs.declared.exchange.Exchange.TheVariants.{Opening as OpeningExchange, Polling}
-use Rattle.osdp_controller.specs.declared.session.Session.{Session}
-use Rattle.osdp_controller.specs.declared.state.State.{State}
-use Rattle.osdp_controller.specs.declared.state.State.TheVariants.{Closed, Quiet, Idle, Waiting, Pausing}
-use Rattle.osdp_bus.specs.Buses.{waiting_after}
-use Rattle.osdp_bus.specs.Entries.{reserved_after}
-use Rattle.osdp_bus.specs.Ticking.{ticks_at, ticks_with}
-use Rattle.osdp_bus.specs.declared.entry.Entry.{Entry}
-use Rattle.osdp_bus_laws.specs.Reports.{told_at, told_by_device, told_by_ticking}
 use Rattle.osdp_link_laws.specs.Link as link
-use Rattle.osdp_link_laws.specs.Link.{after_report}
-use Rattle.osdp_link_laws.proofs.Lines.{both, each_all, each_append}
-use Rattle.osdp_link_laws.proofs.Reports.{tick_so}
-use Rattle.osdp_link_laws.proofs.Stages.{Each}
-use Rattle.osdp_reader.specs.declared.handler.Answer.{Answer}
 use Rattle.osdp_shared_line.specs.Line as line
-use Rattle.osdp_shared_line.specs.Line.{Net, NetMove, Reopen, Site, Tick, address_of, after_net, changed, is_told, run, site_at, tagged}
-use Rattle.osdp_shared_line.specs.Views.{IsQuiet}
-use Rattle.osdp_shared_line.proofs.Sites.{at_changed, some_same}
-use Rattle.osdp_calls.specs.Calls.{all_hear, begins_session, begins_with, begun_of, change_at, changes_at, panel_says, said_for, waiting_of}
-use Rattle.osdp_calls.specs.Lines.{InUse, Opening, Station}
 use Rattle.osdp_calls.proofs.Ahead.{device_quiet, from_panel, panel_quiet, panel_told_device, panel_told_panel}
 use Rattle.osdp_calls.proofs.Controllers.{equal_same, opened_ticks, ticked_same, ticks_same}
 use Rattle.osdp_calls.proofs.Losing.{IsLoss, changed_twice, joins}

@@ -1,16 +1,5 @@
 -- A tick of the bus: runs that are over are read, and then the controller of an entry ticks, or none.
-use Rattle.std.proofs.Common.{◌||◌, ℕ, not, Bool, true, false, cond, List, [], ◌∷◌, ◌++◌, length, Option, Some, None, sym, subst, ap, ◌∙◌, append-nil}
-use Rattle.osdp_msg.specs.declared.command.Command.{Command}
-use Rattle.osdp_bus.specs.Buses.{has_report, holder, seen}
-use Rattle.osdp_bus.specs.Hearing.{ends_run}
-use Rattle.osdp_bus.specs.Ticking.{BusTicked, bus_ticks, is_due_at, is_held_and_due, next_due, stays, ticks_at, ticks_by}
-use Rattle.osdp_bus_laws.specs.Reports.{told_by_end, told_by_holder, told_by_silence, told_by_tick, told_by_ticking}
-use Rattle.osdp_bus_laws.specs.Turns.{judged}
-use Rattle.osdp_link_laws.proofs.Stages.{Each}
-use Rattle.osdp_reader.specs.declared.handler.Answer.{Answer}
-use Rattle.osdp_shared_line.specs.Line.{Net}
-use Rattle.osdp_calls.specs.Calls.{all_hear, asked_at, asked_by_holder, last_of, panel_says, read_at_end, read_at_silence, read_at_tick, read_by_holder}
-use Rattle.osdp_calls.specs.Lines.{InUse}
+use Rattle.osdp_calls.proofs.Common.{◌||◌, ℕ, not, Bool, true, false, cond, List, [], ◌∷◌, ◌++◌, length, Option, Some, None, sym, subst, ap, ◌∙◌, append-nil, Command, has_report, holder, seen, ends_run, BusTicked, bus_ticks, is_due_at, is_held_and_due, next_due, stays, ticks_at, ticks_by, told_by_end, told_by_holder, told_by_silence, told_by_tick, told_by_ticking, judged, Each, Answer, Net, all_hear, asked_at, asked_by_holder, last_of, panel_says, read_at_end, read_at_silence, read_at_tick, read_by_holder, InUse, Report}
 use Rattle.osdp_calls.proofs.Nexts.{then_refines}
 use Rattle.osdp_calls.proofs.Panel.{at_seen, told_then}
 use Rattle.osdp_calls.proofs.Runs.{NotPast, at_end, at_silence, each_first, each_second, last_then, reads_end, reads_silence, split}
@@ -18,7 +7,6 @@ use Rattle.osdp_calls.proofs.Same.{IsNetOf}
 use Rattle.osdp_calls.proofs.Stations.{Refines, by_none}
 use Rattle.osdp_calls.proofs.Strangers.{IsElsewhere, Ordered, ordered_silent}
 use Rattle.osdp_calls.proofs.Ticking.{ticks_entry}
-use Rattle.osdp_controller.specs.declared.report.Report.{Report}
 
 module _ {H : Type 0} (answer_of : H → Command → Answer) (after : H → Command → H) where
   -- a line after a tick that comes to this

@@ -1,20 +1,9 @@
 -- What a turn does is what its calls do.
-use Rattle.std.proofs.Common.{◌≡◌, ℕ, List, [], ◌∷◌, Option, Some, None, refl, ap, ◌∙◌}
-use Rattle.osdp_msg.specs.declared.command.Command.{Command}
-use Rattle.osdp_device.specs.Deciding.{passed, pending_of, settles, turned_by}
+use Rattle.osdp_calls.proofs.Common.{◌≡◌, ℕ, List, [], ◌∷◌, Option, Some, None, refl, ap, ◌∙◌, Command, passed, pending_of, settles, turned_by, after_take, next_told, site_at, at_changed, after_set_handler, Answer, Next, after_call, after_calls, after_next, changes_at, nexts, on_station, InUse, Station, IsTurned, TurnsByCalls, asks, settle_calls, settles_by}
 use Rattle.osdp_device.specs.Program.{program_after, program_answer}
-use Rattle.osdp_frame.specs.Receiving.{after_take}
-use Rattle.osdp_device.specs.Telling.{next_told}
 use Rattle.osdp_device.specs.declared.program.ProgramAnswers.{ProgramAnswers}
 use Rattle.osdp_device.specs.declared.question.Question.{Question}
 use Rattle.osdp_device.specs.declared.question.Question.TheVariants.{Answered, Asked, NotAsked}
-use Rattle.osdp_shared_line.specs.Line.{site_at}
-use Rattle.osdp_shared_line.proofs.Sites.{at_changed}
-use Rattle.osdp_reader.specs.State.{after_set_handler}
-use Rattle.osdp_reader.specs.declared.handler.Answer.{Answer}
-use Rattle.osdp_calls.specs.Calls.{Next, after_call, after_calls, after_next, changes_at, nexts, on_station}
-use Rattle.osdp_calls.specs.Lines.{InUse, Station}
-use Rattle.osdp_calls.specs.Turning.{IsTurned, TurnsByCalls, asks, settle_calls, settles_by}
 
 -- a station after a call that changes it alone
 at_station : {H : Type 0} (k : ℕ) (change : Station H → Station H) (t : Station H) (l : InUse H) → site_at k l.stations ≡ Some t

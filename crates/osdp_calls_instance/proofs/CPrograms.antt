@@ -1,30 +1,15 @@
 -- Calls for C are calls of a line in use.
-use Rattle.std.proofs.Common.{◌≡◌, ℕ, Bool, true, false, cond, List, [], ◌∷◌, map, Option, Some, None, Result, Ok, Err, refl, sym, subst, ap, ◌∙◌, arith}
-use Rattle.osdp_msg.specs.CommandTable.{command_of}
+use Rattle.osdp_calls_instance.proofs.Common.{◌≡◌, ℕ, Bool, true, false, cond, List, [], ◌∷◌, map, Option, Some, None, Result, Ok, Err, refl, sym, subst, ap, ◌∙◌, arith, command_of, Command, Event, BusState, new_bus, add_refusal, after_add, changed_unless, BusConfig, BusFault, is_asked, pending_of, turned_by, with_question, program_after, program_answer, Received, after_silence, after_take, after_tick, each_all, Each, lacks_room, ReaderState, Answer, Call, OfPanel, SetHandler, Take, TickDevice, Silence, Held, takes_event, AddsMakeTheBus, NoneRefused, AreDeviceCalls, ArePanelCalls, IsOfDevice, IsOfPanel, bus_after_each, device_after_each}
 use Rattle.osdp_msg.specs.NakReasons.{reason_of}
-use Rattle.osdp_msg.specs.declared.command.Command.{Command}
-use Rattle.osdp_msg.specs.declared.event.Event.{Event}
 use Rattle.osdp_msg.specs.declared.fault.MsgFault.{MsgFault}
-use Rattle.osdp_bus.specs.Buses.{BusState, new_bus}
-use Rattle.osdp_bus.specs.Machine.{add_refusal, after_add, changed_unless}
-use Rattle.osdp_bus.specs.declared.config.BusConfig.{BusConfig}
-use Rattle.osdp_bus.specs.declared.fault.BusFault.{BusFault}
 use Rattle.osdp_bus.specs.declared.fault.BusFault.TheVariants as fault
 use Rattle.osdp_bus_laws.specs.Calls as bus
-use Rattle.osdp_device.specs.Deciding.{is_asked, pending_of, turned_by, with_question}
-use Rattle.osdp_device.specs.Program.{program_after, program_answer}
-use Rattle.osdp_frame.specs.Receiving.{Received, after_silence, after_take, after_tick}
 use Rattle.osdp_device.specs.declared.program.ProgramAnswers.{ProgramAnswers}
 use Rattle.osdp_device.specs.declared.question.Question.{Question}
 use Rattle.osdp_device.specs.declared.question.Question.TheVariants.{Answered, Asked, NotAsked}
-use Rattle.osdp_link_laws.proofs.Lines.{each_all}
-use Rattle.osdp_link_laws.proofs.Stages.{Each}
 use Rattle.osdp_orders.specs.Orders.{AddEnds, PanelState, new_orders, with_new_queue}
 use Rattle.osdp_orders_laws.proofs.OfBus.{calls_of_the_bus}
 use Rattle.osdp_orders_laws.specs.OfTheBus.{bus_calls}
-use Rattle.osdp_reader.specs.Queue.{lacks_room}
-use Rattle.osdp_reader.specs.State.{ReaderState}
-use Rattle.osdp_reader.specs.declared.handler.Answer.{Answer}
 use Rattle.osdp_reader.specs.declared.handler.Answer.TheVariants as answer
 use Rattle.osdp_c_values.specs.Addresses.{device_address}
 use Rattle.osdp_c_values.specs.Calls.{Done}
@@ -40,13 +25,9 @@ use Rattle.osdp_c_values.specs.declared.states.StateList.{StateList}
 use Rattle.osdp_c_values.specs.declared.status.Status.{Status}
 use Rattle.osdp_c_values.specs.declared.status.Status.TheVariants as status
 use Rattle.arrayvec.specs.ArrayVec.{ArrayVec}
-use Rattle.osdp_calls.specs.Calls.{Call, OfPanel, SetHandler, Take, TickDevice, Silence}
-use Rattle.osdp_calls.specs.Ends.{Held, takes_event}
-use Rattle.osdp_calls.specs.Sayings.{AddsMakeTheBus, NoneRefused}
 use Rattle.osdp_calls_instance.proofs.LinePrograms.{bus_same, own_device, panels_own}
 use Rattle.osdp_calls_instance.specs.CPrograms as c
 use Rattle.osdp_calls_instance.specs.CPrograms.{AddsEach, DeviceCall, MakesAnew, MakesAnewBy, PanelCall, answer_calls, c_device, c_panel, device_call, device_calls, event_calls, event_read, if_read, orders_with, panel_call, panel_calls, settle_calls, settles_by, submitted, told_states}
-use Rattle.osdp_calls_instance.specs.OwnCalls.{AreDeviceCalls, ArePanelCalls, IsOfDevice, IsOfPanel, bus_after_each, device_after_each}
 
 -- ---- a panel
 

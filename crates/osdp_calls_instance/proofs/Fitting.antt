@@ -1,10 +1,6 @@
 -- Which calls of programs are those of which the laws speak.
-use Rattle.std.proofs.Common.{◌≢◌, ◌↔◌, refl, arith}
-use Rattle.osdp_device.specs.declared.events.Expired.{Expired}
-use Rattle.osdp_device.specs.declared.events.Expired.TheVariants.{InDoubt, Withdrawn}
-use Rattle.osdp_msg.specs.declared.event.Event.{Event}
+use Rattle.osdp_calls_instance.proofs.Common.{◌≢◌, ◌↔◌, refl, arith, Expired, InDoubt, Withdrawn, Event, IsWithdrawn}
 use Rattle.osdp_calls_instance.specs.Fitting.{CallsForCFit, LinesFit}
-use Rattle.osdp_calls_instance.specs.LinePrograms.{IsWithdrawn}
 
 pub c_fits : {H : Type 0} → CallsForCFit H
 c_fits = record { panel = λ call m. tt; device = λ call m. tt }

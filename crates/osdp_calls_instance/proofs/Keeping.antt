@@ -1,30 +1,9 @@
 -- The premises hold, call by call.
-use Rattle.std.proofs.Common.{◌≡◌, ℕ, zero, suc, Bool, true, false, List, [], ◌∷◌, All, Some, None, refl, arith, ap, sym, subst, ◌<◌, ◌∙◌, inl}
+use Rattle.osdp_calls_instance.proofs.Common.{◌≡◌, ℕ, zero, suc, Bool, true, false, List, [], ◌∷◌, All, Some, None, refl, arith, ap, sym, subst, ◌<◌, ◌∙◌, inl, Command, Answer, each_all, StoresItsOwn, Burst, InUse, Station, is_past_for_device, is_past_for_panel, new_device, new_reader, hears, ReplyFits, AreNotPast, IsAsked, IsNoOthers, IsSaid, IsSetUp, IsThere, PanelIsApart, IsBusConfig, Entry, bus_in_range, PdIdFits, Packet, new_account, some_same, slice_get, slice_index, IfSome, packed, Sum, site_at}
 use Rattle.osdp_frame.specs.Items.{items, left_over}
 use Rattle.osdp_frame.specs.Held.{decided}
 use Rattle.osdp_msg.specs.ReplyTable.{reply_of, reply_fault, reply_at}
 use Rattle.osdp_msg.specs.CommandTable.{command_of, command_fault, command_at}
-use Rattle.osdp_msg.specs.declared.command.Command.{Command}
-use Rattle.osdp_reader.specs.declared.handler.Answer.{Answer}
-use Rattle.osdp_link_laws.proofs.Lines.{each_all}
-use Rattle.osdp_reader_laws.specs.Storing.{StoresItsOwn}
-use Rattle.osdp_calls.specs.Lines.{Burst, InUse, Station, is_past_for_device, is_past_for_panel}
-use Rattle.osdp_bus.specs.Machine.{new_device}
-use Rattle.osdp_reader.specs.State.{new_reader}
-use Rattle.osdp_reader.specs.Table.{hears}
-use Rattle.osdp_msg.specs.ReplyTable.{ReplyFits}
-use Rattle.osdp_calls.specs.Premises.{AreNotPast, IsAsked, IsNoOthers, IsSaid, IsSetUp, IsThere, PanelIsApart}
-use Rattle.osdp_bus.specs.Settings.{IsBusConfig}
-use Rattle.osdp_bus.specs.declared.entry.Entry.{Entry}
-use Rattle.osdp_bus.proofs.Defaults.{bus_in_range}
-use Rattle.osdp_msg.specs.ReplyFields.{PdIdFits}
-use Rattle.osdp_frame.specs.Packet.{Packet}
-use Rattle.osdp_link_laws.specs.Link.{new_account}
-use Rattle.osdp_shared_line.proofs.Sites.{some_same}
-use Rattle.std.specs.Prelude.{slice_get, slice_index, IfSome}
-use Rattle.osdp_frame.specs.Packed.{packed}
-use Rattle.osdp_frame.specs.declared.check_kind.CheckKind.TheVariants.{Sum}
-use Rattle.osdp_shared_line.specs.Line.{site_at}
 use Rattle.osdp_calls_instance.specs.Instance.{SomeCallsKeep, device, four, line_after, set_up, settings, station}
 
 pub none_read : (is_past : ℕ → Burst → Bool) (said : List Burst) → AreNotPast is_past said []

@@ -1,3 +1,4 @@
+pub mod Common
 mod Keeping
 mod TwoCalls
 mod RuleKept

@@ -1,27 +1,8 @@
 -- Lines are calls of a line in use.
 use Rattle.std.proofs.Common.{◌≡◌, ℕ, zero, suc, ◌<◌, Bool, true, false, not, cond, option_map, slice_get, List, [], ◌∷◌, ◌++◌, drop, length, length-drop, map, Option, Some, None, refl, sym, subst, ap, ◌∙◌, arith, inl, inr}
-use Rattle.std.specs.Prelude.{◌==◌}
-use Rattle.std.specs.List.{AllByRecursion}
-use Rattle.std.proofs.lemmas.Bool.Decides.{eqb_tells}
-use Rattle.osdp_msg.specs.declared.command.Command.{Command}
-use Rattle.osdp_msg.specs.declared.event.Event.{Event}
-use Rattle.osdp_frame.proofs.Head.{AreBytes-drop}
-use Rattle.osdp_frame.specs.Bytes.{AreBytes}
+use Rattle.osdp_calls_instance.proofs.Common.{◌==◌, AllByRecursion, eqb_tells, Command, Event, AreBytes-drop, AreBytes, decided_nothing, RunItem, item_size, BusState, add_refusal, after_add, after_next_report, changed_unless, remembered_after, BusFault, all_read, all_read_after, fewer_turns, last_turn, seen_in_turn, takes_in_turn, received_new, received_silence, received_take, received_tick, tells_in_turn, Heard, hears_bytes, reads_all, then_hears, turns_left, IsAllRead, IsReceived, Received, after_silence, after_take, after_tick, count_taken, Said, status_after, status_answer, after_all, after_items, items_of, listed, next_told, said_to_all, each_all, Each, has_room, ReaderState, after_lapse_event, after_submit_if, after_withdraw_event, Expired, Withdrawn, InDoubt, Answer, Call, OfPanel, Take, Held, device_after, takes_event, AddsMakeTheBus, AreDeviceCalls, ArePanelCalls, IsOfDevice, IsOfPanel, bus_after_each, device_after_each}
 use Rattle.osdp_frame.specs.Held as frame
-use Rattle.osdp_frame_laws.proofs.Readings.{decided_nothing}
-use Rattle.osdp_frame.specs.Reading.{RunItem, item_size}
-use Rattle.osdp_bus.specs.Buses.{BusState}
-use Rattle.osdp_bus.specs.Machine.{add_refusal, after_add, after_next_report, changed_unless, remembered_after}
-use Rattle.osdp_bus.specs.declared.fault.BusFault.{BusFault}
 use Rattle.osdp_bus_laws.specs.Calls as bus
-use Rattle.osdp_device.proofs.Pieces.{all_read, all_read_after, fewer_turns, last_turn, seen_in_turn, takes_in_turn}
-use Rattle.osdp_frame.proofs.Receipt.{received_new, received_silence, received_take, received_tick}
-use Rattle.osdp_device.proofs.Turning.{tells_in_turn}
-use Rattle.osdp_device.specs.Hearing.{Heard, hears_bytes, reads_all, then_hears, turns_left}
-use Rattle.osdp_frame.specs.Receiving.{IsAllRead, IsReceived, Received, after_silence, after_take, after_tick, count_taken}
-use Rattle.osdp_device.specs.Saying.{Said}
-use Rattle.osdp_device.specs.Status.{status_after, status_answer}
-use Rattle.osdp_device.specs.Telling.{after_all, after_items, items_of, listed, next_told, said_to_all}
 use Rattle.osdp_device.specs.declared.status.DeviceStatus.{DeviceStatus}
 use Rattle.osdp_line_calls.specs.PanelSessions as panel
 use Rattle.osdp_line_calls.specs.ReaderCalls.{CallFits}
@@ -34,21 +15,10 @@ use Rattle.osdp_line_laws.proofs.OfReaders.{call_steps}
 use Rattle.osdp_line_laws.proofs.ReaderRuns.{line_is}
 use Rattle.osdp_line_laws.specs.PanelRuns as panel_runs
 use Rattle.osdp_line_laws.specs.ReaderRuns as device_runs
-use Rattle.osdp_link_laws.proofs.Lines.{each_all}
-use Rattle.osdp_link_laws.proofs.Stages.{Each}
-use Rattle.osdp_reader.specs.Queue.{has_room}
-use Rattle.osdp_reader.specs.State.{ReaderState, after_lapse_event, after_submit_if, after_withdraw_event}
 use Rattle.osdp_device.specs.Ages.{AgesState, after_expiry, after_removal, expired, expired_front, expires}
-use Rattle.osdp_device.specs.declared.events.Expired.{Expired}
-use Rattle.osdp_device.specs.declared.events.Expired.TheVariants.{Withdrawn, InDoubt}
 use Rattle.osdp_line_calls.proofs.LettingGo.{none_left}
 use Rattle.osdp_line_calls.specs.ReaderAbsence.{LetGo, goes_first, keeps_all, lets_some_go}
-use Rattle.osdp_reader.specs.declared.handler.Answer.{Answer}
-use Rattle.osdp_calls.specs.Calls.{Call, OfPanel, Take}
-use Rattle.osdp_calls.specs.Ends.{Held, device_after, takes_event}
-use Rattle.osdp_calls.specs.Sayings.{AddsMakeTheBus}
 use Rattle.osdp_calls_instance.specs.LinePrograms.{DeviceAnew, DeviceLine, IsWithdrawn, LinesAreThese, PanelAnew, PanelLine, SaysToDevice, SaysToPanel, after_adds, after_device_line, after_device_lines, after_panel_line, after_panel_lines, calls_of_line, device_line_calls, handing, leaving_by, leaving_calls, line_device, line_panel, nexts, reading, unless_done}
-use Rattle.osdp_calls_instance.specs.OwnCalls.{AreDeviceCalls, ArePanelCalls, IsOfDevice, IsOfPanel, bus_after_each, device_after_each}
 
 pub own_device : (k : ℕ) → (k == k) ≡ true
 own_device k = elim (eqb_tells k k) [

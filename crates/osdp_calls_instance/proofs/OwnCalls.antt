@@ -1,19 +1,6 @@
 -- Whatever programs call by calls of their own, the line in use goes where they go.
-use Rattle.std.proofs.Common.{◌≡◌, ◌≢◌, ◌⊎◌, ℕ, true, false, cond, List, [], ◌∷◌, ◌++◌, map, Option, Some, None, refl, sym, subst, ap, ◌∙◌, inl, inr}
-use Rattle.std.specs.Prelude.{◌==◌}
-use Rattle.std.proofs.lemmas.Bool.Decides.{eqb_tells}
-use Rattle.osdp_msg.specs.declared.command.Command.{Command}
-use Rattle.osdp_bus.specs.Buses.{BusState}
+use Rattle.osdp_calls_instance.proofs.Common.{◌≡◌, ◌≢◌, ◌⊎◌, ℕ, true, false, cond, List, [], ◌∷◌, ◌++◌, map, Option, Some, None, refl, sym, subst, ap, ◌∙◌, inl, inr, ◌==◌, eqb_tells, Command, BusState, each_all, each_of, Each, Answer, changed, site_at, at_changed, at_other, some_same, Call, NewDevice, NewPanel, Next, OfPanel, Pending, SetBusy, SetHandler, Silence, Step, SubmitEvent, Take, TickDevice, after_call, after_calls, WithdrawEvent, GoByTheirOwn, Held, KeepsPanel, device_after, device_after_all, held_by, is_of_device, panel_calls, InUse, AreDeviceCalls, ArePanelCalls, AtDevice, AtPanel, CallTheLine, DeviceKind, FitsAt, IsLineOf, IsOfDevice, IsOfPanel, OwnCall, OwnFits, PanelKind, Programs, after_each, after_own, all_calls, bus_after, bus_after_each, calls_at, calls_by, device_after_each, devices_after}
 use Rattle.osdp_bus_laws.specs.Calls as bus
-use Rattle.osdp_link_laws.proofs.Lines.{each_all, each_of}
-use Rattle.osdp_link_laws.proofs.Stages.{Each}
-use Rattle.osdp_reader.specs.declared.handler.Answer.{Answer}
-use Rattle.osdp_shared_line.specs.Line.{changed, site_at}
-use Rattle.osdp_shared_line.proofs.Sites.{at_changed, at_other, some_same}
-use Rattle.osdp_calls.specs.Calls.{Call, NewDevice, NewPanel, Next, OfPanel, Pending, SetBusy, SetHandler, Silence, Step, SubmitEvent, Take, TickDevice, after_call, after_calls, WithdrawEvent}
-use Rattle.osdp_calls.specs.Ends.{GoByTheirOwn, Held, KeepsPanel, device_after, device_after_all, held_by, is_of_device, panel_calls}
-use Rattle.osdp_calls.specs.Lines.{InUse}
-use Rattle.osdp_calls_instance.specs.OwnCalls.{AreDeviceCalls, ArePanelCalls, AtDevice, AtPanel, CallTheLine, DeviceKind, FitsAt, IsLineOf, IsOfDevice, IsOfPanel, OwnCall, OwnFits, PanelKind, Programs, after_each, after_own, all_calls, bus_after, bus_after_each, calls_at, calls_by, device_after_each, devices_after}
 
 -- ---- lists of steps
 

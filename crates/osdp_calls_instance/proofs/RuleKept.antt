@@ -1,26 +1,12 @@
 -- The rule for programs holds of the list with two entries, call by call.
-use Rattle.std.proofs.Common.{◌≡◌, ◌≢◌, ℕ, zero, suc, List, [], ◌∷◌, Some, refl, sym, subst, ap, ◌∙◌, arith, inl, inr}
-use Rattle.std.specs.Prelude.{slice_get, take}
+use Rattle.osdp_calls_instance.proofs.Common.{◌≡◌, ◌≢◌, ℕ, zero, suc, List, [], ◌∷◌, Some, refl, sym, subst, ap, ◌∙◌, arith, inl, inr, slice_get, take, Command, Communication, Entry, Answer, Somewhere, Note, some_same, OfPanel, Step, after_call, InUse, AllKeep, AllKeepRule, IsKnown, KeepsRule, first_notes, notes_after, away, two_after, two_calls, two_set_up}
 use Rattle.osdp_frame.specs.Held.{decided}
 use Rattle.osdp_frame.specs.Items.{items, left_over}
 use Rattle.osdp_msg.specs.CommandTable.{command_at, command_fault, command_of}
 use Rattle.osdp_msg.specs.ReplyTable.{reply_at, reply_fault, reply_of}
-use Rattle.osdp_msg.specs.declared.command.Command.{Command}
-use Rattle.osdp_msg.specs.declared.command_fields.Communication.{Communication}
 use Rattle.osdp_bus.specs.Entries.{address_of}
-use Rattle.osdp_bus.specs.declared.entry.Entry.{Entry}
-use Rattle.osdp_reader.specs.declared.handler.Answer.{Answer}
-use Rattle.osdp_shared_line.specs.Addresses.{Somewhere}
-use Rattle.osdp_shared_line.specs.Programs.{Note}
-use Rattle.osdp_shared_line.proofs.Sites.{some_same}
 use Rattle.osdp_bus_laws.specs.Calls as bus
-use Rattle.osdp_calls.specs.Calls.{OfPanel, Step, after_call}
-use Rattle.osdp_calls.specs.Lines.{InUse}
-use Rattle.osdp_calls.specs.Premises.{AllKeep}
-use Rattle.osdp_calls.specs.Programs.{AllKeepRule, IsKnown, KeepsRule, first_notes, notes_after}
-use Rattle.osdp_calls_instance.specs.Instance.{away}
 use Rattle.osdp_calls_instance.specs.Rule.{TwoCallsKeepRule}
-use Rattle.osdp_calls_instance.specs.TwoEntries.{two_after, two_calls, two_set_up}
 use Rattle.osdp_calls_instance.proofs.TwoCalls.{first_device, second_device, two_keep}
 
 abbrev asked_for : Communication

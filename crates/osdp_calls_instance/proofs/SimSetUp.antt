@@ -1,18 +1,6 @@
 -- A run begins on a line that is set up.
-use Rattle.std.proofs.Common.{append-nil, ◌≡◌, ◌≢◌, ℕ, zero, suc, ◌<◌, Bool, true, false, List, [], ◌∷◌, length, map, Some, None, refl, sym, subst, ap, ◌∙◌, arith, inl, inr}
-use Rattle.std.proofs.lemmas.Bool.{leb-true}
-use Rattle.std.proofs.lemmas.Bool.Decides.{eqb_tells}
-use Rattle.std.specs.Prelude.{not, ◌==◌, ◌&&◌, ◌||◌, nat_le}
-use Rattle.std.specs.List.{list_all, list_any}
-use Rattle.osdp_bus.specs.Machine.{most_entries}
-use Rattle.osdp_link_laws.specs.Link.{new_account}
-use Rattle.osdp_shared_line.specs.Line.{site_at}
-use Rattle.osdp_shared_line.proofs.Sites.{some_same}
-use Rattle.osdp_sim_bus.specs.Runs.{are_apart, is_at, is_reader_in_range}
+use Rattle.osdp_calls_instance.proofs.Common.{append-nil, ◌≡◌, ◌≢◌, ℕ, zero, suc, ◌<◌, Bool, true, false, List, [], ◌∷◌, length, map, Some, None, refl, sym, subst, ap, ◌∙◌, arith, inl, inr, leb-true, eqb_tells, not, ◌==◌, ◌&&◌, ◌||◌, nat_le, list_all, list_any, most_entries, new_account, site_at, some_same, are_apart, is_at, is_reader_in_range, StoresItsOwn, Station, bus_with, RunsFromASetUp, new_station}
 use Rattle.osdp_sim_bus.specs.State.{Given, address_of}
-use Rattle.osdp_reader_laws.specs.Storing.{StoresItsOwn}
-use Rattle.osdp_calls.specs.Lines.{Station, bus_with}
-use Rattle.osdp_calls_instance.specs.SimulatedBus.{RunsFromASetUp, new_station}
 
 pub both : (a b : Bool) → (a && b) ≡ true → (a ≡ true) × (b ≡ true)
 both true b is = (refl, is)

@@ -1,47 +1,12 @@
 -- What the account of each reader of a run tells is what the calls tell that the run is.
-use Rattle.std.proofs.Common.{◌≡◌, ◌≢◌, ℕ, zero, suc, ◌<◌, Bool, true, false, cond, List, [], ◌∷◌, ◌++◌, length, map, Option, Some, None, refl, sym, subst, ap, ◌∙◌, arith, append_assoc, append-nil}
+use Rattle.osdp_calls_instance.proofs.Common.{◌≡◌, ◌≢◌, ℕ, zero, suc, ◌<◌, Bool, true, false, cond, List, [], ◌∷◌, ◌++◌, length, map, Option, Some, None, refl, sym, subst, ap, ◌∙◌, arith, append_assoc, append-nil, option_map_or, Command, Event, packets_in, Packet, Report, BusState, new_bus, after_next_report, submit_refusal_at, bus_ticks, BusFault, TellsEachOnce, taken_along, told_along, each_of, Each, Answer, lacks_room, site_at, some_same, handed, left, HoldsAlong, moment_after, SimStep, Busy, Issue, Queue, Reopen, ToController, ToReader, Wait, HasAnAccountEach, TellsAtOnce, is_well, run, after_step, all_hear_each, changed_site, changes_site, fault_of, hears_run, is_there, issued, reopened, report_told, site_begins, site_hears, site_is_busy, site_is_told, site_issues, site_queues, site_queues_unless, takes_report, waited, Call, NewPanel, OfPanel, Step, after_call, GoByTheirOwn, KeepsPanel, one_panel_call, panel_calls, InUse, AddsMakeTheBus, more_calls, one_bus, IsAt, one_so, AtDevice, AtPanel, IsOfDevice, all_calls, calls_at, Begins, DeviceStep, HandsBytes, HearsRun, IsBusy, Queues, SimCall, Submits, Waits, all_hear, begin_calls, line_at_first, new_station, panel_step_calls, programs_at_first, schedule_calls, sim_device, sim_panel, step_calls, RunTellsTheSame, Told, told_in_run, told_to, taken_more, told_more}
 use Rattle.std.specs.Prelude.{◌==◌, ◌-◌, is_some, option_to_list, slice_get, slice_set}
-use Rattle.std.specs.Option.{option_map_or}
-use Rattle.osdp_msg.specs.declared.command.Command.{Command}
-use Rattle.osdp_msg.specs.declared.event.Event.{Event}
-use Rattle.osdp_frame.specs.Items.{packets_in}
-use Rattle.osdp_frame.specs.Packet.{Packet}
-use Rattle.osdp_controller.specs.declared.report.Report.{Report}
 use Rattle.osdp_controller.specs.declared.report.Report.TheVariants as report
-use Rattle.osdp_bus.specs.Buses.{BusState, new_bus}
-use Rattle.osdp_bus.specs.Machine.{after_next_report, submit_refusal_at}
-use Rattle.osdp_bus.specs.Ticking.{bus_ticks}
-use Rattle.osdp_bus.specs.declared.fault.BusFault.{BusFault}
 use Rattle.osdp_bus_laws.specs.Calls as bus
-use Rattle.osdp_bus_laws.specs.Reports.{TellsEachOnce, taken_along, told_along}
-use Rattle.osdp_link_laws.proofs.Lines.{each_of}
-use Rattle.osdp_link_laws.proofs.Stages.{Each}
-use Rattle.osdp_reader.specs.declared.handler.Answer.{Answer}
-use Rattle.osdp_reader.specs.Queue.{lacks_room}
-use Rattle.osdp_shared_line.specs.Line.{site_at}
-use Rattle.osdp_shared_line.proofs.Sites.{some_same}
-use Rattle.osdp_sim.specs.Line.{handed, left}
-use Rattle.osdp_sim.specs.Schedules.{HoldsAlong}
-use Rattle.osdp_sim.specs.Steps.{moment_after}
-use Rattle.osdp_sim.specs.declared.step.SimStep.{SimStep}
-use Rattle.osdp_sim.specs.declared.step.SimStep.TheVariants.{Busy, Issue, Queue, Reopen, ToController, ToReader, Wait}
-use Rattle.osdp_sim_bus.specs.Laws.{HasAnAccountEach, TellsAtOnce}
-use Rattle.osdp_sim_bus.specs.Runs.{is_well, run}
 use Rattle.osdp_sim_bus.specs.State.{Given, LineState, ReaderSite, address_of, new_site, set_up}
-use Rattle.osdp_sim_bus.specs.Steps.{after_step, all_hear_each, changed_site, changes_site, fault_of, hears_run, is_there, issued, reopened, report_told, site_begins, site_hears, site_is_busy, site_is_told, site_issues, site_queues, site_queues_unless, takes_report, waited}
-use Rattle.osdp_calls.specs.Calls.{Call, NewPanel, OfPanel, Step, after_call}
-use Rattle.osdp_calls.specs.Ends.{GoByTheirOwn, KeepsPanel, one_panel_call, panel_calls}
-use Rattle.osdp_calls.specs.Lines.{InUse}
-use Rattle.osdp_calls.specs.Sayings.{AddsMakeTheBus}
-use Rattle.osdp_calls.proofs.Ends.{more_calls, one_bus}
-use Rattle.osdp_calls.proofs.Places.{IsAt, one_so}
 use Rattle.osdp_calls_instance.proofs.SimulatedBus.{Follows, Here, all_follow, begins_so, goes, joined, step_follows, well_first}
 use Rattle.osdp_calls_instance.proofs.SimulatedEnds.{sim_devices_are}
 use Rattle.osdp_calls_instance.proofs.SimulatedReports.{IsTold, all_told, both_same, more_reports, with_one, with_those}
-use Rattle.osdp_calls_instance.specs.OwnCalls.{AtDevice, AtPanel, IsOfDevice, all_calls, calls_at}
-use Rattle.osdp_calls_instance.specs.SimulatedBus.{Begins, DeviceStep, HandsBytes, HearsRun, IsBusy, Queues, SimCall, Submits, Waits, all_hear, begin_calls, line_at_first, new_station, panel_step_calls, programs_at_first, schedule_calls, sim_device, sim_panel, step_calls}
-use Rattle.osdp_calls_instance.specs.SimulatedReports.{RunTellsTheSame, Told, told_in_run, told_to}
-use Rattle.osdp_calls.proofs.Takings.{taken_more, told_more}
 
 -- nothing is told
 abbrev nothing : Told

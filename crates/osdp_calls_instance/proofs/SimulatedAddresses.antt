@@ -1,32 +1,8 @@
 -- Where no COMSET is ordered, the calls of a run keep the premise on addresses.
-use Rattle.std.proofs.Common.{◌≡◌, ℕ, zero, suc, Bool, true, false, cond, List, [], ◌∷◌, ◌++◌, drop, length, map, Option, Some, None, sym, subst, ◌∙◌}
+use Rattle.osdp_calls_instance.proofs.Common.{◌≡◌, ℕ, zero, suc, Bool, true, false, cond, List, [], ◌∷◌, ◌++◌, drop, length, map, Option, Some, None, sym, subst, ◌∙◌, Command, comset_of, BusConfig, hears_bytes, reads_all, turns_left, Received, after_silence, after_take, count_taken, items_of, said_to_all, each_append, each_of, Each, ReaderState, Answer, site_at, handed, SimStep, Busy, Issue, Queue, Reopen, ToController, ToReader, Wait, Given, LineState, set_up, after_step, is_there, Call, NewDevice, NewPanel, OfPanel, Step, after_call, Held, InUse, Addresses, handing, nexts, unless_done, AtDevice, AtPanel, all_calls, calls_at, AreItsCalls, Begins, DeviceStep, HearsBurst, HearsRun, IsBusy, PanelStep, Queues, SimCall, Submits, Waits, all_hear, begin_calls, device_step_calls, line_at_first, panel_step_calls, programs_at_first, schedule_calls, sim_device, sim_panel, step_calls, AllAtAddresses, OrdersNoComset, RunKeepsAddresses}
 use Rattle.std.specs.Prelude.{◌-◌, All}
-use Rattle.osdp_msg.specs.declared.command.Command.{Command}
-use Rattle.osdp_controller.specs.Hearing.{comset_of}
-use Rattle.osdp_bus.specs.declared.config.BusConfig.{BusConfig}
 use Rattle.osdp_bus_laws.specs.Calls as bus
-use Rattle.osdp_device.specs.Hearing.{hears_bytes, reads_all, turns_left}
-use Rattle.osdp_frame.specs.Receiving.{Received, after_silence, after_take, count_taken}
-use Rattle.osdp_device.specs.Telling.{items_of, said_to_all}
-use Rattle.osdp_link_laws.proofs.Lines.{each_append, each_of}
-use Rattle.osdp_link_laws.proofs.Stages.{Each}
-use Rattle.osdp_reader.specs.State.{ReaderState}
-use Rattle.osdp_reader.specs.declared.handler.Answer.{Answer}
-use Rattle.osdp_shared_line.specs.Line.{site_at}
-use Rattle.osdp_sim.specs.Line.{handed}
-use Rattle.osdp_sim.specs.declared.step.SimStep.{SimStep}
-use Rattle.osdp_sim.specs.declared.step.SimStep.TheVariants.{Busy, Issue, Queue, Reopen, ToController, ToReader, Wait}
-use Rattle.osdp_sim_bus.specs.State.{Given, LineState, set_up}
-use Rattle.osdp_sim_bus.specs.Steps.{after_step, is_there}
-use Rattle.osdp_calls.specs.Calls.{Call, NewDevice, NewPanel, OfPanel, Step, after_call}
-use Rattle.osdp_calls.specs.Ends.{Held}
-use Rattle.osdp_calls.specs.Lines.{InUse}
-use Rattle.osdp_calls.specs.Premises.{Addresses}
 use Rattle.osdp_calls_instance.proofs.SimulatedBus.{Here, goes}
-use Rattle.osdp_calls_instance.specs.LinePrograms.{handing, nexts, unless_done}
-use Rattle.osdp_calls_instance.specs.OwnCalls.{AtDevice, AtPanel, all_calls, calls_at}
-use Rattle.osdp_calls_instance.specs.SimulatedBus.{AreItsCalls, Begins, DeviceStep, HearsBurst, HearsRun, IsBusy, PanelStep, Queues, SimCall, Submits, Waits, all_hear, begin_calls, device_step_calls, line_at_first, panel_step_calls, programs_at_first, schedule_calls, sim_device, sim_panel, step_calls}
-use Rattle.osdp_calls_instance.specs.SimulatedPremises.{AllAtAddresses, OrdersNoComset, RunKeepsAddresses}
 
 -- a call of the panel that gives nobody an address
 abbrev pub PanelGivesNone : bus.Call → Type 0

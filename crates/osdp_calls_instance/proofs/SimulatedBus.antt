@@ -1,49 +1,16 @@
 -- The run of a schedule over a bus is calls of a line in use.
-use Rattle.std.proofs.Common.{◌≡◌, ℕ, zero, suc, ◌≤◌, Bool, true, false, cond, List, [], ◌∷◌, ◌++◌, length, map, Option, Some, None, refl, sym, subst, ap, ◌∙◌, arith, append_assoc}
+use Rattle.osdp_calls_instance.proofs.Common.{◌≡◌, ℕ, zero, suc, ◌≤◌, Bool, true, false, cond, List, [], ◌∷◌, ◌++◌, length, map, Option, Some, None, refl, sym, subst, ap, ◌∙◌, arith, append_assoc, option_map_or, Command, Event, refused_unless_closed, Report, AreBytes, packets_in, whole_packets, Packet, items_nothing, BusState, device_of, new_bus, bus_ticks, after_begin_at, after_next_report, after_submit_at, begin_refusal_at, begin_refusal_of, bus_fault, changed_unless, entry_begins, new_device, submit_refusal_at, BusConfig, Entry, BusFault, received_new, ReaderState, after_set_busy, after_submit, Answer, lacks_room, changed, site_at, some_same, handed, left, HoldsAlong, moment_after, SimStep, Busy, Issue, Queue, Reopen, ToController, ToReader, Wait, is_well, run, after_step, all_hear_each, changed_site, changes_site, fault_of, hears_run, is_ended, is_quiet, is_there, issued, refuses_reopen, reopened, report_told, site_begins, site_hears, site_is_busy, site_is_told, site_issues, site_queues, site_queues_unless, takes_report, waited, GoByTheirOwn, Held, held_by, takes_event, InUse, Station, after_hearing, AllFit, AtDevice, AtPanel, FitsAt, IsLineOf, Programs, after_each, after_own, devices_after, Begins, BurstFits, DeviceStep, HandsBytes, HearsBurst, HearsRun, IsBusy, Queues, RunIsCalls, SimCall, Submits, Waits, after_device_step, all_hear, begin_calls, hears_burst, line_at_first, new_held, new_station, panel_step_calls, programs_at_first, schedule_calls, sim_device, sim_panel, step_calls}
 use Rattle.std.specs.Prelude.{not, ◌==◌, ◌-◌, ◌&&◌, is_none, option_map, slice_get, slice_set}
-use Rattle.std.specs.Option.{option_map_or}
-use Rattle.osdp_msg.specs.declared.command.Command.{Command}
-use Rattle.osdp_msg.specs.declared.event.Event.{Event}
-use Rattle.osdp_controller.specs.Machine.{refused_unless_closed}
 use Rattle.osdp_controller.specs.States.{is_closed}
 use Rattle.osdp_controller.specs.declared.state.State.{State}
 use Rattle.osdp_controller.specs.declared.state.State.TheVariants.{Closed}
-use Rattle.osdp_controller.specs.declared.report.Report.{Report}
-use Rattle.osdp_frame.specs.Bytes.{AreBytes}
-use Rattle.osdp_frame.specs.Items.{packets_in, whole_packets}
-use Rattle.osdp_frame.specs.Packet.{Packet}
-use Rattle.osdp_frame_laws.proofs.LeftOver.{items_nothing}
-use Rattle.osdp_bus.specs.Buses.{BusState, device_of, new_bus}
-use Rattle.osdp_bus.specs.Ticking.{bus_ticks}
-use Rattle.osdp_bus.specs.Machine.{after_begin_at, after_next_report, after_submit_at, begin_refusal_at, begin_refusal_of, bus_fault, changed_unless, entry_begins, new_device, submit_refusal_at}
-use Rattle.osdp_bus.specs.declared.config.BusConfig.{BusConfig}
-use Rattle.osdp_bus.specs.declared.entry.Entry.{Entry}
-use Rattle.osdp_bus.specs.declared.fault.BusFault.{BusFault}
 use Rattle.osdp_bus_laws.specs.Calls as bus
-use Rattle.osdp_frame.proofs.Receipt.{received_new}
-use Rattle.osdp_reader.specs.State.{ReaderState, after_set_busy, after_submit}
-use Rattle.osdp_reader.specs.declared.handler.Answer.{Answer}
-use Rattle.osdp_reader.specs.Queue.{lacks_room}
-use Rattle.osdp_shared_line.specs.Line.{changed, site_at}
-use Rattle.osdp_shared_line.proofs.Sites.{some_same}
-use Rattle.osdp_sim.specs.Line.{handed, left}
-use Rattle.osdp_sim.specs.Schedules.{HoldsAlong}
 use Rattle.osdp_sim.specs.State.{room_for}
-use Rattle.osdp_sim.specs.Steps.{moment_after}
 use Rattle.osdp_sim.specs.declared.fault.Cause.{Cause}
 use Rattle.osdp_sim.specs.declared.fault.Cause.TheVariants as cause
-use Rattle.osdp_sim.specs.declared.step.SimStep.{SimStep}
-use Rattle.osdp_sim.specs.declared.step.SimStep.TheVariants.{Busy, Issue, Queue, Reopen, ToController, ToReader, Wait}
-use Rattle.osdp_sim_bus.specs.Runs.{is_well, run}
 use Rattle.osdp_sim_bus.specs.State.{Given, LineState, ReaderSite, address_of, begun_device, new_site, set_up}
-use Rattle.osdp_sim_bus.specs.Steps.{after_step, all_hear_each, changed_site, changes_site, fault_of, hears_run, is_ended, is_quiet, is_there, issued, refuses_reopen, reopened, report_told, site_begins, site_hears, site_is_busy, site_is_told, site_issues, site_queues, site_queues_unless, takes_report, waited}
-use Rattle.osdp_calls.specs.Ends.{GoByTheirOwn, Held, held_by, takes_event}
-use Rattle.osdp_calls.specs.Lines.{InUse, Station}
-use Rattle.osdp_calls.specs.Sayings.{after_hearing}
 use Rattle.osdp_calls_instance.proofs.OwnCalls.{call_the_line}
 use Rattle.osdp_calls_instance.proofs.SimulatedLists.{at_first, changed_first, longer}
-use Rattle.osdp_calls_instance.specs.OwnCalls.{AllFit, AtDevice, AtPanel, FitsAt, IsLineOf, Programs, after_each, after_own, devices_after}
-use Rattle.osdp_calls_instance.specs.SimulatedBus.{Begins, BurstFits, DeviceStep, HandsBytes, HearsBurst, HearsRun, IsBusy, Queues, RunIsCalls, SimCall, Submits, Waits, after_device_step, all_hear, begin_calls, hears_burst, line_at_first, new_held, new_station, panel_step_calls, programs_at_first, schedule_calls, sim_device, sim_panel, step_calls}
 use Rattle.osdp_calls_instance.proofs.SimulatedEnds.{IsSound, sim_devices_are, sim_panels_are}
 
 module _ {H : Type 0} (answer_of : H → Command → Answer) (after : H → Command → H) where

@@ -1,36 +1,11 @@
 -- The schedules are taken, step by step.
-use Rattle.std.proofs.Common.{◌≡◌, ◌<◌, ◌≤◌, ℕ, zero, suc, Bool, true, false, List, [], ◌∷◌, ◌++◌, length, refl, arith}
-use Rattle.std.proofs.lemmas.Bool.{and_parts, ltb-true}
-use Rattle.std.specs.Prelude.{nat_lt, slice_index, take}
-use Rattle.osdp_frame.specs.Bytes.{AreBytes}
+use Rattle.osdp_calls_instance.proofs.Common.{◌≡◌, ◌<◌, ◌≤◌, ℕ, zero, suc, Bool, true, false, List, [], ◌∷◌, ◌++◌, length, refl, arith, and_parts, ltb-true, nat_lt, slice_index, take, AreBytes, packed, IsPacket, largest, packet_length, Sum, KeypadFits, Command, bus_in_range, each_all, Answer, handed, SaysFit, Move, Deliver, Drop, SimStep, AreSettings, run, LineState, ReaderSite, set_up, first_notes, four, all_calls, begin_calls, line_at_first, programs_at_first, schedule_calls, sim_device, sim_panel, IsTaken, OrdersNoComset, once}
 use Rattle.osdp_frame.specs.Held.{decided}
 use Rattle.osdp_frame.specs.Items.{items, left_over, packets_in}
-use Rattle.osdp_frame.specs.Packed.{packed}
-use Rattle.osdp_frame.specs.Packet.{IsPacket, largest, packet_length}
-use Rattle.osdp_frame.specs.declared.check_kind.CheckKind.TheVariants.{Sum}
 use Rattle.osdp_msg.specs.CommandTable.{command_at, command_fault, command_of}
-use Rattle.osdp_msg.specs.ReplyFields.{KeypadFits}
 use Rattle.osdp_msg.specs.ReplyTable.{reply_at, reply_fault, reply_of}
-use Rattle.osdp_msg.specs.declared.command.Command.{Command}
-use Rattle.osdp_bus.proofs.Defaults.{bus_in_range}
-use Rattle.osdp_link_laws.proofs.Lines.{each_all}
-use Rattle.osdp_reader.specs.declared.handler.Answer.{Answer}
-use Rattle.osdp_sim.specs.Line.{handed}
-use Rattle.osdp_sim.specs.Steps.{SaysFit}
-use Rattle.osdp_sim.specs.declared.step.Move.{Move}
-use Rattle.osdp_sim.specs.declared.step.Move.TheVariants.{Deliver, Drop}
-use Rattle.osdp_sim.specs.declared.step.SimStep.{SimStep}
-use Rattle.osdp_sim_bus.specs.Runs.{AreSettings, run}
-use Rattle.osdp_sim_bus.specs.State.{LineState, ReaderSite, set_up}
-use Rattle.osdp_calls.specs.Programs.{first_notes}
 use Rattle.osdp_premises.specs.Deciding.{each_of}
-use Rattle.osdp_calls_instance.specs.Instance.{four}
-use Rattle.osdp_calls_instance.specs.OwnCalls.{all_calls}
-use Rattle.osdp_calls_instance.specs.SimulatedBus.{begin_calls, line_at_first, programs_at_first, schedule_calls, sim_device, sim_panel}
 use Rattle.osdp_calls_instance.specs.SimulatedDay.{SomeSchedulesAreTaken, moving_steps, some_steps, two_given}
-use Rattle.osdp_calls_instance.specs.SimulatedOrder.{IsTaken}
-use Rattle.osdp_calls_instance.specs.SimulatedPremises.{OrdersNoComset}
-use Rattle.osdp_calls_instance.specs.TwoEntries.{once}
 use Rattle.osdp_calls_instance.proofs.Keeping.{id_fits}
 use Rattle.osdp_calls_instance.proofs.SimulatedRule.{ruled_anywhere}
 

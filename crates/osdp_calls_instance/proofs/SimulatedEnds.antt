@@ -1,35 +1,9 @@
 -- The bus and the readers of a run over a simulated bus are called by calls of a line in use.
-use Rattle.std.proofs.Common.{◌≡◌, ℕ, suc, max, Bool, true, false, cond, List, [], ◌∷◌, ◌++◌, length, map, refl, sym, subst, ap, ◌∙◌, arith}
-use Rattle.std.specs.Prelude.{not, ◌==◌}
-use Rattle.osdp_msg.specs.declared.command.Command.{Command}
-use Rattle.osdp_msg.specs.declared.event.Event.{Event}
-use Rattle.osdp_frame.specs.Bytes.{AreBytes}
+use Rattle.osdp_calls_instance.proofs.Common.{◌≡◌, ℕ, suc, max, Bool, true, false, cond, List, [], ◌∷◌, ◌++◌, length, map, refl, sym, subst, ap, ◌∙◌, arith, not, ◌==◌, Command, Event, AreBytes, new_run, items, left_over, packets_in, reading, whole_packets, RunItem, PacketItem, SkippedItem, RefusedItem, gap_items, items_nothing, left_bytes, reading_split, decided_nothing, AreBytes-nil, Heard, hears_bytes, reads_all, then_reads, turns_left, IsAllRead, IsReceived, Received, ends_run, ends_silent, is_silent, seen, after_all, after_items, items_of, said_to_all, each_all, Each, ReaderState, hears, Answer, lacks_room, after_ended, Call, OfPanel, Silence, Held, takes_event, after_hearing, handing, AreDeviceCalls, ArePanelCalls, IsOfDevice, IsOfPanel, device_after_each, BurstFits, DeviceStep, HearsBurst, IsBusy, Queues, after_device_step, burst_calls, device_step_calls, hears_burst, panel_step_calls, run_over, sim_device, sim_panel}
 use Rattle.osdp_frame.specs.Held as frame
-use Rattle.osdp_frame.specs.Held.{new_run}
-use Rattle.osdp_frame.specs.Items.{items, left_over, packets_in, reading, whole_packets}
-use Rattle.osdp_frame.specs.Reading.{RunItem, PacketItem, SkippedItem, RefusedItem}
-use Rattle.osdp_frame_laws.proofs.LeftOver.{gap_items, items_nothing, left_bytes, reading_split}
-use Rattle.osdp_frame_laws.proofs.Readings.{decided_nothing}
-use Rattle.osdp_frame.proofs.Head.{AreBytes-nil}
-use Rattle.osdp_device.specs.Hearing.{Heard, hears_bytes, reads_all, then_reads, turns_left}
 use Rattle.osdp_frame.specs.Receiving as device
-use Rattle.osdp_frame.specs.Receiving.{IsAllRead, IsReceived, Received, ends_run, ends_silent, is_silent, seen}
-use Rattle.osdp_device.specs.Telling.{after_all, after_items, items_of, said_to_all}
-use Rattle.osdp_link_laws.proofs.Lines.{each_all}
-use Rattle.osdp_link_laws.proofs.Stages.{Each}
-use Rattle.osdp_reader.specs.State.{ReaderState}
-use Rattle.osdp_reader.specs.Table.{hears}
-use Rattle.osdp_reader.specs.declared.handler.Answer.{Answer}
-use Rattle.osdp_reader.specs.Queue.{lacks_room}
-use Rattle.osdp_device.proofs.Pieces.{after_ended}
-use Rattle.osdp_calls.specs.Calls.{Call, OfPanel, Silence}
-use Rattle.osdp_calls.specs.Ends.{Held, takes_event}
-use Rattle.osdp_calls.specs.Sayings.{after_hearing}
 use Rattle.osdp_calls_instance.proofs.LinePrograms.{both_own, bus_same, handing_own, hands, holding, more_calls, nexts_own, own_device, panels_own, read_out, reading_is}
-use Rattle.osdp_calls_instance.specs.LinePrograms.{handing}
 use Rattle.osdp_calls_instance.specs.LinePrograms as lines
-use Rattle.osdp_calls_instance.specs.OwnCalls.{AreDeviceCalls, ArePanelCalls, IsOfDevice, IsOfPanel, device_after_each}
-use Rattle.osdp_calls_instance.specs.SimulatedBus.{BurstFits, DeviceStep, HearsBurst, IsBusy, Queues, after_device_step, burst_calls, device_step_calls, hears_burst, panel_step_calls, run_over, sim_device, sim_panel}
 
 -- a line of which nothing is held
 abbrev pub quiet : Received → Received

@@ -1,33 +1,13 @@
 -- What calls of the panel in a run read, and what they leave of the places: a burst, or nothing.
-use Rattle.std.proofs.Common.{◌≡◌, ◌⊎◌, ℕ, Bool, true, false, cond, List, [], ◌∷◌, ◌++◌, map, Option, Some, None, is_some, refl, sym, subst, ap, ◌∙◌, inl, inr}
-use Rattle.osdp_msg.specs.declared.command.Command.{Command}
-use Rattle.osdp_frame.specs.Bytes.{AreBytes}
-use Rattle.osdp_frame.specs.Items.{items, left_over, packets_in, whole_packets}
-use Rattle.osdp_frame.specs.Packet.{Packet}
-use Rattle.osdp_frame.specs.Reading.{RunItem, PacketItem, SkippedItem, RefusedItem}
-use Rattle.osdp_frame_laws.proofs.LeftOver.{items_nothing, reading_split}
-use Rattle.osdp_controller.specs.declared.report.Report.{Report}
+use Rattle.osdp_calls_instance.proofs.Common.{◌≡◌, ◌⊎◌, ℕ, Bool, true, false, cond, List, [], ◌∷◌, ◌++◌, map, Option, Some, None, is_some, refl, sym, subst, ap, ◌∙◌, inl, inr, Command, AreBytes, items, left_over, packets_in, whole_packets, Packet, RunItem, PacketItem, SkippedItem, RefusedItem, items_nothing, reading_split, Report, changed_unless, submit_refusal_at, asks_free, asks_holder, is_due_at, BusFault, told_in, due_by, who_ticks, each_front, each_rest, Each, Answer, site_at, changed_from, InUse, Station, is_past_for_panel, run_calls, AllOrdered}
 use Rattle.osdp_bus.proofs.Waiting.{nothing_ends, nothing_silent}
 use Rattle.osdp_bus.specs.Buses.{BusState, has_report, holder, is_silent, seen}
 use Rattle.osdp_bus.specs.Hearing.{ends_silent}
-use Rattle.osdp_bus.specs.Machine.{changed_unless, submit_refusal_at}
-use Rattle.osdp_bus.specs.Ticking.{asks_free, asks_holder, is_due_at}
-use Rattle.osdp_bus.specs.declared.fault.BusFault.{BusFault}
 use Rattle.osdp_bus_laws.specs.Calls as bus
-use Rattle.osdp_bus_laws.specs.Reports.{told_in}
 use Rattle.osdp_bus_laws.specs.Turns.{judged}
-use Rattle.osdp_bus_links.specs.Links.{due_by, who_ticks}
-use Rattle.osdp_link_laws.proofs.Lines.{each_front, each_rest}
-use Rattle.osdp_link_laws.proofs.Stages.{Each}
-use Rattle.osdp_reader.specs.declared.handler.Answer.{Answer}
-use Rattle.osdp_shared_line.specs.Line.{site_at}
-use Rattle.osdp_shared_line.proofs.Sites.{changed_from}
 use Rattle.osdp_calls.specs.Calls.{OfPanel, after_calls, after_panel, all_hear, asked_at, asked_by_holder, change_at, changes_at, hears_of, issues, read_at_end, read_at_silence, read_at_tick, read_by, read_by_holder, read_of_bytes}
-use Rattle.osdp_calls.specs.Lines.{InUse, Station, is_past_for_panel}
 use Rattle.osdp_calls_instance.proofs.SimulatedLists.{place_then}
 use Rattle.osdp_calls_instance.proofs.SimulatedPlaces.{IsOneOf, Since, Source, at_place, last_place, panel_ordered, placed_all, since_next}
-use Rattle.osdp_calls_instance.specs.SimulatedBus.{run_calls}
-use Rattle.osdp_calls_instance.specs.SimulatedOrder.{AllOrdered}
 
 -- ---- what is read
 

@@ -1,42 +1,18 @@
 -- A burst comes to the readers, or to the panel: the calls by which it is read keep order and quiet openings.
 use Rattle.std.proofs.Common.{◌≡◌, ◌⊎◌, ◌<◌, ◌≤◌, ◌+◌, ℕ, suc, true, false, List, [], ◌∷◌, ◌++◌, length, map, Option, Some, None, IfSome, refl, sym, subst, ap, ◌∙◌, arith, append-nil, inl, inr}
-use Rattle.std.proofs.lemmas.Bool.Decides.{eqb_tells}
-use Rattle.std.specs.Prelude.{option_to_list}
-use Rattle.osdp_frame.specs.Bytes.{AreBytes}
-use Rattle.osdp_frame.specs.Items.{packets_in, reading}
-use Rattle.osdp_frame.specs.Packet.{IsPacket, Packet, largest}
+use Rattle.osdp_calls_instance.proofs.Common.{eqb_tells, option_to_list, AreBytes, packets_in, reading, IsPacket, Packet, largest, Command, packets_on, Delivered, Delivery, Lost, Repeated, each_append, Each, ReaderState, hears, outcome, Answer, Apart, IsAway, IsKept, IsToDevice, reader_address, map_from, handed, SaysFit, damage_fault, Deliver, Drop, Repeat, Damage, LineState, ReaderSite, DamageIsBytes, FollowsSites, OneBus, SitesOf, each_reads, same_count, asked_at, GoByTheirOwn, InUse, Station, AtPanel, IsLineOf, HearsRun, SimCall, all_hear, sim_device, sim_panel}
 use Rattle.osdp_frame.specs.Spelling.{spelling}
-use Rattle.osdp_msg.specs.declared.command.Command.{Command}
-use Rattle.osdp_bus_links.specs.Links.{packets_on}
 use Rattle.osdp_link_laws.specs.Headline.{SaysWhatFitsIf}
-use Rattle.osdp_link_laws.specs.Link.{Delivered, Delivery, Lost, Repeated}
-use Rattle.osdp_link_laws.proofs.Lines.{each_append}
-use Rattle.osdp_link_laws.proofs.Stages.{Each}
-use Rattle.osdp_reader.specs.State.{ReaderState}
-use Rattle.osdp_reader.specs.Table.{hears, outcome}
-use Rattle.osdp_reader.specs.declared.handler.Answer.{Answer}
 use Rattle.osdp_shared_line.specs.Line as line
 use Rattle.osdp_shared_line.specs.Line.{Net, Site, address_of, after_net, first_gets, run, site_at, tagged}
-use Rattle.osdp_shared_line.proofs.Apart.{Apart, IsAway, IsKept, IsToDevice, reader_address}
 use Rattle.osdp_shared_line.proofs.Hearing.{for_reader}
 use Rattle.osdp_shared_line.proofs.Readers.{IsForAll, IsFrom, reads_well}
-use Rattle.osdp_shared_line.proofs.Sites.{map_from}
 use Rattle.osdp_sim.proofs.Bursts.{no_packets}
-use Rattle.osdp_sim.specs.Line.{handed}
-use Rattle.osdp_sim.specs.Steps.{SaysFit, damage_fault}
 use Rattle.osdp_sim.specs.declared.step.Move as way
-use Rattle.osdp_sim.specs.declared.step.Move.TheVariants.{Deliver, Drop, Repeat, Damage}
-use Rattle.osdp_sim_bus.specs.State.{LineState, ReaderSite}
-use Rattle.osdp_sim_bus.specs.Steps.{DamageIsBytes}
-use Rattle.osdp_sim_bus_laws.specs.Moves.{FollowsSites, OneBus, SitesOf, each_reads}
 use Rattle.osdp_sim_bus_laws.proofs.Delivering.{says_fit}
 use Rattle.osdp_sim_bus_laws.proofs.Reading as readings
 use Rattle.osdp_sim_bus_laws.proofs.Reading.{read_by, said_from, says_by}
-use Rattle.osdp_sim_bus_laws.proofs.Sites.{same_count}
 use Rattle.osdp_sim_laws.specs.Moves.{delivery}
-use Rattle.osdp_calls.specs.Calls.{asked_at}
-use Rattle.osdp_calls.specs.Ends.{GoByTheirOwn}
-use Rattle.osdp_calls.specs.Lines.{InUse, Station}
 use Rattle.osdp_calls_instance.proofs.SimulatedBus.{Follows, Here, count_sites, site_readers}
 use Rattle.osdp_calls_instance.proofs.SimulatedLine.{Ahead, IsAwayFrom, Placed, Stands, ahead_again, ahead_less, ahead_read, burst_of}
 use Rattle.osdp_calls_instance.proofs.SimulatedLists.{at_each, each_place, one_place}
@@ -44,8 +20,6 @@ use Rattle.osdp_calls_instance.proofs.SimulatedNet.{gets_from}
 use Rattle.osdp_calls_instance.proofs.SimulatedPlaces.{IsBurstAt, IsOneOf, Since, Source}
 use Rattle.osdp_calls_instance.proofs.SimulatedStepping.{First, Taken, first_of, nothing_taken, run_taken, stands_devices}
 use Rattle.osdp_calls_instance.proofs.SimulatedReaders.{AreRead, all_read, replied_from}
-use Rattle.osdp_calls_instance.specs.OwnCalls.{AtPanel, IsLineOf}
-use Rattle.osdp_calls_instance.specs.SimulatedBus.{HearsRun, SimCall, all_hear, sim_device, sim_panel}
 
 module _ {H : Type 0} (answer_of : H → Command → Answer) (after : H → Command → H) where
   -- ---- what the readers say to a packet that was said for one of them

@@ -1,41 +1,12 @@
 -- The calls of a run keep values in their ranges.
-use Rattle.std.proofs.Common.{◌≡◌, ℕ, zero, suc, ◌≤◌, Bool, true, false, cond, List, [], ◌∷◌, ◌++◌, length, map, Option, Some, None, refl, sym, subst, ap, ◌∙◌, arith, append_assoc, append-nil}
-use Rattle.std.specs.Prelude.{◌-◌, IfSome}
-use Rattle.osdp_msg.specs.CommandTable.{CommandFits}
-use Rattle.osdp_msg.specs.ReplyTable.{ReplyFits}
-use Rattle.osdp_msg.specs.declared.command.Command.{Command}
-use Rattle.osdp_frame.specs.Items.{packets_in}
-use Rattle.osdp_frame.specs.Packet.{Packet, largest}
-use Rattle.osdp_bus.specs.Buses.{BusState}
+use Rattle.osdp_calls_instance.proofs.Common.{◌≡◌, ℕ, zero, suc, ◌≤◌, Bool, true, false, cond, List, [], ◌∷◌, ◌++◌, length, map, Option, Some, None, refl, sym, subst, ap, ◌∙◌, arith, append_assoc, append-nil, ◌-◌, IfSome, CommandFits, ReplyFits, Command, packets_in, Packet, largest, BusState, items_of, each_all, each_of, Each, ReaderState, hears, Answer, changed, site_at, handed, HoldsAlong, SaysFit, SimStep, Busy, Issue, Queue, Reopen, ToController, ToReader, Wait, FitAlong, is_well, Given, LineState, ReaderSite, set_up, StepFits, after_step, fault_of, is_there, Call, NewDevice, NewPanel, Next, OfPanel, Step, after_call, after_calls, read_up_to, GoByTheirOwn, Held, device_after, held_by, InUse, Station, InRange, NextInRange, AtDevice, AtPanel, FitsAt, IsLineOf, IsOfDevice, after_own, all_calls, calls_at, calls_by, devices_after, Begins, DeviceStep, HandsBytes, HearsBurst, HearsRun, IsBusy, PanelStep, Queues, SimCall, Submits, Waits, all_hear, begin_calls, device_step_calls, hears_burst, line_at_first, panel_step_calls, programs_at_first, schedule_calls, sim_device, sim_panel, step_calls, AllInRange, HandsShort, RunIsInRange}
 use Rattle.osdp_bus_laws.specs.Calls as bus
-use Rattle.osdp_device.specs.Telling.{items_of}
-use Rattle.osdp_link_laws.proofs.Lines.{each_all, each_of}
-use Rattle.osdp_link_laws.proofs.Stages.{Each}
-use Rattle.osdp_reader.specs.State.{ReaderState}
-use Rattle.osdp_reader.specs.Table.{hears}
-use Rattle.osdp_reader.specs.declared.handler.Answer.{Answer}
-use Rattle.osdp_shared_line.specs.Line.{changed, site_at}
-use Rattle.osdp_sim.specs.Line.{handed}
-use Rattle.osdp_sim.specs.Schedules.{HoldsAlong}
-use Rattle.osdp_sim.specs.Steps.{SaysFit}
-use Rattle.osdp_sim.specs.declared.step.SimStep.{SimStep}
-use Rattle.osdp_sim.specs.declared.step.SimStep.TheVariants.{Busy, Issue, Queue, Reopen, ToController, ToReader, Wait}
-use Rattle.osdp_sim_bus.specs.Runs.{FitAlong, is_well}
-use Rattle.osdp_sim_bus.specs.State.{Given, LineState, ReaderSite, set_up}
-use Rattle.osdp_sim_bus.specs.Steps.{StepFits, after_step, fault_of, is_there}
-use Rattle.osdp_calls.specs.Calls.{Call, NewDevice, NewPanel, Next, OfPanel, Step, after_call, after_calls, read_up_to}
-use Rattle.osdp_calls.specs.Ends.{GoByTheirOwn, Held, device_after, held_by}
-use Rattle.osdp_calls.specs.Lines.{InUse, Station}
-use Rattle.osdp_calls.specs.Premises.{InRange, NextInRange}
 use Rattle.osdp_calls_instance.proofs.OwnCalls.{call_the_line, of_device, splits}
 use Rattle.osdp_calls_instance.proofs.SimulatedBus.{Follows, Here, begins_so, count_sites, fits_all, goes, held_readers, more_fit, site_readers, stations_are, step_follows, well_first, all_follow}
 use Rattle.osdp_calls_instance.proofs.SimulatedEnds.{sim_devices_are, sim_panels_are}
 use Rattle.osdp_calls_instance.proofs.SimulatedLists.{at_first, changed_first, longer, same_number}
 use Rattle.osdp_calls_instance.proofs.SimulatedRanges.{AnswerFits, CallFits, CallsFit, OwnFitsIn, own_fits}
 use Rattle.osdp_calls_instance.proofs.SimulatedReads.{reads_good}
-use Rattle.osdp_calls_instance.specs.OwnCalls.{AtDevice, AtPanel, FitsAt, IsLineOf, IsOfDevice, after_own, all_calls, calls_at, calls_by, devices_after}
-use Rattle.osdp_calls_instance.specs.SimulatedBus.{Begins, DeviceStep, HandsBytes, HearsBurst, HearsRun, IsBusy, PanelStep, Queues, SimCall, Submits, Waits, all_hear, begin_calls, device_step_calls, hears_burst, line_at_first, panel_step_calls, programs_at_first, schedule_calls, sim_device, sim_panel, step_calls}
-use Rattle.osdp_calls_instance.specs.SimulatedPremises.{AllInRange, HandsShort, RunIsInRange}
 
 -- a call of the panel with values in their ranges, and no `add`
 abbrev PanelFits : bus.Call → Type 0

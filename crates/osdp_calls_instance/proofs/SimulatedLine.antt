@@ -1,12 +1,5 @@
 -- What is on a simulated line has places in what was said of a line in use.
-use Rattle.std.proofs.Common.{◌≡◌, ◌≢◌, ◌⊎◌, ◌≤◌, ◌+◌, ℕ, suc, Bool, true, false, List, [], ◌∷◌, ◌++◌, length, map, Some, refl, sym, subst, ap, ◌∙◌, arith, append_assoc, le-ltb, inl, inr}
-use Rattle.std.proofs.lemmas.List.{length-append, map-append}
-use Rattle.std.specs.Prelude.{◌==◌, ◌&&◌, ◌||◌, nat_lt}
-use Rattle.osdp_frame.specs.Packet.{Packet}
-use Rattle.osdp_link_laws.proofs.Stages.{Each}
-use Rattle.osdp_shared_line.specs.Line.{Net, Site, address_of, site_at, tagged}
-use Rattle.osdp_calls.specs.Calls.{by_device}
-use Rattle.osdp_calls.specs.Lines.{Burst, InUse, Opening, Station, concerns, is_past_for_panel}
+use Rattle.osdp_calls_instance.proofs.Common.{◌≡◌, ◌≢◌, ◌⊎◌, ◌≤◌, ◌+◌, ℕ, suc, Bool, true, false, List, [], ◌∷◌, ◌++◌, length, map, Some, refl, sym, subst, ap, ◌∙◌, arith, append_assoc, le-ltb, inl, inr, length-append, map-append, ◌==◌, ◌&&◌, ◌||◌, nat_lt, Packet, Each, Net, Site, address_of, site_at, tagged, by_device, Burst, InUse, Opening, Station, concerns, is_past_for_panel}
 use Rattle.osdp_calls_instance.proofs.SimulatedHeard.{KeepEnds}
 use Rattle.osdp_calls_instance.proofs.SimulatedLists.{at_first, longer, other_number}
 use Rattle.osdp_calls_instance.proofs.SimulatedNet.{NetKeeps}

@@ -1,26 +1,11 @@
 -- What the moves of a schedule leave of what is on the line, and of the addresses of sites.
-use Rattle.std.proofs.Common.{◌≡◌, ◌≢◌, ℕ, zero, suc, Bool, true, false, cond, List, [], ◌∷◌, ◌++◌, Option, Some, None, refl, sym, ap, ◌∙◌, inl, inr}
-use Rattle.std.specs.Prelude.{◌==◌, option_to_list}
-use Rattle.osdp_frame.specs.Packet.{Packet}
-use Rattle.osdp_msg.specs.declared.command.Command.{Command}
-use Rattle.osdp_msg.specs.declared.event.Event.{Event}
-use Rattle.osdp_controller.specs.Hearing.{comset_of}
-use Rattle.osdp_controller.specs.Machine.{begin_refusal, submit_refusal}
+use Rattle.osdp_calls_instance.proofs.Common.{◌≡◌, ◌≢◌, ℕ, zero, suc, Bool, true, false, cond, List, [], ◌∷◌, ◌++◌, Option, Some, None, refl, sym, ap, ◌∙◌, inl, inr, ◌==◌, option_to_list, Packet, Command, Event, comset_of, begin_refusal, submit_refusal, ReadsWhatIsAsked, each_map, Each, Answer, lacks_room, Net, Site, address_of, change_unless, changed, first_gets, gets, is_told, keeping, left_by, link_of, site_at, tagged, Apart, changed_from, map_from, some_same, asked_in}
 use Rattle.osdp_controller.specs.Sessions as clocks
 use Rattle.osdp_controller.specs.Ticking as controller
 use Rattle.osdp_controller.specs.declared.fault.ControllerFault.{ControllerFault}
 use Rattle.osdp_link_laws.specs.Link as link
-use Rattle.osdp_link_laws.specs.Peers.{ReadsWhatIsAsked}
-use Rattle.osdp_link_laws.proofs.Lines.{each_map}
-use Rattle.osdp_link_laws.proofs.Stages.{Each}
-use Rattle.osdp_reader.specs.declared.handler.Answer.{Answer}
-use Rattle.osdp_reader.specs.Queue.{lacks_room}
 use Rattle.osdp_shared_line.specs.Line as line
-use Rattle.osdp_shared_line.specs.Line.{Net, Site, address_of, change_unless, changed, first_gets, gets, is_told, keeping, left_by, link_of, site_at, tagged}
-use Rattle.osdp_shared_line.proofs.Apart.{Apart}
 use Rattle.osdp_shared_line.proofs.Controllers.{IsSent, TicksWell, ticks_well}
-use Rattle.osdp_shared_line.proofs.Sites.{changed_from, map_from, some_same}
-use Rattle.osdp_shared_line.specs.Addresses.{asked_in}
 use Rattle.osdp_calls_instance.proofs.SimulatedLists.{same_number}
 
 module _ {H : Type 0} where

@@ -1,41 +1,13 @@
 -- The calls of a run keep order and quiet openings, and with that all premises, where addresses are given as they may be.
 use Rattle.std.proofs.Common.{◌≡◌, ◌-◌, ℕ, suc, Bool, true, false, cond, List, [], ◌∷◌, ◌++◌, length, map, None, Some, refl, sym, subst, ap, ◌∙◌, arith, append_assoc, append-nil, is_some, zero}
-use Rattle.std.specs.Prelude.{◌==◌}
-use Rattle.std.proofs.lemmas.List.{map-append}
-use Rattle.osdp_msg.specs.declared.command.Command.{Command}
-use Rattle.osdp_bus_links.specs.Links.{IsBusOf, tick_moves}
+use Rattle.osdp_calls_instance.proofs.Common.{◌==◌, map-append, Command, IsBusOf, tick_moves, ReadsWhatIsAsked, each_of, Answer, Net, NetMove, Site, net_run, site_at, Apart, Note, handed, HoldsAlong, SaysFit, moment_after, SimStep, Busy, Issue, Queue, Reopen, ToController, ToReader, Wait, FitAlong, is_well, run, Given, LineState, ReaderSite, set_up, StepFits, after_step, fault_of, is_ended, is_quiet, is_there, BeginsAsSites, FollowsSites, OneBus, SchedulesAreMoves, moment_of, moves_for, moves_of, packets_in, Step, after_call, after_calls, GoByTheirOwn, HandsOver, InUse, AllKeep, AllKeepRule, CallsRuleSuffices, first_notes, notes_after, BusState, IsOurs, found_there, same_count, AtDevice, AtPanel, IsLineOf, all_calls, Begins, HandsBytes, HearsRun, IsBusy, Queues, SimCall, Submits, begin_calls, line_at_first, programs_at_first, schedule_calls, sim_device, sim_panel, step_calls, AllOrdered, AllRuled, RunKeepsOrder, AllAtAddresses, AllInRange, HandsShort}
 use Rattle.osdp_bus_links.specs.Premises.{NothingIsKept}
-use Rattle.osdp_link_laws.specs.Peers.{ReadsWhatIsAsked}
-use Rattle.osdp_link_laws.proofs.Lines.{each_of}
-use Rattle.osdp_reader.specs.declared.handler.Answer.{Answer}
 use Rattle.osdp_shared_line.specs.Addresses.{IsSetUp}
 use Rattle.osdp_shared_line.specs.Line as line
-use Rattle.osdp_shared_line.specs.Line.{Net, NetMove, Site, run as net_run, site_at}
-use Rattle.osdp_shared_line.proofs.Apart.{Apart}
 use Rattle.osdp_shared_line.proofs.Running.{apart_all, apart_first}
-use Rattle.osdp_shared_line.specs.Programs.{Note}
 use Rattle.osdp_sim.proofs.Schedules.{holds_on, runs_on, well_on}
-use Rattle.osdp_sim.specs.Line.{handed}
-use Rattle.osdp_sim.specs.Schedules.{HoldsAlong}
-use Rattle.osdp_sim.specs.Steps.{SaysFit, moment_after}
-use Rattle.osdp_sim.specs.declared.step.SimStep.{SimStep}
-use Rattle.osdp_sim.specs.declared.step.SimStep.TheVariants.{Busy, Issue, Queue, Reopen, ToController, ToReader, Wait}
-use Rattle.osdp_sim_bus.specs.Runs.{FitAlong, is_well, run}
-use Rattle.osdp_sim_bus.specs.State.{Given, LineState, ReaderSite, set_up}
-use Rattle.osdp_sim_bus.specs.Steps.{StepFits, after_step, fault_of, is_ended, is_quiet, is_there}
-use Rattle.osdp_sim_bus_laws.specs.Moves.{BeginsAsSites, FollowsSites, OneBus, SchedulesAreMoves, moment_of, moves_for, moves_of}
 use Rattle.osdp_sim_bus_laws.proofs.Scheduling.{moves_more}
-use Rattle.osdp_frame.specs.Items.{packets_in}
 use Rattle.osdp_sim_bus_laws.proofs.Stepping.{all_true, none_on, quiet_where}
-use Rattle.osdp_calls.specs.Calls.{Step, after_call, after_calls}
-use Rattle.osdp_calls.specs.Ends.{GoByTheirOwn}
-use Rattle.osdp_calls.specs.Handing.{HandsOver}
-use Rattle.osdp_calls.specs.Lines.{InUse}
-use Rattle.osdp_calls.specs.Premises.{AllKeep}
-use Rattle.osdp_calls.specs.Programs.{AllKeepRule, CallsRuleSuffices, first_notes, notes_after}
-use Rattle.osdp_bus.specs.Buses.{BusState}
-use Rattle.osdp_calls.proofs.Matching.{IsOurs, is_there as found_there}
-use Rattle.osdp_sim_bus_laws.proofs.Sites.{same_count}
 use Rattle.osdp_calls_instance.proofs.OwnCalls.{call_the_line, more_steps}
 use Rattle.osdp_calls_instance.proofs.SimSetUp.{runs_from_a_set_up}
 use Rattle.osdp_calls_instance.proofs.SimulatedAddresses.{run_keeps_addresses}
@@ -48,10 +20,6 @@ use Rattle.osdp_calls_instance.proofs.SimulatedNet.{busy_keeps, queue_keeps, reo
 use Rattle.osdp_calls_instance.proofs.SimulatedReaders.{calls_more, ordered_more}
 use Rattle.osdp_calls_instance.proofs.SimulatedHearing.{Standing, panel_taken, readers_taken}
 use Rattle.osdp_calls_instance.proofs.SimulatedStepping.{Taken, begin_taken, device_taken, issue_taken, nothing_taken, tick_taken}
-use Rattle.osdp_calls_instance.specs.OwnCalls.{AtDevice, AtPanel, IsLineOf, all_calls}
-use Rattle.osdp_calls_instance.specs.SimulatedBus.{Begins, HandsBytes, HearsRun, IsBusy, Queues, SimCall, Submits, begin_calls, line_at_first, programs_at_first, schedule_calls, sim_device, sim_panel, step_calls}
-use Rattle.osdp_calls_instance.specs.SimulatedOrder.{AllOrdered, AllRuled, RunKeepsOrder}
-use Rattle.osdp_calls_instance.specs.SimulatedPremises.{AllAtAddresses, AllInRange, HandsShort}
 use Rattle.osdp_shared_line.proofs.Rounds.{net_more}
 
 ours_as : {A B : Type 0} (k : ℕ) (xs : List A) (ys : List B) → length xs ≡ length ys → IsOurs k xs → IsOurs k ys

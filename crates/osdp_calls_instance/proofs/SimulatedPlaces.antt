@@ -1,29 +1,12 @@
 -- Calls of a device that reads one burst, and calls of the panel: where each packet that they read is a copy of the burst at a place, they keep
 -- order and quiet openings with that place.
-use Rattle.std.proofs.Common.{◌≡◌, ◌≢◌, ◌⊎◌, ◌≤◌, ℕ, zero, suc, Bool, true, false, List, [], ◌∷◌, ◌++◌, map, Option, Some, None, refl, sym, subst, ap, ◌∙◌, arith, append_assoc, append-nil, inl, inr}
-use Rattle.std.specs.Prelude.{◌==◌, ◌&&◌, ◌||◌}
-use Rattle.osdp_msg.specs.declared.command.Command.{Command}
-use Rattle.osdp_msg.specs.declared.event.Event.{Event}
-use Rattle.osdp_frame.specs.Packet.{Packet}
+use Rattle.osdp_calls_instance.proofs.Common.{◌≡◌, ◌≢◌, ◌⊎◌, ◌≤◌, ℕ, zero, suc, Bool, true, false, List, [], ◌∷◌, ◌++◌, map, Option, Some, None, refl, sym, subst, ap, ◌∙◌, arith, append_assoc, append-nil, inl, inr, ◌==◌, ◌&&◌, ◌||◌, Command, Event, Packet, items_of, each_all, Each, ReaderState, Answer, lacks_room, site_at, at_changed, at_other, some_same, GoByTheirOwn, Held, device_after, held_by, Burst, InUse, Opening, Station, is_before, is_past_for_device, is_past_for_panel, AreInOrder, AreNotPast, InOrder, IsOfOthers, NextInOrder, QuietOpening, IsOfDevice, AllOrdered, IsOrdered}
 use Rattle.osdp_bus_laws.specs.Calls as bus
-use Rattle.osdp_device.specs.Telling.{items_of}
-use Rattle.osdp_link_laws.proofs.Lines.{each_all}
-use Rattle.osdp_link_laws.proofs.Stages.{Each}
-use Rattle.osdp_reader.specs.State.{ReaderState}
-use Rattle.osdp_reader.specs.declared.handler.Answer.{Answer}
-use Rattle.osdp_reader.specs.Queue.{lacks_room}
-use Rattle.osdp_shared_line.specs.Line.{site_at}
-use Rattle.osdp_shared_line.proofs.Sites.{at_changed, at_other, some_same}
 use Rattle.osdp_calls.specs.Calls.{Call, Next, OfPanel, Pending, SetBusy, SetHandler, Silence, Step, SubmitEvent, Take, TickDevice, after_call, after_calls, after_next, by_device, changes_at, first_answered, last_of, nexts, on_station, queues, read_by, read_up_to, WithdrawEvent}
-use Rattle.osdp_calls.specs.Ends.{GoByTheirOwn, Held, device_after, held_by}
-use Rattle.osdp_calls.specs.Lines.{Burst, InUse, Opening, Station, is_before, is_past_for_device, is_past_for_panel}
-use Rattle.osdp_calls.specs.Premises.{AreInOrder, AreNotPast, InOrder, IsOfOthers, NextInOrder, QuietOpening}
 use Rattle.osdp_calls_instance.proofs.OwnCalls.{of_device}
 use Rattle.osdp_calls_instance.proofs.SimulatedLists.{place_then, same_number}
 use Rattle.osdp_calls_instance.proofs.SimulatedReads.{CallGood, CallsGood, reads_good}
 use Rattle.osdp_calls_instance.proofs.SimulatedReplies.{replies_by, replies_each}
-use Rattle.osdp_calls_instance.specs.OwnCalls.{IsOfDevice}
-use Rattle.osdp_calls_instance.specs.SimulatedOrder.{AllOrdered, IsOrdered}
 use Rattle.osdp_calls.proofs.Ruling.{answers_begun, queues_begun}
 
 -- ---- places

@@ -1,20 +1,6 @@
 -- What a device reads of a burst has answers in their ranges.
-use Rattle.std.proofs.Common.{◌≤◌, ◌≡◌, ℕ, List, [], ◌∷◌, length}
-use Rattle.std.specs.Prelude.{IfSome}
-use Rattle.osdp_msg.specs.ReplyTable.{ReplyFits}
-use Rattle.osdp_msg.specs.declared.command.Command.{Command}
-use Rattle.osdp_frame.specs.Held.{new_run}
-use Rattle.osdp_frame.specs.Items.{packets_in}
-use Rattle.osdp_frame.specs.Packet.{Packet, largest}
-use Rattle.osdp_frame.specs.Receiving.{IsReceived}
-use Rattle.osdp_reader.specs.State.{ReaderState}
-use Rattle.osdp_reader.specs.Table.{hears}
-use Rattle.osdp_reader.specs.declared.handler.Answer.{Answer}
-use Rattle.osdp_sim.specs.Steps.{SaysFit}
-use Rattle.osdp_calls.specs.Calls.{Call}
-use Rattle.osdp_calls.specs.Ends.{Held}
+use Rattle.osdp_calls_instance.proofs.Common.{◌≤◌, ◌≡◌, ℕ, List, [], ◌∷◌, length, IfSome, ReplyFits, Command, new_run, packets_in, Packet, largest, IsReceived, ReaderState, hears, Answer, SaysFit, Call, Held, BurstFits, DeviceStep, HearsBurst, IsBusy, Queues, device_step_calls}
 use Rattle.osdp_calls_instance.proofs.SimulatedReads.{AllGood, CallGood, CallsGood, burst_good}
-use Rattle.osdp_calls_instance.specs.SimulatedBus.{BurstFits, DeviceStep, HearsBurst, IsBusy, Queues, device_step_calls}
 
 module _ {H : Type 0} (answer_of : H → Command → Answer) (after : H → Command → H) where
   abbrev pub AnswerFits : ReaderState H → Packet → Type 0

@@ -1,25 +1,5 @@
 -- A burst comes to all readers: the calls by which each device reads it, one after the other, and what they say to it.
-use Rattle.std.proofs.Common.{◌≡◌, ◌⊎◌, ◌≤◌, ℕ, zero, suc, true, false, List, [], ◌∷◌, ◌++◌, length, map, Some, refl, sym, subst, ap, ◌∙◌, arith, append_assoc, append-nil, inl, inr}
-use Rattle.std.proofs.lemmas.Bool.Decides.{eqb_tells}
-use Rattle.std.proofs.lemmas.List.{map-append}
-use Rattle.osdp_frame.specs.Bytes.{AreBytes}
-use Rattle.osdp_frame.specs.Held.{new_run}
-use Rattle.osdp_frame.specs.Items.{packets_in, whole_packets}
-use Rattle.osdp_frame.specs.Packet.{Packet, largest}
-use Rattle.osdp_frame_laws.proofs.LeftOver.{items_nothing}
-use Rattle.osdp_msg.specs.declared.command.Command.{Command}
-use Rattle.osdp_bus.specs.Buses.{BusState}
-use Rattle.osdp_frame.specs.Receiving.{IsReceived}
-use Rattle.osdp_link_laws.proofs.Lines.{each_of}
-use Rattle.osdp_link_laws.proofs.Stages.{Each}
-use Rattle.osdp_reader.specs.State.{ReaderState}
-use Rattle.osdp_reader.specs.Table.{hears}
-use Rattle.osdp_reader.specs.declared.handler.Answer.{Answer}
-use Rattle.osdp_shared_line.specs.Line.{changed, site_at, tagged}
-use Rattle.osdp_shared_line.proofs.Sites.{some_same}
-use Rattle.osdp_calls.specs.Calls.{Step, after_call, after_calls}
-use Rattle.osdp_calls.specs.Ends.{GoByTheirOwn, Held, held_by}
-use Rattle.osdp_calls.specs.Lines.{InUse, Station}
+use Rattle.osdp_calls_instance.proofs.Common.{◌≡◌, ◌⊎◌, ◌≤◌, ℕ, zero, suc, true, false, List, [], ◌∷◌, ◌++◌, length, map, Some, refl, sym, subst, ap, ◌∙◌, arith, append_assoc, append-nil, inl, inr, eqb_tells, map-append, AreBytes, new_run, packets_in, whole_packets, Packet, largest, items_nothing, Command, BusState, IsReceived, each_of, Each, ReaderState, hears, Answer, changed, site_at, tagged, some_same, Step, after_call, after_calls, GoByTheirOwn, Held, held_by, InUse, Station, AtDevice, FitsAt, IsLineOf, IsOfDevice, all_calls, calls_at, calls_by, devices_after, DeviceStep, HearsBurst, SimCall, all_hear, device_step_calls, hears_burst, sim_device, sim_panel, AllOrdered}
 use Rattle.osdp_calls_instance.proofs.OwnCalls.{call_the_line, more_steps}
 use Rattle.osdp_calls_instance.proofs.SimulatedBus.{Here, goes, held_readers}
 use Rattle.osdp_calls_instance.proofs.SimulatedEnds.{sim_devices_are, sim_panels_are}
@@ -28,9 +8,6 @@ use Rattle.osdp_calls_instance.proofs.SimulatedLists.{at_first, changed_first, l
 use Rattle.osdp_calls_instance.proofs.SimulatedPlaces.{IsOneOf, Since, Source, device_chunk, placed_all, placed_are, since_next, source_next}
 use Rattle.osdp_calls_instance.proofs.SimulatedReads.{AllGood, CallsGood, burst_good}
 use Rattle.osdp_calls_instance.proofs.SimulatedReplies.{burst_replied, packets_replied, replies_each}
-use Rattle.osdp_calls_instance.specs.OwnCalls.{AtDevice, FitsAt, IsLineOf, IsOfDevice, all_calls, calls_at, calls_by, devices_after}
-use Rattle.osdp_calls_instance.specs.SimulatedBus.{DeviceStep, HearsBurst, SimCall, all_hear, device_step_calls, hears_burst, sim_device, sim_panel}
-use Rattle.osdp_calls_instance.specs.SimulatedOrder.{AllOrdered}
 
 module _ {H : Type 0} (answer_of : H → Command → Answer) (after : H → Command → H) where
   -- what these readers say to packets, the first of them at this place

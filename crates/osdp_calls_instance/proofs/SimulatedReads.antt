@@ -1,34 +1,12 @@
 -- What a device reads of a burst is good, where each packet of the burst is, in whichever sense.
 use Rattle.std.proofs.Common.{◌≡◌, ℕ, zero, suc, ◌-◌, ◌≤◌, Bool, true, false, cond, List, [], ◌∷◌, ◌++◌, drop, length, min, Option, Some, None, refl, sym, subst, ap, ◌∙◌, arith}
-use Rattle.std.proofs.lemmas.List.{drop_all, take_all}
-use Rattle.std.specs.Prelude.{not, ◌==◌}
-use Rattle.osdp_msg.specs.declared.command.Command.{Command}
-use Rattle.osdp_frame.specs.Bytes.{AreBytes}
+use Rattle.osdp_calls_instance.proofs.Common.{drop_all, take_all, not, ◌==◌, Command, AreBytes, new_run, items, left_over, packets_in, whole_packets, Packet, largest, RunItem, PacketItem, SkippedItem, RefusedItem, gap_items, reading_split, splits, Heard, hears_bytes, reads_all, then_reads, turns_left, IsReceived, Received, after_take, comes_in, count_taken, seen, Said, after_item, said_of, speaks, after_items, items_of, next_told, said_to_all, told_by, told_or, Each, ReaderState, hears, kind_of, Answer, Call, NewDevice, NewPanel, Next, OfPanel, Silence, read_up_to, Held, device_after, handing, nexts, unless_done, device_after_each, burst_calls}
 use Rattle.osdp_frame.specs.Held as frame
-use Rattle.osdp_frame.specs.Held.{new_run}
-use Rattle.osdp_frame.specs.Items.{items, left_over, packets_in, whole_packets}
-use Rattle.osdp_frame.specs.Packet.{Packet, largest}
-use Rattle.osdp_frame.specs.Reading.{RunItem, PacketItem, SkippedItem, RefusedItem}
-use Rattle.osdp_frame_laws.proofs.LeftOver.{gap_items, reading_split}
-use Rattle.osdp_device.proofs.Turning.{splits}
-use Rattle.osdp_device.specs.Hearing.{Heard, hears_bytes, reads_all, then_reads, turns_left}
 use Rattle.osdp_frame.specs.Receiving as device
-use Rattle.osdp_frame.specs.Receiving.{IsReceived, Received, after_take, comes_in, count_taken, seen}
-use Rattle.osdp_device.specs.Saying.{Said, after_item, said_of, speaks}
-use Rattle.osdp_device.specs.Telling.{after_items, items_of, next_told, said_to_all, told_by, told_or}
-use Rattle.osdp_link_laws.proofs.Stages.{Each}
-use Rattle.osdp_reader.specs.State.{ReaderState}
-use Rattle.osdp_reader.specs.Table.{hears, kind_of}
-use Rattle.osdp_reader.specs.declared.handler.Answer.{Answer}
-use Rattle.osdp_calls.specs.Calls.{Call, NewDevice, NewPanel, Next, OfPanel, Silence, read_up_to}
-use Rattle.osdp_calls.specs.Ends.{Held, device_after}
 use Rattle.osdp_calls.proofs.Sayings.{silent_stays}
 use Rattle.osdp_calls_instance.proofs.LinePrograms.{hands, holding}
 use Rattle.osdp_calls_instance.proofs.SimulatedEnds.{all_read_of, first_read, quiet, quiet_is, silent_same}
-use Rattle.osdp_calls_instance.specs.LinePrograms.{handing, nexts, unless_done}
 use Rattle.osdp_calls_instance.specs.LinePrograms as lines
-use Rattle.osdp_calls_instance.specs.OwnCalls.{device_after_each}
-use Rattle.osdp_calls_instance.specs.SimulatedBus.{burst_calls}
 
 -- ---- bytes that come to a line of which nothing is held
 

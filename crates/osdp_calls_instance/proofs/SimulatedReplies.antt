@@ -1,34 +1,13 @@
 -- What a device says to a burst, by the calls that hand it over: what its reader answers to each packet of the burst, in their order.
-use Rattle.std.proofs.Common.{◌≡◌, ◌≤◌, ℕ, suc, Bool, true, false, cond, List, [], ◌∷◌, ◌++◌, drop, length, Option, Some, None, refl, sym, subst, ap, ◌∙◌, arith, append_assoc, append-nil}
-use Rattle.std.specs.Prelude.{option_to_list}
-use Rattle.osdp_msg.specs.declared.command.Command.{Command}
-use Rattle.osdp_frame.specs.Bytes.{AreBytes}
+use Rattle.osdp_calls_instance.proofs.Common.{◌≡◌, ◌≤◌, ℕ, suc, Bool, true, false, cond, List, [], ◌∷◌, ◌++◌, drop, length, Option, Some, None, refl, sym, subst, ap, ◌∙◌, arith, append_assoc, append-nil, option_to_list, Command, AreBytes, new_run, items, left_over, packets_in, whole_packets, Packet, largest, RunItem, PacketItem, SkippedItem, RefusedItem, gap_items, reading_split, splits, tells_in_turn, Heard, hears_bytes, reads_all, then_reads, turns_left, IsReceived, Received, after_take, count_taken, said_to, speaks, unless_silent, ReaderState, hears, kind_of, outcome, Answer, Kind, Call, Next, Silence, first_answered, read_up_to, reply_to, Held, device_after, handing, nexts, unless_done, device_after_each, burst_calls}
 use Rattle.osdp_frame.specs.Held as frame
-use Rattle.osdp_frame.specs.Held.{new_run}
-use Rattle.osdp_frame.specs.Items.{items, left_over, packets_in, whole_packets}
-use Rattle.osdp_frame.specs.Packet.{Packet, largest}
-use Rattle.osdp_frame.specs.Reading.{RunItem, PacketItem, SkippedItem, RefusedItem}
-use Rattle.osdp_frame_laws.proofs.LeftOver.{gap_items, reading_split}
-use Rattle.osdp_device.proofs.Turning.{splits, tells_in_turn}
-use Rattle.osdp_device.specs.Hearing.{Heard, hears_bytes, reads_all, then_reads, turns_left}
 use Rattle.osdp_frame.specs.Receiving as device
-use Rattle.osdp_frame.specs.Receiving.{IsReceived, Received, after_take, count_taken}
-use Rattle.osdp_device.specs.Saying.{said_to, speaks, unless_silent}
 use Rattle.osdp_device.specs.Telling.{Told, after_items, items_of, next_told, said_to_all, told_by, told_or}
-use Rattle.osdp_reader.specs.State.{ReaderState}
-use Rattle.osdp_reader.specs.Table.{hears, kind_of, outcome}
-use Rattle.osdp_reader.specs.declared.handler.Answer.{Answer}
-use Rattle.osdp_reader.specs.declared.kind.Kind.{Kind}
 use Rattle.osdp_reader.specs.declared.kind.Kind.TheVariants as kind
-use Rattle.osdp_calls.specs.Calls.{Call, Next, Silence, first_answered, read_up_to, reply_to}
-use Rattle.osdp_calls.specs.Ends.{Held, device_after}
 use Rattle.osdp_calls_instance.proofs.LinePrograms.{by_nexts, hands, holding, line_told}
 use Rattle.osdp_calls_instance.proofs.SimulatedEnds.{all_read_of, first_read, quiet, quiet_is}
 use Rattle.osdp_calls_instance.proofs.SimulatedReads.{all_taken, taken_is}
-use Rattle.osdp_calls_instance.specs.LinePrograms.{handing, nexts, unless_done}
 use Rattle.osdp_calls_instance.specs.LinePrograms as lines
-use Rattle.osdp_calls_instance.specs.OwnCalls.{device_after_each}
-use Rattle.osdp_calls_instance.specs.SimulatedBus.{burst_calls}
 
 module _ {H : Type 0} (answer_of : H → Command → Answer) (after : H → Command → H) where
   -- what a reader answers to packets, one after the other

@@ -1,33 +1,11 @@
 -- What a run tells of each reader is what its calls tell of the reader's entry.
-use Rattle.std.proofs.Common.{◌≡◌, ℕ, Bool, true, false, cond, List, [], ◌∷◌, ◌++◌, Option, Some, None, refl, sym, subst, ap, ◌∙◌, append_assoc, append-nil}
-use Rattle.std.specs.Prelude.{◌==◌, option_to_list}
-use Rattle.osdp_msg.specs.declared.command.Command.{Command}
-use Rattle.osdp_msg.specs.declared.command.Command.TheVariants.{Poll}
-use Rattle.osdp_msg.specs.declared.event.Event.{Event}
+use Rattle.osdp_calls_instance.proofs.Common.{◌≡◌, ℕ, Bool, true, false, cond, List, [], ◌∷◌, ◌++◌, Option, Some, None, refl, sym, subst, ap, ◌∙◌, append_assoc, append-nil, ◌==◌, option_to_list, Command, Poll, Event, Packet, Report, BusState, told_along, told_in, front_of, taken, taken_command, in_all, Each, hears, kind_of, Answer, Kind, lacks_room, site_at, KeepsPanel, one_panel_call, panel_calls, InUse, Station, items_of, Stays, panel_so, station_so, those, Told, told_to, told_more}
 use Rattle.osdp_msg.specs.declared.reply.Reply.{Reply}
 use Rattle.osdp_msg.specs.declared.reply.Reply.TheVariants as reply
-use Rattle.osdp_frame.specs.Packet.{Packet}
-use Rattle.osdp_controller.specs.declared.report.Report.{Report}
 use Rattle.osdp_controller.specs.declared.report.Report.TheVariants as report
-use Rattle.osdp_bus.specs.Buses.{BusState}
 use Rattle.osdp_bus_laws.specs.Calls as bus
-use Rattle.osdp_bus_laws.specs.Reports.{told_along, told_in}
-use Rattle.osdp_link_laws.specs.Link.{front_of, taken, taken_command}
-use Rattle.osdp_link_laws.specs.Sessions.{in_all}
-use Rattle.osdp_link_laws.proofs.Stages.{Each}
-use Rattle.osdp_reader.specs.Table.{hears, kind_of}
-use Rattle.osdp_reader.specs.declared.handler.Answer.{Answer}
-use Rattle.osdp_reader.specs.declared.kind.Kind.{Kind}
 use Rattle.osdp_reader.specs.declared.kind.Kind.TheVariants as kind
-use Rattle.osdp_reader.specs.Queue.{lacks_room}
-use Rattle.osdp_shared_line.specs.Line.{site_at}
 use Rattle.osdp_calls.specs.Calls.{Call, NewDevice, NewPanel, Next, OfPanel, Pending, SetBusy, SetHandler, Silence, Step, SubmitEvent, Take, TickDevice, after_call, after_calls, after_next, after_panel, answers, begins_session, change_at, changes_at, first_answered, hears_of, nexts, queues, read_up_to, WithdrawEvent}
-use Rattle.osdp_calls.specs.Ends.{KeepsPanel, one_panel_call, panel_calls}
-use Rattle.osdp_calls.specs.Lines.{InUse, Station}
-use Rattle.osdp_device.specs.Telling.{items_of}
-use Rattle.osdp_calls.proofs.Places.{Stays, panel_so, station_so, those}
-use Rattle.osdp_calls_instance.specs.SimulatedReports.{Told, told_to}
-use Rattle.osdp_calls.proofs.Takings.{told_more}
 
 -- ---- what reports add
 

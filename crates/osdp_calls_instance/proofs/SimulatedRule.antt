@@ -1,18 +1,9 @@
 -- The calls of a run keep to the rule that stands for the premise on addresses: where no COMSET is ordered, and where a test of each call says so.
 use Rattle.std.proofs.Common.{◌≡◌, ◌&&◌, ℕ, Bool, true, List, [], ◌∷◌, map, refl, sym, subst, ap, ◌∙◌}
-use Rattle.std.proofs.lemmas.Bool.{and_parts}
-use Rattle.osdp_msg.specs.declared.command.Command.{Command}
+use Rattle.osdp_calls_instance.proofs.Common.{and_parts, Command, Each, Answer, Note, Call, NewDevice, NewPanel, OfPanel, Step, after_call, InUse, KeepsRule, first_notes, notes_after, line_at_first, AllRuled, RunKeepsRule}
 use Rattle.osdp_bus_laws.specs.Calls as bus
-use Rattle.osdp_link_laws.proofs.Stages.{Each}
-use Rattle.osdp_reader.specs.declared.handler.Answer.{Answer}
-use Rattle.osdp_shared_line.specs.Programs.{Note}
-use Rattle.osdp_calls.specs.Calls.{Call, NewDevice, NewPanel, OfPanel, Step, after_call}
-use Rattle.osdp_calls.specs.Lines.{InUse}
-use Rattle.osdp_calls.specs.Programs.{KeepsRule, first_notes, notes_after}
 use Rattle.osdp_premises.specs.Ruling.{keeps_rule}
 use Rattle.osdp_premises.proofs.Ruling.{rule_exact}
-use Rattle.osdp_calls_instance.specs.SimulatedBus.{line_at_first}
-use Rattle.osdp_calls_instance.specs.SimulatedOrder.{AllRuled, RunKeepsRule}
 use Rattle.osdp_calls_instance.proofs.SimulatedAddresses.{GivesNone, run_gives_none}
 
 -- the first of these places, and the rest

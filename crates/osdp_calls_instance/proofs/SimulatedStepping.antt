@@ -1,32 +1,11 @@
 -- What each step of a schedule does to what is on the line: its calls keep order and quiet openings.
-use Rattle.std.proofs.Common.{◌≡◌, ◌≢◌, ◌⊎◌, ◌≤◌, ◌+◌, ℕ, max, Bool, true, false, List, [], ◌∷◌, ◌++◌, length, map, Option, Some, None, refl, sym, subst, ap, ◌∙◌, arith, append-nil, inl, inr, is_some}
-use Rattle.std.specs.Prelude.{slice_get}
-use Rattle.osdp_frame.specs.Bytes.{AreBytes}
-use Rattle.osdp_frame.specs.Items.{packets_in}
-use Rattle.osdp_frame.specs.Packet.{Packet}
-use Rattle.osdp_msg.specs.declared.command.Command.{Command}
+use Rattle.osdp_calls_instance.proofs.Common.{◌≡◌, ◌≢◌, ◌⊎◌, ◌≤◌, ◌+◌, ℕ, max, Bool, true, false, List, [], ◌∷◌, ◌++◌, length, map, Option, Some, None, refl, sym, subst, ap, ◌∙◌, arith, append-nil, inl, inr, is_some, slice_get, AreBytes, packets_in, Packet, Command, begin_refusal_at, changed_unless, BusFault, bus_ticks, ticks_at, ticks_with, told_in, IsBusOf, one_ticks, tick_moves, who_ticks, ReadsWhatIsAsked, each_append, Each, Answer, Apart, changed_from, OfPanel, Step, after_calls, after_panel, asked_at, begins_session, begins_with, begun_of, change_at, changes_at, is_to_begin, last_of, noted, panel_says, panel_reads, waiting_of, said_for, GoByTheirOwn, Held, HandsOver, hears_all, Burst, InUse, Opening, Station, is_past_for_panel, IsOurs, AtDevice, AtPanel, IsLineOf, all_calls, calls_at, Begins, DeviceStep, HearsBurst, HearsRun, IsBusy, PanelStep, Queues, SimCall, Submits, Waits, device_step_calls, panel_step_calls, sim_device, sim_panel, AllOrdered}
 use Rattle.osdp_bus.specs.Buses.{BusState, seen}
 use Rattle.osdp_bus.specs.Buses as buses
-use Rattle.osdp_bus.specs.Machine.{begin_refusal_at, changed_unless}
-use Rattle.osdp_bus.specs.declared.fault.BusFault.{BusFault}
-use Rattle.osdp_bus.specs.Ticking.{bus_ticks, ticks_at, ticks_with}
 use Rattle.osdp_bus_laws.specs.Calls as bus
-use Rattle.osdp_bus_laws.specs.Reports.{told_in}
-use Rattle.osdp_bus_links.specs.Links.{IsBusOf, one_ticks, tick_moves, who_ticks}
 use Rattle.osdp_bus_links.proofs.Devices.{get_device, get_none}
-use Rattle.osdp_link_laws.specs.Peers.{ReadsWhatIsAsked}
-use Rattle.osdp_link_laws.proofs.Lines.{each_append}
-use Rattle.osdp_link_laws.proofs.Stages.{Each}
-use Rattle.osdp_reader.specs.declared.handler.Answer.{Answer}
 use Rattle.osdp_shared_line.specs.Line as line
 use Rattle.osdp_shared_line.specs.Line.{Net, NetMove, Site, address_of, after_net, changed, first_gets, run, site_at, tagged}
-use Rattle.osdp_shared_line.proofs.Apart.{Apart}
-use Rattle.osdp_shared_line.proofs.Sites.{changed_from}
-use Rattle.osdp_calls.specs.Calls.{OfPanel, Step, after_calls, after_panel, asked_at, begins_session, begins_with, begun_of, change_at, changes_at, is_to_begin, last_of, noted, panel_says, read_by as panel_reads, waiting_of, said_for}
-use Rattle.osdp_calls.specs.Ends.{GoByTheirOwn, Held}
-use Rattle.osdp_calls.specs.Handing.{HandsOver, hears_all}
-use Rattle.osdp_calls.specs.Lines.{Burst, InUse, Opening, Station, is_past_for_panel}
-use Rattle.osdp_calls.proofs.Matching.{IsOurs}
 use Rattle.osdp_calls.proofs.Lasting.{noted_keeps}
 use Rattle.osdp_calls_instance.proofs.SimulatedBus.{Here}
 use Rattle.osdp_calls_instance.proofs.SimulatedHeard.{HeardBy, PanelChunk, all_hear_keeps, asked_is, keep_same, quiet_chunk, run_chunk, tick_reads}
@@ -37,9 +16,6 @@ use Rattle.osdp_calls_instance.proofs.SimulatedPlaces.{IsOneOf, Since, Source, a
 use Rattle.osdp_calls_instance.proofs.SimulatedReaders.{AreRead, one_own}
 use Rattle.osdp_calls_instance.proofs.SimulatedReads.{CallsGood}
 use Rattle.osdp_calls_instance.proofs.SimulatedReplies.{replies_each}
-use Rattle.osdp_calls_instance.specs.OwnCalls.{AtDevice, AtPanel, IsLineOf, all_calls, calls_at}
-use Rattle.osdp_calls_instance.specs.SimulatedBus.{Begins, DeviceStep, HearsBurst, HearsRun, IsBusy, PanelStep, Queues, SimCall, Submits, Waits, device_step_calls, panel_step_calls, sim_device, sim_panel}
-use Rattle.osdp_calls_instance.specs.SimulatedOrder.{AllOrdered}
 
 -- ---- what has been placed comes first
 

@@ -1,16 +1,5 @@
 -- What is asked of a step, exactly.
-use Rattle.std.proofs.Common.{◌≡◌, ◌≢◌, ◌↔◌, ◌≤◌, ℕ, length, refl, subst}
-use Rattle.osdp_frame.specs.Bytes.{AreBytes}
-use Rattle.osdp_frame.specs.Packet.{largest}
-use Rattle.osdp_msg.specs.declared.command.Command.TheVariants.{Comset}
-use Rattle.osdp_msg.specs.declared.command_fields.Communication.{Communication}
-use Rattle.osdp_sim.specs.Line.{handed}
-use Rattle.osdp_sim.specs.declared.step.Move.{Move}
-use Rattle.osdp_sim.specs.declared.step.SimStep.{SimStep}
-use Rattle.osdp_sim.specs.declared.step.SimStep.TheVariants.{Issue, ToReader}
-use Rattle.osdp_sim_bus.specs.State.{LineState}
-use Rattle.osdp_calls_instance.specs.SimulatedBus.{HandsBytes}
-use Rattle.osdp_calls_instance.specs.SimulatedPremises.{HandsShort, OrdersNoComset, StepsAreExact}
+use Rattle.osdp_calls_instance.proofs.Common.{◌≡◌, ◌≢◌, ◌↔◌, ◌≤◌, ℕ, length, refl, subst, AreBytes, largest, Comset, Communication, handed, Move, SimStep, Issue, ToReader, LineState, HandsBytes, HandsShort, OrdersNoComset, StepsAreExact}
 
 -- a step that hands nothing to the readers is no such step
 abbrev OnBurst : (Move → Type 0) → SimStep → Type 0

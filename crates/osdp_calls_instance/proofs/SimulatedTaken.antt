@@ -1,38 +1,8 @@
 -- The commands that the account of each reader of a run has as taken are those that its device takes.
-use Rattle.std.proofs.Common.{◌≡◌, ◌≢◌, ◌⊎◌, ℕ, zero, suc, ◌+◌, ◌<◌, ◌≤◌, Bool, true, false, cond, List, [], ◌∷◌, ◌++◌, length, map, Option, Some, None, refl, sym, subst, ap, ◌∙◌, arith, append_assoc, append-nil, inl, inr}
-use Rattle.std.proofs.lemmas.Bool.Decides.{eqb_tells}
-use Rattle.std.specs.Prelude.{◌==◌, ◌-◌, slice_get}
-use Rattle.osdp_msg.specs.declared.command.Command.{Command}
-use Rattle.osdp_msg.specs.declared.event.Event.{Event}
-use Rattle.osdp_frame.specs.Items.{packets_in, whole_packets}
-use Rattle.osdp_frame.specs.Packet.{Packet}
-use Rattle.osdp_frame_laws.proofs.LeftOver.{items_nothing}
-use Rattle.osdp_controller.specs.declared.report.Report.{Report}
+use Rattle.osdp_calls_instance.proofs.Common.{◌≡◌, ◌≢◌, ◌⊎◌, ℕ, zero, suc, ◌+◌, ◌<◌, ◌≤◌, Bool, true, false, cond, List, [], ◌∷◌, ◌++◌, length, map, Option, Some, None, refl, sym, subst, ap, ◌∙◌, arith, append_assoc, append-nil, inl, inr, eqb_tells, ◌==◌, ◌-◌, slice_get, Command, Event, packets_in, whole_packets, Packet, items_nothing, Report, after_next_report, submit_refusal_at, BusFault, each_of, Each, hears, kind_of, Answer, lacks_room, changed, site_at, at_changed, at_other, some_same, handed, left, HoldsAlong, moment_after, SimStep, Busy, Issue, Queue, Reopen, ToController, ToReader, Wait, HasAnAccountEach, is_well, run, Given, LineState, ReaderSite, new_site, set_up, after_step, all_hear_each, changed_site, changes_site, fault_of, hears_run, is_there, issued, reopened, report_told, site_begins, site_hears, site_is_busy, site_is_told, site_issues, site_queues, site_queues_unless, waited, Call, OfPanel, Held, is_of_device, InUse, SaysWhatGoesOut, AtDevice, AtPanel, IsOfDevice, all_calls, calls_at, devices_after, Begins, BurstFits, DeviceStep, HandsBytes, HearsBurst, IsBusy, PanelStep, Queues, SimCall, Submits, after_device_step, all_hear, begin_calls, device_step_calls, line_at_first, new_held, new_station, panel_step_calls, programs_at_first, schedule_calls, sim_device, sim_panel, step_calls, RunTakesTheSame}
 use Rattle.osdp_controller.specs.declared.report.Report.TheVariants as report
-use Rattle.osdp_bus.specs.Machine.{after_next_report, submit_refusal_at}
-use Rattle.osdp_bus.specs.declared.fault.BusFault.{BusFault}
 use Rattle.osdp_bus_laws.specs.Calls as bus
-use Rattle.osdp_link_laws.proofs.Lines.{each_of}
-use Rattle.osdp_link_laws.proofs.Stages.{Each}
-use Rattle.osdp_reader.specs.Table.{hears, kind_of}
-use Rattle.osdp_reader.specs.declared.handler.Answer.{Answer}
-use Rattle.osdp_reader.specs.Queue.{lacks_room}
-use Rattle.osdp_shared_line.specs.Line.{changed, site_at}
-use Rattle.osdp_shared_line.proofs.Sites.{at_changed, at_other, some_same}
 use Rattle.osdp_sim.specs.Account as sim
-use Rattle.osdp_sim.specs.Line.{handed, left}
-use Rattle.osdp_sim.specs.Schedules.{HoldsAlong}
-use Rattle.osdp_sim.specs.Steps.{moment_after}
-use Rattle.osdp_sim.specs.declared.step.SimStep.{SimStep}
-use Rattle.osdp_sim.specs.declared.step.SimStep.TheVariants.{Busy, Issue, Queue, Reopen, ToController, ToReader, Wait}
-use Rattle.osdp_sim_bus.specs.Laws.{HasAnAccountEach}
-use Rattle.osdp_sim_bus.specs.Runs.{is_well, run}
-use Rattle.osdp_sim_bus.specs.State.{Given, LineState, ReaderSite, new_site, set_up}
-use Rattle.osdp_sim_bus.specs.Steps.{after_step, all_hear_each, changed_site, changes_site, fault_of, hears_run, is_there, issued, reopened, report_told, site_begins, site_hears, site_is_busy, site_is_told, site_issues, site_queues, site_queues_unless, waited}
-use Rattle.osdp_calls.specs.Calls.{Call, OfPanel}
-use Rattle.osdp_calls.specs.Ends.{Held, is_of_device}
-use Rattle.osdp_calls.specs.Lines.{InUse}
-use Rattle.osdp_calls.specs.Sayings.{SaysWhatGoesOut}
 use Rattle.osdp_calls_instance.proofs.LinePrograms.{own_device}
 use Rattle.osdp_calls_instance.proofs.OwnCalls.{others}
 use Rattle.osdp_calls_instance.proofs.SimulatedAccounts.{account_count, all_keep_panel, first_within, keep_steps, site_so, Keeps}
@@ -40,9 +10,6 @@ use Rattle.osdp_calls_instance.proofs.SimulatedBus.{Follows, Here, all_follow, a
 use Rattle.osdp_calls_instance.proofs.SimulatedEnds.{IsSound, sim_devices_are}
 use Rattle.osdp_calls_instance.proofs.SimulatedTakes.{IsTaking, all_take, other_chunk, own_chunk, taken_after, taken_to, takes_each}
 use Rattle.osdp_calls_instance.proofs.SimulatedTaking.{burst_takes, packets_taken}
-use Rattle.osdp_calls_instance.specs.OwnCalls.{AtDevice, AtPanel, IsOfDevice, all_calls, calls_at, devices_after}
-use Rattle.osdp_calls_instance.specs.SimulatedBus.{Begins, BurstFits, DeviceStep, HandsBytes, HearsBurst, IsBusy, PanelStep, Queues, SimCall, Submits, after_device_step, all_hear, begin_calls, device_step_calls, line_at_first, new_held, new_station, panel_step_calls, programs_at_first, schedule_calls, sim_device, sim_panel, step_calls}
-use Rattle.osdp_calls_instance.specs.SimulatedReports.{RunTakesTheSame}
 
 no_device : (H : Type 0) (k : ℕ) (calls : List bus.Call) → Each (λ (call : Call H). is_of_device k call ≡ false) (map OfPanel calls)
 no_device H k [] = tt

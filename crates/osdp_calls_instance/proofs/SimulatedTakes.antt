@@ -1,28 +1,8 @@
 -- What the device of an entry takes goes by its own calls.
-use Rattle.std.proofs.Common.{◌≡◌, ℕ, Bool, true, false, cond, List, [], ◌∷◌, ◌++◌, map, Option, Some, None, refl, sym, subst, ap, ◌∙◌, append_assoc, append-nil}
-use Rattle.std.specs.Prelude.{◌==◌}
-use Rattle.osdp_msg.specs.declared.command.Command.{Command}
-use Rattle.osdp_msg.specs.declared.event.Event.{Event}
-use Rattle.osdp_frame.specs.Packet.{Packet}
-use Rattle.osdp_controller.specs.declared.report.Report.{Report}
+use Rattle.osdp_calls_instance.proofs.Common.{◌≡◌, ℕ, Bool, true, false, cond, List, [], ◌∷◌, ◌++◌, map, Option, Some, None, refl, sym, subst, ap, ◌∙◌, append_assoc, append-nil, ◌==◌, Command, Event, Packet, Report, passed, after_silence, after_take, after_tick, items_of, next_told, in_all, Each, after_set_busy, after_set_handler, Answer, lacks_room, site_at, Held, KeepsPanel, device_after, held_by, is_of_device, InUse, Station, SaysWhatGoesOut, acted_on, next_stations, queue_held, Stays, as_before, panel_so, station_so, IsOfDevice, device_after_each}
 use Rattle.osdp_controller.specs.declared.report.Report.TheVariants as report
-use Rattle.osdp_device.specs.Deciding.{passed}
-use Rattle.osdp_frame.specs.Receiving.{after_silence, after_take, after_tick}
-use Rattle.osdp_device.specs.Telling.{items_of, next_told}
 use Rattle.osdp_link_laws.specs.Link as link
-use Rattle.osdp_link_laws.specs.Sessions.{in_all}
-use Rattle.osdp_link_laws.proofs.Stages.{Each}
-use Rattle.osdp_reader.specs.State.{after_set_busy, after_set_handler}
-use Rattle.osdp_reader.specs.declared.handler.Answer.{Answer}
-use Rattle.osdp_reader.specs.Queue.{lacks_room}
-use Rattle.osdp_shared_line.specs.Line.{site_at}
 use Rattle.osdp_calls.specs.Calls.{Call, NewDevice, NewPanel, Next, OfPanel, Pending, SetBusy, SetHandler, Silence, Step, SubmitEvent, Take, TickDevice, after_call, after_calls, answers, begins_session, change_at, first_answered, hears_of, made_anew, nexts, queues, read_up_to, WithdrawEvent, withdraws_event}
-use Rattle.osdp_calls.specs.Ends.{Held, KeepsPanel, device_after, held_by, is_of_device}
-use Rattle.osdp_calls.specs.Lines.{InUse, Station}
-use Rattle.osdp_calls.specs.Sayings.{SaysWhatGoesOut, acted_on}
-use Rattle.osdp_calls.proofs.Ends.{next_stations, queue_held}
-use Rattle.osdp_calls.proofs.Places.{Stays, as_before, panel_so, station_so}
-use Rattle.osdp_calls_instance.specs.OwnCalls.{IsOfDevice, device_after_each}
 
 module _ {H : Type 0} where
   abbrev pub taken_to : Station H → List Command

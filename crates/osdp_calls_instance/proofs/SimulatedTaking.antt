@@ -1,36 +1,13 @@
 -- What the readers of a run take is what the devices take by the calls that the run is.
-use Rattle.std.proofs.Common.{◌≡◌, ℕ, zero, suc, ◌<◌, true, false, List, [], ◌∷◌, ◌++◌, drop, length, Option, Some, None, refl, sym, ap, ◌∙◌, arith, append_assoc, append-nil}
-use Rattle.std.specs.Prelude.{not, ◌==◌, option_to_list}
-use Rattle.osdp_msg.specs.declared.command.Command.{Command}
-use Rattle.osdp_msg.specs.declared.command.Command.TheVariants.{Poll}
-use Rattle.osdp_frame.specs.Bytes.{AreBytes}
-use Rattle.osdp_frame.specs.Held.{new_run}
-use Rattle.osdp_frame.specs.Items.{items, left_over, packets_in, reading, whole_packets}
-use Rattle.osdp_frame.specs.Packet.{Packet}
-use Rattle.osdp_frame.specs.Reading.{RunItem, PacketItem, SkippedItem, RefusedItem}
-use Rattle.osdp_frame_laws.proofs.LeftOver.{gap_items, reading_split}
-use Rattle.osdp_device.specs.Hearing.{Heard, hears_bytes, reads_all, then_reads, turns_left}
+use Rattle.osdp_calls_instance.proofs.Common.{◌≡◌, ℕ, zero, suc, ◌<◌, true, false, List, [], ◌∷◌, ◌++◌, drop, length, Option, Some, None, refl, sym, ap, ◌∙◌, arith, append_assoc, append-nil, not, ◌==◌, option_to_list, Command, Poll, AreBytes, new_run, items, left_over, packets_in, reading, whole_packets, Packet, RunItem, PacketItem, SkippedItem, RefusedItem, gap_items, reading_split, Heard, hears_bytes, reads_all, then_reads, turns_left, IsAllRead, IsReceived, Received, after_take, count_taken, Said, after_item, but_poll, said_of, said_to, unless_silent, after_items, items_of, listed, next_told, said_to_all, ReaderState, hears, kind_of, Answer, Kind, Silence, Held, acted_on, handing, nexts, unless_done, device_after_each, burst_calls}
 use Rattle.osdp_frame.specs.Receiving as device
-use Rattle.osdp_frame.specs.Receiving.{IsAllRead, IsReceived, Received, after_take, count_taken}
 use Rattle.osdp_device.specs.Saying as saying
-use Rattle.osdp_device.specs.Saying.{Said, after_item, but_poll, said_of, said_to, unless_silent}
-use Rattle.osdp_device.specs.Telling.{after_items, items_of, listed, next_told, said_to_all}
-use Rattle.osdp_reader.specs.State.{ReaderState}
-use Rattle.osdp_reader.specs.Table.{hears, kind_of}
-use Rattle.osdp_reader.specs.declared.handler.Answer.{Answer}
-use Rattle.osdp_reader.specs.declared.kind.Kind.{Kind}
 use Rattle.osdp_reader.specs.declared.kind.Kind.TheVariants as kind
 use Rattle.osdp_sim.specs.Account as sim
-use Rattle.osdp_calls.specs.Calls.{Silence}
-use Rattle.osdp_calls.specs.Ends.{Held}
-use Rattle.osdp_calls.specs.Sayings.{acted_on}
 use Rattle.osdp_calls_instance.proofs.LinePrograms.{by_nexts, first_said, holding, line_told, nothing_said, reading_is, turned_all, turned_on}
 use Rattle.osdp_calls_instance.proofs.SimulatedEnds.{all_read_of, first_read, handed_calls, handed_over, quiet_is, read_calls}
 use Rattle.osdp_calls_instance.proofs.SimulatedTakes.{more_takes, takes_each}
-use Rattle.osdp_calls_instance.specs.LinePrograms.{handing, nexts, unless_done}
 use Rattle.osdp_calls_instance.specs.LinePrograms as lines
-use Rattle.osdp_calls_instance.specs.OwnCalls.{device_after_each}
-use Rattle.osdp_calls_instance.specs.SimulatedBus.{burst_calls}
 
 -- the commands on which a program acts by these
 abbrev pub acted_on_all : List Said → List Command

@@ -1,33 +1,10 @@
 -- The premises hold of the list with two entries, call by call.
 use Rattle.std.proofs.Common.{◌≡◌, ◌≢◌, ◌<◌, ℕ, zero, suc, true, false, IfSome, List, [], ◌∷◌, Some, None, refl, sym, subst, ap, ◌∙◌, arith, inl, inr}
-use Rattle.std.specs.Prelude.{slice_get}
+use Rattle.osdp_calls_instance.proofs.Common.{slice_get, packed, Packet, Sum, CapabilityFits, Command, Communication, new_device, IsBusConfig, Entry, bus_in_range, new_account, each_all, Each, hears, Answer, Sets, SetsReader, Somewhere, site_at, some_same, StoresItsOwn, InUse, Station, ahead_of_device, is_past_for_device, is_past_for_panel, IsAsked, IsNoOthers, IsSaid, IsSetUp, IsThere, unended_of, four, settings, station_at, TwoCallsKeep, once, two_after, two_set_up}
 use Rattle.osdp_frame.specs.Held.{decided}
 use Rattle.osdp_frame.specs.Items.{items, left_over}
-use Rattle.osdp_frame.specs.Packed.{packed}
-use Rattle.osdp_frame.specs.Packet.{Packet}
-use Rattle.osdp_frame.specs.declared.check_kind.CheckKind.TheVariants.{Sum}
 use Rattle.osdp_msg.specs.CommandTable.{command_at, command_fault, command_of}
-use Rattle.osdp_msg.specs.ReplyFields.{CapabilityFits}
 use Rattle.osdp_msg.specs.ReplyTable.{ReplyFits, reply_at, reply_fault, reply_of}
-use Rattle.osdp_msg.specs.declared.command.Command.{Command}
-use Rattle.osdp_msg.specs.declared.command_fields.Communication.{Communication}
-use Rattle.osdp_bus.specs.Machine.{new_device}
-use Rattle.osdp_bus.specs.Settings.{IsBusConfig}
-use Rattle.osdp_bus.specs.declared.entry.Entry.{Entry}
-use Rattle.osdp_bus.proofs.Defaults.{bus_in_range}
-use Rattle.osdp_link_laws.specs.Link.{new_account}
-use Rattle.osdp_link_laws.proofs.Lines.{each_all}
-use Rattle.osdp_link_laws.proofs.Stages.{Each}
-use Rattle.osdp_reader.specs.Table.{hears}
-use Rattle.osdp_reader.specs.declared.handler.Answer.{Answer}
-use Rattle.osdp_shared_line.specs.Addresses.{Sets, SetsReader, Somewhere}
-use Rattle.osdp_shared_line.specs.Line.{site_at}
-use Rattle.osdp_shared_line.proofs.Sites.{some_same}
-use Rattle.osdp_reader_laws.specs.Storing.{StoresItsOwn}
-use Rattle.osdp_calls.specs.Lines.{InUse, Station, ahead_of_device, is_past_for_device, is_past_for_panel}
-use Rattle.osdp_calls.specs.Premises.{IsAsked, IsNoOthers, IsSaid, IsSetUp, IsThere, unended_of}
-use Rattle.osdp_calls_instance.specs.Instance.{four, settings, station_at}
-use Rattle.osdp_calls_instance.specs.TwoEntries.{TwoCallsKeep, once, two_after, two_set_up}
 use Rattle.osdp_calls_instance.proofs.Keeping.{id_fits, none_read, one_fits, one_read}
 
 abbrev five : Communication

@@ -1,35 +1,8 @@
 -- Which steps a call shows: plain ones, and a withdrawal or a restart its own.
-use Rattle.std.proofs.Common.{◌≡◌, ℕ, Bool, cond, List, [], ◌∷◌, Option, Some, None, sym, subst, inl, inr}
-use Rattle.std.proofs.lemmas.Bool.Decides.{eqb_tells}
-use Rattle.std.specs.Prelude.{◌==◌}
-use Rattle.osdp_frame.specs.Packet.{Packet}
-use Rattle.osdp_msg.specs.declared.command.Command.{Command}
-use Rattle.osdp_msg.specs.declared.event.Event.{Event}
-use Rattle.osdp_controller.specs.declared.report.Report.{Report}
-use Rattle.osdp_bus.specs.Buses.{BusState, device_of}
-use Rattle.osdp_bus.specs.Machine.{changed_unless, submit_refusal_at, withdrawal_at}
-use Rattle.osdp_bus.specs.Ticking.{bus_ticks}
-use Rattle.osdp_bus.specs.declared.entry.Entry.{Entry}
-use Rattle.osdp_bus.specs.declared.fault.BusFault.{BusFault}
+use Rattle.osdp_calls_ledger.proofs.Common.{◌≡◌, ℕ, Bool, cond, List, [], ◌∷◌, Option, Some, None, sym, subst, inl, inr, eqb_tells, ◌==◌, Packet, Command, Event, Report, BusState, device_of, changed_unless, submit_refusal_at, withdrawal_at, bus_ticks, Entry, BusFault, told_in, items_of, lacks_room, never_offered, ReaderState, Answer, Card, Ledger, Open, Order, RestartDevice, RestartPanel, new_ledger, IsPlain, both, each_append, each_map, Each, after_steps, opens, queued_before, queues, submits, told, withdraws, withdraws_event, IsDone, are_plain, gets_done, opens_open, queued_plain, queues_plain, told_done, site_at, Call, NewDevice, NewPanel, Next, OfPanel, Pending, SetHandler, Silence, Step, SubmitEvent, Take, TickDevice, WithdrawEvent, after_call, asked_at, first_answered, read_up_to, heard, InUse, Station, answered, device_steps, given_back, opening, panel_restarts, panel_steps, reported, steps_along, steps_at, steps_from, steps_of}
 use Rattle.osdp_bus_laws.specs.Calls as bus
-use Rattle.osdp_bus_laws.specs.Reports.{told_in}
-use Rattle.osdp_device.specs.Telling.{items_of}
-use Rattle.osdp_reader.specs.Queue.{lacks_room, never_offered}
-use Rattle.osdp_reader.specs.State.{ReaderState}
-use Rattle.osdp_reader.specs.declared.handler.Answer.{Answer}
 use Rattle.osdp_ledger.specs.Ledger as ledger
-use Rattle.osdp_ledger.specs.Ledger.{Card, Ledger, Open, Order, RestartDevice, RestartPanel, new_ledger}
-use Rattle.osdp_ledger.specs.Plain.{IsPlain}
-use Rattle.osdp_link_laws.proofs.Lines.{both, each_append, each_map}
-use Rattle.osdp_link_laws.proofs.Stages.{Each}
-use Rattle.osdp_link_ledger.specs.Steps.{after_steps, opens, queued_before, queues, submits, told, withdraws, withdraws_event}
-use Rattle.osdp_link_ledger.proofs.Plain.{IsDone, are_plain, gets_done, opens_open, queued_plain, queues_plain, told_done}
-use Rattle.osdp_shared_line.specs.Line.{site_at}
 use Rattle.osdp_calls.specs.Calls as calls
-use Rattle.osdp_calls.specs.Calls.{Call, NewDevice, NewPanel, Next, OfPanel, Pending, SetHandler, Silence, Step, SubmitEvent, Take, TickDevice, WithdrawEvent, after_call, asked_at, first_answered, read_up_to}
-use Rattle.osdp_calls.specs.Handing.{heard}
-use Rattle.osdp_calls.specs.Lines.{InUse, Station}
-use Rattle.osdp_calls_ledger.specs.Steps.{answered, device_steps, given_back, opening, panel_restarts, panel_steps, reported, steps_along, steps_at, steps_from, steps_of}
 
 -- ---- what is reported, and what a device has done
 

@@ -1,40 +1,12 @@
 -- What each call comes to, with the steps of each entry.
-use Rattle.std.proofs.Common.{◌≡◌, ℕ, max, Bool, cond, List, [], ◌∷◌, ◌++◌, Option, Some, None, refl, sym, ap, ◌∙◌, inl, inr, append_assoc, is_some}
-use Rattle.std.specs.Prelude.{◌==◌}
-use Rattle.osdp_msg.specs.declared.command.Command.{Command}
-use Rattle.osdp_bus.specs.Buses.{device_of, seen as seen_by_bus}
-use Rattle.osdp_bus.specs.Machine.{changed_unless}
-use Rattle.osdp_bus.specs.Ticking.{bus_ticks, ticks_at}
+use Rattle.osdp_calls_ledger.proofs.Common.{◌≡◌, ℕ, max, Bool, cond, List, [], ◌∷◌, ◌++◌, Option, Some, None, refl, sym, ap, ◌∙◌, inl, inr, append_assoc, is_some, ◌==◌, Command, device_of, seen_by_bus, changed_unless, bus_ticks, ticks_at, told_by_ticking, told_in, lacks_room, never_offered, ReaderState, Answer, Ledger, each_of, after_steps, queues, submits, withdraws, withdraws_event, Net, NetMove, Queue, RestartReader, Retarget, SetBusy, Submit, Withdraw, site_at, Call, NewDevice, NewPanel, Next, OfPanel, SetHandler, SubmitEvent, WithdrawEvent, after_call, all_hear, asked_at, last_of, panel_says, read_by, is_of_device, told_by_all, InUse, Station, Addresses, InOrder, InRange, QuietOpening, ticks_to, reads_those, IsNextOf, nexting, one_call, at_seen, told_then, NotPast, IsNetOf, Made, StepsTo, device_moves, ordered, device_steps, opening, reported, steps_at, steps_of, IsOurs, call_keeps}
 use Rattle.osdp_bus_laws.specs.Calls as bus
-use Rattle.osdp_bus_laws.specs.Reports.{told_by_ticking, told_in}
 use Rattle.osdp_bus_laws.proofs.Moments.{moments_are_seen}
-use Rattle.osdp_reader.specs.Queue.{lacks_room, never_offered}
-use Rattle.osdp_reader.specs.State.{ReaderState}
-use Rattle.osdp_reader.specs.declared.handler.Answer.{Answer}
-use Rattle.osdp_ledger.specs.Ledger.{Ledger}
 use Rattle.osdp_link_laws.specs.Link as link
-use Rattle.osdp_link_laws.proofs.Lines.{each_of}
-use Rattle.osdp_link_ledger.specs.Steps.{after_steps, queues, submits, withdraws, withdraws_event}
 use Rattle.osdp_shared_line.specs.Line as line
-use Rattle.osdp_shared_line.specs.Line.{Net, NetMove, Queue, RestartReader, Retarget, SetBusy, Submit, Withdraw, site_at}
 use Rattle.osdp_calls.specs.Calls as calls
-use Rattle.osdp_calls.specs.Calls.{Call, NewDevice, NewPanel, Next, OfPanel, SetHandler, SubmitEvent, WithdrawEvent, after_call, all_hear, asked_at, last_of, panel_says, read_by}
-use Rattle.osdp_calls.specs.Ends.{is_of_device}
-use Rattle.osdp_calls.specs.Handing.{told_by_all}
-use Rattle.osdp_calls.specs.Lines.{InUse, Station}
-use Rattle.osdp_calls.specs.Premises.{Addresses, InOrder, InRange, QuietOpening}
-use Rattle.osdp_calls.proofs.Agreed.{ticks_to}
-use Rattle.osdp_calls.proofs.Agreeing.{reads_those}
-use Rattle.osdp_calls.proofs.Devices.{IsNextOf, nexting}
 use Rattle.osdp_calls.proofs.Handing.{hands_over}
 use Rattle.osdp_calls.proofs.Heeded.{net_as, of_line, says_alike, ticks_greatest}
-use Rattle.osdp_calls.proofs.Holding.{one_call}
-use Rattle.osdp_calls.proofs.Panel.{at_seen, told_then}
-use Rattle.osdp_calls.proofs.Runs.{NotPast}
-use Rattle.osdp_calls.proofs.Same.{IsNetOf}
-use Rattle.osdp_calls.proofs.Steps.{Made, StepsTo, device_moves}
-use Rattle.osdp_calls.proofs.Strangers.{ordered}
-use Rattle.osdp_calls_ledger.specs.Steps.{device_steps, opening, reported, steps_at, steps_of}
 use Rattle.osdp_calls_ledger.proofs.Nexting.{next_of_shows}
 use Rattle.osdp_calls_ledger.proofs.Own.{no_steps, none_back, of_device, of_power, of_submit, of_withdraw}
 use Rattle.osdp_calls_ledger.proofs.Quiet.{seen_none}
@@ -42,8 +14,6 @@ use Rattle.osdp_calls_ledger.proofs.Reading.{reads_show, reads_shown, reported_m
 use Rattle.osdp_calls_ledger.proofs.Seen.{seen}
 use Rattle.osdp_calls_ledger.proofs.Shows.{Shown, Shows, both_shown, by_made, shows_as, shows_line, then_shows}
 use Rattle.osdp_calls_ledger.proofs.Ticks.{tick_shown, ticks_show, ticks_keep}
-use Rattle.osdp_calls.proofs.Matching.{IsOurs}
-use Rattle.osdp_calls.proofs.Lasting.{call_keeps}
 
 module _ {H : Type 0} (answer_of : H → Command → Answer) (after : H → Command → H) where
   -- the steps of a call

@@ -1,22 +1,10 @@
 -- No event lapses by these calls; where nobody restarts and nothing is taken back all that ends is told; and a device that loses no power throws nothing away.
-use Rattle.std.proofs.Common.{◌≢◌, ℕ, List, [], ◌∷◌, map, inl, inr, refl}
+use Rattle.osdp_calls_ledger.proofs.Common.{◌≢◌, ℕ, List, [], ◌∷◌, map, inl, inr, refl, Command, Answer, Card, History, Left, ThrownAway, new_history, runs, steps_on, IsPlain, KeepsPower, PlainStepsEndTold, ThrowsNoneAway, each_all, each_map, each_of, Each, Call, NewDevice, NewPanel, OfPanel, Step, WithdrawEvent, InUse, Station, KeepsHandler, LeftSo, steps_from}
 use Rattle.std.specs.Prelude.{All}
 use Rattle.std.proofs.lemmas.List.Elements.{All-append, All-cons, All-nil, All-push}
-use Rattle.osdp_msg.specs.declared.command.Command.{Command}
 use Rattle.osdp_bus_laws.specs.Calls as bus
-use Rattle.osdp_reader.specs.declared.handler.Answer.{Answer}
 use Rattle.osdp_ledger.specs.Ledger as ledger
-use Rattle.osdp_ledger.specs.Ledger.{Card}
-use Rattle.osdp_ledger.specs.History.{History, Left, ThrownAway, new_history, runs, steps_on}
-use Rattle.osdp_ledger.specs.Plain.{IsPlain, KeepsPower, PlainStepsEndTold, ThrowsNoneAway}
-use Rattle.osdp_link_laws.proofs.Lines.{each_all, each_map, each_of}
-use Rattle.osdp_link_laws.proofs.Stages.{Each}
-use Rattle.osdp_calls.specs.Calls.{Call, NewDevice, NewPanel, OfPanel, Step, WithdrawEvent}
-use Rattle.osdp_calls.specs.Lines.{InUse, Station}
-use Rattle.osdp_calls.specs.OneDevice.{KeepsHandler}
 use Rattle.osdp_calls.specs.Undisturbed.{IsOrdinaryOf, LeavesCommandsOf}
-use Rattle.osdp_calls_ledger.specs.Promises.{LeftSo}
-use Rattle.osdp_calls_ledger.specs.Steps.{steps_from}
 use Rattle.osdp_calls_ledger.specs.Undisturbed.{OrdinaryCallsEndTold}
 use Rattle.osdp_calls_ledger.proofs.Allowing.{Allows, AllowsPanel, all_hold}
 

@@ -1,25 +1,9 @@
 -- What the steps of an entry have come to after some calls, and after more; so what a restart costs is what its step costs.
-use Rattle.std.proofs.Common.{◌≡◌, ℕ, cond, List, [], ◌∷◌, ◌++◌, Some, is_some, refl, sym, subst, ap, ◌∙◌}
-use Rattle.std.specs.Prelude.{◌==◌}
-use Rattle.osdp_msg.specs.declared.command.Command.{Command}
-use Rattle.osdp_bus.specs.Buses.{device_of}
-use Rattle.osdp_bus.specs.declared.entry.Entry.{Entry}
-use Rattle.osdp_reader.specs.declared.handler.Answer.{Answer}
+use Rattle.osdp_calls_ledger.proofs.Common.{◌≡◌, ℕ, cond, List, [], ◌∷◌, ◌++◌, Some, is_some, refl, sym, subst, ap, ◌∙◌, ◌==◌, Command, device_of, Entry, Answer, Ledger, RestartDevice, new_ledger, AreAllowed, History, new_history, runs, outstanding_command, is_true, after_steps, queued_before, site_at, Call, NewDevice, NewPanel, Step, after_call, after_calls, InUse, Station, new_at, EachKeepsLedger, panel_restarts, steps_along, steps_at, steps_from, steps_of}
 use Rattle.osdp_ledger.specs.Ledger as ledger
-use Rattle.osdp_ledger.specs.Ledger.{Ledger, RestartDevice, new_ledger}
-use Rattle.osdp_ledger.specs.History.{AreAllowed, History, new_history, runs}
 use Rattle.osdp_ledger.specs.Restarts.{DeviceCosts, PanelCosts, ReportsNoMore, RestartReportsNoMore, RestartsCost}
 use Rattle.osdp_ledger.proofs.InTurn.{runs_then}
-use Rattle.osdp_link_laws.specs.Link.{outstanding_command}
-use Rattle.osdp_link_laws.proofs.Numbers.{is_true}
-use Rattle.osdp_link_ledger.specs.Steps.{after_steps, queued_before}
-use Rattle.osdp_shared_line.specs.Line.{site_at}
-use Rattle.osdp_calls.specs.Calls.{Call, NewDevice, NewPanel, Step, after_call, after_calls}
-use Rattle.osdp_calls.specs.Lines.{InUse, Station}
-use Rattle.osdp_calls.proofs.Heeding.{new_at}
-use Rattle.osdp_calls_ledger.specs.Laws.{EachKeepsLedger}
 use Rattle.osdp_calls_ledger.specs.Restarts.{NewDeviceCosts, NewDeviceReportsNoMore, NewPanelCosts, history_of}
-use Rattle.osdp_calls_ledger.specs.Steps.{panel_restarts, steps_along, steps_at, steps_from, steps_of}
 use Rattle.osdp_calls_ledger.proofs.Seen.{turn_assoc}
 
 module _ {H : Type 0} (answer_of : H → Command → Answer) (after : H → Command → H) (k : ℕ) where

@@ -1,43 +1,15 @@
 -- Every list of calls that keep the premises shows what the moves of a net show, so what each of several links keeps each entry keeps.
 use Rattle.std.proofs.Common.{◌≡◌, ◌==◌, ◌+◌, ℕ, false, List, [], ◌∷◌, ◌++◌, map, Option, None, Some, refl, sym, subst, ap, ◌∙◌}
 use Rattle.std.specs.Prelude.{flat_map, is_some, option_to_list}
-use Rattle.osdp_msg.specs.declared.command.Command.{Command}
-use Rattle.osdp_msg.specs.declared.event.Event.{Event}
-use Rattle.osdp_msg.specs.declared.reply.Reply.{Reply}
-use Rattle.osdp_controller.specs.Machine.{Machine}
-use Rattle.osdp_reader.specs.State.{ReaderState}
-use Rattle.osdp_reader.specs.declared.handler.Answer.{Answer}
+use Rattle.osdp_calls_ledger.proofs.Common.{Command, Event, Reply, Machine, ReaderState, Answer, Card, Ledger, Order, RestartPanel, after, new_ledger, AreAllowed, End, History, Left, new_history, runs, steps_on, EventsHold, OrdersHold, Account, Link, outstanding_command, in_all, cut_off_as, doubted_as, removed_as, settled_as, taken_back_as, after_steps, all_steps, queued_before, runs_after, NetMovesFit, NobodyElseHears, Net, NetMove, RestartsPanel, after_net, site_at, moves_of, EachMoveIsItsOwn, view, Step, after_call, after_calls, InUse, AllKeep, all_heard, its_site, outstanding_same, waiting_too, Controls, IsNetOf, first_net, first_site, first_there, starts, EachKeepsLedger, steps_along, calls_keep}
 use Rattle.osdp_ledger.specs.Ledger as ledger
-use Rattle.osdp_ledger.specs.Ledger.{Card, Ledger, Order, RestartPanel, after, new_ledger}
-use Rattle.osdp_ledger.specs.History.{AreAllowed, End, History, Left, new_history, runs, steps_on}
-use Rattle.osdp_ledger.specs.Laws.{EventsHold, OrdersHold}
-use Rattle.osdp_link_laws.specs.Link.{Account, Link, outstanding_command}
-use Rattle.osdp_link_laws.specs.Sessions.{in_all}
-use Rattle.osdp_link_ledger.specs.Accounts.{cut_off_as, doubted_as, removed_as, settled_as, taken_back_as}
 use Rattle.osdp_link_ledger.specs.Laws.{HasNumber, IsLedgerOf, answer_to, is_polling, is_under_way, offered_to}
-use Rattle.osdp_link_ledger.specs.Steps.{after_steps, all_steps, queued_before}
-use Rattle.osdp_link_ledger.proofs.Ties.{runs_after}
 use Rattle.osdp_line_ledger.specs.Laws as lines
-use Rattle.osdp_shared_line.specs.Addresses.{NetMovesFit, NobodyElseHears}
-use Rattle.osdp_shared_line.specs.Line.{Net, NetMove, RestartPanel as RestartsPanel, after_net, site_at}
-use Rattle.osdp_shared_line.specs.Runs.{moves_of}
-use Rattle.osdp_shared_line.specs.Views.{EachMoveIsItsOwn, view}
-use Rattle.osdp_calls.specs.Calls.{Step, after_call, after_calls}
-use Rattle.osdp_calls.specs.Lines.{InUse}
-use Rattle.osdp_calls.specs.Premises.{AllKeep}
 use Rattle.osdp_calls.specs.Promises.{link_of_entry}
-use Rattle.osdp_calls.proofs.Counting.{all_heard}
-use Rattle.osdp_calls.proofs.Holding.{its_site}
-use Rattle.osdp_calls.proofs.Powers.{outstanding_same, waiting_too}
-use Rattle.osdp_calls.proofs.Same.{Controls, IsNetOf}
-use Rattle.osdp_calls.proofs.Setting.{first_net, first_site, first_there, starts}
-use Rattle.osdp_calls_ledger.specs.Laws.{EachKeepsLedger}
-use Rattle.osdp_calls_ledger.specs.Steps.{steps_along}
 use Rattle.osdp_calls_ledger.proofs.Accepted.{all_commands, all_events}
 use Rattle.osdp_calls_ledger.proofs.Calling.{call_shown, call_shows}
 use Rattle.osdp_calls_ledger.proofs.Seen.{seen, seen_of_link}
 use Rattle.osdp_calls_ledger.proofs.Shows.{Shown, Shows, then_shows}
-use Rattle.osdp_calls.proofs.Lasting.{calls_keep}
 
 -- ---- a panel that is switched on before anything has happened forgets nothing
 

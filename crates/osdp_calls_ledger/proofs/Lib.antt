@@ -1,3 +1,4 @@
+pub mod Common
 pub mod Seen
 pub mod Quiet
 pub mod Shows

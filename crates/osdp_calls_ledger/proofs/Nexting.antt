@@ -1,31 +1,9 @@
 -- What a device's `next` shows: what it does with the packet that it answers.
-use Rattle.std.proofs.Common.{◌≡◌, ◌≢◌, ℕ, cond, List, [], ◌∷◌, ◌++◌, Option, Some, None, All, refl, sym, subst, ap, ◌∙◌, inl, inr, append-nil}
-use Rattle.std.proofs.lemmas.Bool.Decides.{eqb_tells}
-use Rattle.std.specs.Prelude.{◌==◌, ◌<◌}
-use Rattle.osdp_frame.specs.Packet.{Packet}
-use Rattle.osdp_msg.specs.declared.command.Command.{Command}
-use Rattle.osdp_device.specs.Telling.{items_of}
-use Rattle.osdp_reader.specs.State.{ReaderState}
-use Rattle.osdp_reader.specs.Table.{outcome}
-use Rattle.osdp_reader.specs.declared.handler.Answer.{Answer}
+use Rattle.osdp_calls_ledger.proofs.Common.{◌≡◌, ◌≢◌, ℕ, cond, List, [], ◌∷◌, ◌++◌, Option, Some, None, All, refl, sym, subst, ap, ◌∙◌, inl, inr, append-nil, eqb_tells, ◌==◌, ◌<◌, Packet, Command, items_of, ReaderState, outcome, Answer, Ledger, Repeated, each_map, each_of, is_false, is_true, after_steps, all_steps, gets, leaves_and_acts, Net, NetMove, Site, ToReader, after_net, link_of, site_at, HeardByOwn, own, own_front, view, for_reader, first_answered, read_up_to, InUse, Station, AllHeard, IsNextOf, IsLoss, answered, steps_at}
 use Rattle.osdp_ledger.specs.Ledger as ledger
-use Rattle.osdp_ledger.specs.Ledger.{Ledger}
 use Rattle.osdp_link_laws.specs.Link as link
-use Rattle.osdp_link_laws.specs.Link.{Repeated}
-use Rattle.osdp_link_laws.proofs.Lines.{each_map, each_of}
-use Rattle.osdp_link_laws.proofs.Numbers.{is_false, is_true}
 use Rattle.osdp_link_ledger.specs.Steps as links
-use Rattle.osdp_link_ledger.specs.Steps.{after_steps, all_steps, gets, leaves_and_acts}
-use Rattle.osdp_shared_line.specs.Line.{Net, NetMove, Site, ToReader, after_net, link_of, site_at}
-use Rattle.osdp_shared_line.specs.Views.{HeardByOwn, own, own_front, view}
-use Rattle.osdp_shared_line.proofs.Hearing.{for_reader}
-use Rattle.osdp_calls.specs.Calls.{first_answered, read_up_to}
-use Rattle.osdp_calls.specs.Lines.{InUse, Station}
-use Rattle.osdp_calls.proofs.Counting.{AllHeard}
-use Rattle.osdp_calls.proofs.Devices.{IsNextOf}
-use Rattle.osdp_calls.proofs.Losing.{IsLoss}
 use Rattle.osdp_calls.proofs.Nexts.{IsAnswered, IsNext, IsPassed}
-use Rattle.osdp_calls_ledger.specs.Steps.{answered, steps_at}
 use Rattle.osdp_calls_ledger.proofs.Own.{no_steps, one_shown}
 use Rattle.osdp_calls_ledger.proofs.Quiet.{ShowsNothing, loss_shows, seen_after_none, seen_none}
 use Rattle.osdp_calls_ledger.proofs.Seen.{seen, seen_at}

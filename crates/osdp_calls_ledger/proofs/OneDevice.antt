@@ -1,32 +1,13 @@
 -- A device that never changes is one whose site never does.
-use Rattle.std.proofs.Common.{ℕ, List, [], ◌∷◌, is_some, refl, sym, subst, ap, ◌∙◌, inl, inr}
-use Rattle.osdp_msg.specs.declared.command.Command.{Command}
-use Rattle.osdp_reader.specs.declared.handler.Answer.{Answer}
-use Rattle.osdp_ledger.specs.History.{new_history, runs}
-use Rattle.osdp_ledger.specs.Plain.{ThrowsNoneAway}
-use Rattle.osdp_link_laws.specs.Link.{Account}
-use Rattle.osdp_link_laws.specs.Sessions.{in_all}
-use Rattle.osdp_link_laws.proofs.Lines.{each_all, each_map, each_of}
-use Rattle.osdp_link_laws.proofs.Stages.{Each}
-use Rattle.osdp_link_ledger.specs.Accounts.{LedgerTellsAccounts}
+use Rattle.osdp_calls_ledger.proofs.Common.{ℕ, List, [], ◌∷◌, is_some, refl, sym, subst, ap, ◌∙◌, inl, inr, Command, Answer, new_history, runs, ThrowsNoneAway, Account, in_all, each_all, each_map, each_of, Each, LedgerTellsAccounts, EachIsALink, moves_of, view, Step, after_calls, KeepsHandler, comes, its_site, calls_keep, first_net, first_site, first_there, IsOfOne, EachKeepsLedger, steps_from}
 use Rattle.osdp_link_ledger.proofs.Answered.{same_acts}
 use Rattle.osdp_line_ledger.specs.Devices.{EachActsByOneHandler}
 use Rattle.osdp_line_ledger.specs.Laws.{steps_at}
 use Rattle.osdp_shared_line.specs.Line as line
 use Rattle.osdp_shared_line.specs.Line.{Net, NetMove, RestartPanel, RestartReader, site_at}
 use Rattle.osdp_shared_line.specs.Restarts.{KeepsDeviceOf}
-use Rattle.osdp_shared_line.specs.Runs.{EachIsALink, moves_of}
-use Rattle.osdp_shared_line.specs.Views.{view}
 use Rattle.osdp_shared_line.proofs.Linking.{viewed}
-use Rattle.osdp_calls.specs.Calls.{Step, after_calls}
-use Rattle.osdp_calls.specs.OneDevice.{KeepsHandler}
-use Rattle.osdp_calls.proofs.Holding.{comes, its_site}
-use Rattle.osdp_calls.proofs.Lasting.{calls_keep}
-use Rattle.osdp_calls.proofs.Setting.{first_net, first_site, first_there}
-use Rattle.osdp_calls.proofs.Steps.{IsOfOne}
-use Rattle.osdp_calls_ledger.specs.Laws.{EachKeepsLedger}
 use Rattle.osdp_calls_ledger.specs.OneDevice.{OneDeviceHoldsOnce}
-use Rattle.osdp_calls_ledger.specs.Steps.{steps_from}
 use Rattle.osdp_calls_ledger.proofs.Exits.{none_thrown}
 use Rattle.osdp_calls_ledger.proofs.Unbroken.{there_is}
 

@@ -1,34 +1,13 @@
 -- What the moves of programs and of power failures show: what their calls do.
-use Rattle.std.proofs.Common.{◌≡◌, ℕ, Bool, true, false, cond, List, [], ◌∷◌, Option, Some, None, Ok, Err, Result, refl, sym, subst, ap, ◌∙◌, inl, inr, append-nil}
-use Rattle.std.proofs.lemmas.Bool.Decides.{eqb_tells}
+use Rattle.osdp_calls_ledger.proofs.Common.{◌≡◌, ℕ, Bool, true, false, cond, List, [], ◌∷◌, Option, Some, None, Ok, Err, Result, refl, sym, subst, ap, ◌∙◌, inl, inr, append-nil, eqb_tells, Command, comset_of, Machine, submit_refusal, withdrawn_in, device_of, changed_unless, submit_refusal_at, withdrawal_at, withdrawal_of, BusFault, Answer, Ledger, RestartPanel, Link, Move, outstanding_command, both, all_steps, queues, submits, withdraws, withdraws_event, Net, NetMove, RestartsPanel, Site, Submit, Withdraw, is_comset_refused, site_at, move_of, one_if, view, Call, begun_of, withdrawn, InUse, Station, FoundAt, Nobody, Somebody, found, IsOurs, outstanding_same, Controls, IsNetOf, IsSame, Sites, device_steps, given_back, panel_restarts, panel_steps, steps_at}
 use Rattle.std.specs.Prelude.{◌==◌, is_some}
 use Rattle.osdp_msg.specs.declared.limits.Room.{Room}
-use Rattle.osdp_msg.specs.declared.command.Command.{Command}
-use Rattle.osdp_controller.specs.Hearing.{comset_of}
-use Rattle.osdp_controller.specs.Machine.{Machine, submit_refusal, withdrawn_in}
 use Rattle.osdp_controller.specs.declared.config.ControllerConfig.{ControllerConfig}
-use Rattle.osdp_bus.specs.Buses.{device_of}
-use Rattle.osdp_bus.specs.Machine.{changed_unless, submit_refusal_at, withdrawal_at, withdrawal_of}
-use Rattle.osdp_bus.specs.declared.fault.BusFault.{BusFault}
 use Rattle.osdp_bus_laws.specs.Calls as bus
-use Rattle.osdp_reader.specs.declared.handler.Answer.{Answer}
 use Rattle.osdp_ledger.specs.Ledger as ledger
-use Rattle.osdp_ledger.specs.Ledger.{Ledger, RestartPanel}
 use Rattle.osdp_link_laws.specs.Link as link
-use Rattle.osdp_link_laws.specs.Link.{Link, Move, outstanding_command}
-use Rattle.osdp_link_laws.proofs.Lines.{both}
 use Rattle.osdp_link_ledger.specs.Steps as links
-use Rattle.osdp_link_ledger.specs.Steps.{all_steps, queues, submits, withdraws, withdraws_event}
-use Rattle.osdp_shared_line.specs.Line.{Net, NetMove, RestartPanel as RestartsPanel, Site, Submit, Withdraw, is_comset_refused, site_at}
-use Rattle.osdp_shared_line.specs.Views.{move_of, one_if, view}
-use Rattle.osdp_calls.specs.Calls.{Call, begun_of, withdrawn}
-use Rattle.osdp_calls.specs.Lines.{InUse, Station}
 use Rattle.osdp_calls.proofs.Accepting.{command_accepted}
-use Rattle.osdp_calls.proofs.Matching.{FoundAt, Nobody, Somebody, found, IsOurs}
-use Rattle.osdp_calls.proofs.Powers.{outstanding_same}
-use Rattle.osdp_calls.proofs.Same.{Controls, IsNetOf, IsSame}
-use Rattle.osdp_calls.proofs.Stations.{Sites}
-use Rattle.osdp_calls_ledger.specs.Steps.{device_steps, given_back, panel_restarts, panel_steps, steps_at}
 use Rattle.osdp_calls_ledger.proofs.Seen.{seen, seen_at}
 use Rattle.osdp_shared_line.proofs.Doing.{both_accept}
 

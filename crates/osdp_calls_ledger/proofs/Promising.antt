@@ -1,12 +1,6 @@
 -- What is promised is what the ledger of each entry's steps says.
-use Rattle.std.proofs.Common.{sym}
-use Rattle.osdp_msg.specs.declared.command.Command.{Command}
-use Rattle.osdp_reader.specs.declared.handler.Answer.{Answer}
-use Rattle.osdp_ledger.specs.Laws.{TellsInTurn}
-use Rattle.osdp_calls_ledger.specs.Laws.{EachKeepsLedger}
+use Rattle.osdp_calls_ledger.proofs.Common.{sym, Command, Answer, TellsInTurn, EachKeepsLedger, LedgerHoldsOnce, RuledLedgerHoldsOnce, steps_from}
 use Rattle.osdp_calls.specs.Programs.{CallsRuleSuffices}
-use Rattle.osdp_calls_ledger.specs.Promises.{LedgerHoldsOnce, RuledLedgerHoldsOnce}
-use Rattle.osdp_calls_ledger.specs.Steps.{steps_from}
 use Rattle.osdp_calls_ledger.proofs.Exits.{all_exits}
 
 module _ {H : Type 0} (answer_of : H → Command → Answer) (after : H → Command → H) where

@@ -1,19 +1,8 @@
 -- Moves that show the programs nothing: losses, settings, and a session that is to begin.
-use Rattle.std.proofs.Common.{◌≡◌, ℕ, List, [], ◌∷◌, ◌++◌, Option, Some, None, refl, ap, ◌∙◌}
-use Rattle.std.specs.Prelude.{◌==◌, option_map, option_to_list}
-use Rattle.osdp_msg.specs.declared.command.Command.{Command}
-use Rattle.osdp_reader.specs.declared.handler.Answer.{Answer}
-use Rattle.osdp_ledger.specs.Ledger.{Ledger}
+use Rattle.osdp_calls_ledger.proofs.Common.{◌≡◌, ℕ, List, [], ◌∷◌, ◌++◌, Option, Some, None, refl, ap, ◌∙◌, ◌==◌, option_map, option_to_list, Command, Answer, Ledger, Link, Move, after_move, both, Each, after_steps, all_steps, LoseToPanel, LoseToReader, Net, NetMove, Reopen, Retarget, SetBusy, Site, after_net, is_retarget_refused, site_at, move_of, one_if, own_place, view, IsLoss}
 use Rattle.osdp_link_laws.specs.Link as link
-use Rattle.osdp_link_laws.specs.Link.{Link, Move, after_move}
-use Rattle.osdp_link_laws.proofs.Lines.{both}
-use Rattle.osdp_link_laws.proofs.Stages.{Each}
 use Rattle.osdp_link_ledger.specs.Steps as links
-use Rattle.osdp_link_ledger.specs.Steps.{after_steps, all_steps}
 use Rattle.osdp_shared_line.specs.Line as line
-use Rattle.osdp_shared_line.specs.Line.{LoseToPanel, LoseToReader, Net, NetMove, Reopen, Retarget, SetBusy, Site, after_net, is_retarget_refused, site_at}
-use Rattle.osdp_shared_line.specs.Views.{move_of, one_if, own_place, view}
-use Rattle.osdp_calls.proofs.Losing.{IsLoss}
 use Rattle.osdp_calls_ledger.proofs.Seen.{seen, seen_at}
 
 module _ {H : Type 0} where

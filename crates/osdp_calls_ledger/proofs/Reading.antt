@@ -1,52 +1,12 @@
 -- What the panel reads: of each packet the controller at its address tells, and nobody else.
-use Rattle.std.proofs.Common.{◌≡◌, ◌≢◌, ◌+◌, ℕ, Bool, true, false, cond, List, [], ◌∷◌, ◌++◌, Option, Some, None, All, refl, sym, subst, ap, ◌∙◌, inl, inr, arith, append-nil, is_some, length}
-use Rattle.std.proofs.lemmas.Bool.Decides.{eqb_tells}
-use Rattle.std.specs.Prelude.{◌==◌, slice_get}
-use Rattle.osdp_frame.specs.Packet.{Packet}
+use Rattle.osdp_calls_ledger.proofs.Common.{◌≡◌, ◌≢◌, ◌+◌, ℕ, Bool, true, false, cond, List, [], ◌∷◌, ◌++◌, Option, Some, None, All, refl, sym, subst, ap, ◌∙◌, inl, inr, arith, append-nil, is_some, length, eqb_tells, ◌==◌, slice_get, Packet, Command, Heard, hears, Machine, Ticked, ticks, ticks_in, Report, State, Closed, first_from, is_at, told_of, hears_packet, Entry, told_at, told_by_entry, told_by_item, told_with, Answer, Ledger, Repeated, each_of, is_false, is_true, Each, after_steps, all_steps, opens, ticked, told, Net, NetMove, Site, ToPanel, address_of, link_of, site_at, HeardByOwn, front_to_panel, other_reply, own, own_reply, closed_hears, last_of, told_by_all, Burst, InUse, Station, address_same, at_entry, reads_those, hears_same, ignored_quiet, AllHeard, FoundAt, Nobody, Somebody, found, IsOurs, ours_below, FirstAt, NoneAt, OneAt, first_at, first_before, IsHeard, IsIgnored, IsRead, hears_one, panel_on, reads_here, told_then, NotPast, unheard, Controls, IsNetOf, IsToOpen, Sites, AreOfOthers, IsElsewhere, Ordered, ordered_heard, others_hear, reported, heard_keeps, at_length}
 use Rattle.osdp_frame.specs.Reading.{PacketItem}
-use Rattle.osdp_msg.specs.declared.command.Command.{Command}
-use Rattle.osdp_controller.specs.Hearing.{Heard, hears}
-use Rattle.osdp_controller.specs.Machine.{Machine}
 use Rattle.osdp_controller.specs.Sessions as clocks
-use Rattle.osdp_controller.specs.Ticking.{Ticked, ticks, ticks_in}
-use Rattle.osdp_controller.specs.declared.report.Report.{Report}
-use Rattle.osdp_controller.specs.declared.state.State.{State}
-use Rattle.osdp_controller.specs.declared.state.State.TheVariants.{Closed}
 use Rattle.osdp_bus.specs.Entries as devices
-use Rattle.osdp_bus.specs.Entries.{first_from, is_at, told_of}
-use Rattle.osdp_bus.specs.Hearing.{hears_packet}
-use Rattle.osdp_bus.specs.declared.entry.Entry.{Entry}
-use Rattle.osdp_bus_laws.specs.Reports.{told_at, told_by_entry, told_by_item, told_with}
-use Rattle.osdp_reader.specs.declared.handler.Answer.{Answer}
-use Rattle.osdp_ledger.specs.Ledger.{Ledger}
 use Rattle.osdp_link_laws.specs.Link as link
-use Rattle.osdp_link_laws.specs.Link.{Repeated}
-use Rattle.osdp_link_laws.proofs.Lines.{each_of}
-use Rattle.osdp_link_laws.proofs.Numbers.{is_false, is_true}
-use Rattle.osdp_link_laws.proofs.Stages.{Each}
-use Rattle.osdp_link_ledger.specs.Steps.{after_steps, all_steps, opens, ticked, told}
-use Rattle.osdp_shared_line.specs.Line.{Net, NetMove, Site, ToPanel, address_of, link_of, site_at}
-use Rattle.osdp_shared_line.specs.Views.{HeardByOwn, front_to_panel, other_reply, own, own_reply}
-use Rattle.osdp_shared_line.proofs.Hearing.{closed_hears}
-use Rattle.osdp_calls.specs.Calls.{last_of}
-use Rattle.osdp_calls.specs.Handing.{told_by_all}
-use Rattle.osdp_calls.specs.Lines.{Burst, InUse, Station}
-use Rattle.osdp_calls.proofs.Agreeing.{address_same, at_entry, reads_those}
-use Rattle.osdp_calls.proofs.Controllers.{hears_same, ignored_quiet}
-use Rattle.osdp_calls.proofs.Counting.{AllHeard}
-use Rattle.osdp_calls.proofs.Matching.{FoundAt, Nobody, Somebody, found, IsOurs, ours_below}
-use Rattle.osdp_calls.proofs.Noticing.{FirstAt, NoneAt, OneAt, first_at, first_before}
-use Rattle.osdp_calls.proofs.Panel.{IsHeard, IsIgnored, IsRead, hears_one, panel_on, reads_here, told_then}
-use Rattle.osdp_calls.proofs.Runs.{NotPast, unheard}
-use Rattle.osdp_calls.proofs.Same.{Controls, IsNetOf, IsToOpen}
-use Rattle.osdp_calls.proofs.Stations.{Sites}
-use Rattle.osdp_calls.proofs.Strangers.{AreOfOthers, IsElsewhere, Ordered, ordered_heard, others_hear}
-use Rattle.osdp_calls_ledger.specs.Steps.{reported}
 use Rattle.osdp_calls_ledger.proofs.Own.{seen_one}
 use Rattle.osdp_calls_ledger.proofs.Seen.{in_turn, seen, seen_at}
 use Rattle.osdp_calls_ledger.proofs.Shows.{Shown, Shows, both_shown, by_losses, by_made, none_shown, shows_as, then_shows}
-use Rattle.osdp_calls.proofs.Lasting.{heard_keeps}
-use Rattle.osdp_shared_line.proofs.Rounds.{at_length}
 
 -- ---- what is told of one entry
 

@@ -1,19 +1,8 @@
 -- What moves of a net show of each site, step after step: as its link shows them.
-use Rattle.std.proofs.Common.{◌≡◌, ℕ, List, [], ◌∷◌, ◌++◌, Option, Some, None, refl, sym, ap, ◌∙◌, append_assoc}
-use Rattle.osdp_msg.specs.declared.command.Command.{Command}
-use Rattle.osdp_reader.specs.declared.handler.Answer.{Answer}
+use Rattle.osdp_calls_ledger.proofs.Common.{◌≡◌, ℕ, List, [], ◌∷◌, ◌++◌, Option, Some, None, refl, sym, ap, ◌∙◌, append_assoc, Command, Answer, Ledger, Link, Move, after_move, after_steps, all_steps, after_append, NetMovesFit, Net, NetMove, Site, after_net, run, site_at, moves_at, moves_of, EachMoveIsItsOwn, move_of, view, AllHeard, quietly}
 use Rattle.osdp_ledger.specs.Ledger as ledger
-use Rattle.osdp_ledger.specs.Ledger.{Ledger}
 use Rattle.osdp_link_laws.specs.Link as link
-use Rattle.osdp_link_laws.specs.Link.{Link, Move, after_move}
 use Rattle.osdp_link_ledger.specs.Steps as links
-use Rattle.osdp_link_ledger.specs.Steps.{after_steps, all_steps}
-use Rattle.osdp_link_ledger.proofs.Ties.{after_append}
-use Rattle.osdp_shared_line.specs.Addresses.{NetMovesFit}
-use Rattle.osdp_shared_line.specs.Line.{Net, NetMove, Site, after_net, run, site_at}
-use Rattle.osdp_shared_line.specs.Runs.{moves_at, moves_of}
-use Rattle.osdp_shared_line.specs.Views.{EachMoveIsItsOwn, move_of, view}
-use Rattle.osdp_calls.proofs.Counting.{AllHeard, quietly}
 
 -- ---- lists of steps that go by the ledger
 

@@ -1,23 +1,8 @@
 -- What calls come to, with what the moves show of each entry.
-use Rattle.std.proofs.Common.{◌≡◌, ℕ, List, [], ◌∷◌, ◌++◌, sym, subst, ap, ◌∙◌, is_some}
-use Rattle.osdp_msg.specs.declared.command.Command.{Command}
-use Rattle.osdp_reader.specs.declared.handler.Answer.{Answer}
+use Rattle.osdp_calls_ledger.proofs.Common.{◌≡◌, ℕ, List, [], ◌∷◌, ◌++◌, sym, subst, ap, ◌∙◌, is_some, Command, Answer, Ledger, each_map, Each, after_steps, NetMovesFit, Net, NetMove, after_net, run, site_at, InUse, AllHeard, IsLoss, IsNetOf, LosesTo, Makes, IsOurs, fits_both, net_more}
 use Rattle.osdp_ledger.specs.Ledger as ledger
-use Rattle.osdp_ledger.specs.Ledger.{Ledger}
-use Rattle.osdp_link_laws.proofs.Lines.{each_map}
-use Rattle.osdp_link_laws.proofs.Stages.{Each}
-use Rattle.osdp_link_ledger.specs.Steps.{after_steps}
-use Rattle.osdp_shared_line.specs.Addresses.{NetMovesFit}
-use Rattle.osdp_shared_line.specs.Line.{Net, NetMove, after_net, run, site_at}
-use Rattle.osdp_calls.specs.Lines.{InUse}
-use Rattle.osdp_calls.proofs.Counting.{AllHeard}
-use Rattle.osdp_calls.proofs.Losing.{IsLoss}
-use Rattle.osdp_calls.proofs.Same.{IsNetOf}
-use Rattle.osdp_calls.proofs.Stations.{LosesTo, Makes}
 use Rattle.osdp_calls_ledger.proofs.Quiet.{ShowsNothing, loss_shows, seen_none}
 use Rattle.osdp_calls_ledger.proofs.Seen.{in_turn, seen, seen_more}
-use Rattle.osdp_calls.proofs.Matching.{IsOurs}
-use Rattle.osdp_shared_line.proofs.Rounds.{fits_both, net_more}
 
 -- the steps of each entry, as a ledger has them
 abbrev pub Shown : Type 0

@@ -1,50 +1,19 @@
 -- A tick of the bus: what is read before it, and the controller that ticks, with its opening ID.
-use Rattle.std.proofs.Common.{◌≡◌, ◌≢◌, ℕ, Bool, true, false, cond, List, [], ◌∷◌, ◌++◌, Option, Some, None, refl, sym, subst, ap, ◌∙◌, inl, inr, append-nil, is_some}
-use Rattle.std.proofs.lemmas.Bool.Decides.{eqb_tells}
-use Rattle.std.specs.Prelude.{◌==◌, nat_le}
-use Rattle.osdp_frame.specs.Packet.{Packet}
-use Rattle.osdp_msg.specs.declared.command.Command.{Command}
-use Rattle.osdp_controller.specs.Machine.{Machine, after_begin}
+use Rattle.osdp_calls_ledger.proofs.Common.{◌≡◌, ◌≢◌, ℕ, Bool, true, false, cond, List, [], ◌∷◌, ◌++◌, Option, Some, None, refl, sym, subst, ap, ◌∙◌, inl, inr, append-nil, is_some, eqb_tells, ◌==◌, nat_le, Packet, Command, Machine, after_begin, Ticked, ticks, ticks_in, State, Closed, Quiet, device_of, step_of, ticks_at, ticks_with, Entry, told_by_device, told_by_ticking, Answer, Ledger, Open, both, each_map, is_false, is_true, opens, ticked, told, Net, NetMove, Reopen, Site, Tick, after_net, changed, site_at, view, at_changed, begun_of, all_hear, InUse, ticks_to, ticks_same, IsLoss, FoundAt, Nobody, Somebody, found, IsOurs, Controls, IsNetOf, IsSame, IsToOpen, Sites, opening, reported, heard_keeps, says_keep}
 use Rattle.osdp_controller.specs.Sessions as clocks
 use Rattle.osdp_controller.specs.States.{is_closed}
 use Rattle.osdp_controller.specs.Ticking as ticking
-use Rattle.osdp_controller.specs.Ticking.{Ticked, ticks, ticks_in}
 use Rattle.osdp_controller.specs.declared.exchange.Exchange.TheVariants.{Opening as OpeningExchange}
 use Rattle.osdp_controller.specs.declared.session.Session.{Session}
-use Rattle.osdp_controller.specs.declared.state.State.{State}
-use Rattle.osdp_controller.specs.declared.state.State.TheVariants.{Closed, Quiet}
-use Rattle.osdp_bus.specs.Buses.{device_of}
-use Rattle.osdp_bus.specs.Entries.{step_of}
-use Rattle.osdp_bus.specs.Ticking.{ticks_at, ticks_with}
-use Rattle.osdp_bus.specs.declared.entry.Entry.{Entry}
-use Rattle.osdp_bus_laws.specs.Reports.{told_by_device, told_by_ticking}
-use Rattle.osdp_reader.specs.declared.handler.Answer.{Answer}
-use Rattle.osdp_ledger.specs.Ledger.{Ledger, Open}
 use Rattle.osdp_link_laws.specs.Link as link
-use Rattle.osdp_link_laws.proofs.Lines.{both, each_map}
-use Rattle.osdp_link_laws.proofs.Numbers.{is_false, is_true}
 use Rattle.osdp_link_ledger.specs.Steps as links
-use Rattle.osdp_link_ledger.specs.Steps.{opens, ticked, told}
 use Rattle.osdp_shared_line.specs.Line as line
-use Rattle.osdp_shared_line.specs.Line.{Net, NetMove, Reopen, Site, Tick, after_net, changed, site_at}
-use Rattle.osdp_shared_line.specs.Views.{view}
-use Rattle.osdp_shared_line.proofs.Sites.{at_changed}
-use Rattle.osdp_calls.specs.Calls.{begun_of, all_hear}
-use Rattle.osdp_calls.specs.Lines.{InUse}
-use Rattle.osdp_calls.proofs.Agreed.{ticks_to}
-use Rattle.osdp_calls.proofs.Controllers.{ticks_same}
-use Rattle.osdp_calls.proofs.Losing.{IsLoss}
-use Rattle.osdp_calls.proofs.Matching.{FoundAt, Nobody, Somebody, found, IsOurs}
-use Rattle.osdp_calls.proofs.Same.{Controls, IsNetOf, IsSame, IsToOpen}
-use Rattle.osdp_calls.proofs.Stations.{Sites}
 use Rattle.osdp_calls.proofs.Ticking.{GoesOn, IsOpeningOf, IsTicked, Opens, Rests, ticks_entry, IsOfOther}
-use Rattle.osdp_calls_ledger.specs.Steps.{opening, reported}
 use Rattle.osdp_calls_ledger.proofs.Own.{one_shown, seen_one}
 use Rattle.osdp_calls_ledger.proofs.Quiet.{ShowsNothing, loss_shows, seen_after_none}
 use Rattle.osdp_calls_ledger.proofs.Reading.{reported_other, reported_own}
 use Rattle.osdp_calls_ledger.proofs.Seen.{seen, seen_at}
 use Rattle.osdp_calls_ledger.proofs.Shows.{Shown, Shows, by_made}
-use Rattle.osdp_calls.proofs.Lasting.{heard_keeps, says_keep}
 
 -- ---- what a controller sends and tells at a tick: never both
 

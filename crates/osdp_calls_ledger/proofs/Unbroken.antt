@@ -1,66 +1,25 @@
 -- A device that has lost no power since its session began: the account of this session counts no restart, so the session ends by no refused number.
-use Rattle.std.proofs.Common.{◌≡◌, ◌≢◌, ◌+◌, ℕ, zero, suc, max, Bool, true, false, cond, List, [], ◌∷◌, ◌++◌, map, length, Option, Some, None, is_some, refl, sym, subst, ap, ◌∙◌, inl, inr}
-use Rattle.std.proofs.lemmas.Bool.Decides.{eqb_tells}
-use Rattle.std.specs.Prelude.{◌==◌, slice_get}
-use Rattle.osdp_frame.specs.Packet.{Packet}
-use Rattle.osdp_msg.specs.declared.command.Command.{Command}
+use Rattle.osdp_calls_ledger.proofs.Common.{◌≡◌, ◌≢◌, ◌+◌, ℕ, zero, suc, max, Bool, true, false, cond, List, [], ◌∷◌, ◌++◌, map, length, Option, Some, None, is_some, refl, sym, subst, ap, ◌∙◌, inl, inr, eqb_tells, ◌==◌, slice_get, Packet, Command, Event, Reply, Report, State, Closed, Quiet, Idle, Waiting, Pausing, Devices, device_of, entry_hears, hears_packet, begin_refusal_at, changed_unless, submit_refusal_at, withdrawal_at, bus_ticks, Entry, BusFault, told_in, items_of, Account, after_report, front_of, taken, taken_command, lacks_room, never_offered, after_set_busy, after_set_handler, Answer, Ledger, Open, RestartDevice, new_ledger, each_map, Each, after_steps, opens, queued_before, queues, submits, withdraws, withdraws_event, IsDone, changed_from, some_same, Call, NewDevice, NewPanel, Next, OfPanel, Pending, SetHandler, Silence, Step, SubmitEvent, Take, TickDevice, WithdrawEvent, after_call, after_calls, all_forget, all_hear, answers, asked_at, begins_session, begins_with, begun_of, change_at, changes_at, first_answered, forgets, hears_of, is_to_begin, issues, last_of, made_anew, nexts, panel_says, read_by, read_up_to, takes_back, waiting_of, withdrawn, heard, hears_all, InUse, Station, bus_with, AllKeep, begun_heard, new_at, its_site, one_call, call_keeps, calls_keep, IsOurs, HeardAt, Touched, Untouched, heard_at, IsNetOf, first_net, starts, answered, device_steps, given_back, opening, panel_restarts, panel_steps, reported, steps_along, steps_at, steps_of}
 use Rattle.osdp_msg.specs.declared.command.Command.TheVariants.{Poll}
-use Rattle.osdp_msg.specs.declared.event.Event.{Event}
-use Rattle.osdp_msg.specs.declared.reply.Reply.{Reply}
 use Rattle.osdp_controller.specs.Hearing as controllers
-use Rattle.osdp_controller.specs.declared.report.Report.{Report}
 use Rattle.osdp_controller.specs.declared.report.Report.TheVariants as report
-use Rattle.osdp_controller.specs.declared.state.State.{State}
-use Rattle.osdp_controller.specs.declared.state.State.TheVariants.{Closed, Quiet, Idle, Waiting, Pausing}
-use Rattle.osdp_bus.specs.Buses.{Devices, device_of}
-use Rattle.osdp_bus.specs.Entries.{entry_hears}
-use Rattle.osdp_bus.specs.Hearing.{hears_packet}
-use Rattle.osdp_bus.specs.Machine.{begin_refusal_at, changed_unless, submit_refusal_at, withdrawal_at}
-use Rattle.osdp_bus.specs.Ticking.{bus_ticks}
 use Rattle.osdp_bus.specs.declared.config.BusConfig.{BusConfig}
-use Rattle.osdp_bus.specs.declared.entry.Entry.{Entry}
-use Rattle.osdp_bus.specs.declared.fault.BusFault.{BusFault}
 use Rattle.osdp_bus_laws.specs.Calls as bus
-use Rattle.osdp_bus_laws.specs.Reports.{told_in}
 use Rattle.osdp_device.specs.Deciding.{passed}
-use Rattle.osdp_device.specs.Telling.{items_of}
 use Rattle.osdp_frame.specs.Receiving.{after_silence, after_take, after_tick}
-use Rattle.osdp_link_laws.specs.Link.{Account, after_report, front_of, taken, taken_command}
-use Rattle.osdp_reader.specs.Queue.{lacks_room, never_offered}
-use Rattle.osdp_reader.specs.State.{after_set_busy, after_set_handler}
 use Rattle.osdp_reader.specs.Table.{hears, kind_of}
-use Rattle.osdp_reader.specs.declared.handler.Answer.{Answer}
 use Rattle.osdp_reader.specs.declared.kind.Kind.{Kind}
 use Rattle.osdp_reader.specs.declared.kind.Kind.TheVariants as kinds
 use Rattle.osdp_ledger.specs.Ledger as ledger
-use Rattle.osdp_ledger.specs.Ledger.{Ledger, Open, RestartDevice, new_ledger}
-use Rattle.osdp_link_laws.proofs.Lines.{each_map}
-use Rattle.osdp_link_laws.proofs.Stages.{Each}
-use Rattle.osdp_link_ledger.specs.Steps.{after_steps, opens, queued_before, queues, submits, withdraws, withdraws_event}
-use Rattle.osdp_link_ledger.proofs.Plain.{IsDone}
 use Rattle.osdp_shared_line.specs.Line.{Net, RestartPanel, after_net, site_at}
-use Rattle.osdp_shared_line.proofs.Sites.{changed_from, some_same}
 use Rattle.osdp_calls.specs.Calls as calls
-use Rattle.osdp_calls.specs.Calls.{Call, NewDevice, NewPanel, Next, OfPanel, Pending, SetHandler, Silence, Step, SubmitEvent, Take, TickDevice, WithdrawEvent, after_call, after_calls, all_forget, all_hear, answers, asked_at, begins_session, begins_with, begun_of, change_at, changes_at, first_answered, forgets, hears_of, is_to_begin, issues, last_of, made_anew, nexts, panel_says, read_by, read_up_to, takes_back, waiting_of, withdrawn}
-use Rattle.osdp_calls.specs.Handing.{heard, hears_all}
-use Rattle.osdp_calls.specs.Lines.{InUse, Station, bus_with}
-use Rattle.osdp_calls.specs.Premises.{AllKeep}
-use Rattle.osdp_calls.proofs.Agreeing.{begun_heard}
 use Rattle.osdp_calls.proofs.Ends.{next_stations}
-use Rattle.osdp_calls.proofs.Heeding.{new_at}
-use Rattle.osdp_calls.proofs.Holding.{its_site, one_call}
-use Rattle.osdp_calls.proofs.Lasting.{call_keeps, calls_keep}
 use Rattle.osdp_calls.proofs.Marked.{Tells, reported_in}
 use Rattle.osdp_calls.proofs.MarkedDevices.{step_tells, told_by}
 use Rattle.osdp_calls.proofs.Marking.{Agrees, Told, after_told, heard_marks, next as next_one, next_told}
-use Rattle.osdp_calls.proofs.Matching.{IsOurs}
-use Rattle.osdp_calls.proofs.Noticing.{HeardAt, Touched, Untouched, heard_at}
 use Rattle.osdp_calls.proofs.Places.{those}
 use Rattle.osdp_calls.proofs.Refusing as by_accounts
-use Rattle.osdp_calls.proofs.Same.{IsNetOf}
-use Rattle.osdp_calls.proofs.Setting.{first_net, starts}
 use Rattle.osdp_calls_ledger.specs.Refusals.{CallsRefuseNoNumber, has_restarted}
-use Rattle.osdp_calls_ledger.specs.Steps.{answered, device_steps, given_back, opening, panel_restarts, panel_steps, reported, steps_along, steps_at, steps_of}
 use Rattle.osdp_calls_ledger.proofs.Allowing.{answered_done, reported_done}
 use Rattle.osdp_calls_ledger.proofs.Own.{no_steps}
 use Rattle.osdp_calls_ledger.proofs.Ticks.{nothing_sent, other_opens}

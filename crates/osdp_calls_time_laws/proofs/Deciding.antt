@@ -1,18 +1,7 @@
 -- The test of a call holds exactly where it is in time.
 use Rattle.std.proofs.Common.{◌≡◌, ◌≤◌, ◌<◌, ◌+◌, ◌*◌, ◌&&◌, ◌==◌, ℕ, suc, Bool, true, Decides, List, [], ◌∷◌, Option, Some, None, IfSome}
-use Rattle.std.proofs.lemmas.Bool.{and_parts}
-use Rattle.std.proofs.lemmas.Bool.Decides.{Decides-and, Decides-eqb, Decides-like}
-use Rattle.std.specs.Prelude.{◌^◌, nat_le, nat_lt}
-use Rattle.osdp_msg.specs.declared.command.Command.{Command}
-use Rattle.osdp_bus.specs.declared.config.BusConfig.{BusConfig}
-use Rattle.osdp_reader.specs.declared.handler.Answer.{Answer}
-use Rattle.osdp_shared_line.specs.Line.{site_at}
-use Rattle.osdp_calls.specs.Calls.{Call, NewPanel, OfPanel, after_call}
-use Rattle.osdp_calls.specs.Lines.{InUse}
-use Rattle.osdp_premises.specs.Deciding.{if_there}
+use Rattle.osdp_calls_time_laws.proofs.Common.{and_parts, Decides-and, Decides-eqb, Decides-like, ◌^◌, nat_le, nat_lt, Command, BusConfig, Answer, site_at, Call, NewPanel, OfPanel, after_call, InUse, if_there, TimelyIsExact, are_read_within, are_timely, is_timely, keeps_clock, waits_twice, AllTimely, Clock, IsTimely, KeepsClock, Timed, WaitsTwice, clock_after, moment_of}
 use Rattle.osdp_premises.proofs.Deciding.{always, each_decides, if_decides, leb_decides}
-use Rattle.osdp_calls_time_laws.specs.Deciding.{TimelyIsExact, are_read_within, are_timely, is_timely, keeps_clock, waits_twice}
-use Rattle.osdp_calls_time_laws.specs.Moments.{AllTimely, Clock, IsTimely, KeepsClock, Timed, WaitsTwice, clock_after, moment_of}
 
 -- the same where there is one
 some_decides : {A : Type 0} (p : A → Bool) (P : A → Type 0) → ((x : A) → Decides (p x) (P x)) → (o : Option A) → Decides (if_there p o) (IfSome o P)

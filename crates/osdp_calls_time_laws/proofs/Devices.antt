@@ -1,38 +1,19 @@
 -- What a bus keeps of its devices, and a device whose session is to begin.
-use Rattle.std.proofs.Common.{◌≡◌, ◌⊎◌, ◌≤◌, ◌<◌, ◌+◌, ℕ, max, Bool, true, false, cond, List, [], ◌∷◌, Option, Some, None, refl, sym, subst, ap, ◌∙◌, inl, inr, arith}
-use Rattle.std.proofs.lemmas.Bool.{leb-true}
-use Rattle.std.specs.Prelude.{◌^◌, IfSome, min, nat_le, nat_lt, slice_get}
-use Rattle.osdp_frame.specs.Packet.{Packet, next_sequence}
-use Rattle.osdp_msg.specs.declared.command.Command.{Command}
+use Rattle.osdp_calls_time_laws.proofs.Common.{◌≡◌, ◌⊎◌, ◌≤◌, ◌<◌, ◌+◌, ℕ, max, Bool, true, false, cond, List, [], ◌∷◌, Option, Some, None, refl, sym, subst, ap, ◌∙◌, inl, inr, arith, leb-true, ◌^◌, IfSome, min, nat_le, nat_lt, slice_get, Packet, next_sequence, Command, ControllerConfig, Closed, Quiet, Idle, Waiting, Pausing, BusState, Devices, entry_hears, entry_ticks, hears_packet, begin_refusal_at, entry_begins, new_device, BusConfig, Entry, BusFault, moments_are_seen, both, some_same, hears_all, HeardAt, Touched, Untouched, heard_at, WaitsTwice, moment_of}
 use Rattle.osdp_controller.specs.Hearing.{Heard}
 use Rattle.osdp_controller.specs.Ticking as ticking
 use Rattle.osdp_controller.specs.Ticking.{Ticked, ticks_in}
-use Rattle.osdp_controller.specs.declared.config.ControllerConfig.{ControllerConfig}
 use Rattle.osdp_controller.specs.declared.exchange.Exchange.TheVariants.{Opening as OpeningExchange, Polling}
 use Rattle.osdp_controller.specs.declared.session.Session.{Session}
 use Rattle.osdp_controller.specs.declared.state.State.{State}
-use Rattle.osdp_controller.specs.declared.state.State.TheVariants.{Closed, Quiet, Idle, Waiting, Pausing}
 use Rattle.osdp_controller_laws.specs.Runs.{Tick as TickOf, Hear as HearOf}
 use Rattle.osdp_controller_laws.proofs.Kept.{hears_at_moment}
 use Rattle.osdp_controller_laws.proofs.OneCall.{keeps_settings}
 use Rattle.osdp_time_laws.proofs.Ends.{tick_at_moment}
-use Rattle.osdp_bus.specs.Buses.{BusState, Devices}
-use Rattle.osdp_bus.specs.Entries.{entry_hears, entry_ticks}
-use Rattle.osdp_bus.specs.Hearing.{hears_packet}
-use Rattle.osdp_bus.specs.Machine.{begin_refusal_at, entry_begins, new_device}
-use Rattle.osdp_bus.specs.declared.config.BusConfig.{BusConfig}
-use Rattle.osdp_bus.specs.declared.entry.Entry.{Entry}
-use Rattle.osdp_bus.specs.declared.fault.BusFault.{BusFault}
 use Rattle.osdp_bus_laws.specs.Calls.{Call, Add, Begin, Submit, Withdraw, Retarget, OnBytes, OnSilence, Tick, NextReport, after_call}
-use Rattle.osdp_bus_laws.proofs.Moments.{moments_are_seen}
 use Rattle.osdp_bus_time_laws.proofs.Devices.{Each, each_call, same_config}
 use Rattle.osdp_bus_time_laws.proofs.Moments.{grows}
-use Rattle.osdp_link_laws.proofs.Lines.{both}
-use Rattle.osdp_shared_line.proofs.Sites.{some_same}
-use Rattle.osdp_calls.specs.Handing.{hears_all}
 use Rattle.osdp_calls.proofs.Controllers.{ignored_quiet}
-use Rattle.osdp_calls.proofs.Noticing.{HeardAt, Touched, Untouched, heard_at}
-use Rattle.osdp_calls_time_laws.specs.Moments.{WaitsTwice, moment_of}
 use Rattle.osdp_calls_time_laws.proofs.Waits.{IsKept, IsOf}
 use Rattle.osdp_controller.specs.Sessions as clocks
 

@@ -1,24 +1,6 @@
 -- What the panel reads, before one of its controllers ticks.
-use Rattle.std.proofs.Common.{ℕ, List, [], ◌∷◌, sym, subst, arith, inl, inr}
-use Rattle.osdp_frame.specs.Packet.{Packet}
+use Rattle.osdp_calls_time_laws.proofs.Common.{ℕ, List, [], ◌∷◌, sym, subst, arith, inl, inr, Packet, Command, hears_packet, told_by_item, Each, Answer, Net, last_of, hears_all, told_by_all, InUse, reads_those, then_refines, hears_one, panel_on, reads_here, told_then, NotPast, unheard, IsNetOf, Refines, by_none, Ordered, ordered_heard, at_length}
 use Rattle.osdp_frame.specs.Reading.{PacketItem}
-use Rattle.osdp_msg.specs.declared.command.Command.{Command}
-use Rattle.osdp_bus.specs.Hearing.{hears_packet}
-use Rattle.osdp_bus_laws.specs.Reports.{told_by_item}
-use Rattle.osdp_link_laws.proofs.Stages.{Each}
-use Rattle.osdp_reader.specs.declared.handler.Answer.{Answer}
-use Rattle.osdp_shared_line.specs.Line.{Net}
-use Rattle.osdp_calls.specs.Calls.{last_of}
-use Rattle.osdp_calls.specs.Handing.{hears_all, told_by_all}
-use Rattle.osdp_calls.specs.Lines.{InUse}
-use Rattle.osdp_calls.proofs.Agreeing.{reads_those}
-use Rattle.osdp_calls.proofs.Nexts.{then_refines}
-use Rattle.osdp_calls.proofs.Panel.{hears_one, panel_on, reads_here, told_then}
-use Rattle.osdp_calls.proofs.Runs.{NotPast, unheard}
-use Rattle.osdp_calls.proofs.Same.{IsNetOf}
-use Rattle.osdp_calls.proofs.Stations.{Refines, by_none}
-use Rattle.osdp_calls.proofs.Strangers.{Ordered, ordered_heard}
-use Rattle.osdp_shared_line.proofs.Rounds.{at_length}
 
 module _ {H : Type 0} (answer_of : H → Command → Answer) (after : H → Command → H) where
   -- a packet that none of our controllers hears

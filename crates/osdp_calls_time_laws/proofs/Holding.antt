@@ -1,40 +1,14 @@
 -- Call after call each packet is read in time, so each opening is quiet.
-use Rattle.std.proofs.Common.{◌≡◌, ◌+◌, ◌<◌, ◌≤◌, ℕ, List, [], ◌∷◌, length, refl, sym, subst, ap, ◌∙◌, arith, ◌++◌}
-use Rattle.std.specs.Prelude.{◌^◌, map, slice_get}
-use Rattle.osdp_msg.specs.declared.command.Command.{Command}
-use Rattle.osdp_bus.specs.Buses.{BusState}
-use Rattle.osdp_bus.specs.Entries.{address_of}
-use Rattle.osdp_bus.specs.Settings.{IsBusConfig}
-use Rattle.osdp_bus.specs.declared.config.BusConfig.{BusConfig}
-use Rattle.osdp_bus.specs.declared.entry.Entry.{Entry}
+use Rattle.osdp_calls_time_laws.proofs.Common.{◌≡◌, ◌+◌, ◌<◌, ◌≤◌, ℕ, List, [], ◌∷◌, length, refl, sym, subst, ap, ◌∙◌, arith, ◌++◌, ◌^◌, map, slice_get, Command, BusState, address_of, IsBusConfig, BusConfig, Entry, ReadsWhatIsAsked, each_of, Each, after_set_busy, after_set_handler, Answer, Net, RestartPanel, after_net, site_at, Apart, apart_after, apart_all, apart_first, Call, NewDevice, NewPanel, Next, OfPanel, Pending, SetBusy, SetHandler, Silence, SubmitEvent, Take, TickDevice, WithdrawEvent, after_call, begun_of, change_at, made_anew, queues, withdraws_event, InUse, Station, bus_with, AllKeep, InOrder, InRange, IsSetUp, QuietOpening, begun_change, new_at, one_call, IsNetOf, LedgerHoldsOnce, TimelyCallsOpenQuietly, TimelyLedgerHoldsOnce, steps_of, AllKeepElse, AllTimely, Clock, KeepsClock, Timed, WaitsTwice, clock_after, clock_at, queues_begun}
 use Rattle.osdp_device.specs.Deciding.{passed}
 use Rattle.osdp_frame.specs.Receiving.{after_silence, after_take, after_tick}
-use Rattle.osdp_link_laws.specs.Peers.{ReadsWhatIsAsked}
-use Rattle.osdp_link_laws.proofs.Lines.{each_of}
-use Rattle.osdp_link_laws.proofs.Stages.{Each}
-use Rattle.osdp_reader.specs.State.{after_set_busy, after_set_handler}
-use Rattle.osdp_reader.specs.declared.handler.Answer.{Answer}
 use Rattle.osdp_reader.specs.Queue.{lacks_room}
-use Rattle.osdp_shared_line.specs.Line.{Net, RestartPanel, after_net, site_at}
-use Rattle.osdp_shared_line.proofs.Apart.{Apart}
-use Rattle.osdp_shared_line.proofs.Running.{apart_after, apart_all, apart_first}
-use Rattle.osdp_calls.specs.Calls.{Call, NewDevice, NewPanel, Next, OfPanel, Pending, SetBusy, SetHandler, Silence, SubmitEvent, Take, TickDevice, WithdrawEvent, after_call, begun_of, change_at, made_anew, queues, withdraws_event}
-use Rattle.osdp_calls.specs.Lines.{InUse, Station, bus_with}
-use Rattle.osdp_calls.specs.Premises.{AllKeep, InOrder, InRange, IsSetUp, QuietOpening}
-use Rattle.osdp_calls.proofs.Agreeing.{begun_change}
-use Rattle.osdp_calls.proofs.Heeding.{new_at}
-use Rattle.osdp_calls.proofs.Holding.{one_call}
-use Rattle.osdp_calls.proofs.Same.{IsNetOf}
 use Rattle.osdp_calls.proofs.Setting.{first_net, starts}
-use Rattle.osdp_calls_ledger.specs.Promises.{LedgerHoldsOnce}
-use Rattle.osdp_calls_time_laws.specs.Laws.{TimelyCallsOpenQuietly, TimelyLedgerHoldsOnce, steps_of}
-use Rattle.osdp_calls_time_laws.specs.Moments.{AllKeepElse, AllTimely, Clock, KeepsClock, Timed, WaitsTwice, clock_after, clock_at}
 use Rattle.osdp_calls_time_laws.proofs.Devices.{of_new}
 use Rattle.osdp_calls_time_laws.proofs.Nexts.{runs_next}
 use Rattle.osdp_calls_time_laws.proofs.Panel.{is_quiet, runs_panel}
 use Rattle.osdp_calls_time_laws.proofs.Quiet.{ReadAt, opens_quietly}
 use Rattle.osdp_calls_time_laws.proofs.Waits.{AllWait, IsKept, IsOf, IsPast, Runs, Waits, runs_silent}
-use Rattle.osdp_calls.proofs.Ruling.{queues_begun}
 
 -- a time is no matter to a clock that has just begun
 short : (q : ℕ) → q ≤ 3600000 → 0 + q < 2 ^ 64

@@ -1,33 +1,18 @@
 -- The long day is read in time; and of a quiet wait of twice the time for which packets are held an opening isn't quiet.
-use Rattle.std.proofs.Common.{◌≡◌, ◌≢◌, ◌<◌, ◌&&◌, ℕ, zero, suc, Bool, true, false, List, [], ◌∷◌, Some, None, refl, sym, subst, ◌∙◌, arith}
-use Rattle.std.proofs.lemmas.Bool.{and_parts, false≢true}
-use Rattle.std.specs.Prelude.{take}
+use Rattle.osdp_calls_time_laws.proofs.Common.{◌≡◌, ◌≢◌, ◌<◌, ◌&&◌, ℕ, zero, suc, Bool, true, false, List, [], ◌∷◌, Some, None, refl, sym, subst, ◌∙◌, arith, and_parts, false≢true, take, Command, IsBusConfig, Answer, site_at, Note, OfPanel, Step, after_call, after_calls, InUse, Station, AllKeep, IsSetUp, first_notes, notes_after, has_addresses, is_in_order, is_quiet, LongDayIsTimely, TwiceIsTooShort, brief, held_day, moment_in, one_line, timed, steps_of, AllKeepElse, AllKeepRuleElse, clock_at}
 use Rattle.osdp_frame.specs.Held.{decided}
 use Rattle.osdp_frame.specs.Items.{items, left_over}
 use Rattle.osdp_msg.specs.CommandTable.{command_at, command_fault, command_of}
 use Rattle.osdp_msg.specs.ReplyTable.{reply_at, reply_fault, reply_of}
-use Rattle.osdp_msg.specs.declared.command.Command.{Command}
-use Rattle.osdp_bus.specs.Settings.{IsBusConfig}
 use Rattle.osdp_bus_laws.specs.Calls as bus
 use Rattle.osdp_link_laws.specs.Link.{new_account}
-use Rattle.osdp_reader.specs.declared.handler.Answer.{Answer}
-use Rattle.osdp_shared_line.specs.Line.{site_at}
-use Rattle.osdp_shared_line.specs.Programs.{Note}
 use Rattle.osdp_reader_laws.specs.Storing.{StoresItsOwn}
-use Rattle.osdp_calls.specs.Calls.{OfPanel, Step, after_call, after_calls}
-use Rattle.osdp_calls.specs.Lines.{InUse, Station}
-use Rattle.osdp_calls.specs.Premises.{AllKeep, IsSetUp}
-use Rattle.osdp_calls.specs.Programs.{first_notes, notes_after}
-use Rattle.osdp_premises.specs.Deciding.{has_addresses, is_in_order, is_quiet}
 use Rattle.osdp_premises.specs.Exactly.{AllInRange}
 use Rattle.osdp_premises.specs.Ruling.{keeps_rule}
 use Rattle.osdp_premises.specs.LongDay.{answers, calls, line_in_the_morning, long_day, station_at}
 use Rattle.osdp_premises.proofs.Exactly.{exact}
 use Rattle.osdp_premises.proofs.Ruling.{rule_exact}
 use Rattle.osdp_premises.proofs.LongDay.{AllRanges, all_range, day_keeps, id_fits, is_the_one, keep_at, no_bytes, room_fits}
-use Rattle.osdp_calls_time_laws.specs.Instance.{LongDayIsTimely, TwiceIsTooShort, brief, held_day, moment_in, one_line, timed}
-use Rattle.osdp_calls_time_laws.specs.Laws.{steps_of}
-use Rattle.osdp_calls_time_laws.specs.Moments.{AllKeepElse, AllKeepRuleElse, clock_at}
 use Rattle.osdp_calls_time_laws.proofs.Deciding.{all_timely}
 
 brief_fits : IsBusConfig brief

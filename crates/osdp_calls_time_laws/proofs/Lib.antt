@@ -1,3 +1,4 @@
+pub mod Common
 pub mod Stamps
 pub mod Waits
 pub mod Quiet

@@ -1,39 +1,16 @@
 -- What a device says to what it reads in time: its answer concerns what its question does.
-use Rattle.std.proofs.Common.{◌≡◌, ◌||◌, ◌+◌, ◌<◌, ◌≤◌, ℕ, zero, suc, not, Bool, true, false, cond, List, [], ◌∷◌, Option, Some, None, refl, sym, subst, ap, ◌∙◌, inl, inr, arith}
-use Rattle.std.proofs.lemmas.Bool.{eqb-true, le-leb}
-use Rattle.std.proofs.lemmas.Bool.Decides.{eqb_tells}
+use Rattle.osdp_calls_time_laws.proofs.Common.{◌≡◌, ◌||◌, ◌+◌, ◌<◌, ◌≤◌, ℕ, zero, suc, not, Bool, true, false, cond, List, [], ◌∷◌, Option, Some, None, refl, sym, subst, ap, ◌∙◌, inl, inr, arith, eqb-true, le-leb, eqb_tells, Packet, Command, address_of, Entry, is_false, Each, ReaderState, Answer, Net, changed, site_at, Apart, IsAway, IsToDevice, reader_address, some_same, Burst, InUse, Station, concerns, is_ahead_of_device, is_past_for_device, those, AreInOrder, NextInOrder, address_same, begun_changed, each_at, IsNetOf, IsRightly, of_station, IsUnanswered, order_for_device, unanswered_first, Clock, Timed, clock_after, at_length, answers_begun}
 use Rattle.std.specs.Prelude.{◌==◌, ◌&&◌, IfSome, nat_le, option_to_list, slice_get}
-use Rattle.osdp_frame.specs.Packet.{Packet}
-use Rattle.osdp_msg.specs.declared.command.Command.{Command}
 use Rattle.osdp_device.specs.Saying.{speaks}
 use Rattle.osdp_device.specs.Telling.{items_of}
-use Rattle.osdp_bus.specs.Entries.{address_of}
-use Rattle.osdp_bus.specs.declared.entry.Entry.{Entry}
-use Rattle.osdp_link_laws.proofs.Numbers.{is_false}
-use Rattle.osdp_link_laws.proofs.Stages.{Each}
-use Rattle.osdp_reader.specs.State.{ReaderState}
 use Rattle.osdp_reader.specs.Table.{hears, kind_by_number, kind_of}
-use Rattle.osdp_reader.specs.declared.handler.Answer.{Answer}
 use Rattle.osdp_reader.specs.declared.kind.Kind.TheVariants as kind
-use Rattle.osdp_shared_line.specs.Line.{Net, changed, site_at}
-use Rattle.osdp_shared_line.proofs.Apart.{Apart, IsAway, IsToDevice, reader_address}
 use Rattle.osdp_shared_line.proofs.Readers.{IsForAll, IsFrom, StoresOwn, reads_well}
-use Rattle.osdp_shared_line.proofs.Sites.{some_same}
 use Rattle.osdp_calls.specs.Calls.{answers, begun_of, by_device, after_next, first_answered, nexts, read_up_to, reply_to}
-use Rattle.osdp_calls.specs.Lines.{Burst, InUse, Station, concerns, is_ahead_of_device, is_past_for_device, those}
-use Rattle.osdp_calls.specs.Premises.{AreInOrder, NextInOrder}
-use Rattle.osdp_calls.proofs.Agreeing.{address_same, begun_changed}
-use Rattle.osdp_calls.proofs.Nexts.{each_at}
 use Rattle.osdp_calls.proofs.Replying.{silent_to_replies}
-use Rattle.osdp_calls.proofs.Same.{IsNetOf, IsRightly}
-use Rattle.osdp_calls.proofs.Stations.{of_station}
-use Rattle.osdp_calls.proofs.Strangers.{IsUnanswered, order_for_device, unanswered_first}
-use Rattle.osdp_calls_time_laws.specs.Moments.{Clock, Timed, clock_after}
 use Rattle.osdp_calls_time_laws.proofs.Quiet.{ReadAt, device_not_past}
 use Rattle.osdp_calls_time_laws.proofs.Stamps.{there_is}
 use Rattle.osdp_calls_time_laws.proofs.Waits.{IsKept, Runs, Waits, latest, of_entry, runs_on, still_past, still_waits}
-use Rattle.osdp_shared_line.proofs.Rounds.{at_length}
-use Rattle.osdp_calls.proofs.Ruling.{answers_begun}
 
 -- what passes a test is among those that do
 those_has : (test : ℕ → Burst → Bool) (P : ℕ × Packet → Type 0) (from m i : ℕ) (b : Burst) (bs : List Burst) → i ≡ from + m → Each P (those test from bs)

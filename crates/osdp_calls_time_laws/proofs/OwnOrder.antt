@@ -1,27 +1,11 @@
 -- Where entries stand in an order of the panel's own, and each packet is read in time, each opening is quiet, too.
 use Rattle.std.proofs.Common.{◌≡◌, ◌≤◌, ◌<◌, ◌+◌, ◌&&◌, ℕ, Bool, true, false, cond, IfSome, List, [], ◌∷◌, Option, refl, sym, subst, ap, ◌∙◌, arith}
-use Rattle.std.proofs.lemmas.Bool.{and_parts}
-use Rattle.std.specs.Prelude.{◌^◌}
+use Rattle.osdp_calls_time_laws.proofs.Common.{and_parts, ◌^◌, Command, BusState, BusConfig, ReadsWhatIsAsked, each_of, Each, Answer, Net, site_at, Apart, apart_all, Call, NewDevice, NewPanel, Next, OfPanel, Pending, SetBusy, SetHandler, Silence, SubmitEvent, Take, TickDevice, WithdrawEvent, after_call, begun_of, InUse, InOrder, InRange, QuietOpening, one_call, IsNetOf, is_timely, moment_in, Clock, KeepsClock, Timed, WaitsTwice, clock_after, clock_at, moment_of}
 use Rattle.osdp_frame.specs.Held.{decided}
 use Rattle.osdp_frame.specs.Items.{items, left_over}
 use Rattle.osdp_msg.specs.CommandTable.{command_at, command_fault, command_of}
 use Rattle.osdp_msg.specs.ReplyTable.{reply_at, reply_fault, reply_of}
-use Rattle.osdp_msg.specs.declared.command.Command.{Command}
-use Rattle.osdp_bus.specs.Buses.{BusState}
-use Rattle.osdp_bus.specs.declared.config.BusConfig.{BusConfig}
 use Rattle.osdp_bus_laws.specs.Calls as bus
-use Rattle.osdp_link_laws.specs.Peers.{ReadsWhatIsAsked}
-use Rattle.osdp_link_laws.proofs.Lines.{each_of}
-use Rattle.osdp_link_laws.proofs.Stages.{Each}
-use Rattle.osdp_reader.specs.declared.handler.Answer.{Answer}
-use Rattle.osdp_shared_line.specs.Line.{Net, site_at}
-use Rattle.osdp_shared_line.proofs.Apart.{Apart}
-use Rattle.osdp_shared_line.proofs.Running.{apart_all}
-use Rattle.osdp_calls.specs.Calls.{Call, NewDevice, NewPanel, Next, OfPanel, Pending, SetBusy, SetHandler, Silence, SubmitEvent, Take, TickDevice, WithdrawEvent, after_call, begun_of}
-use Rattle.osdp_calls.specs.Lines.{InUse}
-use Rattle.osdp_calls.specs.Premises.{InOrder, InRange, QuietOpening}
-use Rattle.osdp_calls.proofs.Holding.{one_call}
-use Rattle.osdp_calls.proofs.Same.{IsNetOf}
 use Rattle.osdp_entry_numbers.specs.Day.{day, own_line}
 use Rattle.osdp_entry_numbers.specs.Numbers.{has_entry, named, renumbered}
 use Rattle.osdp_entry_numbers.specs.OwnOrder.{AllOwnKeep, OwnKeeps, OwnLine, OwnStep, after_own, in_order, own_view, turned}
@@ -29,9 +13,6 @@ use Rattle.osdp_entry_numbers.proofs.Day.{any_order}
 use Rattle.osdp_entry_numbers.proofs.Following.{Follows, set_up_follows, still_follows}
 use Rattle.osdp_entry_numbers.proofs.Keeping.{turned_net}
 use Rattle.osdp_entry_numbers.proofs.Panels.{max_zero}
-use Rattle.osdp_calls_time_laws.specs.Deciding.{is_timely}
-use Rattle.osdp_calls_time_laws.specs.Instance.{moment_in}
-use Rattle.osdp_calls_time_laws.specs.Moments.{Clock, KeepsClock, Timed, WaitsTwice, clock_after, clock_at, moment_of}
 use Rattle.osdp_calls_time_laws.specs.OwnOrder.{AllOwnKeepElse, AllOwnTimely, OwnDayIsTimely, OwnOrderOpensQuietly, OwnTimed, own_steps_of, own_timed, plain}
 use Rattle.osdp_calls_time_laws.proofs.Deciding.{timely_exact}
 use Rattle.osdp_calls_time_laws.proofs.Holding.{begins, rests, runs_call}

@@ -1,54 +1,19 @@
 -- The panel's calls, on a line whose packets are read in time.
-use Rattle.std.proofs.Common.{◌≡◌, ◌+◌, ◌≤◌, ℕ, max, Bool, true, false, ◌<◌, List, Option, Some, None, refl, sym, subst, ap, ◌∙◌, inl, inr, arith}
-use Rattle.std.proofs.lemmas.Bool.Decides.{eqb_tells}
+use Rattle.osdp_calls_time_laws.proofs.Common.{◌≡◌, ◌+◌, ◌≤◌, ℕ, max, Bool, true, false, ◌<◌, List, Option, Some, None, refl, sym, subst, ap, ◌∙◌, inl, inr, arith, eqb_tells, Packet, Command, ControllerConfig, Quiet, BusState, Devices, device_of, seen, address_of, is_taken_beside, bus_fault, changed_unless, or_taken, retarget_refusal_of, bus_ticks, ticks_at, Entry, BusFault, told_by_ticking, told_in, moments_are_seen, ReadsWhatIsAsked, each_of, Each, Answer, Net, site_at, Apart, apart_all, at_changed, some_same, OfPanel, after_call, all_hear, asked_at, begun_of, change_at, changes_at, is_to_begin, issues, last_of, noted, panel_says, read_by, takes_back, withdrawn, hears_all, told_by_all, InUse, Station, InOrder, InRange, QuietOpening, ticks_to, begun_change, begun_heard, reads_those, AsBefore, IsChanged, changed_at, at_seen, told_then, NotPast, Controls, IsNetOf, IsToOpen, of_station, ordered, Clock, Timed, clock_after, stamped, station_other}
 use Rattle.std.specs.Prelude.{◌^◌, ◌||◌, option_map, slice_get}
-use Rattle.osdp_frame.specs.Packet.{Packet}
-use Rattle.osdp_msg.specs.declared.command.Command.{Command}
 use Rattle.osdp_controller.specs.Comsets.{has_comset}
 use Rattle.osdp_controller.specs.Machine.{or_no_device, refused_unless_closed}
 use Rattle.osdp_controller.specs.Sessions as clocks
-use Rattle.osdp_controller.specs.declared.config.ControllerConfig.{ControllerConfig}
 use Rattle.osdp_controller.specs.declared.report.Report.{Report}
-use Rattle.osdp_controller.specs.declared.state.State.TheVariants.{Quiet}
-use Rattle.osdp_bus.specs.Buses.{BusState, Devices, device_of, seen}
-use Rattle.osdp_bus.specs.Entries.{address_of, is_taken_beside}
 use Rattle.osdp_bus.specs.Machine as machine
-use Rattle.osdp_bus.specs.Machine.{bus_fault, changed_unless, or_taken, retarget_refusal_of}
-use Rattle.osdp_bus.specs.Ticking.{bus_ticks, ticks_at}
-use Rattle.osdp_bus.specs.declared.entry.Entry.{Entry}
-use Rattle.osdp_bus.specs.declared.fault.BusFault.{BusFault}
 use Rattle.osdp_bus_laws.specs.Calls as bus
-use Rattle.osdp_bus_laws.specs.Reports.{told_by_ticking, told_in}
-use Rattle.osdp_bus_laws.proofs.Moments.{moments_are_seen}
-use Rattle.osdp_link_laws.specs.Peers.{ReadsWhatIsAsked}
-use Rattle.osdp_link_laws.proofs.Lines.{each_of}
-use Rattle.osdp_link_laws.proofs.Stages.{Each}
-use Rattle.osdp_reader.specs.declared.handler.Answer.{Answer}
-use Rattle.osdp_shared_line.specs.Line.{Net, site_at}
-use Rattle.osdp_shared_line.proofs.Apart.{Apart}
-use Rattle.osdp_shared_line.proofs.Running.{apart_all}
-use Rattle.osdp_shared_line.proofs.Sites.{at_changed, some_same}
-use Rattle.osdp_calls.specs.Calls.{OfPanel, after_call, all_hear, asked_at, begun_of, change_at, changes_at, is_to_begin, issues, last_of, noted, panel_says, read_by, takes_back, withdrawn}
-use Rattle.osdp_calls.specs.Handing.{hears_all, told_by_all}
-use Rattle.osdp_calls.specs.Lines.{InUse, Station}
-use Rattle.osdp_calls.specs.Premises.{InOrder, InRange, QuietOpening}
-use Rattle.osdp_calls.proofs.Agreed.{ticks_to}
-use Rattle.osdp_calls.proofs.Agreeing.{begun_change, begun_heard, reads_those}
 use Rattle.osdp_calls.proofs.Ends.{said_bus}
 use Rattle.osdp_calls.proofs.Handing.{hands_over}
 use Rattle.osdp_calls.proofs.Heeded.{OfLine, of_line, says_alike, ticks_greatest}
-use Rattle.osdp_calls.proofs.Heeding.{AsBefore, IsChanged, changed_at}
-use Rattle.osdp_calls.proofs.Panel.{at_seen, told_then}
-use Rattle.osdp_calls.proofs.Runs.{NotPast}
-use Rattle.osdp_calls.proofs.Same.{Controls, IsNetOf, IsToOpen}
-use Rattle.osdp_calls.proofs.Stations.{of_station}
-use Rattle.osdp_calls.proofs.Strangers.{ordered}
 use Rattle.osdp_calls_time_laws.proofs.Handed.{reads_net}
-use Rattle.osdp_calls_time_laws.specs.Moments.{Clock, Timed, clock_after, stamped}
 use Rattle.osdp_calls_time_laws.proofs.Devices.{InTime, kept_bus, quiet_heard}
 use Rattle.osdp_calls_time_laws.proofs.Ticks.{HasTicked, IsWaiting, has_ticked}
 use Rattle.osdp_calls_time_laws.proofs.Waits.{AllWait, IsKept, IsPast, Runs, Waits, latest, runs_on, runs_silent}
-use Rattle.osdp_calls.proofs.Places.{station_other}
 
 -- an entry whose session is to begin, and is not closed
 pub record IsQuiet (k : ℕ) (b : BusState) : Type 0 where

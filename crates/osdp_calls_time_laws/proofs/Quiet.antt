@@ -1,19 +1,9 @@
 -- What is read in time was said before no opening that it concerns.
-use Rattle.std.proofs.Common.{◌≡◌, ◌≤◌, ◌+◌, ℕ, false, List, Some, ap, ◌∙◌, arith}
-use Rattle.std.proofs.lemmas.Bool.{and_parts, ltb-true}
+use Rattle.osdp_calls_time_laws.proofs.Common.{◌≡◌, ◌≤◌, ◌+◌, ℕ, false, List, Some, ap, ◌∙◌, arith, and_parts, ltb-true, each_all, each_map, Each, site_at, Call, Next, OfPanel, Burst, InUse, Opening, concerns, is_before, is_past_for_device, is_past_for_panel, QuietOpening, and_false, any_false, Clock, at_length}
 use Rattle.std.specs.Prelude.{◌==◌, ◌&&◌, nat_lt}
 use Rattle.osdp_bus_laws.proofs.Places.{is_false}
-use Rattle.osdp_link_laws.proofs.Lines.{each_all, each_map}
-use Rattle.osdp_link_laws.proofs.Stages.{Each}
-use Rattle.osdp_shared_line.specs.Line.{site_at}
-use Rattle.osdp_calls.specs.Calls.{Call, Next, OfPanel}
-use Rattle.osdp_calls.specs.Lines.{Burst, InUse, Opening, concerns, is_before, is_past_for_device, is_past_for_panel}
-use Rattle.osdp_calls.specs.Premises.{QuietOpening}
-use Rattle.osdp_calls.proofs.Ahead.{and_false, any_false}
-use Rattle.osdp_calls_time_laws.specs.Moments.{Clock}
 use Rattle.osdp_calls_time_laws.proofs.Stamps.{there_is}
 use Rattle.osdp_calls_time_laws.proofs.Waits.{IsPast, Runs}
-use Rattle.osdp_shared_line.proofs.Rounds.{at_length}
 
 -- what is read at this place, at this moment, was said no more than so long ago
 abbrev pub ReadAt : ℕ → ℕ → List ℕ → ℕ → Type 0

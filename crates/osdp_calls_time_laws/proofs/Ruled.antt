@@ -1,22 +1,5 @@
 -- Where programs keep to the rule for addresses, and each packet is read in time.
-use Rattle.std.proofs.Common.{◌≡◌, ℕ, List, [], ◌∷◌, ◌++◌, refl, sym, subst, ap, ◌∙◌, append-nil, append_assoc}
-use Rattle.osdp_msg.specs.declared.command.Command.{Command}
-use Rattle.osdp_link_laws.specs.Peers.{ReadsWhatIsAsked}
-use Rattle.osdp_link_laws.proofs.Lines.{each_of}
-use Rattle.osdp_reader.specs.declared.handler.Answer.{Answer}
-use Rattle.osdp_shared_line.specs.Line.{Net}
-use Rattle.osdp_shared_line.specs.Programs.{Note}
-use Rattle.osdp_shared_line.proofs.Apart.{Apart}
-use Rattle.osdp_shared_line.proofs.Running.{apart_all}
-use Rattle.osdp_calls.specs.Calls.{Step, after_call, after_calls}
-use Rattle.osdp_calls.specs.Lines.{InUse}
-use Rattle.osdp_calls.specs.Premises.{Addresses, AllKeep, IsSetUp, Keeps}
-use Rattle.osdp_calls.specs.Programs.{AllKeepRule, CallsRuleSuffices, KeepsByRule, first_notes, notes_after}
-use Rattle.osdp_calls.proofs.Holding.{one_call}
-use Rattle.osdp_calls.proofs.Same.{IsNetOf}
-use Rattle.osdp_calls_ledger.specs.Promises.{RuledLedgerHoldsOnce}
-use Rattle.osdp_calls_time_laws.specs.Laws.{TimelyRuledHoldsOnce, steps_of}
-use Rattle.osdp_calls_time_laws.specs.Moments.{AllKeepRuleElse, AllTimely, Clock, Timed, clock_after, clock_at}
+use Rattle.osdp_calls_time_laws.proofs.Common.{◌≡◌, ℕ, List, [], ◌∷◌, ◌++◌, refl, sym, subst, ap, ◌∙◌, append-nil, append_assoc, Command, ReadsWhatIsAsked, each_of, Answer, Net, Note, Apart, apart_all, Step, after_call, after_calls, InUse, Addresses, AllKeep, IsSetUp, Keeps, AllKeepRule, CallsRuleSuffices, KeepsByRule, first_notes, notes_after, one_call, IsNetOf, RuledLedgerHoldsOnce, TimelyRuledHoldsOnce, steps_of, AllKeepRuleElse, AllTimely, Clock, Timed, clock_after, clock_at}
 use Rattle.osdp_calls_time_laws.proofs.Holding.{begins, runs_call}
 use Rattle.osdp_calls_time_laws.proofs.Quiet.{ReadAt, opens_quietly}
 use Rattle.osdp_calls_time_laws.proofs.Waits.{Runs}

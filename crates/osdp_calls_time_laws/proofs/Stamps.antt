@@ -1,7 +1,5 @@
 -- The moments of what was said.
-use Rattle.std.proofs.Common.{◌≡◌, ◌≤◌, ◌<◌, ℕ, zero, suc, List, [], ◌∷◌, ◌++◌, length, Some, refl, arith, subst, ap}
-use Rattle.osdp_shared_line.specs.Line.{site_at}
-use Rattle.osdp_calls_time_laws.specs.Moments.{stamped}
+use Rattle.osdp_calls_time_laws.proofs.Common.{◌≡◌, ◌≤◌, ◌<◌, ℕ, zero, suc, List, [], ◌∷◌, ◌++◌, length, Some, refl, arith, subst, ap, site_at, stamped}
 
 pub stamped_length : {A : Type 0} (at : ℕ) (bs : List A) (ms : List ℕ) → length (stamped at bs ms) ≡ length bs
 stamped_length at [] ms = refl

@@ -1,35 +1,11 @@
 -- A tick of a controller of the bus, on a line whose packets are read in time: where it opens a session, what was said before is read by now.
-use Rattle.std.proofs.Common.{◌≡◌, ◌≢◌, ◌||◌, ◌+◌, ◌*◌, ◌<◌, ◌≤◌, ℕ, zero, suc, max, Bool, true, false, List, [], ◌∷◌, ◌++◌, length, Option, Some, None, refl, sym, subst, ap, ◌∙◌, inl, inr, arith, append-nil, is_some}
-use Rattle.std.proofs.lemmas.Bool.Decides.{eqb_tells}
-use Rattle.std.specs.Prelude.{◌==◌, ◌^◌, ◌-◌, IfSome, slice_get, slice_set}
-use Rattle.osdp_frame.specs.Packet.{Packet}
-use Rattle.osdp_msg.specs.declared.command.Command.{Command}
+use Rattle.osdp_calls_time_laws.proofs.Common.{◌≡◌, ◌≢◌, ◌||◌, ◌+◌, ◌*◌, ◌<◌, ◌≤◌, ℕ, zero, suc, max, Bool, true, false, List, [], ◌∷◌, ◌++◌, length, Option, Some, None, refl, sym, subst, ap, ◌∙◌, inl, inr, arith, append-nil, is_some, eqb_tells, ◌==◌, ◌^◌, ◌-◌, IfSome, slice_get, slice_set, Packet, Command, device_of, waiting_after, address_of, entry_ticks, step_of, ticks_with, Entry, told_by_device, is_false, Each, Answer, Net, site_at, Apart, at_changed, some_same, all_hear, begins_session, begins_with, begun_of, change_at, changes_at, panel_says, waiting_of, said_for, Burst, InUse, Station, concerns, ticks_to, address_same, at_entry, begun_heard, from_panel, got_new, got_other, Controls, IsNetOf, IsToOpen, stamped, station_other}
 use Rattle.osdp_controller.specs.Sessions as clocks
-use Rattle.osdp_bus.specs.Buses.{device_of, waiting_after}
-use Rattle.osdp_bus.specs.Entries.{address_of, entry_ticks, step_of}
-use Rattle.osdp_bus.specs.Ticking.{ticks_with}
-use Rattle.osdp_bus.specs.declared.entry.Entry.{Entry}
-use Rattle.osdp_bus_laws.specs.Reports.{told_by_device}
-use Rattle.osdp_link_laws.proofs.Numbers.{is_false}
-use Rattle.osdp_link_laws.proofs.Stages.{Each}
-use Rattle.osdp_reader.specs.declared.handler.Answer.{Answer}
-use Rattle.osdp_shared_line.specs.Line.{Net, site_at}
-use Rattle.osdp_shared_line.proofs.Apart.{Apart}
-use Rattle.osdp_shared_line.proofs.Sites.{at_changed, some_same}
-use Rattle.osdp_calls.specs.Calls.{all_hear, begins_session, begins_with, begun_of, change_at, changes_at, panel_says, waiting_of, said_for}
-use Rattle.osdp_calls.specs.Lines.{Burst, InUse, Station, concerns}
-use Rattle.osdp_calls.proofs.Agreed.{ticks_to}
-use Rattle.osdp_calls.proofs.Agreeing.{address_same, at_entry, begun_heard}
-use Rattle.osdp_calls.proofs.Ahead.{from_panel}
 use Rattle.osdp_calls.proofs.Matching.{IsOurs}
 use Rattle.osdp_calls.proofs.Lasting.{heard_keeps}
-use Rattle.osdp_calls.proofs.Noticing.{got_new, got_other}
-use Rattle.osdp_calls.proofs.Same.{Controls, IsNetOf, IsToOpen}
-use Rattle.osdp_calls_time_laws.specs.Moments.{stamped}
 use Rattle.osdp_calls_time_laws.proofs.Devices.{frame_due, frames_to, ticks_config, whole_wait}
 use Rattle.osdp_calls_time_laws.proofs.Stamps.{IsStamped, SaidNow, WasSaid, is_stamped, stamped_same}
 use Rattle.osdp_calls_time_laws.proofs.Waits.{AllWait, IsPast, Waits, latest, of_entry, past_later, still_past, still_waits}
-use Rattle.osdp_calls.proofs.Places.{station_other}
 
 -- what an entry's session waits for
 pub record IsWaiting (w q start : ℕ) (said : List Burst) (stamps : List ℕ) (k began g : ℕ) (d : Entry) : Type 0 where

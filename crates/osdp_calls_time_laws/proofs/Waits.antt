@@ -1,17 +1,6 @@
 -- What holds of a line whose packets are read in time, from call to call.
-use Rattle.std.proofs.Common.{◌≡◌, ◌+◌, ◌≤◌, ◌<◌, ℕ, Bool, true, false, List, [], ◌∷◌, ◌++◌, length, Some, sym, subst, ap, ◌∙◌, arith}
-use Rattle.std.specs.Prelude.{◌^◌, slice_get}
-use Rattle.osdp_bus.specs.Buses.{BusState}
-use Rattle.osdp_bus.specs.Entries.{address_of}
-use Rattle.osdp_bus.specs.declared.entry.Entry.{Entry}
+use Rattle.osdp_calls_time_laws.proofs.Common.{◌≡◌, ◌+◌, ◌≤◌, ◌<◌, ℕ, Bool, true, false, List, [], ◌∷◌, ◌++◌, length, Some, sym, subst, ap, ◌∙◌, arith, ◌^◌, slice_get, BusState, address_of, Entry, each_map, Each, site_at, begun_of, Burst, InUse, Opening, Station, concerns, AreWithin, Clock, Timed, WaitsTwice, clock_after, stamped}
 use Rattle.osdp_bus_time_laws.proofs.Devices as bus_devices
-use Rattle.osdp_link_laws.proofs.Lines.{each_map}
-use Rattle.osdp_link_laws.proofs.Stages.{Each}
-use Rattle.osdp_shared_line.specs.Line.{site_at}
-use Rattle.osdp_calls.specs.Calls.{begun_of}
-use Rattle.osdp_calls.specs.Lines.{Burst, InUse, Opening, Station, concerns}
-use Rattle.osdp_calls.proofs.Ahead.{AreWithin}
-use Rattle.osdp_calls_time_laws.specs.Moments.{Clock, Timed, WaitsTwice, clock_after, stamped}
 use Rattle.osdp_calls_time_laws.proofs.Stamps.{IsStamped, SaidNow, WasSaid, is_stamped, stamp_is, stamped_length, stamped_same}
 
 -- by when that was said which concerns a session that is to begin: by the panel before its `begin`, and by a device as long after it as a packet is held

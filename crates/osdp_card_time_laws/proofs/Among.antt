@@ -1,21 +1,6 @@
 -- A card among orders, where a POLL stands between any two of them.
-use Rattle.std.proofs.Common.{◌≡◌, ◌∙◌, ap, sym, subst, ℕ, zero, suc, ◌+◌, ◌-◌, ◌*◌, ◌≤◌, Bool, true, false, List, [], ◌∷◌, Option, Some, None, refl, arith}
-use Rattle.std.specs.Prelude.{if◌then◌else◌, is_none, is_some, slice_get}
-use Rattle.osdp_msg.specs.declared.command.Command.{Command}
-use Rattle.osdp_msg.specs.declared.command.Command.TheVariants.{Poll}
-use Rattle.osdp_msg.specs.declared.event.Event.{Event}
-use Rattle.osdp_bus.specs.Buses.{BusState}
-use Rattle.osdp_bus_laws.specs.Calls.{after_call}
-use Rattle.osdp_bus_laws.specs.Fairness.{Begins}
-use Rattle.osdp_bus_laws.proofs.Fairness.{stands_after}
-use Rattle.osdp_bus_time_laws.specs.Laws.{GoesOutBy, IsUnderWay}
-use Rattle.osdp_bus_time_laws.specs.Turns.{TurnsTake, turns_of}
-use Rattle.osdp_bus_time_laws.proofs.Devices.{Well, well_call}
-use Rattle.osdp_bus_time_laws.proofs.Ordered.{polls_go_out}
-use Rattle.osdp_reader.specs.Queue.{Queue, event_for, queued, released}
+use Rattle.osdp_card_time_laws.proofs.Common.{◌≡◌, ◌∙◌, ap, sym, subst, ℕ, zero, suc, ◌+◌, ◌-◌, ◌*◌, ◌≤◌, Bool, true, false, List, [], ◌∷◌, Option, Some, None, refl, arith, if◌then◌else◌, is_none, is_some, slice_get, Command, Poll, Event, BusState, after_call, Begins, stands_after, GoesOutBy, IsUnderWay, TurnsTake, turns_of, Well, well_call, polls_go_out, Queue, event_for, queued, released, Calls, Queues, Serves, Step, asked_at, calls_of, taken, ReportedBy, to_offer_before}
 use Rattle.osdp_card_time_laws.specs.Among.{CardsAmongOrders, PollsBetween}
-use Rattle.osdp_card_time_laws.specs.Beside.{Calls, Queues, Serves, Step, asked_at, calls_of, taken}
-use Rattle.osdp_card_time_laws.specs.Cards.{ReportedBy, to_offer_before}
 use Rattle.osdp_card_time_laws.proofs.Queues.{offers, queued_after, released_at}
 use Rattle.osdp_card_time_laws.proofs.Reported.{answered_within, near, still_goes, told_by, whole, within}
 

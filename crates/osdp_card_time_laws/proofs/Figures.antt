@@ -1,16 +1,7 @@
 -- The figure of a plan for a card is no less than a card takes.
-use Rattle.std.proofs.Common.{subst, ℕ, ◌+◌, ◌*◌, ◌≤◌, List, [], ◌∷◌, length, arith}
+use Rattle.osdp_card_time_laws.proofs.Common.{subst, ℕ, ◌+◌, ◌*◌, ◌≤◌, List, [], ◌∷◌, length, arith, Event, BusState, after_call, time_of, Well, lines_add_up, Queue, queued, Calls, Queues, Step, asked_at, taken, CardsByFigures, ReportedBy, to_offer_before}
 use Rattle.std.proofs.Math.Nat.{mul-le-mul_left}
-use Rattle.osdp_msg.specs.declared.event.Event.{Event}
 use Rattle.osdp_time_laws.specs.Lines.{turns_time}
-use Rattle.osdp_bus.specs.Buses.{BusState}
-use Rattle.osdp_bus_laws.specs.Calls.{after_call}
-use Rattle.osdp_bus_time_laws.specs.Laws.{time_of}
-use Rattle.osdp_bus_time_laws.proofs.Devices.{Well}
-use Rattle.osdp_bus_time_laws.proofs.InTime.{lines_add_up}
-use Rattle.osdp_reader.specs.Queue.{Queue, queued}
-use Rattle.osdp_card_time_laws.specs.Beside.{Calls, Queues, Step, asked_at, taken}
-use Rattle.osdp_card_time_laws.specs.Cards.{CardsByFigures, ReportedBy, to_offer_before}
 use Rattle.osdp_card_time_laws.proofs.Reported.{cards_are_reported}
 
 -- what is reported by a moment is so by a later one

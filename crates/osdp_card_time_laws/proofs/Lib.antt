@@ -1,3 +1,4 @@
+pub mod Common
 pub mod Queues
 pub mod Orders
 pub mod Reported

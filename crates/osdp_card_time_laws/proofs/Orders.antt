@@ -1,30 +1,17 @@
 -- How many orders of an entry wait, from one call to the next.
-use Rattle.std.proofs.Common.{◌≡◌, ◌∙◌, ap, sym, subst, inl, inr, ℕ, suc, ◌+◌, ◌≤◌, Bool, true, false, List, [], ◌∷◌, ◌++◌, length, Some, None, refl, arith}
-use Rattle.std.specs.Prelude.{if◌then◌else◌, drop, is_none, nat_eq}
+use Rattle.osdp_card_time_laws.proofs.Common.{◌≡◌, ◌∙◌, ap, sym, subst, inl, inr, ℕ, suc, ◌+◌, ◌≤◌, Bool, true, false, List, [], ◌∷◌, ◌++◌, length, Some, None, refl, arith, if◌then◌else◌, drop, is_none, nat_eq, eq-eqb, eqb-false, eqb-true, Command, Entry, BusState, device_of, has_report, entry_ticks, holds, Call, Submit, Tick, after_call, Begins, ends_duty, IsUnderWay, Well, not_idle, accepts, asked_at, waiting_at}
 use Rattle.std.specs.Option.{option_map_or}
-use Rattle.std.proofs.lemmas.Bool.{eq-eqb, eqb-false, eqb-true}
 use Rattle.std.proofs.lemmas.List.{length-append}
-use Rattle.osdp_msg.specs.declared.command.Command.{Command}
 use Rattle.osdp_controller.specs.States.{is_closed}
 use Rattle.osdp_controller_laws.specs.Commands.{asked_in, command_of}
 use Rattle.osdp_controller_laws.proofs.Ticks.{takes_front}
 use Rattle.osdp_time_laws.proofs.Orders.{lives}
-use Rattle.osdp_bus.specs.declared.entry.Entry.{Entry}
-use Rattle.osdp_bus.specs.Buses.{BusState, device_of, has_report}
-use Rattle.osdp_bus.specs.Entries.{entry_ticks, holds}
 use Rattle.osdp_bus.specs.Machine.{entry_submits, entry_withdraws, submit_refusal_at}
 use Rattle.osdp_bus.specs.Ticking.{bus_ticks}
-use Rattle.osdp_bus_laws.specs.Calls.{Call, Submit, Tick, after_call}
-use Rattle.osdp_bus_laws.specs.Fairness.{Begins}
 use Rattle.osdp_bus_laws.proofs.Moments.{moments_are_seen}
-use Rattle.osdp_bus_time_laws.specs.Clock.{ends_duty}
-use Rattle.osdp_bus_time_laws.specs.Laws.{IsUnderWay}
 use Rattle.osdp_bus_time_laws.proofs.Asking.{polls_else, takes_the_front}
-use Rattle.osdp_bus_time_laws.proofs.Devices.{Well}
-use Rattle.osdp_bus_time_laws.proofs.Ordered.{not_idle}
 use Rattle.osdp_bus_time_laws.proofs.Places.{AtPlace, Outcome, one_device, place_then, tick_place}
 use Rattle.osdp_bus_time_laws.proofs.Turning.{tick_of}
-use Rattle.osdp_card_time_laws.specs.Beside.{accepts, asked_at, waiting_at}
 
 -- ---- an exchange begins
 

@@ -1,10 +1,5 @@
 -- An event that waits in the queue of a reader, as packets are taken and other events come.
-use Rattle.std.proofs.Common.{◌≡◌, ◌∙◌, ap, ℕ, zero, suc, ◌-◌, ◌≤◌, Bool, true, false, List, [], ◌∷◌, ◌++◌, Some, refl, arith}
-use Rattle.std.specs.Prelude.{drop, if◌then◌else◌, is_some, slice_get}
-use Rattle.osdp_msg.specs.declared.command.Command.TheVariants.{Poll}
-use Rattle.osdp_msg.specs.declared.event.Event.{Event}
-use Rattle.osdp_reader.specs.Queue.{Queue, event_for, released}
-use Rattle.osdp_card_time_laws.specs.Cards.{to_offer_before}
+use Rattle.osdp_card_time_laws.proofs.Common.{◌≡◌, ◌∙◌, ap, ℕ, zero, suc, ◌-◌, ◌≤◌, Bool, true, false, List, [], ◌∷◌, ◌++◌, Some, refl, arith, drop, if◌then◌else◌, is_some, slice_get, Poll, Event, Queue, event_for, released, to_offer_before}
 
 -- others come after it
 pub queued_after : (events : List Event) (other : Event) (place : ℕ) (event : Event) → slice_get events place ≡ Some event

@@ -1,11 +1,6 @@
 -- What a reader's table and a controller's make of the queue beside a line.
-use Rattle.std.proofs.Common.{◌≡◌, ◌∙◌, ap, sym, ℕ, ◌||◌, true, false, List, Option, Some, None, refl}
-use Rattle.std.specs.Prelude.{◌≢◌, ◌&&◌, ◌==◌, if◌then◌else◌, option_map}
-use Rattle.std.proofs.lemmas.Bool.{eq-eqb}
+use Rattle.osdp_card_time_laws.proofs.Common.{◌≡◌, ◌∙◌, ap, sym, ℕ, ◌||◌, true, false, List, Option, Some, None, refl, ◌≢◌, ◌&&◌, ◌==◌, if◌then◌else◌, option_map, eq-eqb, Command, Poll, Event, event_for, offering, released}
 use Rattle.osdp_frame.specs.Packet.{Packet}
-use Rattle.osdp_msg.specs.declared.command.Command.{Command}
-use Rattle.osdp_msg.specs.declared.command.Command.TheVariants.{Poll}
-use Rattle.osdp_msg.specs.declared.event.Event.{Event}
 use Rattle.osdp_msg.specs.declared.event.Event.TheVariants as events
 use Rattle.osdp_msg.specs.declared.reply.Reply.{Reply}
 use Rattle.osdp_msg.specs.Events.{event_in, event_reply}
@@ -22,7 +17,6 @@ use Rattle.osdp_controller.specs.Sessions.{frame_of, seen}
 use Rattle.osdp_controller.proofs.Choices.{either_way}
 use Rattle.osdp_controller_laws.specs.Laws.{exchange_in}
 use Rattle.osdp_reader.specs.declared.handler.Answer.{Answer}
-use Rattle.osdp_reader.specs.Queue.{event_for, offering, released}
 use Rattle.osdp_reader.specs.Replies.{reply_packet}
 use Rattle.osdp_reader.specs.State.{ReaderState}
 use Rattle.osdp_reader.specs.Table.{event_or_answer, moved, new_address, outcome, taken as takes_command}

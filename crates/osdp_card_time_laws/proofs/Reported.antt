@@ -1,25 +1,9 @@
 -- A card waits for the POLL that offers it, and then for its answer.
-use Rattle.std.proofs.Common.{◌≡◌, ◌∙◌, ap, sym, subst, inl, inr, ℕ, zero, suc, ◌+◌, ◌-◌, ◌*◌, ◌≤◌, true, false, List, [], ◌∷◌, Option, Some, None, refl, arith}
-use Rattle.std.specs.Prelude.{◌⊎◌, if◌then◌else◌, is_some, slice_get}
-use Rattle.osdp_msg.specs.declared.command.Command.{Command}
-use Rattle.osdp_msg.specs.declared.command.Command.TheVariants.{Poll}
-use Rattle.osdp_msg.specs.declared.event.Event.{Event}
+use Rattle.osdp_card_time_laws.proofs.Common.{◌≡◌, ◌∙◌, ap, sym, subst, inl, inr, ℕ, zero, suc, ◌+◌, ◌-◌, ◌*◌, ◌≤◌, true, false, List, [], ◌∷◌, Option, Some, None, refl, arith, ◌⊎◌, if◌then◌else◌, is_some, slice_get, Command, Poll, Event, BusState, Call, after_call, Begins, stands_after, GoesOutBy, IsUnderWay, EndsBy, NoneBegins, TurnsTake, turns_of, Well, well_call, same_turns, polls_go_out, Queue, event_for, queued, released, Calls, Queues, Serves, Step, accepted_in, accepts, asked_at, calls_of, taken, waiting_at, CardsAreReported, CardsInTime, ReportedBy, Reports, to_offer_before}
 use Rattle.osdp_controller.specs.declared.report.Report.TheVariants as reports
-use Rattle.osdp_bus.specs.Buses.{BusState}
-use Rattle.osdp_bus_laws.specs.Calls.{Call, after_call}
 use Rattle.osdp_bus_laws.specs.Exchanges.{IsOutstandingAt}
-use Rattle.osdp_bus_laws.specs.Fairness.{Begins}
 use Rattle.osdp_bus_laws.proofs.Exchanging.{has_one_exchange}
-use Rattle.osdp_bus_laws.proofs.Fairness.{stands_after}
-use Rattle.osdp_bus_time_laws.specs.Laws.{GoesOutBy, IsUnderWay}
-use Rattle.osdp_bus_time_laws.specs.Turns.{EndsBy, NoneBegins, TurnsTake, turns_of}
-use Rattle.osdp_bus_time_laws.proofs.Devices.{Well, well_call}
-use Rattle.osdp_bus_time_laws.proofs.InTime.{same_turns}
-use Rattle.osdp_bus_time_laws.proofs.Ordered.{polls_go_out}
 use Rattle.osdp_bus_time_laws.proofs.Told.{standing}
-use Rattle.osdp_reader.specs.Queue.{Queue, event_for, queued, released}
-use Rattle.osdp_card_time_laws.specs.Beside.{Calls, Queues, Serves, Step, accepted_in, accepts, asked_at, calls_of, taken, waiting_at}
-use Rattle.osdp_card_time_laws.specs.Cards.{CardsAreReported, CardsInTime, ReportedBy, Reports, to_offer_before}
 use Rattle.osdp_card_time_laws.proofs.Orders.{begun_takes, waits_as_accepted}
 use Rattle.osdp_card_time_laws.proofs.Queues.{offers, queued_after, released_at}
 

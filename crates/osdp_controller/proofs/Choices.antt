@@ -1,6 +1,5 @@
 -- Choices by a test, and options by what they hold.
-use Rattle.std.proofs.Common.{◌≡◌, Bool, true, false, ◌&&◌, refl}
-use Rattle.std.specs.Prelude.{if◌then◌else◌}
+use Rattle.osdp_controller.proofs.Common.{◌≡◌, Bool, true, false, ◌&&◌, refl, if◌then◌else◌}
 
 -- what holds of each branch where its test came out so holds of the choice
 pub either_way : {A : Type 0} (P : A → Type 0) (b : Bool) (x y : A) → (b ≡ true → P x) → (b ≡ false → P y) → P (if b then x else y)

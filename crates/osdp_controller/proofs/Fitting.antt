@@ -1,23 +1,6 @@
 -- Room for one more command: as the queue has it, and as its commands have it.
-use Rattle.std.proofs.Common.{◌≡◌, ◌+◌, ◌-◌, ◌*◌, ◌≤◌, ◌<◌, ◌&&◌, Bool, true, false, ℕ, List, [], ◌∷◌, length, map, drop, Option, Some, None, refl, sym, ap, ◌∙◌, arith}
-use Rattle.std.specs.List.{All}
-use Rattle.std.specs.Option.{option_map_or}
-use Rattle.std.specs.Prelude.{IfSome, if◌then◌else◌, is_some, nat_le, nat_lt}
-use Rattle.std.proofs.lemmas.Bool.{le-leb, leb-true, lt-ltb}
-use Rattle.std.proofs.lemmas.List.{length-map, length-drop}
-use Rattle.std.proofs.lemmas.List.Elements.{All-drop, All-head, All-tail}
-use Rattle.osdp_msg.specs.declared.command.Command.{Command}
-use Rattle.osdp_msg.specs.declared.limits.Room.{Room}
-use Rattle.osdp_msg.specs.CommandTable.{command_code, command_data}
-use Rattle.osdp_msg.specs.Kept.{command_kept}
-use Rattle.osdp_msg.specs.Limits.{most_data}
-use Rattle.osdp_controller.specs.declared.session.Session.{Session}
-use Rattle.osdp_controller.specs.Commands.{IsCommand}
-use Rattle.osdp_controller.specs.Held.{on_its_way}
-use Rattle.osdp_controller.specs.Machine.{bytes_waiting, command_size, has_room}
-use Rattle.osdp_controller.specs.Waiting.{IsController, first_of, machine_of, waiting_in}
+use Rattle.osdp_controller.proofs.Common.{◌≡◌, ◌+◌, ◌-◌, ◌*◌, ◌≤◌, ◌<◌, ◌&&◌, Bool, true, false, ℕ, List, [], ◌∷◌, length, map, drop, Option, Some, None, refl, sym, ap, ◌∙◌, arith, All, option_map_or, IfSome, if◌then◌else◌, is_some, nat_le, nat_lt, le-leb, leb-true, lt-ltb, length-map, length-drop, All-drop, All-head, All-tail, Command, Room, command_code, command_data, command_kept, most_data, Session, IsCommand, on_its_way, bytes_waiting, command_size, has_room, IsController, first_of, machine_of, waiting_in, Strings, fits_in, total}
 use Rattle.osdp_controller.proofs.Waiting.{bytes_total, size_is}
-use Rattle.osdp_ring.specs.Ring.{Strings, fits_in, total}
 
 -- the bytes of all are those of the command on its way and of those that wait
 kept_total : (o : Option Command) (items : List (List ℕ)) → IfSome o (λ c. c ≡ command_kept (first_of items)) → (is_some o ≡ true → 1 ≤ length items) → All IsCommand items

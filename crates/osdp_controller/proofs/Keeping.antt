@@ -1,29 +1,8 @@
 -- What holds of a session at all times is kept by the rows of both tables.
-use Rattle.std.proofs.Common.{◌≡◌, ℕ, ◌+◌, ◌*◌, ◌<◌, ◌≤◌, ◌&&◌, [], Option, Some, None, refl, arith, rules}
-use Rattle.std.specs.Prelude.{IfSome, nat_lt, nat_le, ◌==◌}
-use Rattle.std.proofs.lemmas.Bool.{ltb-true, ltb-false}
+use Rattle.osdp_controller.proofs.Common.{◌≡◌, ℕ, ◌+◌, ◌*◌, ◌<◌, ◌≤◌, ◌&&◌, [], Option, Some, None, refl, arith, rules, IfSome, nat_lt, nat_le, ◌==◌, ltb-true, ltb-false, next_sequence, Command, Communication, Reply, PdId, ReplyMeaning, NotTaken, Damaged, NumberRefused, Plain, Unreadable, Exchange, Opening, Polling, Asking, Outstanding, Session, State, Closed, Quiet, Idle, Waiting, Pausing, submitted_command, after_send, later, seen, Ticked, begins, gives_up, sends_frame, stays, ticks_in, tries_again, Heard, answered, answered_unread, com_of, command_answered, comset_of, hears_busy, loses, moved_by, opening_answered, pausing_hears, pd_id_of, waiting_hears, numbered_in, IsOutstanding, IsSession, IsState, IsSubmitted, OpensAtZero}
 use Rattle.std.proofs.Math.Nat.{mul-add}
-use Rattle.osdp_frame.specs.Packet.{next_sequence}
-use Rattle.osdp_msg.specs.declared.command.Command.{Command}
-use Rattle.osdp_msg.specs.declared.command_fields.Communication.{Communication}
-use Rattle.osdp_msg.specs.declared.reply.Reply.{Reply}
-use Rattle.osdp_msg.specs.declared.reply_fields.PdId.{PdId}
-use Rattle.osdp_controller.specs.declared.meaning.ReplyMeaning.{ReplyMeaning}
-use Rattle.osdp_controller.specs.declared.meaning.ReplyMeaning.TheVariants.{NotTaken, Damaged, NumberRefused, Plain, Unreadable}
-use Rattle.osdp_controller.specs.declared.exchange.Exchange.{Exchange}
-use Rattle.osdp_controller.specs.declared.exchange.Exchange.TheVariants.{Opening, Polling, Asking}
-use Rattle.osdp_controller.specs.declared.exchange.Outstanding.{Outstanding}
 use Rattle.osdp_controller.specs.declared.report.LostCause.TheVariants as causes
-use Rattle.osdp_controller.specs.declared.session.Session.{Session}
-use Rattle.osdp_controller.specs.declared.state.State.{State}
-use Rattle.osdp_controller.specs.declared.state.State.TheVariants.{Closed, Quiet, Idle, Waiting, Pausing}
-use Rattle.osdp_controller.specs.Exchanges.{submitted_command}
 use Rattle.osdp_controller.specs.Settings.{IsConfig}
-use Rattle.osdp_controller.specs.Sessions.{after_send, later, seen}
-use Rattle.osdp_controller.specs.Ticking.{Ticked, begins, gives_up, sends_frame, stays, ticks_in, tries_again}
-use Rattle.osdp_controller.specs.Hearing.{Heard, answered, answered_unread, com_of, command_answered, comset_of, hears_busy, loses, moved_by, opening_answered, pausing_hears, pd_id_of, waiting_hears}
-use Rattle.osdp_controller.specs.Private.{numbered_in}
-use Rattle.osdp_controller.specs.Machine.{IsOutstanding, IsSession, IsState, IsSubmitted, OpensAtZero}
 use Rattle.osdp_controller.proofs.Choices.{either_way, first_true}
 
 -- one more send

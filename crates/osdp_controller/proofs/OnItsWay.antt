@@ -1,33 +1,11 @@
 -- The command that is on its way.
-use Rattle.std.proofs.Common.{◌≡◌, ap, sym, subst, refl, ℕ, ◌+◌, true, false, List, [], Option, Some, None}
-use Rattle.std.specs.Prelude.{IfSome, is_some, nat_le, nat_lt}
-use Rattle.osdp_frame.specs.Packet.{Packet, next_sequence}
-use Rattle.osdp_msg.specs.Kept.{command_kept}
-use Rattle.osdp_msg.specs.declared.command.Command.{Command}
-use Rattle.osdp_msg.specs.declared.command_fields.Communication.{Communication}
-use Rattle.osdp_msg.specs.declared.reply.Reply.{Reply}
-use Rattle.osdp_msg.specs.declared.reply_fields.PdId.{PdId}
+use Rattle.osdp_controller.proofs.Common.{◌≡◌, ap, sym, subst, refl, ℕ, ◌+◌, true, false, List, [], Option, Some, None, IfSome, is_some, nat_le, nat_lt, Packet, next_sequence, command_kept, Command, Communication, Reply, PdId, Exchange, Opening, Polling, Asking, Outstanding, ReplyMeaning, NotTaken, Damaged, NumberRefused, Plain, Unreadable, Session, State, Closed, Quiet, Idle, Waiting, Pausing, meaning_of, submitted_command, Heard, answered, answered_unread, com_of, command_answered, comset_of, hears, hears_busy, hears_in, ignores, is_from_reader, is_numbered, loses, moved_by, opening_answered, pausing_hears, pd_id_of, waiting_hears, exchange_of, on_its_way, state_in, state_of, later, seen, is_over, Ticked, begins, gives_up, sends_frame, stays, ticks_in}
 use Rattle.osdp_controller.specs.declared.exchange.Asked.{Asked}
 use Rattle.osdp_controller.specs.declared.exchange.Asked.TheVariants as asked
-use Rattle.osdp_controller.specs.declared.exchange.Exchange.{Exchange}
-use Rattle.osdp_controller.specs.declared.exchange.Exchange.TheVariants.{Opening, Polling, Asking}
-use Rattle.osdp_controller.specs.declared.exchange.Outstanding.{Outstanding}
-use Rattle.osdp_controller.specs.declared.meaning.ReplyMeaning.{ReplyMeaning}
-use Rattle.osdp_controller.specs.declared.meaning.ReplyMeaning.TheVariants.{NotTaken, Damaged, NumberRefused, Plain, Unreadable}
 use Rattle.osdp_controller.specs.declared.report.LostCause.TheVariants as causes
-use Rattle.osdp_controller.specs.declared.session.Session.{Session}
 use Rattle.osdp_controller.specs.declared.state.Progress.{Progress}
 use Rattle.osdp_controller.specs.declared.state.Stage.{Stage}
 use Rattle.osdp_controller.specs.declared.state.Stage.TheVariants as stages
-use Rattle.osdp_controller.specs.declared.state.State.{State}
-use Rattle.osdp_controller.specs.declared.state.State.TheVariants.{Closed, Quiet, Idle, Waiting, Pausing}
-use Rattle.osdp_controller.specs.Answers.{meaning_of}
-use Rattle.osdp_controller.specs.Exchanges.{submitted_command}
-use Rattle.osdp_controller.specs.Hearing.{Heard, answered, answered_unread, com_of, command_answered, comset_of, hears, hears_busy, hears_in, ignores, is_from_reader, is_numbered, loses, moved_by, opening_answered, pausing_hears, pd_id_of, waiting_hears}
-use Rattle.osdp_controller.specs.Held.{exchange_of, on_its_way, state_in, state_of}
-use Rattle.osdp_controller.specs.Sessions.{later, seen}
-use Rattle.osdp_controller.specs.Private.{is_over}
-use Rattle.osdp_controller.specs.Ticking.{Ticked, begins, gives_up, sends_frame, stays, ticks_in}
 use Rattle.osdp_controller.proofs.Choices.{either_way}
 use Rattle.osdp_controller.proofs.Over.{not_second}
 

@@ -1,15 +1,5 @@
 -- The last of the sends.
-use Rattle.std.proofs.Common.{◌≡◌, Bool, true, false, ◌&&◌, not, List, [], ◌∷◌, ◌+◌, None, refl}
-use Rattle.std.specs.Prelude.{nat_lt, nat_le, if◌then◌else◌}
-use Rattle.osdp_msg.specs.declared.command.Command.{Command}
-use Rattle.osdp_controller.specs.declared.session.Session.{Session}
-use Rattle.osdp_controller.specs.declared.state.State.{State}
-use Rattle.osdp_controller.specs.declared.state.State.TheVariants.{Closed, Quiet, Idle, Waiting, Pausing}
-use Rattle.osdp_controller.specs.Held.{outstanding_in}
-use Rattle.osdp_controller.specs.Private.{is_over}
-use Rattle.osdp_controller.specs.Ticking.{Ticked, begins, gives_up, sends_frame, stays, ticks_in}
-use Rattle.osdp_controller.specs.declared.exchange.Exchange.TheVariants.{Opening, Polling}
-use Rattle.osdp_frame.specs.Packet.{next_sequence}
+use Rattle.osdp_controller.proofs.Common.{◌≡◌, Bool, true, false, ◌&&◌, not, List, [], ◌∷◌, ◌+◌, None, refl, nat_lt, nat_le, if◌then◌else◌, Command, Session, State, Closed, Quiet, Idle, Waiting, Pausing, outstanding_in, is_over, Ticked, begins, gives_up, sends_frame, stays, ticks_in, Opening, Polling, next_sequence}
 use Rattle.osdp_controller.proofs.Choices.{either_way}
 
 second : {A : Type 0} (a b : Bool) (x y z : A) → (a && not b) ≡ true → (if a then (if b then x else y) else z) ≡ y

@@ -1,34 +1,10 @@
 -- Commands that wait as their bytes, after the one that is on its way.
-use Rattle.std.proofs.Common.{◌≡◌, ◌+◌, ◌-◌, ◌*◌, ◌≤◌, ◌<◌, ◌&&◌, not, Bool, true, false, ℕ, List, [], ◌∷◌, ◌++◌, length, map, drop, Option, Some, None, refl, sym, ap, ◌∙◌, subst, arith, length-append}
-use Rattle.std.specs.List.{All}
-use Rattle.std.specs.Option.{option_map_or}
-use Rattle.std.specs.Prelude.{IfSome, if◌then◌else◌, is_some, nat_le, nat_lt}
-use Rattle.std.proofs.lemmas.Bool.{le-leb, leb-true, lt-ltb}
-use Rattle.std.proofs.lemmas.List.{length-map, length-drop}
-use Rattle.std.proofs.lemmas.List.Elements.{All-drop, All-head, All-nil, All-push, All-tail}
-use Rattle.osdp_frame.specs.Packet.{next_sequence}
-use Rattle.osdp_msg.specs.declared.command.Command.{Command}
+use Rattle.osdp_controller.proofs.Common.{◌≡◌, ◌+◌, ◌-◌, ◌*◌, ◌≤◌, ◌<◌, ◌&&◌, not, Bool, true, false, ℕ, List, [], ◌∷◌, ◌++◌, length, map, drop, Option, Some, None, refl, sym, ap, ◌∙◌, subst, arith, length-append, All, option_map_or, IfSome, if◌then◌else◌, is_some, nat_le, nat_lt, le-leb, leb-true, lt-ltb, length-map, length-drop, All-drop, All-head, All-nil, All-push, All-tail, next_sequence, Command, Room, command_kept, most_data, Opening, Polling, Asking, Session, State, Closed, Quiet, Idle, Waiting, Pausing, IsCommand, on_its_way, state_in, is_closed, new_session, after_act, next_in, popped_if, submitted_if, Ticked, gives_up, sends_frame, stays, ticks_in, tries_again, begins_exchange, IsController, bytes_for, first_of, machine_of, session_of, waiting_in, AreSettings, IsSession, IsSubmitted, bytes_waiting, command_size, has_room}
 use Rattle.osdp_msg.specs.declared.command.Command.TheVariants.{Poll, Id, Cap, LocalStatus, InputStatus, OutputStatus, ReaderStatus, Output, Led, Buzzer, Text, Comset, Maker}
-use Rattle.osdp_msg.specs.declared.limits.Room.{Room}
 use Rattle.osdp_msg.specs.CommandTable.{command_at, command_code, command_data, command_fault, command_of}
-use Rattle.osdp_msg.specs.Kept.{command_kept}
-use Rattle.osdp_msg.specs.Limits.{most_data}
-use Rattle.osdp_controller.specs.declared.exchange.Exchange.TheVariants.{Opening, Polling, Asking}
 use Rattle.osdp_controller.specs.declared.config.ControllerConfig.{ControllerConfig}
 use Rattle.osdp_controller.specs.declared.session.KeptSession.{KeptSession}
-use Rattle.osdp_controller.specs.declared.session.Session.{Session}
-use Rattle.osdp_controller.specs.declared.state.State.{State}
-use Rattle.osdp_controller.specs.declared.state.State.TheVariants.{Closed, Quiet, Idle, Waiting, Pausing}
 use Rattle.osdp_controller.specs.Comsets.{has_comset, is_comset}
-use Rattle.osdp_controller.specs.Commands.{IsCommand}
-use Rattle.osdp_controller.specs.Held.{on_its_way, state_in}
-use Rattle.osdp_controller.specs.States.{is_closed}
-use Rattle.osdp_controller.specs.Sessions.{new_session}
-use Rattle.osdp_controller.specs.Private.{after_act, next_in, popped_if, submitted_if}
-use Rattle.osdp_controller.specs.Ticking.{Ticked, gives_up, sends_frame, stays, ticks_in, tries_again}
-use Rattle.osdp_controller.specs.Ticking.{begins as begins_exchange}
-use Rattle.osdp_controller.specs.Waiting.{IsController, bytes_for, first_of, machine_of, session_of, waiting_in}
-use Rattle.osdp_controller.specs.Machine.{AreSettings, IsSession, IsSubmitted, bytes_waiting, command_size, has_room}
 use Rattle.osdp_controller.proofs.OnItsWay.{Follows, asked_before, follows_same, of_none, same_state, still_its_own}
 use Rattle.osdp_ring.specs.Ring.{Strings, begins, empty_ring, fits_in, has_first, popped, pushed_if, total}
 

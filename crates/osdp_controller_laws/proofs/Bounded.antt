@@ -1,25 +1,8 @@
 -- How many frames an exchange sends.
-use Rattle.std.proofs.Common.{◌≡◌, sym, subst, ℕ, ◌+◌, ◌*◌, ◌≤◌, Bool, true, false, List, [], ◌∷◌, ◌++◌, length, Option, Some, None, refl, arith}
-use Rattle.std.specs.Prelude.{if◌then◌else◌, All, nat_lt, nat_le, option_to_list}
-use Rattle.std.proofs.lemmas.List.Elements.{All-head}
+use Rattle.osdp_controller_laws.proofs.Common.{◌≡◌, sym, subst, ℕ, ◌+◌, ◌*◌, ◌≤◌, Bool, true, false, List, [], ◌∷◌, ◌++◌, length, Option, Some, None, refl, arith, if◌then◌else◌, All, nat_lt, nat_le, option_to_list, All-head, Packet, next_sequence, Command, ControllerConfig, Opening, Asking, Outstanding, Session, State, Closed, Quiet, Idle, Waiting, Pausing, meaning_of, Heard, hears, IsMachine, IsOutstanding, IsSession, IsState, IsSubmitted, Machine, OpensAtZero, after_begin, after_retarget, is_outstanding, sent_in, submit_refusal, Call, Submit, Begin, Retarget, Withdraw, Tick, Hear, Lasts, SendsFew, after_call, frames, sent_by, seen, Ticked, begins, gives_up, sends_frame, stays, ticks_in, tries_again, keeps_begins, keeps_numbered, keeps_seen, keeps_ticks}
 use Rattle.std.proofs.lemmas.Nat.{mul-le}
 use Rattle.std.proofs.Math.Nat.{mul-add}
-use Rattle.osdp_frame.specs.Packet.{Packet, next_sequence}
-use Rattle.osdp_msg.specs.declared.command.Command.{Command}
-use Rattle.osdp_controller.specs.declared.config.ControllerConfig.{ControllerConfig}
-use Rattle.osdp_controller.specs.declared.exchange.Exchange.TheVariants.{Opening, Asking}
-use Rattle.osdp_controller.specs.declared.exchange.Outstanding.{Outstanding}
-use Rattle.osdp_controller.specs.declared.session.Session.{Session}
-use Rattle.osdp_controller.specs.declared.state.State.{State}
-use Rattle.osdp_controller.specs.declared.state.State.TheVariants.{Closed, Quiet, Idle, Waiting, Pausing}
-use Rattle.osdp_controller.specs.Answers.{meaning_of}
-use Rattle.osdp_controller.specs.Hearing.{Heard, hears}
-use Rattle.osdp_controller.specs.Machine.{IsMachine, IsOutstanding, IsSession, IsState, IsSubmitted, Machine, OpensAtZero, after_begin, after_retarget, is_outstanding, sent_in, submit_refusal}
-use Rattle.osdp_controller_laws.specs.Runs.{Call, Submit, Begin, Retarget, Withdraw, Tick, Hear, Lasts, SendsFew, after_call, frames, sent_by}
-use Rattle.osdp_controller.specs.Sessions.{seen}
-use Rattle.osdp_controller.specs.Ticking.{Ticked, begins, gives_up, sends_frame, stays, ticks_in, tries_again}
 use Rattle.osdp_controller_laws.proofs.Frames.{either_frame}
-use Rattle.osdp_controller.proofs.Keeping.{keeps_begins, keeps_numbered, keeps_seen, keeps_ticks}
 use Rattle.osdp_controller_laws.proofs.Lasting.{Holds, HoldsMachine, first_sent, holds_call, more, not_begun, not_moved, submit_session}
 
 -- what holds of a session is kept, whatever waits

@@ -1,35 +1,9 @@
 -- What must have come where a frame is told about.
-use Rattle.std.proofs.Common.{◌≡◌, ◌≤◌, ◌∙◌, ap, arith, inl, inr, subst, ℕ, ◌+◌, Bool, true, false, not, ◌&&◌, ◌||◌, Option, Some, None, refl}
-use Rattle.std.specs.Prelude.{◌⊎◌, if◌then◌else◌, nat_lt, ◌==◌}
-use Rattle.std.proofs.lemmas.Bool.{and_parts, eq-eqb, eqb-true, ltb-true, or_cases}
-use Rattle.osdp_frame.specs.Packet.{Packet}
-use Rattle.osdp_msg.specs.declared.command.Command.{Command}
+use Rattle.osdp_controller_laws.proofs.Common.{◌≡◌, ◌≤◌, ◌∙◌, ap, arith, inl, inr, subst, ℕ, ◌+◌, Bool, true, false, not, ◌&&◌, ◌||◌, Option, Some, None, refl, ◌⊎◌, if◌then◌else◌, nat_lt, ◌==◌, and_parts, eq-eqb, eqb-true, ltb-true, or_cases, Packet, Command, Communication, EventOfReader, Reply, PdId, event_in, event_reply, ReplyMeaning, NotTaken, Damaged, NumberRefused, Plain, Unreadable, Exchange, Opening, Polling, Asking, Outstanding, Report, Moved, PollAnswered, Session, State, Closed, Waiting, Pausing, meaning_of, is_not_taken, Heard, answered, answered_unread, com_of, command_answered, comset_of, hears, ignores, is_ack, is_from_reader, is_numbered, loses, moved_by, opening_answered, pausing_hears, pd_id_of, poll_told, waiting_hears, numbered_in, Comes, ComesNumbered, HearsAnswers, IsFromReader, TellsWhy, WhyTold, exchange_in, IsSession, OpensAtZero, later, seen, either_way}
 use Rattle.osdp_msg.specs.declared.command.Command.TheVariants as commands
-use Rattle.osdp_msg.specs.declared.command_fields.Communication.{Communication}
-use Rattle.osdp_msg.specs.declared.event.Event.{Event as EventOfReader}
 use Rattle.osdp_msg.specs.declared.event.Event.TheVariants as events
-use Rattle.osdp_msg.specs.declared.reply.Reply.{Reply}
 use Rattle.osdp_msg.specs.declared.reply.Reply.TheVariants as replies
-use Rattle.osdp_msg.specs.declared.reply_fields.PdId.{PdId}
-use Rattle.osdp_msg.specs.Events.{event_in, event_reply}
-use Rattle.osdp_controller.specs.declared.meaning.ReplyMeaning.{ReplyMeaning}
-use Rattle.osdp_controller.specs.declared.meaning.ReplyMeaning.TheVariants.{NotTaken, Damaged, NumberRefused, Plain, Unreadable}
-use Rattle.osdp_controller.specs.declared.exchange.Exchange.{Exchange}
-use Rattle.osdp_controller.specs.declared.exchange.Exchange.TheVariants.{Opening, Polling, Asking}
-use Rattle.osdp_controller.specs.declared.exchange.Outstanding.{Outstanding}
 use Rattle.osdp_controller.specs.declared.report.LostCause.TheVariants as causes
-use Rattle.osdp_controller.specs.declared.report.Report.{Report}
-use Rattle.osdp_controller.specs.declared.report.Report.TheVariants.{Moved, PollAnswered}
-use Rattle.osdp_controller.specs.declared.session.Session.{Session}
-use Rattle.osdp_controller.specs.declared.state.State.{State}
-use Rattle.osdp_controller.specs.declared.state.State.TheVariants.{Closed, Waiting, Pausing}
-use Rattle.osdp_controller.specs.Answers.{meaning_of, is_not_taken}
-use Rattle.osdp_controller.specs.Hearing.{Heard, answered, answered_unread, com_of, command_answered, comset_of, hears, ignores, is_ack, is_from_reader, is_numbered, loses, moved_by, opening_answered, pausing_hears, pd_id_of, poll_told, waiting_hears}
-use Rattle.osdp_controller.specs.Private.{numbered_in}
-use Rattle.osdp_controller_laws.specs.Laws.{Comes, ComesNumbered, HearsAnswers, IsFromReader, TellsWhy, WhyTold, exchange_in}
-use Rattle.osdp_controller.specs.Machine.{IsSession, OpensAtZero}
-use Rattle.osdp_controller.specs.Sessions.{later, seen}
-use Rattle.osdp_controller.proofs.Choices.{either_way}
 use Rattle.osdp_controller_laws.proofs.Frames.{by_number, by_tests, either_frame}
 
 -- where something is told

@@ -1,18 +1,5 @@
 -- A closed session: it may begin again, and nothing tells that it ends.
-use Rattle.std.proofs.Common.{◌≡◌, ℕ, true, false, List, None, refl, sym, subst, ap}
-use Rattle.osdp_frame.specs.Packet.{Packet}
-use Rattle.osdp_msg.specs.declared.command.Command.{Command}
-use Rattle.osdp_controller.specs.Answers.{meaning_of}
-use Rattle.osdp_controller.specs.Hearing.{Heard, hears}
-use Rattle.osdp_controller.specs.Machine.{refused_unless_closed}
-use Rattle.osdp_controller.specs.Private.{numbered_in}
-use Rattle.osdp_controller.specs.Sessions.{seen}
-use Rattle.osdp_controller.specs.States.{is_closed}
-use Rattle.osdp_controller.specs.Ticking.{ticks_in}
-use Rattle.osdp_controller.specs.declared.session.Session.{Session}
-use Rattle.osdp_controller.specs.declared.state.State.{State}
-use Rattle.osdp_controller.specs.declared.state.State.TheVariants.{Closed}
-use Rattle.osdp_controller_laws.specs.Commands.{tells_end}
+use Rattle.osdp_controller_laws.proofs.Common.{◌≡◌, ℕ, true, false, List, None, refl, sym, subst, ap, Packet, Command, meaning_of, Heard, hears, refused_unless_closed, numbered_in, seen, is_closed, ticks_in, Session, State, Closed, tells_end}
 use Rattle.osdp_controller_laws.proofs.Frames.{either_frame}
 
 pub closed_is : (state : State) → is_closed state ≡ true → state ≡ Closed

@@ -1,29 +1,7 @@
 -- What a frame brings about, by the tests of its table.
-use Rattle.std.proofs.Common.{◌≡◌, ap, sym, subst, ℕ, ◌+◌, Bool, true, false, Option, Some, None, refl}
-use Rattle.std.specs.Prelude.{if◌then◌else◌, nat_lt}
-use Rattle.osdp_frame.specs.Packet.{Packet}
-use Rattle.osdp_msg.specs.declared.command.Command.{Command}
-use Rattle.osdp_msg.specs.declared.command_fields.Communication.{Communication}
-use Rattle.osdp_msg.specs.declared.reply.Reply.{Reply}
-use Rattle.osdp_msg.specs.declared.reply_fields.PdId.{PdId}
-use Rattle.osdp_msg.specs.Events.{event_in}
-use Rattle.osdp_controller.specs.declared.exchange.Exchange.{Exchange}
-use Rattle.osdp_controller.specs.declared.exchange.Exchange.TheVariants.{Opening, Polling, Asking}
-use Rattle.osdp_controller.specs.declared.exchange.Outstanding.{Outstanding}
-use Rattle.osdp_controller.specs.declared.meaning.ReplyMeaning.{ReplyMeaning}
-use Rattle.osdp_controller.specs.declared.meaning.ReplyMeaning.TheVariants.{NotTaken, Damaged, NumberRefused, Plain, Unreadable}
+use Rattle.osdp_controller_laws.proofs.Common.{◌≡◌, ap, sym, subst, ℕ, ◌+◌, Bool, true, false, Option, Some, None, refl, if◌then◌else◌, nat_lt, Packet, Command, Communication, Reply, PdId, event_in, Exchange, Opening, Polling, Asking, Outstanding, ReplyMeaning, NotTaken, Damaged, NumberRefused, Plain, Unreadable, Report, Opened, Settled, Moved, Unread, Session, State, Waiting, Pausing, meaning_of, Heard, answered, answered_unread, com_of, command_answered, comset_of, hears, hears_in, ignores, is_from_reader, is_numbered, loses, moved_by, opening_answered, pausing_hears, pd_id_of, poll_told, rests, waiting_hears, numbered_in, closed, later, seen, either_way}
 use Rattle.osdp_controller.specs.declared.report.LostCause.{LostCause}
 use Rattle.osdp_controller.specs.declared.report.LostCause.TheVariants as causes
-use Rattle.osdp_controller.specs.declared.report.Report.{Report}
-use Rattle.osdp_controller.specs.declared.report.Report.TheVariants.{Opened, Settled, Moved, Unread}
-use Rattle.osdp_controller.specs.declared.session.Session.{Session}
-use Rattle.osdp_controller.specs.declared.state.State.{State}
-use Rattle.osdp_controller.specs.declared.state.State.TheVariants.{Waiting, Pausing}
-use Rattle.osdp_controller.specs.Answers.{meaning_of}
-use Rattle.osdp_controller.specs.Hearing.{Heard, answered, answered_unread, com_of, command_answered, comset_of, hears, hears_in, ignores, is_from_reader, is_numbered, loses, moved_by, opening_answered, pausing_hears, pd_id_of, poll_told, rests, waiting_hears}
-use Rattle.osdp_controller.specs.Private.{numbered_in}
-use Rattle.osdp_controller.specs.Sessions.{closed, later, seen}
-use Rattle.osdp_controller.proofs.Choices.{either_way}
 
 either_same : {A : Type 0} (b : Bool) (x : A) → x ≡ (if b then x else x)
 either_same true x = refl

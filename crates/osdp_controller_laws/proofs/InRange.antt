@@ -1,34 +1,8 @@
 -- Numbers, deadlines and packets stay in their ranges.
-use Rattle.std.proofs.Common.{◌≡◌, ◌∙◌, true, cond, ap, sym, subst, ℕ, ◌+◌, ◌-◌, ◌^◌, ◌<◌, ◌≤◌, List, [], ◌∷◌, length, Option, Some, None, refl, arith}
-use Rattle.std.specs.Prelude.{◌≢◌, min, max, nat_lt, nat_le, IfSome}
-use Rattle.std.proofs.lemmas.Bool.{le-leb}
+use Rattle.osdp_controller_laws.proofs.Common.{◌≡◌, ◌∙◌, true, cond, ap, sym, subst, ℕ, ◌+◌, ◌-◌, ◌^◌, ◌<◌, ◌≤◌, List, [], ◌∷◌, length, Option, Some, None, refl, arith, ◌≢◌, min, max, nat_lt, nat_le, IfSome, le-leb, IsPacket, Packet, next_sequence, Command, CommandFits, command_code, command_data, command_laws, ReplyMeaning, Exchange, Opening, Polling, Asking, Outstanding, ControllerFault, Session, State, Closed, Quiet, Idle, Waiting, Pausing, meaning_of, ComesDue, IsInRange, SendsPackets, StaysInRange, latest, longest_wait, command_of, exchange_command, submitted_command, Heard, hears, numbered_in, exchange_in, Machine, acts, after_begin, after_retarget, after_submit, changed_unless, refused_unless_closed, retarget_refusal, submit_refusal, Call, Submit, Begin, Retarget, Withdraw, Tick, Hear, after_call, after_calls, sent_by, frame_of, later, seen, Ticked, begins, gives_up, sends_frame, stays, ticks_in, tries_again, either_way}
 use Rattle.osdp_frame.specs.declared.check_kind.CheckKind.{CheckKind}
 use Rattle.osdp_frame.specs.declared.check_kind.CheckKind.TheVariants.{Sum, Crc}
 use Rattle.osdp_frame.specs.Check.{check_size}
-use Rattle.osdp_frame.specs.Packet.{IsPacket, Packet, next_sequence}
-use Rattle.osdp_msg.specs.declared.command.Command.{Command}
-use Rattle.osdp_msg.specs.CommandTable.{CommandFits, command_code, command_data}
-use Rattle.osdp_msg_laws.proofs.CommandLaws.{command_laws}
-use Rattle.osdp_controller.specs.declared.meaning.ReplyMeaning.{ReplyMeaning}
-use Rattle.osdp_controller.specs.declared.exchange.Exchange.{Exchange}
-use Rattle.osdp_controller.specs.declared.exchange.Exchange.TheVariants.{Opening, Polling, Asking}
-use Rattle.osdp_controller.specs.declared.exchange.Outstanding.{Outstanding}
-use Rattle.osdp_controller.specs.declared.fault.ControllerFault.{ControllerFault}
-use Rattle.osdp_controller.specs.declared.session.Session.{Session}
-use Rattle.osdp_controller.specs.declared.state.State.{State}
-use Rattle.osdp_controller.specs.declared.state.State.TheVariants.{Closed, Quiet, Idle, Waiting, Pausing}
-use Rattle.osdp_controller.specs.Answers.{meaning_of}
-use Rattle.osdp_controller_laws.specs.Calls.{ComesDue, IsInRange, SendsPackets, StaysInRange, latest, longest_wait}
-use Rattle.osdp_controller_laws.specs.Commands.{command_of}
-use Rattle.osdp_controller.specs.Exchanges.{exchange_command, submitted_command}
-use Rattle.osdp_controller.specs.Hearing.{Heard, hears}
-use Rattle.osdp_controller.specs.Private.{numbered_in}
-use Rattle.osdp_controller_laws.specs.Laws.{exchange_in}
-use Rattle.osdp_controller.specs.Machine.{Machine, acts, after_begin, after_retarget, after_submit, changed_unless, refused_unless_closed, retarget_refusal, submit_refusal}
-use Rattle.osdp_controller_laws.specs.Runs.{Call, Submit, Begin, Retarget, Withdraw, Tick, Hear, after_call, after_calls, sent_by}
-use Rattle.osdp_controller.specs.Sessions.{frame_of, later, seen}
-use Rattle.osdp_controller.specs.Ticking.{Ticked, begins, gives_up, sends_frame, stays, ticks_in, tries_again}
-use Rattle.osdp_controller.proofs.Choices.{either_way}
 use Rattle.osdp_controller_laws.proofs.Frames.{OfEach, either_frame, of_pause, of_wait}
 use Rattle.osdp_controller_laws.proofs.Stepwise.{sends_its_frame}
 use Rattle.osdp_controller_laws.proofs.Well.{keeps_each}

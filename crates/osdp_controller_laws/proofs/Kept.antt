@@ -1,33 +1,7 @@
 -- What a tick and a frame leave of the greatest moment and of the settings: both stay, but for the address of a reader that moves.
 use Rattle.std.proofs.Common.{◌≡◌, ℕ, ◌+◌, ◌<◌, List, [], ◌∷◌, max, Option, Some, None, refl}
-use Rattle.std.specs.Prelude.{IfSome, nat_lt, nat_le}
-use Rattle.osdp_frame.specs.Packet.{Packet, next_sequence}
-use Rattle.osdp_msg.specs.declared.command.Command.{Command}
-use Rattle.osdp_msg.specs.declared.command_fields.Communication.{Communication}
-use Rattle.osdp_msg.specs.declared.event.Event.{Event as EventOfReader}
-use Rattle.osdp_msg.specs.declared.reply.Reply.{Reply}
-use Rattle.osdp_msg.specs.declared.reply_fields.PdId.{PdId}
-use Rattle.osdp_controller.specs.declared.meaning.ReplyMeaning.{ReplyMeaning}
-use Rattle.osdp_controller.specs.declared.meaning.ReplyMeaning.TheVariants.{NotTaken, Damaged, NumberRefused, Plain, Unreadable}
-use Rattle.osdp_controller.specs.declared.config.ControllerConfig.{ControllerConfig}
-use Rattle.osdp_controller.specs.declared.exchange.Exchange.{Exchange}
-use Rattle.osdp_controller.specs.declared.exchange.Exchange.TheVariants.{Opening, Polling, Asking}
-use Rattle.osdp_controller.specs.declared.exchange.Outstanding.{Outstanding}
+use Rattle.osdp_controller_laws.proofs.Common.{IfSome, nat_lt, nat_le, Packet, next_sequence, Command, Communication, EventOfReader, Reply, PdId, ReplyMeaning, NotTaken, Damaged, NumberRefused, Plain, Unreadable, ControllerConfig, Exchange, Opening, Polling, Asking, Outstanding, Report, Opened, Settled, Moved, Event, PollAnswered, Unread, Session, State, Closed, Quiet, Idle, Waiting, Pausing, meaning_of, event_in, Heard, answered, answered_unread, com_of, command_answered, comset_of, hears, hears_busy, is_ack, loses, moved_by, opening_answered, pausing_hears, pd_id_of, poll_told, waiting_hears, numbered_in, later, lost, seen, Ticked, begins, gives_up, sends_frame, stays, ticks_in, tries_again, either_way, moved_to_device, told_address}
 use Rattle.osdp_controller.specs.declared.report.LostCause.TheVariants as causes
-use Rattle.osdp_controller.specs.declared.report.Report.{Report}
-use Rattle.osdp_controller.specs.declared.report.Report.TheVariants.{Opened, Settled, Moved, Event, PollAnswered, Unread}
-use Rattle.osdp_controller.specs.declared.session.Session.{Session}
-use Rattle.osdp_controller.specs.declared.state.State.{State}
-use Rattle.osdp_controller.specs.declared.state.State.TheVariants.{Closed, Quiet, Idle, Waiting, Pausing}
-use Rattle.osdp_controller.specs.Answers.{meaning_of}
-use Rattle.osdp_msg.specs.Events.{event_in}
-use Rattle.osdp_controller.specs.Hearing.{Heard, answered, answered_unread, com_of, command_answered, comset_of, hears, hears_busy, is_ack, loses, moved_by, opening_answered, pausing_hears, pd_id_of, poll_told, waiting_hears}
-use Rattle.osdp_controller.specs.Private.{numbered_in}
-use Rattle.osdp_controller.specs.Sessions.{later, lost, seen}
-use Rattle.osdp_controller.specs.Ticking.{Ticked, begins, gives_up, sends_frame, stays, ticks_in, tries_again}
-use Rattle.osdp_controller.proofs.Choices.{either_way}
-use Rattle.osdp_controller.proofs.Keeping.{moved_to_device}
-use Rattle.osdp_controller_laws.specs.Calls.{told_address}
 use Rattle.osdp_controller_laws.proofs.Frames.{either_frame}
 
 module _ (P : Option Report → ℕ → ControllerConfig → Type 0) where

@@ -1,24 +1,5 @@
 -- The frames of an exchange as long as it lasts.
-use Rattle.std.proofs.Common.{◌≡◌, ap, sym, subst, ℕ, ◌+◌, ◌≤◌, true, List, [], ◌∷◌, ◌++◌, Option, Some, None, refl, arith}
-use Rattle.std.specs.Prelude.{All, nat_lt, nat_le, option_to_list}
-use Rattle.std.proofs.lemmas.List.Elements.{All-nil, All-cons}
-use Rattle.osdp_frame.specs.Packet.{Packet, next_sequence}
-use Rattle.osdp_msg.specs.declared.command.Command.{Command}
-use Rattle.osdp_controller.specs.declared.meaning.ReplyMeaning.{ReplyMeaning}
-use Rattle.osdp_controller.specs.declared.config.ControllerConfig.{ControllerConfig}
-use Rattle.osdp_controller.specs.declared.exchange.Exchange.TheVariants.{Opening, Polling}
-use Rattle.osdp_controller.specs.declared.fault.ControllerFault.{ControllerFault}
-use Rattle.osdp_controller.specs.declared.session.Session.{Session}
-use Rattle.osdp_controller.specs.declared.state.State.{State}
-use Rattle.osdp_controller.specs.declared.state.State.TheVariants.{Closed, Quiet, Idle, Waiting, Pausing}
-use Rattle.osdp_controller.specs.Answers.{meaning_of}
-use Rattle.osdp_controller.specs.Hearing.{Heard, hears}
-use Rattle.osdp_controller.specs.Private.{numbered_in}
-use Rattle.osdp_controller.specs.Machine.{Machine, after_begin, after_retarget, after_submit, changed_unless, is_outstanding, or_no_device, refused_unless_closed, sent_in, submit_refusal}
-use Rattle.osdp_controller_laws.specs.Runs.{Call, Submit, Begin, Retarget, Withdraw, Tick, Hear, Lasts, ResendsTheSame, after_call, frames, sent_by}
-use Rattle.osdp_controller.specs.Sessions.{frame_of, seen}
-use Rattle.osdp_controller.specs.Ticking.{Ticked, begins, gives_up, sends_frame, stays, ticks_in, tries_again}
-use Rattle.osdp_controller.proofs.Choices.{either_way}
+use Rattle.osdp_controller_laws.proofs.Common.{◌≡◌, ap, sym, subst, ℕ, ◌+◌, ◌≤◌, true, List, [], ◌∷◌, ◌++◌, Option, Some, None, refl, arith, All, nat_lt, nat_le, option_to_list, All-nil, All-cons, Packet, next_sequence, Command, ReplyMeaning, ControllerConfig, Opening, Polling, ControllerFault, Session, State, Closed, Quiet, Idle, Waiting, Pausing, meaning_of, Heard, hears, numbered_in, Machine, after_begin, after_retarget, after_submit, changed_unless, is_outstanding, or_no_device, refused_unless_closed, sent_in, submit_refusal, Call, Submit, Begin, Retarget, Withdraw, Tick, Hear, Lasts, ResendsTheSame, after_call, frames, sent_by, frame_of, seen, Ticked, begins, gives_up, sends_frame, stays, ticks_in, tries_again, either_way}
 use Rattle.osdp_controller_laws.proofs.Frames.{OfEach, either_frame, of_pause, of_wait}
 
 -- where an exchange is outstanding: this is its packet, it has sent so many frames, and the settings are these

@@ -1,3 +1,4 @@
+pub mod Common
 pub mod Frames
 pub mod Causes
 pub mod Ticks

@@ -1,12 +1,9 @@
 -- What a reply means, from what is read.
 use Rattle.std.proofs.Common.{◌≡◌, ◌∙◌, ap, subst, sym, refl, arith, ℕ, List, [], ◌∷◌, drop, get_or, Option, Some, None, Result, Ok, Err}
-use Rattle.std.specs.Prelude.{◌≢◌, slice_index}
-use Rattle.osdp_frame.specs.Packet.{Packet}
+use Rattle.osdp_controller_laws.proofs.Common.{◌≢◌, slice_index, Packet, Reply, Ack, Busy, Nak, meaning_by_reading, meaning_by_reason, meaning_by_reply, NotTaken, Damaged, NumberRefused, Plain, Unreadable}
 use Rattle.osdp_msg.specs.declared.fault.MsgFault.{MsgFault}
 use Rattle.osdp_msg.specs.declared.nak.NakReason.{NakReason}
 use Rattle.osdp_msg.specs.declared.nak.NakReason.TheVariants.{CheckCharacters, UnexpectedSequence}
-use Rattle.osdp_msg.specs.declared.reply.Reply.{Reply}
-use Rattle.osdp_msg.specs.declared.reply.Reply.TheVariants.{Ack, Busy, Nak}
 use Rattle.osdp_msg.specs.declared.reply_fields.Nak.{Nak as NakData}
 use Rattle.osdp_msg.specs.NakReasons.{reason_number, reason_of}
 use Rattle.osdp_msg.specs.Refusal.{unless_fault}
@@ -14,8 +11,6 @@ use Rattle.osdp_msg.specs.ReplyFields.{nak_at}
 use Rattle.osdp_msg.specs.ReplyTable.{reply_at, reply_fault, reply_of}
 use Rattle.osdp_msg.proofs.ReplyRows.{reason_back}
 use Rattle.osdp_msg.proofs.Table.{by_codes}
-use Rattle.osdp_controller.specs.Answers.{meaning_by_reading, meaning_by_reason, meaning_by_reply}
-use Rattle.osdp_controller.specs.declared.meaning.ReplyMeaning.TheVariants.{NotTaken, Damaged, NumberRefused, Plain, Unreadable}
 use Rattle.osdp_controller_laws.specs.Meanings.{IsAnswer, IsNak, MeansWhatIsRead, MeansWhatItSays}
 
 -- ---- the reason of a NAK that is read is that of its number

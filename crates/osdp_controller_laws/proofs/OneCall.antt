@@ -1,22 +1,5 @@
 -- What one call keeps to.
-use Rattle.std.proofs.Common.{◌≡◌, ap, sym, ℕ, ◌+◌, true, false, List, [], ◌∷◌, Option, Some, None, refl}
-use Rattle.std.specs.Prelude.{if◌then◌else◌, nat_lt, nat_le, is_none, is_some}
-use Rattle.osdp_frame.specs.Packet.{Packet, next_sequence}
-use Rattle.osdp_msg.specs.declared.command.Command.{Command}
-use Rattle.osdp_controller.specs.declared.config.ControllerConfig.{ControllerConfig}
-use Rattle.osdp_controller.specs.declared.exchange.Exchange.TheVariants.{Opening, Polling}
-use Rattle.osdp_controller.specs.declared.fault.ControllerFault.{ControllerFault}
-use Rattle.osdp_controller.specs.declared.report.Report.{Report}
-use Rattle.osdp_controller.specs.declared.session.Session.{Session}
-use Rattle.osdp_controller.specs.declared.state.State.{State}
-use Rattle.osdp_controller.specs.declared.state.State.TheVariants.{Closed, Quiet, Idle, Waiting, Pausing}
-use Rattle.osdp_controller_laws.specs.Calls.{BeginsWithFrame, KeepsSettings, WaitsUntilDue, told_address}
-use Rattle.osdp_controller.specs.Hearing.{Heard, hears}
-use Rattle.osdp_controller.specs.Machine.{Machine, acts, after_begin, after_retarget, after_submit, changed_unless, is_outstanding, refused_unless_closed, retarget_refusal, submit_refusal}
-use Rattle.osdp_controller_laws.specs.Runs.{Call, Submit, Begin, Retarget, Withdraw, Tick, Hear}
-use Rattle.osdp_controller.specs.Sessions.{seen}
-use Rattle.osdp_controller.specs.Ticking.{Ticked, begins, gives_up, sends_frame, stays, ticks_in, tries_again}
-use Rattle.osdp_controller.proofs.Choices.{either_way}
+use Rattle.osdp_controller_laws.proofs.Common.{◌≡◌, ap, sym, ℕ, ◌+◌, true, false, List, [], ◌∷◌, Option, Some, None, refl, if◌then◌else◌, nat_lt, nat_le, is_none, is_some, Packet, next_sequence, Command, ControllerConfig, Opening, Polling, ControllerFault, Report, Session, State, Closed, Quiet, Idle, Waiting, Pausing, BeginsWithFrame, KeepsSettings, WaitsUntilDue, told_address, Heard, hears, Machine, acts, after_begin, after_retarget, after_submit, changed_unless, is_outstanding, refused_unless_closed, retarget_refusal, submit_refusal, Call, Submit, Begin, Retarget, Withdraw, Tick, Hear, seen, Ticked, begins, gives_up, sends_frame, stays, ticks_in, tries_again, either_way}
 use Rattle.osdp_controller_laws.proofs.Kept.{HoldsOfKept, frame_keeps, tick_keeps}
 use Rattle.osdp_controller_laws.proofs.Stepwise.{frames_in_steps}
 

@@ -1,21 +1,7 @@
 -- The frame that a session opens with.
-use Rattle.std.proofs.Common.{◌≡◌, ◌∙◌, ap, sym, subst, ℕ, false, List, [], ◌∷◌, Some}
-use Rattle.std.specs.Prelude.{nat_le}
+use Rattle.osdp_controller_laws.proofs.Common.{◌≡◌, ◌∙◌, ap, sym, subst, ℕ, false, List, [], ◌∷◌, Some, nat_le, Packet, Command, Exchange, Opening, Session, State, Quiet, Waiting, Pausing, Machine, OpensAtZero, frame_of, seen, Ticked, begins, stays, ticks_in, either_way, exchange_in, Tick, after_call}
 use Rattle.osdp_frame.specs.Packed.{packed}
-use Rattle.osdp_frame.specs.Packet.{Packet}
-use Rattle.osdp_msg.specs.declared.command.Command.{Command}
-use Rattle.osdp_controller.specs.declared.exchange.Exchange.{Exchange}
-use Rattle.osdp_controller.specs.declared.exchange.Exchange.TheVariants.{Opening}
-use Rattle.osdp_controller.specs.declared.session.Session.{Session}
-use Rattle.osdp_controller.specs.declared.state.State.{State}
-use Rattle.osdp_controller.specs.declared.state.State.TheVariants.{Quiet, Waiting, Pausing}
-use Rattle.osdp_controller.specs.Machine.{Machine, OpensAtZero}
-use Rattle.osdp_controller.specs.Sessions.{frame_of, seen}
-use Rattle.osdp_controller.specs.Ticking.{Ticked, begins, stays, ticks_in}
-use Rattle.osdp_controller.proofs.Choices.{either_way}
-use Rattle.osdp_controller_laws.specs.Laws.{exchange_in}
 use Rattle.osdp_controller_laws.specs.Openings.{OpensById, opening_frame}
-use Rattle.osdp_controller_laws.specs.Runs.{Tick, after_call}
 use Rattle.osdp_controller_laws.proofs.Stepwise.{sends_its_frame}
 use Rattle.osdp_controller_laws.proofs.Well.{keeps_each}
 

@@ -1,33 +1,10 @@
 -- What each call leaves of the commands that wait, and of the room for them.
-use Rattle.std.proofs.Common.{◌≡◌, ◌∙◌, ap, sym, subst, ◌≤◌, ◌<◌, ◌+◌, ◌-◌, ◌*◌, ◌&&◌, ltb, leb, ℕ, Bool, true, false, List, [], ◌∷◌, ◌++◌, length, Option, Some, None, refl, arith}
-use Rattle.std.specs.Prelude.{IfSome, if◌then◌else◌, All, drop, nat_le, nat_lt}
+use Rattle.osdp_controller_laws.proofs.Common.{◌≡◌, ◌∙◌, ap, sym, subst, ◌≤◌, ◌<◌, ◌+◌, ◌-◌, ◌*◌, ◌&&◌, ltb, leb, ℕ, Bool, true, false, List, [], ◌∷◌, ◌++◌, length, Option, Some, None, refl, arith, IfSome, if◌then◌else◌, All, drop, nat_le, nat_lt, le-leb, leb-false, leb-true, lt-leb, ltb-true, All-head, All-nil, All-push, All-tail, next_sequence, CommandFits, command_code, command_data, Command, Poll, command_laws, ControllerConfig, Opening, Polling, ControllerFault, Session, State, Closed, Quiet, Idle, Waiting, Pausing, Machine, after_begin, after_retarget, after_submit, begin_refusal, bytes_kept, bytes_on_its_way, bytes_waiting, changed_unless, command_size, has_room, new_machine, refused_unless_closed, retarget_refusal, submit_refusal, submitted_command, hears, seen, is_closed, Ticked, begins, gives_up, sends_frame, stays, ticks_in, tries_again, either_way, asked_in, Call, Submit, Begin, Retarget, Withdraw, Tick, Hear, after_call, after_calls}
 use Rattle.std.specs.Option.{option_map_or}
-use Rattle.std.proofs.lemmas.Bool.{le-leb, leb-false, leb-true, lt-leb, ltb-true}
-use Rattle.std.proofs.lemmas.List.Elements.{All-head, All-nil, All-push, All-tail}
-use Rattle.osdp_frame.specs.Packet.{next_sequence}
-use Rattle.osdp_msg.specs.CommandTable.{CommandFits, command_code, command_data}
 use Rattle.osdp_msg.specs.Limits.{most_data}
-use Rattle.osdp_msg.specs.declared.command.Command.{Command}
-use Rattle.osdp_msg.specs.declared.command.Command.TheVariants.{Poll}
-use Rattle.osdp_msg_laws.proofs.CommandLaws.{command_laws}
-use Rattle.osdp_controller.specs.declared.config.ControllerConfig.{ControllerConfig}
-use Rattle.osdp_controller.specs.declared.exchange.Exchange.TheVariants.{Opening, Polling}
-use Rattle.osdp_controller.specs.declared.fault.ControllerFault.{ControllerFault}
-use Rattle.osdp_controller.specs.declared.session.Session.{Session}
-use Rattle.osdp_controller.specs.declared.state.State.{State}
-use Rattle.osdp_controller.specs.declared.state.State.TheVariants.{Closed, Quiet, Idle, Waiting, Pausing}
-use Rattle.osdp_controller.specs.Machine.{Machine, after_begin, after_retarget, after_submit, begin_refusal, bytes_kept, bytes_on_its_way, bytes_waiting, changed_unless, command_size, has_room, new_machine, refused_unless_closed, retarget_refusal, submit_refusal}
-use Rattle.osdp_controller.specs.Exchanges.{submitted_command}
-use Rattle.osdp_controller.specs.Hearing.{hears}
 use Rattle.osdp_controller.specs.Held.{on_its_way}
-use Rattle.osdp_controller.specs.Sessions.{seen}
-use Rattle.osdp_controller.specs.States.{is_closed}
-use Rattle.osdp_controller.specs.Ticking.{Ticked, begins, gives_up, sends_frame, stays, ticks_in, tries_again}
-use Rattle.osdp_controller.proofs.Choices.{either_way}
 use Rattle.osdp_controller.proofs.OnItsWay.{hears_follows}
-use Rattle.osdp_controller_laws.specs.Commands.{asked_in}
 use Rattle.osdp_controller_laws.specs.Room.{HasRoom, RefusesForItsPlace, StaysInRoom, SubmitsFitting}
-use Rattle.osdp_controller_laws.specs.Runs.{Call, Submit, Begin, Retarget, Withdraw, Tick, Hear, after_call, after_calls}
 
 -- ---- what waits: what a command that has room and a front that leaves keep
 

@@ -1,33 +1,8 @@
 -- What one call does from each state, and what a whole exchange comes to.
-use Rattle.std.proofs.Common.{◌≡◌, ◌∙◌, ap, sym, subst, inl, inr, ℕ, ◌+◌, Bool, true, false, List, [], ◌∷◌, Option, Some, None, refl}
+use Rattle.osdp_controller_laws.proofs.Common.{◌≡◌, ◌∙◌, ap, sym, subst, inl, inr, ℕ, ◌+◌, Bool, true, false, List, [], ◌∷◌, Option, Some, None, refl, le-leb, lt-leb, lt-ltb, le-ltb, eq-eqb, ne_eqb, Packet, next_sequence, Command, Communication, Reply, PdIdReply, ReplyMeaning, NotTaken, Damaged, NumberRefused, Unreadable, Exchange, Opening, Polling, Asking, Outstanding, Report, Opened, Settled, Moved, Session, State, Closed, Quiet, Idle, Waiting, Pausing, meaning_of, is_not_taken, event_in, Heard, answered, answered_unread, com_of, command_answered, comset_of, hears, hears_in, ignores, is_from_reader, is_numbered, moved_by, poll_told, numbered_in, Comes, ComesNumbered, IsFromReader, exchange_in, Machine, is_outstanding, at_rest, frame_of, seen, Ticked, begins, gives_up, sends_frame, stays, ticks, ticks_in, tries_again, either_way}
 use Rattle.std.specs.Prelude.{◌≢◌, ◌⊎◌, ◌&&◌, ◌||◌, ◌==◌, if◌then◌else◌, max, nat_lt, nat_le}
-use Rattle.std.proofs.lemmas.Bool.{le-leb, lt-leb, lt-ltb, le-ltb, eq-eqb, ne_eqb}
-use Rattle.osdp_frame.specs.Packet.{Packet, next_sequence}
-use Rattle.osdp_msg.specs.declared.command.Command.{Command}
-use Rattle.osdp_msg.specs.declared.command_fields.Communication.{Communication}
-use Rattle.osdp_msg.specs.declared.reply.Reply.{Reply}
-use Rattle.osdp_msg.specs.declared.reply.Reply.TheVariants.{PdId as PdIdReply}
-use Rattle.osdp_controller.specs.declared.meaning.ReplyMeaning.{ReplyMeaning}
-use Rattle.osdp_controller.specs.declared.meaning.ReplyMeaning.TheVariants.{NotTaken, Damaged, NumberRefused, Unreadable}
-use Rattle.osdp_controller.specs.declared.exchange.Exchange.{Exchange}
-use Rattle.osdp_controller.specs.declared.exchange.Exchange.TheVariants.{Opening, Polling, Asking}
-use Rattle.osdp_controller.specs.declared.exchange.Outstanding.{Outstanding}
-use Rattle.osdp_controller.specs.declared.report.Report.{Report}
-use Rattle.osdp_controller.specs.declared.report.Report.TheVariants.{Opened, Settled, Moved}
-use Rattle.osdp_controller.specs.declared.session.Session.{Session}
-use Rattle.osdp_controller.specs.declared.state.State.{State}
-use Rattle.osdp_controller.specs.declared.state.State.TheVariants.{Closed, Quiet, Idle, Waiting, Pausing}
-use Rattle.osdp_controller.specs.Answers.{meaning_of, is_not_taken}
-use Rattle.osdp_msg.specs.Events.{event_in}
-use Rattle.osdp_controller.specs.Hearing.{Heard, answered, answered_unread, com_of, command_answered, comset_of, hears, hears_in, ignores, is_from_reader, is_numbered, moved_by, poll_told}
-use Rattle.osdp_controller.specs.Private.{numbered_in}
-use Rattle.osdp_controller_laws.specs.Laws.{Comes, ComesNumbered, IsFromReader, exchange_in}
-use Rattle.osdp_controller.specs.Machine.{Machine, is_outstanding}
-use Rattle.osdp_controller.specs.Sessions.{at_rest, frame_of, seen}
 use Rattle.osdp_controller_laws.specs.Steps.{Exchanged, ExchangesInSteps, FramesInSteps, IsAheadAt, IsReachedAt, IsReplyTo, SendsItsFrame, TicksInSteps, moved_away}
-use Rattle.osdp_controller.specs.Ticking.{Ticked, begins, gives_up, sends_frame, stays, ticks, ticks_in, tries_again}
 use Rattle.osdp_controller_laws.proofs.Causes.{hears_answers, is_reader, of_reader}
-use Rattle.osdp_controller.proofs.Choices.{either_way}
 use Rattle.osdp_controller_laws.proofs.Frames.{by_number, by_tests}
 
 if_true : {A : Type 0} (b : Bool) (x y : A) → b ≡ true → (if b then x else y) ≡ x

@@ -1,25 +1,6 @@
 -- What ticks come to.
-use Rattle.std.proofs.Common.{◌≡◌, ap, subst, ℕ, zero, suc, ◌+◌, ◌≤◌, true, false, List, [], ◌∷◌, Option, Some, None, refl, arith}
-use Rattle.std.specs.Prelude.{if◌then◌else◌, nat_lt, nat_le, is_some, max}
-use Rattle.osdp_frame.specs.Packet.{next_sequence}
-use Rattle.osdp_msg.specs.declared.command.Command.{Command}
-use Rattle.osdp_controller.specs.declared.exchange.Exchange.{Exchange}
-use Rattle.osdp_controller.specs.declared.exchange.Exchange.TheVariants.{Opening, Polling, Asking}
+use Rattle.osdp_controller_laws.proofs.Common.{◌≡◌, ap, subst, ℕ, zero, suc, ◌+◌, ◌≤◌, true, false, List, [], ◌∷◌, Option, Some, None, refl, arith, if◌then◌else◌, nat_lt, nat_le, is_some, max, next_sequence, Command, Exchange, Opening, Polling, Asking, Report, Lost, Session, State, Closed, Quiet, Idle, Waiting, Pausing, meaning_of, submitted_command, hears_in, ignores, is_from_reader, CountsSends, KeepsTime, NumbersTakeTurns, TakesFront, TellsLost, exchange_in, Machine, begin_refusal, begun, changed_unless, is_outstanding, sent_in, seen, is_idle, Ticked, begins, gives_up, sends_frame, stays, ticks_in, tries_again, either_way}
 use Rattle.osdp_controller.specs.declared.report.LostCause.TheVariants as causes
-use Rattle.osdp_controller.specs.declared.report.Report.{Report}
-use Rattle.osdp_controller.specs.declared.report.Report.TheVariants.{Lost}
-use Rattle.osdp_controller.specs.declared.session.Session.{Session}
-use Rattle.osdp_controller.specs.declared.state.State.{State}
-use Rattle.osdp_controller.specs.declared.state.State.TheVariants.{Closed, Quiet, Idle, Waiting, Pausing}
-use Rattle.osdp_controller.specs.Answers.{meaning_of}
-use Rattle.osdp_controller.specs.Exchanges.{submitted_command}
-use Rattle.osdp_controller.specs.Hearing.{hears_in, ignores, is_from_reader}
-use Rattle.osdp_controller_laws.specs.Laws.{CountsSends, KeepsTime, NumbersTakeTurns, TakesFront, TellsLost, exchange_in}
-use Rattle.osdp_controller.specs.Machine.{Machine, begin_refusal, begun, changed_unless, is_outstanding, sent_in}
-use Rattle.osdp_controller.specs.Sessions.{seen}
-use Rattle.osdp_controller.specs.States.{is_idle}
-use Rattle.osdp_controller.specs.Ticking.{Ticked, begins, gives_up, sends_frame, stays, ticks_in, tries_again}
-use Rattle.osdp_controller.proofs.Choices.{either_way}
 
 -- one frame more, in an exchange that is outstanding then
 abbrev OneMore : State → Ticked → Type 0

@@ -1,28 +1,8 @@
 -- What holds of each controller is kept by each call.
-use Rattle.std.proofs.Common.{◌≡◌, ℕ, ◌+◌, ◌-◌, ◌<◌, ◌≤◌, ◌&&◌, Bool, true, false, List, [], ◌∷◌, length, Option, Some, None, refl, arith, rules}
-use Rattle.std.specs.Prelude.{◌≢◌, if◌then◌else◌, All, drop, nat_lt, nat_le}
-use Rattle.std.proofs.lemmas.Bool.{ltb-true}
+use Rattle.osdp_controller_laws.proofs.Common.{◌≡◌, ℕ, ◌+◌, ◌-◌, ◌<◌, ◌≤◌, ◌&&◌, Bool, true, false, List, [], ◌∷◌, length, Option, Some, None, refl, arith, rules, ◌≢◌, if◌then◌else◌, All, drop, nat_lt, nat_le, ltb-true, All-nil, All-push, All-tail, next_sequence, Command, Poll, ControllerConfig, Opening, Polling, Outstanding, ControllerFault, Session, State, Closed, Quiet, Idle, Waiting, Pausing, IsMachine, IsOutstanding, IsState, IsSubmitted, Machine, after_begin, after_retarget, after_submit, after_withdraw, bytes_kept, changed_unless, command_size, or_no_device, refused_unless_closed, retarget_refusal, submit_refusal, Call, Submit, Begin, Retarget, Withdraw, Tick, Hear, StaysWell, after_call, after_calls, seen, is_closed, Ticked, begins, gives_up, sends_frame, stays, ticks_in, tries_again, either_way, first_true, keeps_seen}
 use Rattle.std.proofs.lemmas.List.{length_push}
-use Rattle.std.proofs.lemmas.List.Elements.{All-nil, All-push, All-tail}
-use Rattle.osdp_frame.specs.Packet.{next_sequence}
-use Rattle.osdp_msg.specs.declared.command.Command.{Command}
-use Rattle.osdp_msg.specs.declared.command.Command.TheVariants.{Poll}
-use Rattle.osdp_controller.specs.declared.config.ControllerConfig.{ControllerConfig}
-use Rattle.osdp_controller.specs.declared.exchange.Exchange.TheVariants.{Opening, Polling}
-use Rattle.osdp_controller.specs.declared.exchange.Outstanding.{Outstanding}
-use Rattle.osdp_controller.specs.declared.fault.ControllerFault.{ControllerFault}
-use Rattle.osdp_controller.specs.declared.session.Session.{Session}
-use Rattle.osdp_controller.specs.declared.state.State.{State}
-use Rattle.osdp_controller.specs.declared.state.State.TheVariants.{Closed, Quiet, Idle, Waiting, Pausing}
-use Rattle.osdp_controller.specs.Machine.{IsMachine, IsOutstanding, IsState, IsSubmitted, Machine, after_begin, after_retarget, after_submit, after_withdraw, bytes_kept, changed_unless, command_size, or_no_device, refused_unless_closed, retarget_refusal, submit_refusal}
-use Rattle.osdp_controller_laws.specs.Runs.{Call, Submit, Begin, Retarget, Withdraw, Tick, Hear, StaysWell, after_call, after_calls}
-use Rattle.osdp_controller.specs.Sessions.{seen}
 use Rattle.osdp_controller.specs.Settings.{IsConfig}
-use Rattle.osdp_controller.specs.States.{is_closed}
-use Rattle.osdp_controller.specs.Ticking.{Ticked, begins, gives_up, sends_frame, stays, ticks_in, tries_again}
 use Rattle.osdp_controller_laws.proofs.Bounded.{keeps_hears, keeps_tick}
-use Rattle.osdp_controller.proofs.Choices.{either_way, first_true}
-use Rattle.osdp_controller.proofs.Keeping.{keeps_seen}
 
 accepted : (fault : ControllerFault) (b : Bool) → (if b then None else Some fault) ≡ None → b ≡ true
 accepted fault true h = refl

@@ -1,3 +1,4 @@
+pub mod Common
 pub mod Sayings
 pub mod Taking
 pub mod Turning

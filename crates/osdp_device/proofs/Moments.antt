@@ -1,10 +1,5 @@
 -- The moments that a device has seen, and when an ended run is read.
-use Rattle.std.proofs.Common.{◌≡◌, ap, ℕ, Bool, true, false, cond, max, List, [], ◌∷◌, refl}
-use Rattle.osdp_msg.specs.declared.command.Command.{Command}
-use Rattle.osdp_reader.specs.declared.handler.Answer.{Answer}
-use Rattle.osdp_reader.specs.State.{ReaderState}
-use Rattle.osdp_device.specs.Hearing.{hears_bytes, reads_all, then_reads}
-use Rattle.osdp_frame.specs.Receiving.{IsReceived, Received, ends_run, ends_silent, is_silent, seen}
+use Rattle.osdp_device.proofs.Common.{◌≡◌, ap, ℕ, Bool, true, false, cond, max, List, [], ◌∷◌, refl, Command, Answer, ReaderState, hears_bytes, reads_all, then_reads, IsReceived, Received, ends_run, ends_silent, is_silent, seen}
 use Rattle.osdp_frame_laws.proofs.Silences.{silences_end_runs}
 use Rattle.osdp_device.specs.Moments.{MomentsAreSeen, RunsAreReadAtTheirEnd}
 

@@ -1,18 +1,7 @@
 -- What a device does with a command, by the kind of its packet.
-use Rattle.std.proofs.Common.{◌≡◌, ◌⊎◌, ◌↔◌, Bool, false, Option, Some, None, inl, inr, refl, sym, subst, ap}
+use Rattle.osdp_device.proofs.Common.{◌≡◌, ◌⊎◌, ◌↔◌, Bool, false, Option, Some, None, inl, inr, refl, sym, subst, ap, Packet, Command, Poll, Answer, Kind, Zero, Taken, ReaderState, outcome, either, order_by, again_by, but_poll, taken_by, Nothing, Once, Again}
 use Rattle.std.specs.Prelude.{◌≢◌}
-use Rattle.osdp_frame.specs.Packet.{Packet}
-use Rattle.osdp_msg.specs.declared.command.Command.{Command}
-use Rattle.osdp_msg.specs.declared.command.Command.TheVariants.{Poll}
-use Rattle.osdp_reader.specs.declared.handler.Answer.{Answer}
-use Rattle.osdp_reader.specs.declared.kind.Kind.{Kind}
-use Rattle.osdp_reader.specs.declared.kind.Kind.TheVariants.{Zero, Taken}
-use Rattle.osdp_reader.specs.State.{ReaderState}
-use Rattle.osdp_reader.specs.Table.{outcome}
-use Rattle.osdp_device.specs.Orders.{either, order_by}
-use Rattle.osdp_device.specs.Saying.{again_by, but_poll, taken_by}
 use Rattle.osdp_device.specs.declared.order.Order.{Order}
-use Rattle.osdp_device.specs.declared.order.Order.TheVariants.{Nothing, Once, Again}
 
 abbrev IsActed : Kind → Type 0
 IsActed k = (k ≡ Zero) ⊎ (k ≡ Taken)

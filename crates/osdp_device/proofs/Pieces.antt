@@ -1,23 +1,6 @@
 -- Bytes that are heard piece by piece.
-use Rattle.std.proofs.Common.{◌≡◌, ℕ, ◌+◌, ◌-◌, ◌*◌, ◌<◌, ◌≤◌, ◌==◌, not, max, nat_le, Bool, true, false, cond, min, List, [], ◌∷◌, ◌++◌, length, take, drop, refl, sym, subst, ap, ◌∙◌, arith, append_assoc, append-nil, length-drop, take-append-drop}
-use Rattle.std.proofs.Math.Seq.{drop-drop}
-use Rattle.std.proofs.lemmas.Bool.{leb-true}
-use Rattle.osdp_frame.specs.Bytes.{AreBytes}
-use Rattle.osdp_frame.specs.Reading.{RunItem, item_size, total_size, IsReading}
-use Rattle.osdp_frame.specs.Held.{Held, decided, later, after_gap, new_run, taken_count}
-use Rattle.osdp_frame.specs.Items.{items, left_over}
-use Rattle.osdp_frame.proofs.Head.{AreBytes-append, AreBytes-drop, AreBytes-take}
+use Rattle.osdp_device.proofs.Common.{◌≡◌, ℕ, ◌+◌, ◌-◌, ◌*◌, ◌<◌, ◌≤◌, ◌==◌, not, max, nat_le, Bool, true, false, cond, min, List, [], ◌∷◌, ◌++◌, length, take, drop, refl, sym, subst, ap, ◌∙◌, arith, append_assoc, append-nil, length-drop, take-append-drop, drop-drop, leb-true, AreBytes, RunItem, item_size, total_size, IsReading, Held, decided, later, after_gap, new_run, taken_count, items, left_over, AreBytes-append, AreBytes-drop, AreBytes-take, items_nothing, left_is, left_over-append, left_same, some_ended, still_ended, decided_nothing, items_undecided, items-append, left_undecided, undecided_small, is_reading, Command, Answer, ReaderState, IsAllRead, IsReceived, Received, after_take, comes_in, ends_run, ends_silent, is_silent, seen, Said, after_item, said_of, after_items, after_all, items_of, listed, said_to_all, Heard, NeedsFewerTurns, TakesInTurn, hears_bytes, reads_all, reads_on, then_hears, then_reads, turns_left}
 use Rattle.osdp_frame.proofs.Decided.{AreBytes-front}
-use Rattle.osdp_frame_laws.proofs.LeftOver.{items_nothing, left_is, left_over-append, left_same, some_ended}
-use Rattle.osdp_frame_laws.proofs.OneByOne.{still_ended}
-use Rattle.osdp_frame_laws.proofs.Readings.{decided_nothing, items_undecided, items-append, left_undecided, undecided_small, is_reading}
-use Rattle.osdp_msg.specs.declared.command.Command.{Command}
-use Rattle.osdp_reader.specs.declared.handler.Answer.{Answer}
-use Rattle.osdp_reader.specs.State.{ReaderState}
-use Rattle.osdp_frame.specs.Receiving.{IsAllRead, IsReceived, Received, after_take, comes_in, ends_run, ends_silent, is_silent, seen}
-use Rattle.osdp_device.specs.Saying.{Said, after_item, said_of}
-use Rattle.osdp_device.specs.Telling.{after_items, after_all, items_of, listed, said_to_all}
-use Rattle.osdp_device.specs.Hearing.{Heard, NeedsFewerTurns, TakesInTurn, hears_bytes, reads_all, reads_on, then_hears, then_reads, turns_left}
 use Rattle.osdp_device.proofs.Turning.{splits}
 
 -- ---- what is held after all items

@@ -1,20 +1,7 @@
 -- A response says what the reader's table says.
-use Rattle.std.proofs.Common.{◌≡◌, ℕ, true, false, List, Option, Some, None, Result, Ok, Err, refl, sym, ap, ◌∙◌}
-use Rattle.std.specs.Result.{result_ok}
-use Rattle.osdp_msg.specs.declared.fault.MsgFault.{MsgFault}
-use Rattle.osdp_frame.specs.Packet.{Packet}
-use Rattle.osdp_frame.specs.Reading.{RunItem, PacketItem, SkippedItem, RefusedItem}
+use Rattle.osdp_device.proofs.Common.{◌≡◌, ℕ, true, false, List, Option, Some, None, Result, Ok, Err, refl, sym, ap, ◌∙◌, result_ok, MsgFault, Packet, RunItem, PacketItem, SkippedItem, RefusedItem, Command, Answer, Kind, Silent, Zero, Taken, ReaderState, begun, command_in, hears, kind_of, outcome, taken, acted_on, said_if, Said, after_item, bytes_of, is_answered, said_of, said_to, speaks, unless_silent}
 use Rattle.osdp_frame.proofs.Spelled.{spelled_is}
-use Rattle.osdp_msg.specs.declared.command.Command.{Command}
-use Rattle.osdp_reader.specs.declared.handler.Answer.{Answer}
-use Rattle.osdp_reader.specs.declared.kind.Kind.{Kind}
-use Rattle.osdp_reader.specs.declared.kind.Kind.TheVariants.{Silent, Zero, Taken}
 use Rattle.osdp_reader.specs.Spelled.{IsSpelled}
-use Rattle.osdp_reader.specs.State.{ReaderState}
-use Rattle.osdp_reader.specs.Table.{begun, command_in, hears, kind_of, outcome, taken}
-use Rattle.osdp_device.specs.Deciding.{acted_on}
-use Rattle.osdp_device.specs.Lent.{said_if}
-use Rattle.osdp_device.specs.Saying.{Said, after_item, bytes_of, is_answered, said_of, said_to, speaks, unless_silent}
 
 bytes_are : (o : Option Packet) (bytes : List ℕ) → IsSpelled o bytes → bytes ≡ bytes_of o
 bytes_are None bytes is = is

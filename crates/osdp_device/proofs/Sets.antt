@@ -1,26 +1,7 @@
 -- What is said to a command about which a device's program was asked, and to what else comes.
-use Rattle.std.proofs.Common.{◌≡◌, Bool, true, false, if◌then◌else◌, List, [], ◌∷◌, Option, Some, None, Result, Ok, Err, refl, sym, ap, ◌∙◌, subst}
-use Rattle.osdp_frame.specs.Held.{Held, later}
-use Rattle.osdp_frame.specs.Packet.{Packet}
-use Rattle.osdp_frame.specs.Reading.{RunItem, PacketItem, SkippedItem, RefusedItem}
-use Rattle.osdp_frame.specs.Spelling.{spelling}
-use Rattle.osdp_msg.specs.declared.command.Command.{Command}
-use Rattle.osdp_msg.specs.declared.command.Command.TheVariants.{Poll}
-use Rattle.osdp_msg.specs.declared.event.Event.{Event}
-use Rattle.osdp_msg.specs.declared.fault.MsgFault.{MsgFault}
-use Rattle.osdp_msg.specs.declared.reply.Reply.{Reply}
+use Rattle.osdp_device.proofs.Common.{◌≡◌, Bool, true, false, if◌then◌else◌, List, [], ◌∷◌, Option, Some, None, Result, Ok, Err, refl, sym, ap, ◌∙◌, subst, Held, later, Packet, RunItem, PacketItem, SkippedItem, RefusedItem, spelling, Command, Poll, Event, MsgFault, Reply, Answer, Kind, event_for, released, own_reply, reply_for, reply_packet, ReaderState, after_set_handler, Outcome, answered, begun, command_in, event_or_answer, kind_of, outcome, taken, acted_on, handled, pending_at, pending_in, unless_own, IsSaidTo, Said, after_item, bytes_of, is_answered, said_of, speaks, unless_silent, Told, told_by, told_or}
 use Rattle.osdp_reader.specs.declared.config.ReaderConfig.{ReaderConfig}
-use Rattle.osdp_reader.specs.declared.handler.Answer.{Answer}
-use Rattle.osdp_reader.specs.declared.kind.Kind.{Kind}
 use Rattle.osdp_reader.specs.declared.kind.Kind.TheVariants as kind
-use Rattle.osdp_reader.specs.Queue.{event_for, released}
-use Rattle.osdp_reader.specs.Replies.{own_reply, reply_for, reply_packet}
-use Rattle.osdp_reader.specs.State.{ReaderState, after_set_handler}
-use Rattle.osdp_reader.specs.Table.{Outcome, answered, begun, command_in, event_or_answer, kind_of, outcome, taken}
-use Rattle.osdp_device.specs.Deciding.{acted_on, handled, pending_at, pending_in, unless_own}
-use Rattle.osdp_device.specs.DecidingLaws.{IsSaidTo}
-use Rattle.osdp_device.specs.Saying.{Said, after_item, bytes_of, is_answered, said_of, speaks, unless_silent}
-use Rattle.osdp_device.specs.Telling.{Told, told_by, told_or}
 use Rattle.osdp_device.proofs.Sayings.{none_said, stays}
 
 -- a command that the reader doesn't answer by itself isn't one to which an event is told

@@ -1,18 +1,5 @@
 -- A pending command stays so, whatever comes after it.
-use Rattle.std.proofs.Common.{◌≡◌, ℕ, ◌-◌, Bool, true, false, if◌then◌else◌, cond, min, List, [], ◌∷◌, ◌++◌, length, take, Some, refl, sym, ap, ◌∙◌, subst, append-nil}
-use Rattle.osdp_frame.specs.Bytes.{AreBytes}
-use Rattle.osdp_frame.specs.Held.{Held, after_gap, after_push}
-use Rattle.osdp_frame.specs.Items.{items, left_over}
-use Rattle.osdp_frame.specs.Packet.{largest}
-use Rattle.osdp_frame.specs.Reading.{RunItem}
-use Rattle.osdp_frame.proofs.Head.{AreBytes-append, AreBytes-take}
-use Rattle.osdp_frame_laws.proofs.LeftOver.{gap_items}
-use Rattle.osdp_frame_laws.proofs.Readings.{items-append}
-use Rattle.osdp_msg.specs.declared.command.Command.{Command}
-use Rattle.osdp_reader.specs.State.{ReaderState}
-use Rattle.osdp_device.specs.Deciding.{pending_at, pending_in, pending_of}
-use Rattle.osdp_frame.specs.Receiving.{IsReceived, Received, after_take, after_tick, ends_run, is_silent, seen}
-use Rattle.osdp_device.specs.Saying.{is_answered}
+use Rattle.osdp_device.proofs.Common.{◌≡◌, ℕ, ◌-◌, Bool, true, false, if◌then◌else◌, cond, min, List, [], ◌∷◌, ◌++◌, length, take, Some, refl, sym, ap, ◌∙◌, subst, append-nil, AreBytes, Held, after_gap, after_push, items, left_over, largest, RunItem, AreBytes-append, AreBytes-take, gap_items, items-append, Command, ReaderState, pending_at, pending_in, pending_of, IsReceived, Received, after_take, after_tick, ends_run, is_silent, seen, is_answered}
 
 same_bytes : (l : Received) (now : ℕ) → IsReceived l → AreBytes (after_tick now l).held.bytes
 same_bytes l now run = by_test (is_silent (seen now l))

@@ -1,17 +1,6 @@
 -- What is told of items that are taken off one by one.
-use Rattle.std.proofs.Common.{◌≡◌, Bool, true, false, if◌then◌else◌, drop, Option, Some, None, is_some, refl, sym, ap, ◌∙◌}
-use Rattle.osdp_frame.specs.Held.{Held, decided, after_advance, later, after_first}
-use Rattle.osdp_frame.specs.Items.{items}
-use Rattle.osdp_frame.specs.Reading.{RunItem, item_size}
-use Rattle.osdp_frame_laws.proofs.OneByOne.{items_after, still_ended}
-use Rattle.osdp_frame_laws.proofs.Readings.{items_undecided}
-use Rattle.osdp_msg.specs.declared.command.Command.{Command}
-use Rattle.osdp_reader.specs.declared.handler.Answer.{Answer}
-use Rattle.osdp_reader.specs.State.{ReaderState}
+use Rattle.osdp_device.proofs.Common.{◌≡◌, Bool, true, false, if◌then◌else◌, drop, Option, Some, None, is_some, refl, sym, ap, ◌∙◌, Held, decided, after_advance, later, after_first, items, RunItem, item_size, items_after, still_ended, items_undecided, Command, Answer, ReaderState, passed, passed_by, pending_at, pending_in, pending_of, Said, after_item, answers_first, is_answered, said_of, Told, next_told, told_by, told_or}
 use Rattle.osdp_device.proofs.Sayings.{none_said, stays}
-use Rattle.osdp_device.specs.Deciding.{passed, passed_by, pending_at, pending_in, pending_of}
-use Rattle.osdp_device.specs.Saying.{Said, after_item, answers_first, is_answered, said_of}
-use Rattle.osdp_device.specs.Telling.{Told, next_told, told_by, told_or}
 
 module _ {H : Type 0} (answer_of : H → Command → Answer) (after : H → Command → H) where
   -- nothing is decided: nothing is told, and nothing changes

@@ -1,14 +1,5 @@
 -- Answers that are told in turn.
-use Rattle.std.proofs.Common.{◌≡◌, List, [], ◌∷◌, ◌++◌, drop, Option, Some, None, refl, sym, ap, ◌∙◌}
-use Rattle.osdp_frame.specs.Held.{Held, decided, later}
-use Rattle.osdp_frame.specs.Reading.{RunItem, item_size}
-use Rattle.osdp_frame_laws.proofs.OneByOne.{items_after, still_ended}
-use Rattle.osdp_frame_laws.proofs.Readings.{items_undecided}
-use Rattle.osdp_msg.specs.declared.command.Command.{Command}
-use Rattle.osdp_reader.specs.declared.handler.Answer.{Answer}
-use Rattle.osdp_reader.specs.State.{ReaderState}
-use Rattle.osdp_device.specs.Saying.{Said, after_item, said_of}
-use Rattle.osdp_device.specs.Telling.{TellsInTurn, after_items, after_all, items_of, listed, next_told, said_to_all, told_by, told_or}
+use Rattle.osdp_device.proofs.Common.{◌≡◌, List, [], ◌∷◌, ◌++◌, drop, Option, Some, None, refl, sym, ap, ◌∙◌, Held, decided, later, RunItem, item_size, items_after, still_ended, items_undecided, Command, Answer, ReaderState, Said, after_item, said_of, TellsInTurn, after_items, after_all, items_of, listed, next_told, said_to_all, told_by, told_or}
 
 -- after the first of the items held are the others
 pub splits : (held : Held) (part : RunItem) (parts : List RunItem) → items_of held ≡ part ∷ parts → items_of (later held part) ≡ parts

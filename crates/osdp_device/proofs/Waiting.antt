@@ -1,11 +1,6 @@
 -- The moments of the events that wait.
-use Rattle.std.proofs.Common.{◌≡◌, ◌+◌, ◌-◌, ◌<◌, ◌≤◌, ◌&&◌, ltb, leb, ℕ, zero, suc, Bool, true, false, cond, List, [], ◌∷◌, ◌++◌, drop, take, length, map, refl, ap, sym, ◌∙◌, option_map, slice_get, arith, length-append, length-drop, length-take}
+use Rattle.osdp_device.proofs.Common.{◌≡◌, ◌+◌, ◌-◌, ◌<◌, ◌≤◌, ◌&&◌, ltb, leb, ℕ, zero, suc, Bool, true, false, cond, List, [], ◌∷◌, ◌++◌, drop, take, length, map, refl, ap, sym, ◌∙◌, option_map, slice_get, arith, length-append, length-drop, length-take, ltb-true, drop-drop, Event, Queue, bytes_waiting, event_size, has_room, ReaderState, after_withdraw_event}
 use Rattle.std.proofs.lemmas.List.{drop-map, drop_all, length-map, map-append}
-use Rattle.std.proofs.lemmas.Bool.{ltb-true}
-use Rattle.std.proofs.Math.Seq.{drop-drop}
-use Rattle.osdp_msg.specs.declared.event.Event.{Event}
-use Rattle.osdp_reader.specs.Queue.{Queue, bytes_waiting, event_size, has_room}
-use Rattle.osdp_reader.specs.State.{ReaderState, after_withdraw_event}
 use Rattle.osdp_device.specs.Ages.{AgesState, after_expiry, after_removal, last_of, waiting_moments}
 use Rattle.osdp_device.specs.AgesLaws.{ArrivesWithItsMoment, Came, LeavesWithItsMoment, TellsAge, TellsAges, Waits}
 

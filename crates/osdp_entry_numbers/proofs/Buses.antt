@@ -1,22 +1,6 @@
 -- A bus whose entries have other numbers: each call does to it what it does to the one, up to numbers.
-use Rattle.std.proofs.Common.{◌≡◌, ◌≢◌, ℕ, ◌+◌, Bool, true, false, cond, not, ◌&&◌, ◌||◌, List, [], ◌∷◌, ◌++◌, map, slice_get, slice_set, Option, Some, None, refl, sym, subst, ap, ◌∙◌, inl, inr, arith, is_some}
-use Rattle.std.proofs.lemmas.Bool.Decides.{leb_tells}
-use Rattle.std.proofs.lemmas.List.{map-append}
-use Rattle.std.specs.Prelude.{option_map}
+use Rattle.osdp_entry_numbers.proofs.Common.{◌≡◌, ◌≢◌, ℕ, ◌+◌, Bool, true, false, cond, not, ◌&&◌, ◌||◌, List, [], ◌∷◌, ◌++◌, map, slice_get, slice_set, Option, Some, None, refl, sym, subst, ap, ◌∙◌, inl, inr, arith, is_some, leb_tells, map-append, option_map, Report, BusState, Devices, device_of, has_report, holder, is_silent, seen, waiting_after, Remembered, entry_ticks, holds, is_entry_due, step_of, after_bytes, ends_run, ends_silent, hears_bytes, hears_items, BusTicked, asks_free, asks_holder, bus_ticks, is_due_at, is_held_and_due, next_due, stays, ticks_at, ticks_by, ticks_free, ticks_held, ticks_on, ticks_with, Entry, told_by_bytes, told_by_device, told_by_end, told_by_holder, told_by_items, told_by_silence, told_by_tick, told_by_ticking, IsBefore, IsDueEntry, judged, SoundBus, held_there, sound_seen, sound_silent, due_is_next, next_is_due, none_is_due, strictly, asked_at, asked_by_holder, read_at_end, read_at_silence, read_at_tick, read_by_holder, AreNumbers, Numbers, renumbers}
 use Rattle.osdp_frame.specs.Items.{items}
-use Rattle.osdp_controller.specs.declared.report.Report.{Report}
-use Rattle.osdp_bus.specs.Buses.{BusState, Devices, device_of, has_report, holder, is_silent, seen, waiting_after}
-use Rattle.osdp_bus.specs.Remembering.{Remembered}
-use Rattle.osdp_bus.specs.Entries.{entry_ticks, holds, is_entry_due, step_of}
-use Rattle.osdp_bus.specs.Hearing.{after_bytes, ends_run, ends_silent, hears_bytes, hears_items}
-use Rattle.osdp_bus.specs.Ticking.{BusTicked, asks_free, asks_holder, bus_ticks, is_due_at, is_held_and_due, next_due, stays, ticks_at, ticks_by, ticks_free, ticks_held, ticks_on, ticks_with}
-use Rattle.osdp_bus.specs.declared.entry.Entry.{Entry}
-use Rattle.osdp_bus_laws.specs.Reports.{told_by_bytes, told_by_device, told_by_end, told_by_holder, told_by_items, told_by_silence, told_by_tick, told_by_ticking}
-use Rattle.osdp_bus_laws.specs.Turns.{IsBefore, IsDueEntry, judged}
-use Rattle.osdp_bus_laws.proofs.Sound.{SoundBus, held_there, sound_seen, sound_silent}
-use Rattle.osdp_bus_laws.proofs.Turning.{due_is_next, next_is_due, none_is_due, strictly}
-use Rattle.osdp_calls.specs.Calls.{asked_at, asked_by_holder, read_at_end, read_at_silence, read_at_tick, read_by_holder}
-use Rattle.osdp_entry_numbers.specs.Numbers.{AreNumbers, Numbers, renumbers}
 use Rattle.osdp_entry_numbers.proofs.Entries.{FromOther, IsEntry, IsIdleOne, first_under, from_other, map_under, own_there, present, set_under}
 use Rattle.osdp_entry_numbers.proofs.Hearing.{UnderDevices, idle_due, idle_holds, items_same, told_under, waits_under}
 

@@ -1,26 +1,15 @@
 -- The day of a panel that is made anew with one of our entries left out, and then in another order: by the tests of each call.
-use Rattle.std.proofs.Common.{◌≡◌, ℕ, zero, suc, Bool, true, ◌&&◌, List, [], ◌∷◌, Some, refl, ap, ◌∙◌, arith}
-use Rattle.std.proofs.lemmas.Bool.{and_parts}
+use Rattle.osdp_entry_numbers.proofs.Common.{◌≡◌, ℕ, zero, suc, Bool, true, ◌&&◌, List, [], ◌∷◌, Some, refl, ap, ◌∙◌, arith, and_parts, Command, BusState, address_of, Entry, each_all, Answer, site_at, IsSetUp, AreNumbers, IsNewPanel, AllOwnKeep, Fits, LeavesAlone, OwnLine, OwnStep, after_own, ordered_step, own_view, turned}
 use Rattle.osdp_frame.specs.Held.{decided}
 use Rattle.osdp_frame.specs.Items.{items, left_over}
 use Rattle.osdp_msg.specs.CommandTable.{command_at, command_fault, command_of}
 use Rattle.osdp_msg.specs.ReplyFields.{CapabilityFits}
 use Rattle.osdp_msg.specs.ReplyTable.{reply_at, reply_fault, reply_of}
-use Rattle.osdp_msg.specs.declared.command.Command.{Command}
-use Rattle.osdp_bus.specs.Buses.{BusState}
-use Rattle.osdp_bus.specs.Entries.{address_of}
-use Rattle.osdp_bus.specs.declared.entry.Entry.{Entry}
-use Rattle.osdp_link_laws.proofs.Lines.{each_all}
-use Rattle.osdp_reader.specs.declared.handler.Answer.{Answer}
-use Rattle.osdp_shared_line.specs.Line.{site_at}
-use Rattle.osdp_calls.specs.Premises.{IsSetUp}
 use Rattle.osdp_premises.specs.Deciding.{is_fair}
 use Rattle.osdp_premises.specs.LongDay.{twice}
 use Rattle.osdp_premises.proofs.Exactly.{fair_keep}
 use Rattle.osdp_premises.proofs.LongDay.{RangeOf, all_range, id_fits, is_set_up, key_fits, twice_fits}
 use Rattle.osdp_entry_numbers.specs.Day.{AnyOrder, KeepsRestart, around, back, between, day, exchanged, line_after, onward, own_line, without}
-use Rattle.osdp_entry_numbers.specs.Numbers.{AreNumbers, IsNewPanel}
-use Rattle.osdp_entry_numbers.specs.OwnOrder.{AllOwnKeep, Fits, LeavesAlone, OwnLine, OwnStep, after_own, ordered_step, own_view, turned}
 
 -- ---- the numbers
 

@@ -1,16 +1,7 @@
 -- Entries by other numbers: what is found among them, and what one that changes leaves of this.
-use Rattle.std.proofs.Common.{◌≡◌, ◌≢◌, ◌<◌, ◌+◌, ℕ, zero, suc, Bool, true, false, ◌||◌, ◌==◌, List, [], ◌∷◌, take, drop, slice_get, slice_set, Option, Some, None, refl, sym, ap, ◌∙◌, subst, inl, inr, arith}
-use Rattle.std.specs.Prelude.{option_map}
+use Rattle.osdp_entry_numbers.proofs.Common.{◌≡◌, ◌≢◌, ◌<◌, ◌+◌, ℕ, zero, suc, Bool, true, false, ◌||◌, ◌==◌, List, [], ◌∷◌, take, drop, slice_get, slice_set, Option, Some, None, refl, sym, ap, ◌∙◌, subst, inl, inr, arith, option_map, option_map_or, eq-eqb, eqb_tells, first_from, is_taken_beside, takes_up, Entry, IsFound, found, set_here, set_other, AreNumbers, IsIdle, Numbers}
 use Rattle.std.specs.List.{list_any}
-use Rattle.std.specs.Option.{option_map_or}
-use Rattle.std.proofs.lemmas.Bool.{eq-eqb}
-use Rattle.std.proofs.lemmas.Bool.Decides.{eqb_tells}
-use Rattle.osdp_bus.specs.Entries.{first_from, is_taken_beside, takes_up}
-use Rattle.osdp_bus.specs.declared.entry.Entry.{Entry}
-use Rattle.osdp_bus.proofs.Waiting.{IsFound, found}
 use Rattle.osdp_bus_laws.proofs.Places.{free_beside, none_at}
-use Rattle.osdp_bus_laws.proofs.Turning.{set_here, set_other}
-use Rattle.osdp_entry_numbers.specs.Numbers.{AreNumbers, IsIdle, Numbers}
 
 -- what the panel has of an entry, and what stands for it by the other number: the same, or an idle entry where it is left out
 pub data IsUnder (o q : Option Entry) : Type 0 where

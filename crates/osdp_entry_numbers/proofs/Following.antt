@@ -1,32 +1,8 @@
 -- The line with our entries first follows the panel's own bus, call after call.
-use Rattle.std.proofs.Common.{◌≡◌, ℕ, true, false, cond, is_some, zero, suc, List, [], ◌∷◌, map, slice_get, Option, Some, None, refl, sym, subst, ap, ◌∙◌}
-use Rattle.std.specs.Prelude.{option_map}
-use Rattle.osdp_msg.specs.declared.command.Command.{Command}
-use Rattle.osdp_bus.specs.Buses.{BusState, Devices, device_of, seen}
-use Rattle.osdp_bus.specs.Machine.{new_device, retarget_refusal_at, submit_refusal_at}
-use Rattle.osdp_bus.specs.Remembering.{Remembered}
-use Rattle.osdp_bus.specs.Ticking.{bus_ticks}
-use Rattle.osdp_bus.specs.declared.config.BusConfig.{BusConfig}
-use Rattle.osdp_bus.specs.declared.entry.Entry.{Entry}
+use Rattle.osdp_entry_numbers.proofs.Common.{◌≡◌, ℕ, true, false, cond, is_some, zero, suc, List, [], ◌∷◌, map, slice_get, Option, Some, None, refl, sym, subst, ap, ◌∙◌, option_map, Command, BusState, Devices, device_of, seen, new_device, retarget_refusal_at, submit_refusal_at, Remembered, bus_ticks, BusConfig, Entry, told_in, always, sound_call, SoundBus, sound_seen, Ledger, Answer, outstanding_command, site_at, some_same, Call, NewPanel, Next, OfPanel, after_call, asked_at, last_of, noted, InUse, bus_with, InRange, PanelInRange, next_bus, said_bus, panel_restarts, panel_steps, steps_of, AreNumbers, IsIdle, IsNewPanel, Numbers, has_entry, named, renumbered, renumbers, turn_of, IsOwnSetUp, LeavesAlone, OwnKeeps, OwnLine, OwnStep, after_own, asked_in, in_order, turned, DoesTheSame, own_restarts, own_steps}
 use Rattle.osdp_bus_laws.specs.Calls as bus
-use Rattle.osdp_bus_laws.specs.Reports.{told_in}
-use Rattle.osdp_bus_laws.proofs.Calling.{always, sound_call}
-use Rattle.osdp_bus_laws.proofs.Sound.{SoundBus, sound_seen}
 use Rattle.osdp_ledger.specs.Ledger as ledger
-use Rattle.osdp_ledger.specs.Ledger.{Ledger}
-use Rattle.osdp_reader.specs.declared.handler.Answer.{Answer}
-use Rattle.osdp_link_laws.specs.Link.{outstanding_command}
-use Rattle.osdp_shared_line.specs.Line.{site_at}
-use Rattle.osdp_shared_line.proofs.Sites.{some_same}
-use Rattle.osdp_calls.specs.Calls.{Call, NewPanel, Next, OfPanel, after_call, asked_at, last_of, noted}
-use Rattle.osdp_calls.specs.Lines.{InUse, bus_with}
-use Rattle.osdp_calls.specs.Premises.{InRange, PanelInRange}
-use Rattle.osdp_calls.proofs.Ends.{next_bus, said_bus}
 use Rattle.osdp_calls.proofs.Sayings.{adds_make_the_bus}
-use Rattle.osdp_calls_ledger.specs.Steps.{panel_restarts, panel_steps, steps_of}
-use Rattle.osdp_entry_numbers.specs.Numbers.{AreNumbers, IsIdle, IsNewPanel, Numbers, has_entry, named, renumbered, renumbers, turn_of}
-use Rattle.osdp_entry_numbers.specs.OwnOrder.{IsOwnSetUp, LeavesAlone, OwnKeeps, OwnLine, OwnStep, after_own, asked_in, in_order, turned}
-use Rattle.osdp_entry_numbers.specs.Promises.{DoesTheSame, own_restarts, own_steps}
 use Rattle.osdp_entry_numbers.proofs.Buses.{bytes_same, end_same, like, tick_same}
 use Rattle.osdp_entry_numbers.proofs.Entries.{IsUnder, LeftOut, Same, own_there, present}
 use Rattle.osdp_entry_numbers.proofs.Hearing.{UnderDevices}

@@ -1,24 +1,7 @@
 -- What comes in, by other numbers: a packet reaches the same entry, and the same is told of it.
-use Rattle.std.proofs.Common.{◌≡◌, ℕ, false, arith, List, [], ◌∷◌, ◌++◌, map, slice_get, Option, Some, None, refl, sym, subst, ap, ◌∙◌, inl}
-use Rattle.std.proofs.lemmas.Bool.{eqb-true}
-use Rattle.std.proofs.lemmas.List.{map-append}
-use Rattle.std.specs.Prelude.{option_map}
-use Rattle.osdp_frame.specs.Packet.{Packet}
-use Rattle.osdp_frame.specs.Reading.{RunItem, PacketItem, SkippedItem, RefusedItem}
-use Rattle.osdp_controller.specs.Hearing.{Heard}
-use Rattle.osdp_controller.specs.Machine.{acts, is_outstanding}
+use Rattle.osdp_entry_numbers.proofs.Common.{◌≡◌, ℕ, false, arith, List, [], ◌∷◌, ◌++◌, map, slice_get, Option, Some, None, refl, sym, subst, ap, ◌∙◌, inl, eqb-true, map-append, option_map, Packet, RunItem, PacketItem, SkippedItem, RefusedItem, Heard, acts, is_outstanding, Report, Devices, waiting_after, address_of, entry_hears, first_from, holds, is_at, is_entry_due, reserved_after, told_of, hears_at, hears_items, hears_packet, hears_with, Entry, told_at, told_by_entry, told_by_item, told_by_items, told_with, IsFound, found, Sound, sound_item, AreNumbers, IsIdle, Numbers, renumbers}
 use Rattle.osdp_controller.specs.Sessions.{seen}
 use Rattle.osdp_controller.specs.Ticking.{ticks_in}
-use Rattle.osdp_controller.specs.declared.report.Report.{Report}
-use Rattle.osdp_bus.specs.Buses.{Devices, waiting_after}
-use Rattle.osdp_bus.specs.Entries.{address_of, entry_hears, first_from, holds, is_at, is_entry_due, reserved_after, told_of}
-use Rattle.osdp_bus.specs.Hearing.{hears_at, hears_items, hears_packet, hears_with}
-use Rattle.osdp_bus.specs.declared.entry.Entry.{Entry}
-use Rattle.osdp_bus_laws.specs.Reports.{told_at, told_by_entry, told_by_item, told_by_items, told_with}
-use Rattle.osdp_bus.proofs.Waiting.{IsFound, found}
-use Rattle.osdp_bus_laws.proofs.Changing.{Sound}
-use Rattle.osdp_bus_laws.proofs.Sound.{sound_item}
-use Rattle.osdp_entry_numbers.specs.Numbers.{AreNumbers, IsIdle, Numbers, renumbers}
 use Rattle.osdp_entry_numbers.proofs.Entries.{AreUnder, FirstUnder, IsFirst, IsIdleFirst, IsOnlyOne, IsUnder, first_of, present, set_idle, set_under}
 use Rattle.osdp_link_laws.proofs.Hearing.{closed_hears}
 

@@ -1,28 +1,7 @@
 -- Calls that keep the premises of any calls keep these: the line beside the panel's own bus differs by the turn alone.
 use Rattle.std.proofs.Common.{◌≡◌, ◌⊎◌, ℕ, true, false, cond, is_some, List, [], ◌∷◌, ◌++◌, append-nil, map, option_map, Option, Some, None, refl, sym, subst, ap, ◌∙◌, inl, inr}
-use Rattle.std.specs.Option.{option_map_or}
-use Rattle.osdp_frame.specs.Packet.{Packet}
-use Rattle.osdp_msg.specs.declared.command.Command.{Command}
-use Rattle.osdp_bus.specs.Buses.{BusState, device_of}
-use Rattle.osdp_bus.specs.Machine.{after_begin_at, after_retarget_at, after_submit_at, begin_refusal_of, changed_unless, entry_withdraws, retarget_refusal_of, submit_refusal_of, withdrawal_of}
-use Rattle.osdp_bus.specs.declared.config.BusConfig.{BusConfig}
-use Rattle.osdp_bus.specs.declared.entry.Entry.{Entry}
+use Rattle.osdp_entry_numbers.proofs.Common.{option_map_or, Packet, Command, BusState, device_of, after_begin_at, after_retarget_at, after_submit_at, begin_refusal_of, changed_unless, entry_withdraws, retarget_refusal_of, submit_refusal_of, withdrawal_of, BusConfig, Entry, sound_call, SoundBus, each_of, Each, Answer, changed, site_at, Call, NewDevice, NewPanel, Next, OfPanel, Step, after_call, after_next, after_panel, all_hear, asked_at, begins_with, begun_of, change_at, changes_at, is_to_begin, issues, last_of, noted, panel_says, read_by, said_at, said_for, takes_back, withdrawn, CanStand, Burst, InUse, Station, AllKeep, AreInOrder, IsAsked, IsFreeFor, IsNoOthers, IsOfOthers, IsSaid, IsThere, Keeps, MayBeAt, PanelInRange, said_bus, changed_same, AnyCallsKeep, as_they_stand, same_step, IsNewPanel, has_entry, named, renumbered, turn_of, AllOwnKeep, LeavesAlone, OwnKeeps, OwnLine, after_own, asked_in}
 use Rattle.osdp_bus_laws.specs.Calls as bus
-use Rattle.osdp_bus_laws.proofs.Calling.{sound_call}
-use Rattle.osdp_bus_laws.proofs.Sound.{SoundBus}
-use Rattle.osdp_link_laws.proofs.Lines.{each_of}
-use Rattle.osdp_link_laws.proofs.Stages.{Each}
-use Rattle.osdp_reader.specs.declared.handler.Answer.{Answer}
-use Rattle.osdp_shared_line.specs.Line.{changed, site_at}
-use Rattle.osdp_calls.specs.Calls.{Call, NewDevice, NewPanel, Next, OfPanel, Step, after_call, after_next, after_panel, all_hear, asked_at, begins_with, begun_of, change_at, changes_at, is_to_begin, issues, last_of, noted, panel_says, read_by, said_at, said_for, takes_back, withdrawn}
-use Rattle.osdp_calls.specs.Ends.{CanStand}
-use Rattle.osdp_calls.specs.Lines.{Burst, InUse, Station}
-use Rattle.osdp_calls.specs.Premises.{AllKeep, AreInOrder, IsAsked, IsFreeFor, IsNoOthers, IsOfOthers, IsSaid, IsThere, Keeps, MayBeAt, PanelInRange}
-use Rattle.osdp_calls.proofs.Ends.{said_bus}
-use Rattle.osdp_calls.proofs.Matching.{changed_same}
-use Rattle.osdp_entry_numbers.specs.Including.{AnyCallsKeep, as_they_stand, same_step}
-use Rattle.osdp_entry_numbers.specs.Numbers.{IsNewPanel, has_entry, named, renumbered, turn_of}
-use Rattle.osdp_entry_numbers.specs.OwnOrder.{AllOwnKeep, LeavesAlone, OwnKeeps, OwnLine, after_own, asked_in}
 use Rattle.osdp_entry_numbers.proofs.Following.{has_turn, new_sound}
 use Rattle.osdp_entry_numbers.proofs.Panels.{IsNoAdd, max_zero}
 use Rattle.osdp_entry_numbers.proofs.Turning.{asked_to, call_to, retarget_first, same_numbers, sent_to, submit_first, turned_to}

@@ -1,28 +1,17 @@
 -- The ledger of each device, read off a panel whose entries stand in an order of its own, is that of its link.
-use Rattle.std.proofs.Common.{◌≡◌, ◌⊎◌, ℕ, true, false, inl, inr, List, [], ◌∷◌, ◌++◌, map, Some, refl, sym, subst, ap, ◌∙◌}
+use Rattle.osdp_entry_numbers.proofs.Common.{◌≡◌, ◌⊎◌, ℕ, true, false, inl, inr, List, [], ◌∷◌, ◌++◌, map, Some, refl, sym, subst, ap, ◌∙◌, Command, device_of, Entry, Answer, Order, RestartPanel, after, new_ledger, AreAllowed, History, new_history, runs, after_steps, all_steps, queued_before, outstanding_command, Net, NetMove, RestartsPanel, after_net, site_at, some_same, is_there, IsIdle, AllOwnKeep, OwnLine, OwnStep, after_all_own, after_own, in_order, turned, IsOfPanel, OwnOrderDoesTheSame, OwnOrderKeepsApart, OwnOrderKeepsLedger, own_along, own_steps, own_steps_from}
 use Rattle.std.specs.Prelude.{is_some, option_to_list}
-use Rattle.osdp_msg.specs.declared.command.Command.{Command}
-use Rattle.osdp_bus.specs.Buses.{device_of}
-use Rattle.osdp_bus.specs.declared.entry.Entry.{Entry}
 use Rattle.osdp_reader.specs.State.{ReaderState}
-use Rattle.osdp_reader.specs.declared.handler.Answer.{Answer}
 use Rattle.osdp_ledger.specs.Ledger as ledger
-use Rattle.osdp_ledger.specs.Ledger.{Order, RestartPanel, after, new_ledger}
-use Rattle.osdp_ledger.specs.History.{AreAllowed, History, new_history, runs}
 use Rattle.osdp_ledger.specs.Laws.{EventsHold, OrdersHold, TellsInTurn}
-use Rattle.osdp_link_ledger.specs.Steps.{after_steps, all_steps, queued_before}
 use Rattle.osdp_link_ledger.proofs.Ties.{runs_after}
-use Rattle.osdp_link_laws.specs.Link.{outstanding_command}
 use Rattle.osdp_line_ledger.specs.Laws as lines
 use Rattle.osdp_shared_line.specs.Addresses.{NetMovesFit, NoTwoAreTogether, NobodyElseHears}
-use Rattle.osdp_shared_line.specs.Line.{Net, NetMove, RestartPanel as RestartsPanel, after_net, site_at}
 use Rattle.osdp_shared_line.specs.Runs.{moves_of}
 use Rattle.osdp_shared_line.specs.Views.{EachMoveIsItsOwn, view}
-use Rattle.osdp_shared_line.proofs.Sites.{some_same}
 use Rattle.osdp_calls.proofs.Counting.{all_heard}
 use Rattle.osdp_calls.proofs.Holding.{its_site}
 use Rattle.osdp_calls.proofs.Lasting.{call_keeps}
-use Rattle.osdp_calls.proofs.Matching.{is_there}
 use Rattle.osdp_calls.proofs.Powers.{outstanding_same, waiting_too}
 use Rattle.osdp_calls.proofs.Same.{IsNetOf}
 use Rattle.osdp_calls.proofs.Setting.{first_net, first_site, first_there, starts}
@@ -30,9 +19,6 @@ use Rattle.osdp_calls_ledger.proofs.Calling.{call_shown, call_shows}
 use Rattle.osdp_calls_ledger.proofs.Keeping.{allowed_without, before_still, runs_without, switched_on}
 use Rattle.osdp_calls_ledger.proofs.Seen.{in_turn, seen, seen_at, seen_of_link}
 use Rattle.osdp_calls_ledger.proofs.Shows.{Shown, Shows, shows_as, then_shows}
-use Rattle.osdp_entry_numbers.specs.Numbers.{IsIdle}
-use Rattle.osdp_entry_numbers.specs.OwnOrder.{AllOwnKeep, OwnLine, OwnStep, after_all_own, after_own, in_order, turned}
-use Rattle.osdp_entry_numbers.specs.Promises.{IsOfPanel, OwnOrderDoesTheSame, OwnOrderKeepsApart, OwnOrderKeepsLedger, own_along, own_steps, own_steps_from}
 use Rattle.osdp_entry_numbers.proofs.Entries.{FromOther, IsEntry, IsIdleOne, from_other}
 use Rattle.osdp_entry_numbers.proofs.Following.{Follows, does_the_same, own_line_under, set_up_follows, still_follows}
 use Rattle.osdp_entry_numbers.proofs.Reading.{own_commands, own_events, own_exits}

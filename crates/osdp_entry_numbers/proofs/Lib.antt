@@ -1,3 +1,4 @@
+pub mod Common
 pub mod Entries
 pub mod Hearing
 pub mod Buses

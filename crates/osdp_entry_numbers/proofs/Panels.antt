@@ -1,35 +1,8 @@
 -- Each call of a panel, on a bus whose entries have other numbers: what it makes of the bus, and the steps of the ledger that it shows.
-use Rattle.std.proofs.Common.{arith, ◌≡◌, ℕ, Bool, true, false, cond, ◌||◌, ◌==◌, max, List, [], ◌∷◌, ◌++◌, map, slice_get, slice_set, Option, Some, None, refl, sym, subst, ap, ◌∙◌, is_some}
-use Rattle.std.specs.Prelude.{option_map}
-use Rattle.std.specs.Option.{option_map_or}
-use Rattle.osdp_frame.specs.Packet.{Packet}
-use Rattle.osdp_msg.specs.declared.command.Command.{Command}
-use Rattle.osdp_msg.specs.declared.command_fields.Communication.{Communication}
+use Rattle.osdp_entry_numbers.proofs.Common.{arith, ◌≡◌, ℕ, Bool, true, false, cond, ◌||◌, ◌==◌, max, List, [], ◌∷◌, ◌++◌, map, slice_get, slice_set, Option, Some, None, refl, sym, subst, ap, ◌∙◌, is_some, option_map, option_map_or, Packet, Command, Communication, comset_of, retarget_refusal, submit_refusal, Report, BusState, Devices, device_of, seen, hears_packet, after_begin_at, after_retarget_at, after_submit_at, begin_refusal_at, begin_refusal_of, bus_fault, changed_unless, changes_entry, entry_begins, entry_retargets, entry_submits, entry_withdraws, is_comset_refused, or_taken, remembered_after, retarget_refusal_at, retarget_refusal_of, submit_refusal_at, submit_refusal_of, withdrawal_of, Remembered, bus_ticks, Entry, BusFault, AddressTaken, is_taken_beside, told_in, Sound, SoundBus, sound_item, sound_seen, Ledger, after_steps, opens, submits, told, withdraws, PacketItem, asked_at, read_by, hears_all, given_back, opening, panel_steps, reported, AreNumbers, Numbers, named, renumbered, renumbers}
 use Rattle.osdp_controller.specs.Comsets.{has_comset}
-use Rattle.osdp_controller.specs.Hearing.{comset_of}
-use Rattle.osdp_controller.specs.Machine.{retarget_refusal, submit_refusal}
-use Rattle.osdp_controller.specs.declared.report.Report.{Report}
-use Rattle.osdp_bus.specs.Buses.{BusState, Devices, device_of, seen}
-use Rattle.osdp_bus.specs.Hearing.{hears_packet}
-use Rattle.osdp_bus.specs.Machine.{after_begin_at, after_retarget_at, after_submit_at, begin_refusal_at, begin_refusal_of, bus_fault, changed_unless, changes_entry, entry_begins, entry_retargets, entry_submits, entry_withdraws, is_comset_refused, or_taken, remembered_after, retarget_refusal_at, retarget_refusal_of, submit_refusal_at, submit_refusal_of, withdrawal_of}
-use Rattle.osdp_bus.specs.Remembering.{Remembered}
-use Rattle.osdp_bus.specs.Ticking.{bus_ticks}
-use Rattle.osdp_bus.specs.declared.entry.Entry.{Entry}
-use Rattle.osdp_bus.specs.declared.fault.BusFault.{BusFault}
-use Rattle.osdp_bus.specs.declared.fault.BusFault.TheVariants.{AddressTaken}
-use Rattle.osdp_bus.specs.Entries.{is_taken_beside}
 use Rattle.osdp_bus_laws.specs.Calls as bus
-use Rattle.osdp_bus_laws.specs.Reports.{told_in}
-use Rattle.osdp_bus_laws.proofs.Changing.{Sound}
-use Rattle.osdp_bus_laws.proofs.Sound.{SoundBus, sound_item, sound_seen}
 use Rattle.osdp_ledger.specs.Ledger as ledger
-use Rattle.osdp_ledger.specs.Ledger.{Ledger}
-use Rattle.osdp_link_ledger.specs.Steps.{after_steps, opens, submits, told, withdraws}
-use Rattle.osdp_frame.specs.Reading.{PacketItem}
-use Rattle.osdp_calls.specs.Calls.{asked_at, read_by}
-use Rattle.osdp_calls.specs.Handing.{hears_all}
-use Rattle.osdp_calls_ledger.specs.Steps.{given_back, opening, panel_steps, reported}
-use Rattle.osdp_entry_numbers.specs.Numbers.{AreNumbers, Numbers, named, renumbered, renumbers}
 use Rattle.osdp_entry_numbers.proofs.Buses.{IsTurn, SameBus, asked_same, bytes_same, end_same, like, tick_read, tick_same}
 use Rattle.osdp_entry_numbers.proofs.Entries.{IsUnder, LeftOut, Same, number_test, own_there, present, set_under, taken_under}
 use Rattle.osdp_entry_numbers.proofs.Hearing.{UnderDevices, packet_same}

@@ -1,40 +1,19 @@
 -- What the steps of a device's ledger accept, read off the panel's own bus: the commands and events of the calls. By none of them an event lapses.
-use Rattle.std.proofs.Common.{◌≡◌, ℕ, ◌+◌, Bool, true, false, List, [], ◌∷◌, ◌++◌, Option, Some, None, refl, ◌∙◌}
+use Rattle.osdp_entry_numbers.proofs.Common.{◌≡◌, ℕ, ◌+◌, Bool, true, false, List, [], ◌∷◌, ◌++◌, Option, Some, None, refl, ◌∙◌, Command, BusState, device_of, changed_unless, submit_refusal_at, withdrawal_at, bus_ticks, Entry, BusFault, told_in, new_history, runs, Ledger, new_ledger, both, each_append, each_map, Each, after_steps, queued_before, queues, submits, withdraws, withdraws_event, Answer, site_at, Call, NewDevice, NewPanel, Next, OfPanel, SubmitEvent, WithdrawEvent, asked_at, first_answered, read_up_to, is_of_device, heard, InUse, Station, answered, device_steps, given_back, opening, panel_steps, reported, steps_at, OwnLine, OwnStep, after_own, all_own_accepted, all_own_queued, own_accepted, own_along, own_restarts, own_steps, own_steps_from}
 use Rattle.std.specs.Prelude.{All, ◌==◌}
 use Rattle.std.proofs.lemmas.List.Elements.{All-nil}
-use Rattle.osdp_msg.specs.declared.command.Command.{Command}
 use Rattle.osdp_msg.specs.declared.event.Event.{Event}
-use Rattle.osdp_bus.specs.Buses.{BusState, device_of}
-use Rattle.osdp_bus.specs.Machine.{changed_unless, submit_refusal_at, withdrawal_at}
-use Rattle.osdp_bus.specs.Ticking.{bus_ticks}
-use Rattle.osdp_bus.specs.declared.entry.Entry.{Entry}
-use Rattle.osdp_bus.specs.declared.fault.BusFault.{BusFault}
 use Rattle.osdp_bus_laws.specs.Calls as bus
-use Rattle.osdp_bus_laws.specs.Reports.{told_in}
 use Rattle.osdp_device.specs.Telling.{items_of}
-use Rattle.osdp_ledger.specs.History.{new_history, runs}
 use Rattle.osdp_ledger.specs.Ledger as ledger
-use Rattle.osdp_ledger.specs.Ledger.{Ledger, new_ledger}
-use Rattle.osdp_link_laws.proofs.Lines.{both, each_append, each_map}
-use Rattle.osdp_link_laws.proofs.Stages.{Each}
-use Rattle.osdp_link_ledger.specs.Steps.{after_steps, queued_before, queues, submits, withdraws, withdraws_event}
 use Rattle.osdp_link_ledger.proofs.Lists.{commands, events}
 use Rattle.osdp_link_ledger.proofs.Plain.{IsDone}
 use Rattle.osdp_reader.specs.Queue.{lacks_room, never_offered}
-use Rattle.osdp_reader.specs.declared.handler.Answer.{Answer}
-use Rattle.osdp_shared_line.specs.Line.{site_at}
 use Rattle.osdp_calls.specs.Accepted.{queued_by}
-use Rattle.osdp_calls.specs.Calls.{Call, NewDevice, NewPanel, Next, OfPanel, SubmitEvent, WithdrawEvent, asked_at, first_answered, read_up_to}
-use Rattle.osdp_calls.specs.Ends.{is_of_device}
-use Rattle.osdp_calls.specs.Handing.{heard}
-use Rattle.osdp_calls.specs.Lines.{InUse, Station}
 use Rattle.osdp_calls_ledger.specs.Promises.{LeftSo}
-use Rattle.osdp_calls_ledger.specs.Steps.{answered, device_steps, given_back, opening, panel_steps, reported, steps_at}
 use Rattle.osdp_calls_ledger.proofs.Accepted.{before_commands, before_events, call_commands, call_events, commands_in, commands_more, events_in, events_more, runs_accepted, runs_queued}
 use Rattle.osdp_calls_ledger.proofs.Allowing.{answered_done, opening_open, reported_done}
 use Rattle.osdp_calls_ledger.proofs.Exits.{NoLapse, runs_exits}
-use Rattle.osdp_entry_numbers.specs.OwnOrder.{OwnLine, OwnStep, after_own}
-use Rattle.osdp_entry_numbers.specs.Promises.{all_own_accepted, all_own_queued, own_accepted, own_along, own_restarts, own_steps, own_steps_from}
 
 -- ---- no event lapses
 

@@ -1,27 +1,6 @@
 -- Whose turn it is changes nothing of a bus but that, as long as a tick asks the same entry.
-use Rattle.std.proofs.Common.{◌≡◌, ℕ, Bool, true, false, cond, not, ◌||◌, List, [], ◌∷◌, ◌++◌, map, slice_set, Option, Some, None, refl, sym, subst, ap, ◌∙◌, max}
-use Rattle.std.specs.Prelude.{option_map}
-use Rattle.std.specs.Option.{option_map_or}
-use Rattle.osdp_frame.specs.Items.{items, whole_packets}
-use Rattle.osdp_msg.specs.declared.command.Command.{Command}
-use Rattle.osdp_msg.specs.declared.command_fields.Communication.{Communication}
-use Rattle.osdp_controller.specs.Hearing.{comset_of}
-use Rattle.osdp_controller.specs.Machine.{submit_refusal}
-use Rattle.osdp_controller.specs.declared.report.Report.{Report}
-use Rattle.osdp_bus.specs.Buses.{BusState, device_of, has_report, holder, is_silent, seen}
-use Rattle.osdp_bus.specs.Hearing.{after_bytes, ends_run, ends_silent, hears_bytes}
-use Rattle.osdp_bus.specs.Machine.{after_begin_at, after_retarget_at, after_submit_at, begin_refusal_at, changed_unless, changes_entry, entry_begins, entry_retargets, entry_submits, entry_withdraws, bus_fault, is_comset_refused, remembered_after, retarget_refusal_at, retarget_refusal_of, submit_refusal_at, submit_refusal_of}
-use Rattle.osdp_bus.specs.Ticking.{BusTicked, asks_free, bus_ticks, is_due_at, is_held_and_due, next_due, stays, ticks_at, ticks_by, ticks_free, ticks_held, ticks_on, ticks_with}
-use Rattle.osdp_bus.specs.declared.entry.Entry.{Entry}
-use Rattle.osdp_bus.specs.declared.fault.BusFault.{BusFault}
-use Rattle.osdp_bus.specs.declared.fault.BusFault.TheVariants.{AddressTaken}
+use Rattle.osdp_entry_numbers.proofs.Common.{◌≡◌, ℕ, Bool, true, false, cond, not, ◌||◌, List, [], ◌∷◌, ◌++◌, map, slice_set, Option, Some, None, refl, sym, subst, ap, ◌∙◌, max, option_map, option_map_or, items, whole_packets, Command, Communication, comset_of, submit_refusal, Report, BusState, device_of, has_report, holder, is_silent, seen, after_bytes, ends_run, ends_silent, hears_bytes, after_begin_at, after_retarget_at, after_submit_at, begin_refusal_at, changed_unless, changes_entry, entry_begins, entry_retargets, entry_submits, entry_withdraws, bus_fault, is_comset_refused, remembered_after, retarget_refusal_at, retarget_refusal_of, submit_refusal_at, submit_refusal_of, BusTicked, asks_free, bus_ticks, is_due_at, is_held_and_due, next_due, stays, ticks_at, ticks_by, ticks_free, ticks_held, ticks_on, ticks_with, Entry, BusFault, AddressTaken, told_in, judged, SoundBus, asked_at, asked_by_holder, read_at_silence, read_by, as_they_stand, AreNumbers, renumbers}
 use Rattle.osdp_bus_laws.specs.Calls as bus
-use Rattle.osdp_bus_laws.specs.Reports.{told_in}
-use Rattle.osdp_bus_laws.specs.Turns.{judged}
-use Rattle.osdp_bus_laws.proofs.Sound.{SoundBus}
-use Rattle.osdp_calls.specs.Calls.{asked_at, asked_by_holder, read_at_silence, read_by}
-use Rattle.osdp_entry_numbers.specs.Including.{as_they_stand}
-use Rattle.osdp_entry_numbers.specs.Numbers.{AreNumbers, renumbers}
 use Rattle.osdp_entry_numbers.proofs.Buses.{IsTurn, asked_same, bytes_same, next_same, tick_read, tick_same}
 use Rattle.osdp_entry_numbers.proofs.Entries.{Same}
 use Rattle.osdp_entry_numbers.proofs.Hearing.{UnderDevices}

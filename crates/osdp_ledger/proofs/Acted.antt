@@ -1,11 +1,5 @@
 -- What holds of the commands: of their places, of those acted on, and of those that have ended.
-use Rattle.std.proofs.Common.{◌≡◌, ◌≤◌, ◌<◌, ◌+◌, ◌⊎◌, ℕ, Bool, true, false, List, [], ◌∷◌, ◌++◌, length, Option, Some, None, refl, sym, subst, ap, inl, inr, arith}
-use Rattle.std.proofs.lemmas.List.Elements.{All-weaker, Contains-append_left}
-use Rattle.std.specs.Prelude.{All, AllPairs, Contains, map, drop}
-use Rattle.osdp_msg.specs.declared.reply.Reply.{Reply}
-use Rattle.osdp_ledger.specs.Ledger.{Order, is_in_front}
-use Rattle.osdp_ledger.specs.History.{CutOff, End, History, InDoubt, Settled}
-use Rattle.osdp_ledger.specs.Laws.{CountsFrom}
+use Rattle.osdp_ledger.proofs.Common.{◌≡◌, ◌≤◌, ◌<◌, ◌+◌, ◌⊎◌, ℕ, Bool, true, false, List, [], ◌∷◌, ◌++◌, length, Option, Some, None, refl, sym, subst, ap, inl, inr, arith, All-weaker, Contains-append_left, All, AllPairs, Contains, map, drop, Reply, Order, is_in_front, CutOff, End, History, InDoubt, Settled, CountsFrom}
 
 abbrev pub order_of : Order × End → Order
 order_of e = e.0

@@ -1,13 +1,5 @@
 -- What holds of the events after each step.
-use Rattle.std.proofs.Common.{◌≡◌, ◌≤◌, ◌<◌, ◌+◌, ◌==◌, ℕ, Bool, true, false, not, List, [], ◌∷◌, ◌++◌, length, refl, sym, subst, ap, ◌∙◌, inl, inr, arith}
-use Rattle.std.specs.Prelude.{All, Contains, map, drop, if◌then◌else◌, slice_index_or}
-use Rattle.std.proofs.lemmas.Bool.{eqb-true, eqb-false}
-use Rattle.std.proofs.lemmas.List.{length-append, map-append}
-use Rattle.std.proofs.lemmas.List.Elements.{All-append, All-cons, All-filter, All-head, All-push, All-tail, All-weaker, All-nil, Contains-push, Contains-append_left}
-use Rattle.std.proofs.lemmas.List.Quantifiers.{all_pairs_push}
-use Rattle.osdp_ledger.specs.Ledger.{Card, May, MayFollow, NoOffer, Offer, Reported, Unreported, Step, Open, Act, Queue, Offers, Report, Leave, WithdrawEvent, Lapse, RestartDevice, RestartPanel, acted_on, panel_restarted}
-use Rattle.osdp_ledger.specs.History.{AfterReport, AreAllowed, Exit, History, Lapsed, Left, TakenBack, ThrownAway, new_history, runs, steps_on}
-use Rattle.osdp_ledger.specs.Laws.{CountsFrom, EventsHold, Follows, KeepsEvents, times}
+use Rattle.osdp_ledger.proofs.Common.{◌≡◌, ◌≤◌, ◌<◌, ◌+◌, ◌==◌, ℕ, Bool, true, false, not, List, [], ◌∷◌, ◌++◌, length, refl, sym, subst, ap, ◌∙◌, inl, inr, arith, All, Contains, map, drop, if◌then◌else◌, slice_index_or, eqb-true, eqb-false, length-append, map-append, All-append, All-cons, All-filter, All-head, All-push, All-tail, All-weaker, All-nil, Contains-push, Contains-append_left, all_pairs_push, Card, May, MayFollow, NoOffer, Offer, Reported, Unreported, Step, Open, Act, Queue, Offers, Report, Leave, WithdrawEvent, Lapse, RestartDevice, RestartPanel, acted_on, panel_restarted, AfterReport, AreAllowed, Exit, History, Lapsed, Left, TakenBack, ThrownAway, new_history, runs, steps_on, CountsFrom, EventsHold, Follows, KeepsEvents, times}
 use Rattle.osdp_ledger.proofs.Known.{Known, keeps_known, none_known}
 use Rattle.osdp_ledger.proofs.Waiting.{EventsAre, Beyond, Events, IsAtMost, IsUpTo, LeftNow, NeverReported, NoLater, OfferIs, Rising, Told, WasReported, beyond_all, beyond_filter, beyond_push, contains_times, left_places, none_left, none_of_it, offer_fewer, offer_left, one_time, others_stay, places, rising_above, rising_filter, rising_less, rising_push, times_all, times_left, times_queued, without}
 

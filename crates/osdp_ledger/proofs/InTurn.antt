@@ -1,7 +1,5 @@
 -- Steps, one list after the other.
-use Rattle.std.proofs.Common.{◌≡◌, List, [], ◌∷◌, ◌++◌, refl}
-use Rattle.osdp_ledger.specs.Ledger.{Step}
-use Rattle.osdp_ledger.specs.History.{AreAllowed, History, runs, steps_on}
+use Rattle.osdp_ledger.proofs.Common.{◌≡◌, List, [], ◌∷◌, ◌++◌, refl, Step, AreAllowed, History, runs, steps_on}
 
 pub runs_then : (xs ys : List Step) (h : History) → runs (xs ++ ys) h ≡ runs ys (runs xs h)
 runs_then [] ys h = refl

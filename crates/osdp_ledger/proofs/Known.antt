@@ -1,9 +1,5 @@
 -- What waits in the device's queue, what it offers, what has left and what is reported was queued.
-use Rattle.std.proofs.Common.{true, false, not, ◌==◌, List, [], ◌∷◌, ◌++◌, subst}
-use Rattle.std.specs.Prelude.{All, Contains, drop, map}
-use Rattle.std.proofs.lemmas.List.Elements.{All-append, All-cons, All-contains, All-filter, All-head, All-nil, All-push, All-tail, All-weaker, Contains-push, Contains-append_left}
-use Rattle.osdp_ledger.specs.Ledger.{Card, May, NoOffer, Offer, Reported, Unreported, Step, Open, Act, Queue, Offers, Report, Leave, WithdrawEvent, Lapse, RestartDevice, RestartPanel, acted_on, is_in_front, panel_restarted}
-use Rattle.osdp_ledger.specs.History.{History, Left, ThrownAway, new_history, steps_on}
+use Rattle.osdp_ledger.proofs.Common.{true, false, not, ◌==◌, List, [], ◌∷◌, ◌++◌, subst, All, Contains, drop, map, All-append, All-cons, All-contains, All-filter, All-head, All-nil, All-push, All-tail, All-weaker, Contains-push, Contains-append_left, Card, May, NoOffer, Offer, Reported, Unreported, Step, Open, Act, Queue, Offers, Report, Leave, WithdrawEvent, Lapse, RestartDevice, RestartPanel, acted_on, is_in_front, panel_restarted, History, Left, ThrownAway, new_history, steps_on}
 use Rattle.osdp_ledger.proofs.Waiting.{Told}
 
 abbrev pub OfferQueued : List Card → Offer → Type 0

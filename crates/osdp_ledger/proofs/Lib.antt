@@ -1,3 +1,4 @@
+pub mod Common
 pub mod Waiting
 pub mod Known
 pub mod Acted

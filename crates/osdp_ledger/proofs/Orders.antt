@@ -1,13 +1,5 @@
 -- What holds of the commands after each step.
-use Rattle.std.proofs.Common.{◌≡◌, ◌≤◌, ◌<◌, ◌+◌, ℕ, Bool, true, false, List, [], ◌∷◌, ◌++◌, length, Option, Some, None, refl, sym, subst, ap, ◌∙◌, inl, inr, arith, append_assoc}
-use Rattle.std.proofs.lemmas.List.{append-nil, length-append, map-append}
-use Rattle.std.proofs.lemmas.List.Elements.{All-append, All-cons, All-push, All-weaker, All-nil, Contains-push, Contains-append_right}
-use Rattle.std.proofs.lemmas.List.Quantifiers.{all_pairs_push}
-use Rattle.std.specs.Prelude.{All, AllPairs, Contains, map, drop}
-use Rattle.osdp_msg.specs.declared.reply.Reply.{Reply}
-use Rattle.osdp_ledger.specs.Ledger.{May, MayActOn, Order, Step, Submit, Withdraw, Open, Act, Settle, Doubt, Close, RestartPanel, acted_on, is_in_front, late_after, late_at_restart, panel_restarted}
-use Rattle.osdp_ledger.specs.History.{AreAllowed, CutOff, End, Forgotten, GivenBack, History, InDoubt, Settled, ends_at_restart, new_history, runs, steps_on}
-use Rattle.osdp_ledger.specs.Laws.{CountsFrom, KeepsOrders, OrdersHold}
+use Rattle.osdp_ledger.proofs.Common.{◌≡◌, ◌≤◌, ◌<◌, ◌+◌, ℕ, Bool, true, false, List, [], ◌∷◌, ◌++◌, length, Option, Some, None, refl, sym, subst, ap, ◌∙◌, inl, inr, arith, append_assoc, append-nil, length-append, map-append, All-append, All-cons, All-push, All-weaker, All-nil, Contains-push, Contains-append_right, all_pairs_push, All, AllPairs, Contains, map, drop, Reply, May, MayActOn, Order, Step, Submit, Withdraw, Open, Act, Settle, Doubt, Close, RestartPanel, acted_on, is_in_front, late_after, late_at_restart, panel_restarted, AreAllowed, CutOff, End, Forgotten, GivenBack, History, InDoubt, Settled, ends_at_restart, new_history, runs, steps_on, CountsFrom, KeepsOrders, OrdersHold}
 use Rattle.osdp_ledger.proofs.Submitted.{were_submitted}
 use Rattle.osdp_ledger.proofs.Acted.{OrdersAre, OffFront, Answered, Below, Comes, FrontIs, HasEnd, LateIs, Orders, Outcome, answered_more, below_more, bound, closed_comes, counts_push, front_pushed, late_more, move_over, none_acted, off_front, order_of, outcome_kept, outcome_more, places, same_front, same_reply}
 

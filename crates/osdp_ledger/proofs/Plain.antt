@@ -1,9 +1,5 @@
 -- What steps come to by which nobody loses power, or the device doesn't.
-use Rattle.std.proofs.Common.{◌≡◌, ◌≢◌, List, [], ◌∷◌, refl}
-use Rattle.std.specs.Prelude.{All}
-use Rattle.std.proofs.lemmas.List.Elements.{All-head, All-nil, All-push, All-tail}
-use Rattle.osdp_ledger.specs.Ledger.{Step, Withdraw, Settle, Doubt, Leave, WithdrawEvent, Lapse, RestartDevice, RestartPanel}
-use Rattle.osdp_ledger.specs.History.{AfterReport, End, History, Left, ThrownAway, new_history, runs, steps_on}
+use Rattle.osdp_ledger.proofs.Common.{◌≡◌, ◌≢◌, List, [], ◌∷◌, refl, All, All-head, All-nil, All-push, All-tail, Step, Withdraw, Settle, Doubt, Leave, WithdrawEvent, Lapse, RestartDevice, RestartPanel, AfterReport, End, History, Left, ThrownAway, new_history, runs, steps_on}
 use Rattle.osdp_ledger.specs.Ledger as ledger
 use Rattle.osdp_ledger.specs.Plain.{AllTold, EndsTold, IsPlain, KeepsPower, PlainStepsEndTold, ThrowsNoneAway}
 

@@ -1,9 +1,6 @@
 -- After a loss of a device's power nothing that was queued before is reported, but what it had offered.
 use Rattle.std.proofs.Common.{◌≡◌, ◌≤◌, ◌<◌, ◌⊎◌, ℕ, Bool, true, false, not, ◌==◌, List, [], ◌∷◌, ◌++◌, refl, sym, subst, ap, ◌∙◌, inl, inr, arith, append-nil, append_assoc}
-use Rattle.std.specs.Prelude.{All, drop}
-use Rattle.std.proofs.lemmas.List.Elements.{All-filter, All-head, All-nil, All-push, All-tail}
-use Rattle.osdp_ledger.specs.Ledger.{Card, May, NoOffer, Offer, Reported, Unreported, Step, Open, Act, Queue, Offers, Report, Leave, WithdrawEvent, Lapse, RestartDevice, RestartPanel, acted_on, is_in_front, panel_restarted}
-use Rattle.osdp_ledger.specs.History.{AreAllowed, History, new_history, runs, steps_on}
+use Rattle.osdp_ledger.proofs.Common.{All, drop, All-filter, All-head, All-nil, All-push, All-tail, Card, May, NoOffer, Offer, Reported, Unreported, Step, Open, Act, Queue, Offers, Report, Leave, WithdrawEvent, Lapse, RestartDevice, RestartPanel, acted_on, is_in_front, panel_restarted, AreAllowed, History, new_history, runs, steps_on}
 use Rattle.osdp_ledger.specs.Restarts.{RestartReportsNoMore, RestartsCost}
 use Rattle.osdp_ledger.proofs.InTurn.{allowed_second, runs_then}
 use Rattle.osdp_ledger.proofs.Waiting.{Told}

@@ -1,12 +1,5 @@
 -- None of the events is skipped.
-use Rattle.std.proofs.Common.{◌≡◌, ◌≤◌, ◌<◌, ◌+◌, ◌==◌, ℕ, zero, suc, Bool, true, false, List, [], ◌∷◌, length, refl, sym, subst, ap, ◌∙◌, inl, inr, arith}
-use Rattle.std.specs.Prelude.{All, Contains, if◌then◌else◌, slice_index_or}
-use Rattle.std.proofs.lemmas.Bool.{eqb-true, ne_eqb}
-use Rattle.std.proofs.lemmas.List.{get_or_default}
-use Rattle.std.proofs.lemmas.List.Elements.{All-contains, All-head, All-tail, All-weaker}
-use Rattle.osdp_ledger.specs.Ledger.{Card}
-use Rattle.osdp_ledger.specs.History.{AfterReport, Exit, History, Lapsed, Left, TakenBack, ThrownAway, new_history, runs}
-use Rattle.osdp_ledger.specs.Laws.{CountsFrom, EventsHold, IsToldOrGone, SkipsNone, times}
+use Rattle.osdp_ledger.proofs.Common.{◌≡◌, ◌≤◌, ◌<◌, ◌+◌, ◌==◌, ℕ, zero, suc, Bool, true, false, List, [], ◌∷◌, length, refl, sym, subst, ap, ◌∙◌, inl, inr, arith, All, Contains, if◌then◌else◌, slice_index_or, eqb-true, ne_eqb, get_or_default, All-contains, All-head, All-tail, All-weaker, Card, AfterReport, Exit, History, Lapsed, Left, TakenBack, ThrownAway, new_history, runs, CountsFrom, EventsHold, IsToldOrGone, SkipsNone, times}
 use Rattle.osdp_ledger.proofs.Events.{keeps_events}
 use Rattle.osdp_ledger.proofs.Waiting.{Told, contains_times, left_places, places}
 

@@ -1,11 +1,6 @@
 -- What is acted on was submitted.
 use Rattle.std.proofs.Common.{◌≡◌, List, [], ◌∷◌, ◌++◌, map, refl, sym, subst, inl, inr, arith}
-use Rattle.std.specs.Prelude.{All, Contains}
-use Rattle.std.proofs.lemmas.List.Elements.{All-cons, All-contains, All-nil, All-weaker, Contains-append_left, Contains-append_right}
-use Rattle.osdp_msg.specs.declared.reply.Reply.{Reply}
-use Rattle.osdp_ledger.specs.Ledger.{Order}
-use Rattle.osdp_ledger.specs.History.{End, History}
-use Rattle.osdp_ledger.specs.Laws.{HasOutcome}
+use Rattle.osdp_ledger.proofs.Common.{All, Contains, All-cons, All-contains, All-nil, All-weaker, Contains-append_left, Contains-append_right, Reply, Order, End, History, HasOutcome}
 use Rattle.osdp_ledger.proofs.Acted.{order_of}
 
 abbrev IsAmong : List Order → Order × End → Type 0

@@ -1,8 +1,5 @@
 -- Of commands and events one at most isn't told.
-use Rattle.std.proofs.Common.{true, false, List, [], ◌∷◌, refl, inl, inr}
-use Rattle.osdp_ledger.specs.Ledger.{May, Step, Open, Act, Settle, Doubt, Offers, Report, Leave, RestartPanel, acted_on, panel_restarted}
-use Rattle.osdp_ledger.specs.History.{AreAllowed, History, new_history, runs, steps_on}
-use Rattle.osdp_ledger.specs.Laws.{IsOneUntold, TellsInTurn}
+use Rattle.osdp_ledger.proofs.Common.{true, false, List, [], ◌∷◌, refl, inl, inr, May, Step, Open, Act, Settle, Doubt, Offers, Report, Leave, RestartPanel, acted_on, panel_restarted, AreAllowed, History, new_history, runs, steps_on, IsOneUntold, TellsInTurn}
 
 keeps : (step : Step) (h : History) → May step h.ledger → IsOneUntold h.ledger → IsOneUntold (steps_on step h).ledger
 keeps Open h may i = inl refl

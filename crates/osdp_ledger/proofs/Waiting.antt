@@ -1,12 +1,5 @@
 -- What holds of the events: of their places, of the queue, and of what was offered.
-use Rattle.std.proofs.Common.{◌≡◌, ◌≤◌, ◌<◌, ◌+◌, ◌⊎◌, ◌==◌, ℕ, zero, suc, Bool, true, false, not, cond, List, [], ◌∷◌, ◌++◌, length, refl, sym, ap, ◌∙◌, arith}
-use Rattle.std.specs.Prelude.{All, AllPairs, Contains, map, filter, if◌then◌else◌, slice_index_or}
-use Rattle.std.proofs.lemmas.Bool.{eqb-true, eqb-false, eq-eqb, ne_eqb}
-use Rattle.std.proofs.lemmas.List.{map-append}
-use Rattle.std.proofs.lemmas.List.Elements.{All-append, All-cons, All-filter, All-head, All-push, All-tail, All-weaker, All-nil}
-use Rattle.osdp_ledger.specs.Ledger.{Card, NoOffer, Offer, Reported, Unreported}
-use Rattle.osdp_ledger.specs.History.{AfterReport, History, Left, TakenBack}
-use Rattle.osdp_ledger.specs.Laws.{CountsFrom, Follows, times}
+use Rattle.osdp_ledger.proofs.Common.{◌≡◌, ◌≤◌, ◌<◌, ◌+◌, ◌⊎◌, ◌==◌, ℕ, zero, suc, Bool, true, false, not, cond, List, [], ◌∷◌, ◌++◌, length, refl, sym, ap, ◌∙◌, arith, All, AllPairs, Contains, map, filter, if◌then◌else◌, slice_index_or, eqb-true, eqb-false, eq-eqb, ne_eqb, map-append, All-append, All-cons, All-filter, All-head, All-push, All-tail, All-weaker, All-nil, Card, NoOffer, Offer, Reported, Unreported, AfterReport, History, Left, TakenBack, CountsFrom, Follows, times}
 
 abbrev pub Told : Type 0
 Told = ℕ × Card

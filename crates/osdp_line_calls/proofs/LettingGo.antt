@@ -1,15 +1,7 @@
 -- Events that leave because they are too old, one after the other.
-use Rattle.std.proofs.Common.{◌≡◌, ◌-◌, ℕ, zero, suc, Bool, true, false, cond, List, [], ◌∷◌, ◌++◌, drop, take, length, Option, Some, None, option_map, slice_get, refl, sym, ap, ◌∙◌, arith, append_assoc}
-use Rattle.std.specs.Prelude.{◌&&◌}
-use Rattle.std.proofs.lemmas.List.{drop_all}
+use Rattle.osdp_line_calls.proofs.Common.{◌≡◌, ◌-◌, ℕ, zero, suc, Bool, true, false, cond, List, [], ◌∷◌, ◌++◌, drop, take, length, Option, Some, None, option_map, slice_get, refl, sym, ap, ◌∙◌, arith, append_assoc, ◌&&◌, drop_all, ReaderState, after_lapse_event, after_withdraw_event, AgesState, after_expiry, after_removal, expired, expired_front, expires, is_offline, is_past, DeviceState, DeviceStatus, LetGo, goes_first, keeps_all, lets_go, lets_some_go, expired_line, expired_lines}
 use Rattle.osdp_msg.specs.declared.event.Event.{Event}
-use Rattle.osdp_reader.specs.State.{ReaderState, after_lapse_event, after_withdraw_event}
-use Rattle.osdp_device.specs.Ages.{AgesState, after_expiry, after_removal, expired, expired_front, expires, is_offline, is_past}
-use Rattle.osdp_device.specs.Device.{DeviceState}
 use Rattle.osdp_device.specs.declared.events.Expired.{Expired}
-use Rattle.osdp_device.specs.declared.status.DeviceStatus.{DeviceStatus}
-use Rattle.osdp_line_calls.specs.ReaderAbsence.{LetGo, goes_first, keeps_all, lets_go, lets_some_go}
-use Rattle.osdp_line_calls.specs.ReaderTexts.{expired_line, expired_lines}
 
 abbrev Reader : Type 0
 Reader = ReaderState DeviceStatus

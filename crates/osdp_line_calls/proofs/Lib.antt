@@ -1,3 +1,4 @@
+pub mod Common
 pub mod ReaderRows
 pub mod ReaderTurns
 pub mod ReaderCalls

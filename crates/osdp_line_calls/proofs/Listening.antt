@@ -1,17 +1,11 @@
 -- What is heard beside the bus: the lines of items, one after the other.
-use Rattle.std.proofs.Common.{◌≡◌, ℕ, ◌+◌, ◌<◌, Bool, true, false, List, [], ◌∷◌, ◌++◌, length, drop, Some, Result, Ok, Err, inl, inr, ◌≤◌, sym, ap, ◌∙◌, arith, append_assoc, append-nil}
+use Rattle.osdp_line_calls.proofs.Common.{◌≡◌, ℕ, ◌+◌, ◌<◌, Bool, true, false, List, [], ◌∷◌, ◌++◌, length, drop, Some, Result, Ok, Err, inl, inr, ◌≤◌, sym, ap, ◌∙◌, arith, append_assoc, append-nil, drop_more, items, rest_of, Received, ends_run, over_items, over_leaves, first_from, Listening}
 use Rattle.std.specs.Prelude.{flat_map, slice_get, if◌then◌else◌, OnOk}
 use Rattle.std.specs.Option.{option_map_or}
 use Rattle.std.proofs.lemmas.Option.{slice_get_cases}
-use Rattle.std.proofs.lemmas.List.{drop_more}
 use Rattle.std.proofs.lemmas.Grind.{flat_map-append}
-use Rattle.osdp_frame.specs.Items.{items, rest_of}
 use Rattle.osdp_frame.specs.Reading.{RunItem}
-use Rattle.osdp_frame.specs.Receiving.{Received, ends_run}
-use Rattle.osdp_frame_laws.proofs.InTurn.{over_items, over_leaves}
 use Rattle.osdp_bus.specs.declared.entry.Entry.{Entry}
-use Rattle.osdp_bus.specs.Entries.{first_from}
-use Rattle.osdp_line_calls.specs.Passing.{Listening}
 
 module _ (line : RunItem → List ℕ) where
   -- the lines of items are written after what was written before

@@ -1,9 +1,6 @@
 -- What calls of a panel come to whose orders may wait for POLLs, where they end well.
-use Rattle.std.proofs.Common.{◌≡◌, List, ◌++◌, ℕ, Result, Ok, Err, refl, ap, ◌∙◌, append_assoc}
-use Rattle.std.specs.Prelude.{OnOk}
+use Rattle.osdp_line_calls.proofs.Common.{◌≡◌, List, ◌++◌, ℕ, Result, Ok, Err, refl, ap, ◌∙◌, append_assoc, OnOk, Ends, refuses, Called, Comes, Ordered, after_text, ended, with_orders, plain_of, then_reports}
 use Rattle.osdp_orders.specs.Orders.{OrdersState}
-use Rattle.osdp_line_calls.specs.OrderedLines.{Ends, refuses}
-use Rattle.osdp_line_calls.specs.OrderedPanels.{Called, Comes, Ordered, after_text, ended, with_orders, plain_of, then_reports}
 use Rattle.osdp_line_calls.specs.PanelLines as plain_lines
 use Rattle.osdp_line_calls.specs.PanelSessions as plain
 

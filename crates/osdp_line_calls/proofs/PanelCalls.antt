@@ -1,7 +1,5 @@
 -- What calls come to, where they end well.
-use Rattle.std.proofs.Common.{◌≡◌, List, ◌++◌, ℕ, ◌<◌, ◌^◌, Option, Result, Ok, Err, refl, subst, ap, ◌∙◌, append_assoc}
-use Rattle.std.specs.Prelude.{IfSome, OnOk}
-use Rattle.osdp_bus.specs.Deadlines.{IsDeadline}
+use Rattle.osdp_line_calls.proofs.Common.{◌≡◌, List, ◌++◌, ℕ, ◌<◌, ◌^◌, Option, Result, Ok, Err, refl, subst, ap, ◌∙◌, append_assoc, IfSome, OnOk, IsDeadline}
 use Rattle.osdp_line_calls.specs.PanelLines.{Ends}
 use Rattle.osdp_line_calls.specs.PanelSessions.{Called, Comes, IsDue, Session, after_text, ended}
 use Rattle.osdp_line_calls.specs.PanelTexts.{due_line}

@@ -1,16 +1,9 @@
 -- The calls by their names: what is read after a name is what the call is made of.
-use Rattle.std.proofs.Common.{◌≡◌, ℕ, ◌<◌, ◌^◌, [], ◌∷◌, codes, refl}
+use Rattle.osdp_line_calls.proofs.Common.{◌≡◌, ℕ, ◌<◌, ◌^◌, [], ◌∷◌, codes, refl, Command, CommandFits, command_words, IsRow, differ, number, At, Add, Begin, Submit, Withdraw, Retarget, Bytes, Silence, Tick, CallFits, IsAddress, IsEntry, call_fields, call_name, entry_word}
 use Rattle.arrayvec.specs.ArrayVec.{ArrayVec}
-use Rattle.osdp_msg.specs.declared.command.Command.{Command}
 use Rattle.osdp_msg.specs.declared.command.Command.TheVariants.{Poll}
-use Rattle.osdp_msg.specs.CommandTable.{CommandFits}
-use Rattle.osdp_msg.specs.CommandText.{command_words}
-use Rattle.osdp_msg.proofs.RowTexts.{IsRow, differ}
-use Rattle.osdp_words.specs.Word.{number}
 use Rattle.osdp_line_calls.proofs.ReaderRows.{row}
 use Rattle.osdp_line_calls.specs.declared.panel_call.PanelCall.{PanelCall}
-use Rattle.osdp_line_calls.specs.declared.panel_call.PanelCall.TheVariants.{At, Add, Begin, Submit, Withdraw, Retarget, Bytes, Silence, Tick}
-use Rattle.osdp_line_calls.specs.PanelCalls.{CallFits, IsAddress, IsEntry, call_fields, call_name, entry_word}
 
 abbrev pub submit_call : ℕ × Command → PanelCall
 submit_call x = Submit x.0 x.1

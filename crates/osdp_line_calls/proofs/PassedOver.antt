@@ -1,6 +1,6 @@
 -- What is told as passed over is what each session that isn't open passes over.
 use Rattle.std.proofs.Common.{◌≡◌, ◌∙◌, ℕ, ◌==◌, ◌&&◌, ◌||◌, ◌↔◌, not, Bool, true, false, drop, Some, None, Result, Ok, Err, refl, sym, subst, ap}
-use Rattle.std.specs.Prelude.{if◌then◌else◌, slice_index, IsSome}
+use Rattle.osdp_line_calls.proofs.Common.{if◌then◌else◌, slice_index, IsSome, default_config, Crc, acts_on, acts_on_reason, opening_acts_on, passed_reading, passed_text}
 use Rattle.std.proofs.lemmas.Bool.{eq-eqb, false≢true}
 use Rattle.osdp_controller.specs.declared.exchange.Exchange.TheVariants.{Opening}
 use Rattle.osdp_controller.specs.declared.exchange.Outstanding.{Outstanding}
@@ -12,8 +12,6 @@ use Rattle.osdp_controller.specs.declared.state.State.TheVariants.{Closed, Quiet
 use Rattle.osdp_controller.specs.Answers.{is_not_taken, meaning_by_reading, meaning_by_reason, meaning_by_reply, meaning_of}
 use Rattle.osdp_controller.specs.Hearing.{Heard, answered, answered_unread, hears, hears_in, ignores, is_from_reader, is_numbered, opening_answered, pausing_hears, pd_id_of, waiting_hears}
 use Rattle.osdp_controller.specs.Sessions.{seen}
-use Rattle.osdp_controller.specs.Settings.{default_config}
-use Rattle.osdp_frame.specs.declared.check_kind.CheckKind.TheVariants.{Crc}
 use Rattle.osdp_frame.specs.Packet.{Packet}
 use Rattle.osdp_msg.specs.declared.fault.MsgFault.{MsgFault}
 use Rattle.osdp_msg.specs.declared.nak.NakReason.{NakReason}
@@ -23,7 +21,6 @@ use Rattle.osdp_msg.specs.declared.reply.Reply.TheVariants.{Busy, Nak, PdId}
 use Rattle.osdp_msg.specs.declared.reply_fields.Nak.{Nak as NakData}
 use Rattle.osdp_msg.specs.ReplyTable.{reply_of}
 use Rattle.osdp_msg.specs.ReplyText.{reply_text}
-use Rattle.osdp_line_calls.specs.Passing.{acts_on, acts_on_reason, opening_acts_on, passed_reading, passed_text}
 use Rattle.osdp_line_calls.specs.PassingLaws.{IsNotOpenIn, IsPassedOver}
 
 -- what an opening does nothing on

@@ -1,11 +1,7 @@
 -- Settings within their ranges keep what is set within them.
-use Rattle.std.proofs.Common.{◌≡◌, Bool, true, false, refl, subst, ap, arith, Some, None}
-use Rattle.std.specs.Prelude.{if◌then◌else◌}
-use Rattle.osdp_frame.specs.declared.check_kind.CheckKind.TheVariants.{Crc}
+use Rattle.osdp_line_calls.proofs.Common.{◌≡◌, Bool, true, false, refl, subst, ap, arith, Some, None, if◌then◌else◌, Crc, IsBusConfig, IsConfig, some_same}
 use Rattle.osdp_bus.specs.declared.config.BusConfig.{BusConfig}
-use Rattle.osdp_bus.specs.Settings.{IsBusConfig}
 use Rattle.osdp_bus.proofs.Defaults as by_default
-use Rattle.osdp_controller.specs.Settings.{IsConfig}
 use Rattle.osdp_msg.specs.declared.limits.Room.{Room}
 use Rattle.osdp_msg.specs.Limits.{room_for}
 use Rattle.osdp_line_calls.specs.declared.panel_command.PanelSetting.{PanelSetting}
@@ -13,7 +9,6 @@ use Rattle.osdp_line_calls.specs.declared.panel_command.PanelSetting.TheVariants
 use Rattle.osdp_line_calls.specs.declared.reader_command.ReaderSetting.{ReaderSetting}
 use Rattle.osdp_line_calls.specs.declared.reader_command.ReaderSetting.TheVariants as reader
 use Rattle.osdp_line_calls.specs.declared.reader_command.ReaderSettings.{ReaderSettings}
-use Rattle.osdp_settings.proofs.Reading.{some_same}
 use Rattle.osdp_settings.specs.Settings.{SettingFits}
 use Rattle.osdp_line_calls.specs.PanelSettings as panel
 use Rattle.osdp_line_calls.specs.ReaderSettings as of_reader

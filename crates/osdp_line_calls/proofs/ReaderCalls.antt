@@ -1,16 +1,6 @@
 -- What calls come to, where they end well.
-use Rattle.std.proofs.Common.{◌≡◌, List, ◌++◌, ℕ, Result, Ok, Err, sym, subst, ap, ◌∙◌, append_assoc}
-use Rattle.std.specs.Prelude.{OnOk}
-use Rattle.osdp_reader.specs.State.{ReaderState}
-use Rattle.osdp_device.specs.Ages.{AgesState, after_saying}
-use Rattle.osdp_device.specs.Hearing.{Heard, reads_all}
-use Rattle.osdp_frame.specs.Receiving.{IsAllRead, IsReceived, Received}
-use Rattle.osdp_device.specs.Status.{status_after, status_answer}
-use Rattle.osdp_device.specs.declared.status.DeviceStatus.{DeviceStatus}
-use Rattle.osdp_device.proofs.Pieces.{all_read}
-use Rattle.osdp_frame.proofs.Receipt.{received_silence, received_tick}
+use Rattle.osdp_line_calls.proofs.Common.{◌≡◌, List, ◌++◌, ℕ, Result, Ok, Err, sym, subst, ap, ◌∙◌, append_assoc, OnOk, ReaderState, AgesState, after_saying, Heard, reads_all, IsAllRead, IsReceived, Received, status_after, status_answer, DeviceStatus, all_read, received_silence, received_tick, all_lines}
 use Rattle.osdp_line_calls.specs.ReaderSessions.{Called, Comes, Session, heard, is_any, then_does}
-use Rattle.osdp_line_calls.specs.ReaderTexts.{all_lines}
 
 module _ {A E : Type 0} where
   -- all that is held was read, and what is said written

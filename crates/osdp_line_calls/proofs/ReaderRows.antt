@@ -1,11 +1,8 @@
 -- The calls by their names: what is read after a name is what the call is made of.
-use Rattle.std.proofs.Common.{◌≡◌, ℕ, ◌<◌, ◌^◌, Bool, List, [], ◌∷◌, codes, refl}
-use Rattle.osdp_msg.proofs.RowTexts.{IsRow, differ}
-use Rattle.osdp_words.specs.Word.{Word, number}
+use Rattle.osdp_line_calls.proofs.Common.{◌≡◌, ℕ, ◌<◌, ◌^◌, Bool, List, [], ◌∷◌, codes, refl, IsRow, differ, Word, number, switch_word}
 use Rattle.osdp_line_calls.specs.declared.reader_call.ReaderCall.{ReaderCall}
 use Rattle.osdp_line_calls.specs.declared.reader_call.ReaderCall.TheVariants.{At, Busy, Local}
 use Rattle.osdp_line_calls.specs.ReaderCalls.{CallFits, call_fields, call_name}
-use Rattle.osdp_settings.specs.Values.{switch_word}
 
 -- the row of a name by which only the calls go that are made so: their words and their ranges are those of the table
 pub row : {M X : Type 0} (name_of : M → List ℕ) (fields_of : M → List Word) (Fits : M → Type 0) (name : List ℕ) (make : X → M)

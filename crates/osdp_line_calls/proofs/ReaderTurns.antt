@@ -1,24 +1,11 @@
 -- Answers that are written in turn.
-use Rattle.std.proofs.Common.{◌≡◌, ℕ, ◌+◌, ◌-◌, ◌<◌, ◌≤◌, Bool, true, false, cond, max, min, List, [], ◌∷◌, ◌++◌, length, length-drop, take, drop, Option, refl, sym, subst, ap, ◌∙◌, arith, append_assoc, append-nil}
+use Rattle.osdp_line_calls.proofs.Common.{◌≡◌, ℕ, ◌+◌, ◌-◌, ◌<◌, ◌≤◌, Bool, true, false, cond, max, min, List, [], ◌∷◌, ◌++◌, length, length-drop, take, drop, Option, refl, sym, subst, ap, ◌∙◌, arith, append_assoc, append-nil, drop_all, take_all, Held, ReaderState, AgesState, after_saying, Heard, hears_bytes, reads_all, turns_left, Said, status_after, status_answer, TellsInTurn, Told, next_told, DeviceStatus, all_read, fewer_turns, last_turn, seen_in_turn, takes_in_turn, received_take, IsHeard, ages_heard, is_any, all_lines, said_lines}
 use Rattle.std.proofs.Math.Seq.{drop-drop}
-use Rattle.std.proofs.lemmas.List.{drop_all, take_all}
 use Rattle.osdp_frame.proofs.Head.{AreBytes-drop}
 use Rattle.osdp_frame.specs.Bytes.{AreBytes}
-use Rattle.osdp_frame.specs.Held.{Held}
-use Rattle.osdp_reader.specs.State.{ReaderState}
-use Rattle.osdp_device.specs.Ages.{AgesState, after_saying}
-use Rattle.osdp_device.specs.Hearing.{Heard, hears_bytes, reads_all, turns_left}
 use Rattle.osdp_frame.specs.Receiving.{IsAllRead, IsReceived, Received, after_take, count_taken, ends_run, ends_silent, is_silent, seen}
-use Rattle.osdp_device.specs.Saying.{Said}
-use Rattle.osdp_device.specs.Status.{status_after, status_answer}
-use Rattle.osdp_device.specs.Telling.{TellsInTurn, Told, next_told}
-use Rattle.osdp_device.specs.declared.status.DeviceStatus.{DeviceStatus}
 use Rattle.osdp_device.proofs.Moments.{moments_are_seen}
-use Rattle.osdp_device.proofs.Pieces.{all_read, fewer_turns, last_turn, seen_in_turn, takes_in_turn}
-use Rattle.osdp_frame.proofs.Receipt.{received_take}
 use Rattle.osdp_device.proofs.Turning.{tells_in_turn}
-use Rattle.osdp_line_calls.specs.ReaderSessions.{IsHeard, ages_heard, is_any}
-use Rattle.osdp_line_calls.specs.ReaderTexts.{all_lines, said_lines}
 
 abbrev State : Type 0
 State = ReaderState DeviceStatus

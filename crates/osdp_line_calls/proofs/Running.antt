@@ -1,14 +1,12 @@
 -- How the commands end, by what their words are.
-use Rattle.std.proofs.Common.{ℕ, List, Option, Some, None, Err, inl, inr, refl}
+use Rattle.osdp_line_calls.proofs.Common.{ℕ, List, Option, Some, None, Err, inl, inr, refl, texts, HasNotFailed, Runs, SetsNone}
 use Rattle.std.specs.Io.KnownBytes.{Keeps}
 use Rattle.osdp_line_answers.proofs.AnsweringLines.{some_none}
 use Rattle.osdp_line_answers.specs.Answers.{Answering}
 use Rattle.osdp_tool_streams.specs.Watched.{inner_of}
 use Rattle.osdp_tool_streams.specs.declared.fault.ToolFault.{ToolFault}
 use Rattle.osdp_tool_streams.specs.declared.fault.ToolFault.TheVariants.{BadWords, NoMemory}
-use Rattle.osdp_words.specs.Word.{texts}
 use Rattle.osdp_line_calls.specs.declared.run.LineRun.{LineRun}
-use Rattle.osdp_line_calls.specs.Runs.{HasNotFailed, Runs, SetsNone}
 
 same_kept : (known : Option (List ℕ)) → Keeps known known
 same_kept None = tt

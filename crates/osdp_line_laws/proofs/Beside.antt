@@ -1,34 +1,17 @@
 -- What is heard beside a bus agrees with the bus, line by line.
-use Rattle.std.proofs.Common.{◌≡◌, ◌∙◌, ap, sym, subst, refl, ℕ, zero, suc, Bool, true, false, max, List, [], ◌∷◌, ◌++◌, length, replicate, Option, Some, None, arith}
-use Rattle.std.specs.Prelude.{◌↔◌, if◌then◌else◌}
-use Rattle.osdp_controller.specs.Hearing.{comset_of}
-use Rattle.osdp_controller.proofs.Choices.{either_way}
+use Rattle.osdp_line_laws.proofs.Common.{◌≡◌, ◌∙◌, ap, sym, subst, refl, ℕ, zero, suc, Bool, true, false, max, List, [], ◌∷◌, ◌++◌, length, replicate, Option, Some, None, arith, ◌↔◌, if◌then◌else◌, comset_of, either_way, Entry, BusFault, BusState, device_of, seen, after_bytes, ends_run, add_refusal, after_begin_at, after_next_report, begin_refusal_at, changed_unless, entry_retargets, entry_submits, leads_nowhere, retarget_refusal_at, submit_refusal_at, bus_ticks, Call, AddCall, BeginCall, SubmitCall, WithdrawCall, RetargetCall, OnBytes, TickCall, NextReport, after_call, after_calls, sound_call, sound_calls, sound_new, SoundBus, PanelCall, IsNotOpen, Session, new_session, overhears, ordered, Tells, after_said, listening_after, moment_after}
 use Rattle.osdp_bus.specs.declared.config.BusConfig.{BusConfig}
-use Rattle.osdp_bus.specs.declared.entry.Entry.{Entry}
-use Rattle.osdp_bus.specs.declared.fault.BusFault.{BusFault}
-use Rattle.osdp_bus.specs.Buses.{BusState, device_of, seen}
-use Rattle.osdp_bus.specs.Hearing.{after_bytes, ends_run}
-use Rattle.osdp_bus.specs.Machine.{add_refusal, after_begin_at, after_next_report, begin_refusal_at, changed_unless, entry_retargets, entry_submits, leads_nowhere, retarget_refusal_at, submit_refusal_at}
 use Rattle.osdp_bus.specs.Settings.{IsBusConfig}
-use Rattle.osdp_bus.specs.Ticking.{bus_ticks}
-use Rattle.osdp_bus_laws.specs.Calls.{Call, Add as AddCall, Begin as BeginCall, Submit as SubmitCall, Withdraw as WithdrawCall, Retarget as RetargetCall, OnBytes, Tick as TickCall, NextReport, after_call, after_calls}
-use Rattle.osdp_bus_laws.proofs.Calling.{sound_call, sound_calls, sound_new}
 use Rattle.osdp_bus_laws.proofs.Moments.{moments_are_seen}
 use Rattle.osdp_bus_laws.proofs.Silences.{bus_ends_its_runs}
-use Rattle.osdp_bus_laws.proofs.Sound.{SoundBus}
 use Rattle.osdp_bus_laws.proofs.Staying.{BringsNothing, stays_begin, stays_call, stays_silent, stays_tick}
-use Rattle.osdp_line_calls.specs.declared.panel_call.PanelCall.{PanelCall}
 use Rattle.osdp_line_calls.specs.declared.panel_call.PanelCall.TheVariants.{At, Add, Begin, Submit, Withdraw, Retarget, Bytes, Silence, Tick}
 use Rattle.osdp_line_calls.specs.Passing.{Listening, Overheard, hears_begin, hears_bytes, hears_end, hears_nothing, hears_silence, is_open, sees}
-use Rattle.osdp_line_calls.specs.PassingLaws.{IsNotOpen}
 use Rattle.osdp_line_calls.proofs.PassedOver.{tells_all}
-use Rattle.osdp_line_calls.specs.PanelSessions.{Session, new_session, overhears}
 use Rattle.osdp_line_laws.proofs.OneSession.{open_in, shut_is}
 use Rattle.osdp_line_laws.proofs.Openness.{Agree, agree_add, agree_begin, agree_bytes, agree_silence, agree_submit, agree_taken, agree_tick, agree_withdraw, open_of, room_taken, with_report}
 use Rattle.osdp_line_laws.proofs.PanelRuns.{runs_are_calls}
-use Rattle.osdp_line_laws.specs.PanelLines.{ordered}
 use Rattle.osdp_line_laws.specs.PanelListening.{ListensAlways, ListensBesideItsBus}
-use Rattle.osdp_line_laws.specs.PanelRuns.{Tells, after_said, listening_after, moment_after}
 
 -- ---- the moments
 

@@ -1,12 +1,8 @@
 -- What the words of a command decide of its run.
-use Rattle.std.proofs.Common.{◌≡◌, inl, inr, ℕ, List, Option, Result, Ok, Err, refl, subst}
-use Rattle.osdp_line_answers.specs.Answers.{Answering, Speaks}
+use Rattle.osdp_line_laws.proofs.Common.{◌≡◌, inl, inr, ℕ, List, Option, Result, Ok, Err, refl, subst, Answering, Speaks, PanelAnswers, new_ordered, ReaderAnswers}
 use Rattle.osdp_line_answers.specs.Ending.{Ends}
 use Rattle.osdp_line_calls.specs.declared.run.LineRun.{LineRun}
-use Rattle.osdp_line_calls.specs.OrderedLines.{Answers as PanelAnswers}
-use Rattle.osdp_line_calls.specs.OrderedPanels.{new_ordered}
 use Rattle.osdp_line_calls.specs.PanelSettings.{AreOfPanel}
-use Rattle.osdp_line_calls.specs.ReaderLines.{Answers as ReaderAnswers}
 use Rattle.osdp_line_calls.specs.ReaderSettings.{AreOfReader}
 use Rattle.osdp_line_calls.specs.Runs.{Runs, SetBy, new_device}
 use Rattle.osdp_line_laws.specs.Commands.{AnswersItsInput, DevicesGoByWords, GoesByItsWords, PanelsGoByWords}

@@ -1,6 +1,5 @@
 -- Lines one after the other, where each comes to some calls.
-use Rattle.std.proofs.Common.{◌≡◌, ◌∙◌, ap, sym, ℕ, List, [], ◌∷◌, ◌++◌}
-use Rattle.osdp_line_answers.specs.Answers.{Answering, Speaks, heard}
+use Rattle.osdp_line_laws.proofs.Common.{◌≡◌, ◌∙◌, ap, sym, ℕ, List, [], ◌∷◌, ◌++◌, Answering, Speaks, heard}
 
 -- what calls make of what a session has, first those of a list and then those after it
 module _ {S X C : Type 0} (answers : Answering S) (of : S → X) (after : List C → X → X) (none : (x : X) → after [] x ≡ x)

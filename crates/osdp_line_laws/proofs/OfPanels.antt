@@ -1,23 +1,9 @@
 -- Lines to a panel as calls of its bus.
-use Rattle.std.specs.Prelude.{if◌then◌else◌}
-use Rattle.std.proofs.Common.{◌≡◌, ◌∙◌, ◌⊎◌, ap, sym, subst, refl, ℕ, Bool, true, false, List, [], ◌∷◌, ◌++◌, Option, inl, inr, append-nil, append_assoc}
-use Rattle.osdp_controller.specs.Hearing.{comset_of}
-use Rattle.osdp_msg.specs.declared.command.Command.{Command}
-use Rattle.osdp_bus.specs.Buses.{BusState, device_of}
-use Rattle.osdp_bus.specs.declared.fault.BusFault.{BusFault}
-use Rattle.osdp_bus.specs.Machine.{after_next_report, after_submit_at, changed_unless, leads_nowhere, order_refusal_at}
-use Rattle.osdp_bus_laws.proofs.Ordering.{elsewhere_same, nowhere_stays, order_made}
+use Rattle.osdp_line_laws.proofs.Common.{if◌then◌else◌, ◌≡◌, ◌∙◌, ◌⊎◌, ap, sym, subst, refl, ℕ, Bool, true, false, List, [], ◌∷◌, ◌++◌, Option, inl, inr, append-nil, append_assoc, comset_of, Command, BusState, device_of, BusFault, after_next_report, after_submit_at, changed_unless, leads_nowhere, order_refusal_at, elsewhere_same, nowhere_stays, order_made, Speaks, Says, SaysNothing, PanelCall, CallFits, call_words, Answers, IsAnswered, refuses, due_line, refusal_line, next_report_line, Calls, Refused, calls_text, kept_back, ordered}
 use Rattle.osdp_bus_laws.specs.Calls.{Call, NextReport, Submit, after_call, after_calls, orders}
-use Rattle.osdp_line_answers.specs.Answers.{Speaks}
-use Rattle.osdp_line_calls.specs.Calls.{Says, SaysNothing}
-use Rattle.osdp_line_calls.specs.declared.panel_call.PanelCall.{PanelCall}
 use Rattle.osdp_line_calls.specs.declared.panel_call.PanelCall.TheVariants as line
-use Rattle.osdp_line_calls.specs.PanelCalls.{CallFits, call_words}
-use Rattle.osdp_line_calls.specs.PanelLines.{Answers, IsAnswered, refuses}
 use Rattle.osdp_line_calls.specs.PanelSessions.{Called, IsDue, Session, answered, does, ended, overhears, then_reports}
-use Rattle.osdp_line_calls.specs.PanelTexts.{due_line, refusal_line, next_report_line}
 use Rattle.osdp_line_laws.proofs.Lines.{of_all}
-use Rattle.osdp_line_laws.specs.PanelLines.{Calls, Refused, calls_text, kept_back, ordered}
 
 -- the calls of a line, and what they tell, without what is passed over and without the moment at the end
 pub record Made (call : PanelCall) (s : Session) : Type 0 where

@@ -1,26 +1,13 @@
 -- Lines to a reader's device as steps of its reader.
-use Rattle.std.proofs.Common.{◌≡◌, ◌∙◌, ◌⊎◌, ap, sym, refl, ℕ, zero, suc, Bool, true, cond, Option, Some, None, option_map, slice_get, List, [], ◌∷◌, ◌++◌, false, length, inl, inr, append-nil, append_assoc}
-use Rattle.osdp_device.specs.Ages.{AgesState, after_expiry, after_removal, expired, expired_front, expires}
-use Rattle.osdp_device.specs.declared.events.Expired.{Expired}
+use Rattle.osdp_line_laws.proofs.Common.{◌≡◌, ◌∙◌, ◌⊎◌, ap, sym, refl, ℕ, zero, suc, Bool, true, cond, Option, Some, None, option_map, slice_get, List, [], ◌∷◌, ◌++◌, false, length, inl, inr, append-nil, append_assoc, AgesState, after_expiry, after_removal, expired, expired_front, expires, Expired, Heard, hears_bytes, reads_all, reads_on, then_reads, status_after, status_answer, DeviceStatus, items, RunItem, PacketItem, SkippedItem, RefusedItem, Speaks, Says, SaysNothing, ReaderState, after_lapse_event, after_withdraw_event, ReaderCall, LetGo, goes_first, keeps_all, lets_some_go, all_lines, expired_lines, said_lines, waiting_line}
 use Rattle.osdp_device.specs.declared.events.Expired.TheVariants.{Withdrawn, InDoubt}
-use Rattle.osdp_device.specs.Hearing.{Heard, hears_bytes, reads_all, reads_on, then_reads}
 use Rattle.osdp_frame.specs.Receiving.{Received, ends_silent, seen, after_tick, after_silence}
 use Rattle.osdp_device.specs.Saying.{Said}
-use Rattle.osdp_device.specs.Status.{status_after, status_answer}
 use Rattle.osdp_device.specs.Telling.{after_items, items_of, said_to_all}
-use Rattle.osdp_device.specs.declared.status.DeviceStatus.{DeviceStatus}
-use Rattle.osdp_frame.specs.Items.{items}
-use Rattle.osdp_frame.specs.Reading.{RunItem, PacketItem, SkippedItem, RefusedItem}
-use Rattle.osdp_line_answers.specs.Answers.{Speaks}
-use Rattle.osdp_line_calls.specs.Calls.{Says, SaysNothing}
-use Rattle.osdp_reader.specs.State.{ReaderState, after_lapse_event, after_withdraw_event}
-use Rattle.osdp_line_calls.specs.declared.reader_call.ReaderCall.{ReaderCall}
 use Rattle.osdp_line_calls.specs.declared.reader_call.ReaderCall.TheVariants.{At, Bytes, Silence, Tick, Event}
 use Rattle.osdp_line_calls.specs.ReaderCalls.{CallFits, call_words}
 use Rattle.osdp_line_calls.specs.ReaderLines.{Answers, IsAnswered}
-use Rattle.osdp_line_calls.specs.ReaderAbsence.{LetGo, goes_first, keeps_all, lets_some_go}
 use Rattle.osdp_line_calls.specs.ReaderSessions.{Called, Session, does, heard, looks, submit_text, tells_presence, then_does}
-use Rattle.osdp_line_calls.specs.ReaderTexts.{all_lines, expired_lines, said_lines, waiting_line}
 use Rattle.osdp_line_laws.proofs.Lines.{of_all}
 use Rattle.osdp_line_laws.specs.ReaderLines.{Hears, Refused, Step, TakesSteps, after_step, after_steps, hears_held, hears_packets, hears_with, leaves, left_text, lets_go_steps, looks_step, looks_steps, ordered, step_text, steps_text}
 

@@ -1,12 +1,7 @@
 -- Events that are too old leave, and they are the oldest.
-use Rattle.std.proofs.Common.{◌≡◌, ◌∙◌, ap, sym, refl, ℕ, zero, suc, ◌≤◌, Bool, true, false, cond, Option, Some, option_map, slice_get, List, [], ◌∷◌, ◌++◌, drop, length, map, arith}
-use Rattle.osdp_device.specs.Ages.{AgesState, after_expiry, after_removal, expired, expired_front, expires}
-use Rattle.osdp_device.specs.declared.events.Expired.{Expired}
-use Rattle.osdp_device.specs.declared.status.DeviceStatus.{DeviceStatus}
+use Rattle.osdp_line_laws.proofs.Common.{◌≡◌, ◌∙◌, ap, sym, refl, ℕ, zero, suc, ◌≤◌, Bool, true, false, cond, Option, Some, option_map, slice_get, List, [], ◌∷◌, ◌++◌, drop, length, map, arith, AgesState, after_expiry, after_removal, expired, expired_front, expires, Expired, DeviceStatus, ReaderState, LetGo, goes_first, keeps_all, lets_some_go}
 use Rattle.osdp_msg.specs.declared.event.Event.{Event}
-use Rattle.osdp_reader.specs.State.{ReaderState}
 use Rattle.osdp_line_calls.proofs.LettingGo.{front_gone, none_here}
-use Rattle.osdp_line_calls.specs.ReaderAbsence.{LetGo, goes_first, keeps_all, lets_some_go}
 use Rattle.osdp_line_laws.specs.OldEvents.{OldEventsAlwaysLeave, event_of}
 
 abbrev Reader : Type 0

@@ -1,33 +1,20 @@
 -- Which sessions of a bus are open is what its reports tell, whatever is called and comes.
-use Rattle.std.proofs.Common.{◌≡◌, ◌∙◌, ap, sym, refl, ℕ, zero, suc, ◌<◌, ◌≤◌, ◌==◌, Bool, true, false, max, List, [], ◌∷◌, ◌++◌, length, length-append, get_or, Option, Some, None, arith}
+use Rattle.osdp_line_laws.proofs.Common.{◌≡◌, ◌∙◌, ap, sym, refl, ℕ, zero, suc, ◌<◌, ◌≤◌, ◌==◌, Bool, true, false, max, List, [], ◌∷◌, ◌++◌, length, length-append, get_or, Option, Some, None, arith, option_map_or, unwrap_or, Report, begin_refusal, either_way, items, Packet, RunItem, Entry, BusFault, BusState, Devices, device_of, has_report, holder, is_silent, seen, waiting_after, map_none, unless_taken, SoundBus, either_held, sound_packet, sound_seen, sound_silent, is_open, opened_by, opened_told, set_open}
 use Rattle.std.specs.Prelude.{if◌then◌else◌, is_some, nat_le, nat_lt, slice_get, slice_set}
-use Rattle.std.specs.Option.{option_map_or, unwrap_or}
 use Rattle.std.proofs.lemmas.Bool.{eq-eqb, eqb-true, leb-false}
 use Rattle.std.proofs.lemmas.List.{get_or-set_other, get_or-set_same, length-set}
 use Rattle.std.proofs.lemmas.Option.{slice_get_within, unwrap_or-slice_get}
-use Rattle.osdp_controller.specs.declared.report.Report.{Report}
-use Rattle.osdp_controller.specs.Machine.{begin_refusal}
-use Rattle.osdp_controller.proofs.Choices.{either_way}
 use Rattle.osdp_controller_laws.proofs.Closed.{was_closed}
-use Rattle.osdp_frame.specs.Items.{items}
-use Rattle.osdp_frame.specs.Packet.{Packet}
-use Rattle.osdp_frame.specs.Reading.{RunItem}
-use Rattle.osdp_bus.specs.declared.entry.Entry.{Entry}
-use Rattle.osdp_bus.specs.declared.fault.BusFault.{BusFault}
 use Rattle.osdp_bus.specs.declared.fault.BusFault.TheVariants.{TooMany, AddressTaken, OutOfRange}
-use Rattle.osdp_bus.specs.Buses.{BusState, Devices, device_of, has_report, holder, is_silent, seen, waiting_after}
 use Rattle.osdp_bus.specs.Entries.{entry_hears, entry_ticks, is_taken, step_of, told_of}
 use Rattle.osdp_bus.specs.Hearing.{after_bytes, ends_run, ends_silent, hears_items, hears_with}
 use Rattle.osdp_bus.specs.Machine.{add_refusal, after_add, after_begin_at, after_next_report, begin_refusal_at, begin_refusal_of, changed_unless, changes_entry, entry_begins, entry_withdraws, most_entries, new_device}
 use Rattle.osdp_bus.specs.Ticking.{BusTicked, bus_ticks, is_due_at, next_due, stays, ticks_at, ticks_by, ticks_free, ticks_held, ticks_on, ticks_with}
-use Rattle.osdp_bus_laws.proofs.Calling.{map_none, unless_taken}
 use Rattle.osdp_bus_laws.proofs.Changing.{Sound}
 use Rattle.osdp_bus_laws.proofs.Hearing.{items_keep}
 use Rattle.osdp_bus_laws.proofs.OneDevice.{heard_told}
 use Rattle.osdp_bus_laws.proofs.Places.{is_false}
-use Rattle.osdp_bus_laws.proofs.Sound.{SoundBus, either_held, sound_packet, sound_seen, sound_silent}
 use Rattle.osdp_bus_laws.proofs.Turning.{set_here, set_other}
-use Rattle.osdp_line_calls.specs.Passing.{is_open, opened_by, opened_told, set_open}
 use Rattle.osdp_line_laws.proofs.OneSession.{heard_as, open_in, open_told, ticked_as}
 
 abbrev pub open_of : Option Entry → Bool

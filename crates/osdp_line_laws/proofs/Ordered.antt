@@ -1,28 +1,16 @@
 -- Lines to a panel whose orders may wait for POLLs, as calls of its orders and its bus; and without the setting as lines to a panel that holds no order back.
-use Rattle.std.specs.Prelude.{if◌then◌else◌}
-use Rattle.std.proofs.Common.{◌≡◌, ◌∙◌, ◌⊎◌, ap, sym, subst, refl, ℕ, false, List, [], ◌∷◌, ◌++◌, Option, Some, None, inl, inr}
-use Rattle.osdp_bus.specs.Buses.{BusState}
-use Rattle.osdp_bus.specs.declared.fault.BusFault.{BusFault}
-use Rattle.osdp_bus.specs.Machine.{add_refusal, after_submit_at, begin_refusal_at, changed_unless, order_refusal_at}
-use Rattle.osdp_bus_laws.specs.Calls.{Call, NextReport}
-use Rattle.osdp_msg.specs.declared.command.Command.{Command}
+use Rattle.osdp_line_laws.proofs.Common.{if◌then◌else◌, ◌≡◌, ◌∙◌, ◌⊎◌, ap, sym, subst, refl, ℕ, false, List, [], ◌∷◌, ◌++◌, Option, Some, None, inl, inr, BusState, BusFault, add_refusal, after_submit_at, begin_refusal_at, changed_unless, order_refusal_at, Call, NextReport, Command, Speaks, Says, SaysNothing, PanelCall, CallFits, call_words, IsDue, overhears, refusal_line, withdrawal_line}
 use Rattle.osdp_orders.specs.Orders.{OrdersState, PanelState, after_add, after_submit, both, submit_refusal, with_new_queue, withdrawal}
 use Rattle.osdp_orders.specs.Queues.{new_queue}
 use Rattle.osdp_orders_laws.specs.Calls.{after_call, after_calls}
 use Rattle.osdp_panel.proofs.Ordering.{its_bus}
 use Rattle.osdp_panel.specs.Ordering.{IsItsBus}
-use Rattle.osdp_line_answers.specs.Answers.{Speaks}
-use Rattle.osdp_line_calls.specs.Calls.{Says, SaysNothing}
-use Rattle.osdp_line_calls.specs.declared.panel_call.PanelCall.{PanelCall}
 use Rattle.osdp_line_calls.specs.declared.panel_call.PanelCall.TheVariants as line
 use Rattle.osdp_line_calls.specs.LineAnswers.{IsAnsweredBy}
 use Rattle.osdp_line_calls.specs.OrderedLines.{Answers, Ends, refuses}
 use Rattle.osdp_line_calls.specs.OrderedPanels.{Called, Ordered, after_text, answered, beside_orders, ended, panel_of, plain_of, then_reports, writes}
-use Rattle.osdp_line_calls.specs.PanelCalls.{CallFits, call_words}
 use Rattle.osdp_line_calls.specs.PanelLines as plain_lines
-use Rattle.osdp_line_calls.specs.PanelSessions.{IsDue, overhears}
 use Rattle.osdp_line_calls.specs.PanelSessions as plain
-use Rattle.osdp_line_calls.specs.PanelTexts.{refusal_line, withdrawal_line}
 use Rattle.osdp_line_laws.proofs.Lines.{of_all}
 use Rattle.osdp_line_laws.specs.OrderedLines.{called}
 

@@ -1,21 +1,6 @@
 -- A run of lines to a panel, line by line.
-use Rattle.std.proofs.Common.{◌≡◌, ◌∙◌, ap, subst, refl, ℕ, List, [], ◌∷◌, ◌++◌, Option, Some, None, inl, inr, sym, append_assoc}
-use Rattle.osdp_bus.specs.Buses.{BusState}
-use Rattle.osdp_bus.specs.Machine.{after_next_report}
-use Rattle.osdp_bus_laws.proofs.Ordering.{order_made}
-use Rattle.osdp_bus_laws.specs.Calls.{after_calls, orders}
-use Rattle.osdp_line_answers.specs.Answers.{heard}
-use Rattle.osdp_line_calls.specs.Calls.{IsSaid}
-use Rattle.osdp_line_calls.specs.declared.panel_call.PanelCall.{PanelCall}
-use Rattle.osdp_line_calls.specs.declared.panel_call.PanelCall.TheVariants.{At, Submit}
-use Rattle.osdp_line_calls.specs.PanelCalls.{CallFits, call_words}
-use Rattle.osdp_line_calls.specs.PanelLines.{IsAnswered, refuses}
-use Rattle.osdp_line_calls.specs.Passing.{opened_by}
-use Rattle.osdp_line_calls.specs.PanelSessions.{Called, IsDue, Session, answered, ended, overhears}
-use Rattle.osdp_line_calls.specs.PanelTexts.{due_line}
+use Rattle.osdp_line_laws.proofs.Common.{◌≡◌, ◌∙◌, ap, subst, refl, ℕ, List, [], ◌∷◌, ◌++◌, Option, Some, None, inl, inr, sym, append_assoc, BusState, after_next_report, order_made, after_calls, orders, heard, IsSaid, PanelCall, At, Submit, CallFits, call_words, IsAnswered, refuses, opened_by, Called, IsDue, Session, answered, ended, overhears, due_line, calls_text, kept_back, RunsAreCalls, Tells, after_said, calls_of, said_text}
 use Rattle.osdp_line_laws.proofs.OfPanels.{made, order_taken}
-use Rattle.osdp_line_laws.specs.PanelLines.{calls_text, kept_back}
-use Rattle.osdp_line_laws.specs.PanelRuns.{RunsAreCalls, Tells, after_said, calls_of, said_text}
 
 -- the whole panel after a call
 whole : (call : PanelCall) (s : Session) → (answered call s).session ≡ after_said (Some call) s

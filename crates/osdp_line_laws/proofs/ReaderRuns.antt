@@ -1,19 +1,10 @@
 -- A run of lines to a reader's device, line by line.
-use Rattle.std.proofs.Common.{◌≡◌, ◌∙◌, ap, refl, ℕ, List, [], ◌∷◌, ◌++◌, length, Option, Some, None, inl, inr}
-use Rattle.osdp_line_answers.specs.Answers.{heard}
-use Rattle.osdp_line_calls.specs.Calls.{IsSaid}
-use Rattle.osdp_reader.specs.State.{ReaderState}
-use Rattle.osdp_frame.specs.Receiving.{Received}
-use Rattle.osdp_device.specs.Status.{status_after, status_answer}
-use Rattle.osdp_device.specs.Hearing.{hears_bytes}
+use Rattle.osdp_line_laws.proofs.Common.{◌≡◌, ◌∙◌, ap, refl, ℕ, List, [], ◌∷◌, ◌++◌, length, Option, Some, None, inl, inr, heard, IsSaid, ReaderState, Received, status_after, status_answer, hears_bytes, DeviceStatus, ReaderCall, waiting_line}
 use Rattle.osdp_frame.specs.Receiving.{seen}
-use Rattle.osdp_device.specs.declared.status.DeviceStatus.{DeviceStatus}
-use Rattle.osdp_line_calls.specs.declared.reader_call.ReaderCall.{ReaderCall}
 use Rattle.osdp_line_calls.specs.declared.reader_call.ReaderCall.TheVariants.{At, Bytes}
 use Rattle.osdp_line_calls.specs.ReaderCalls.{CallFits, call_words}
 use Rattle.osdp_line_calls.specs.ReaderLines.{IsAnswered}
 use Rattle.osdp_line_calls.specs.ReaderSessions.{Called, Session, does}
-use Rattle.osdp_line_calls.specs.ReaderTexts.{waiting_line}
 use Rattle.osdp_line_laws.proofs.OfReaders.{call_steps}
 use Rattle.osdp_line_laws.specs.ReaderRuns.{RunsAreCalls, after_all_said, after_said, all_said_text, line_after, moment_after, said_text, with_bytes}
 

@@ -1,19 +1,7 @@
 -- What the account of a session comes to at each stage, and what it comes to after a report.
-use Rattle.std.proofs.Common.{◌≡◌, ◌⊎◌, List, [], ◌∷◌, ◌++◌, map, Option, Some, None, refl, sym, subst, ap, ◌∙◌, inl, inr, append_assoc}
-use Rattle.std.proofs.lemmas.List.{append-nil}
-use Rattle.std.specs.Prelude.{option_to_list}
-use Rattle.osdp_msg.specs.declared.command.Command.{Command}
-use Rattle.osdp_msg.specs.declared.event.Event.{Event}
-use Rattle.osdp_msg.specs.declared.reply.Reply.{Reply}
+use Rattle.osdp_link_laws.proofs.Common.{◌≡◌, ◌⊎◌, List, [], ◌∷◌, ◌++◌, map, Option, Some, None, refl, sym, subst, ap, ◌∙◌, inl, inr, append_assoc, append-nil, option_to_list, Command, Event, Reply, Ticked, Report, State, Closed, IsWithout, asked, Account, Link, Removal, after_report, removed_command}
 use Rattle.osdp_msg.specs.declared.reply.Reply.TheVariants as reply
-use Rattle.osdp_controller.specs.Ticking.{Ticked}
-use Rattle.osdp_controller.specs.declared.report.Report.{Report}
 use Rattle.osdp_controller.specs.declared.report.Report.TheVariants as report
-use Rattle.osdp_controller.specs.declared.state.State.{State}
-use Rattle.osdp_controller.specs.declared.state.State.TheVariants.{Closed}
-use Rattle.osdp_link_laws.specs.Headline.{IsWithout, asked}
-use Rattle.osdp_link_laws.specs.Link.{Account, Link, Removal, after_report}
-use Rattle.osdp_link_laws.specs.Sessions.{removed_command}
 use Rattle.osdp_link_laws.proofs.Coming.{Announces, BeginsFrom, Controls, HearsTo, TicksTo, lost_in, reported_in, settled_in, standing_at}
 use Rattle.osdp_link_laws.proofs.Stages.{After, Before, Behind, Fresh, HasRestarted, Level, Never, Now, Rest, Restarted, Stage, Start, given_up_at, number_after, owed_at, pending_at, shown, unreported_at}
 

@@ -1,24 +1,8 @@
 -- What a frame does to the reader: which line of its table it meets, and what the reader keeps.
-use Rattle.std.proofs.Common.{◌≡◌, ◌≢◌, ◌<◌, ℕ, Bool, false, not, cond, eqb, List, [], ◌∷◌, ◌++◌, drop, take, Option, Some, None, refl, sym, subst, ap, ◌∙◌, inl, inr, arith}
-use Rattle.std.specs.Prelude.{◌||◌, is_some, option_to_list}
-use Rattle.std.proofs.lemmas.Bool.Decides.{eqb_tells}
-use Rattle.osdp_frame.specs.Packet.{next_sequence}
-use Rattle.osdp_msg.specs.declared.command.Command.{Command}
+use Rattle.osdp_link_laws.proofs.Common.{◌≡◌, ◌≢◌, ◌<◌, ℕ, Bool, false, not, cond, eqb, List, [], ◌∷◌, ◌++◌, drop, take, Option, Some, None, refl, sym, subst, ap, ◌∙◌, inl, inr, arith, ◌||◌, is_some, option_to_list, eqb_tells, next_sequence, Command, Event, Reply, ControllerConfig, Exchange, Opening, Polling, Asking, event_in, ReaderConfig, Answer, Silent, Zero, Repeat, Taken, Busy, Wrong, Queue, event_for, released, ReaderState, Account, given_to, taken_command}
 use Rattle.osdp_msg.specs.declared.command.Command.TheVariants as command
-use Rattle.osdp_msg.specs.declared.event.Event.{Event}
 use Rattle.osdp_msg.specs.declared.event.Event.TheVariants as event
-use Rattle.osdp_msg.specs.declared.reply.Reply.{Reply}
-use Rattle.osdp_controller.specs.declared.config.ControllerConfig.{ControllerConfig}
-use Rattle.osdp_controller.specs.declared.exchange.Exchange.{Exchange}
-use Rattle.osdp_controller.specs.declared.exchange.Exchange.TheVariants.{Opening, Polling, Asking}
-use Rattle.osdp_msg.specs.Events.{event_in}
-use Rattle.osdp_reader.specs.declared.config.ReaderConfig.{ReaderConfig}
-use Rattle.osdp_reader.specs.declared.handler.Answer.{Answer}
-use Rattle.osdp_reader.specs.declared.kind.Kind.TheVariants.{Silent, Zero, Repeat, Taken, Busy, Wrong}
-use Rattle.osdp_reader.specs.Queue.{Queue, event_for, released}
-use Rattle.osdp_reader.specs.State.{ReaderState}
 use Rattle.osdp_reader.specs.Table.{answer_to, answered, event_or_answer, kind_by_number, kind_of, moved}
-use Rattle.osdp_link_laws.specs.Link.{Account, given_to, taken_command}
 use Rattle.osdp_link_laws.proofs.Numbers.{is_true, is_false, next_above_zero, next_differs}
 use Rattle.osdp_link_laws.proofs.Stages.{HasActed, Offers, OffersEvent, frame, shown}
 

@@ -1,29 +1,7 @@
 -- The frame of the current exchange comes to the reader for the first time: it acts on it, or is busy or elsewhere.
-use Rattle.std.proofs.Common.{◌≡◌, ◌⊎◌, ◌<◌, ℕ, List, [], ◌∷◌, ◌++◌, Option, Some, None, Result, Ok, refl, sym, subst, inl, inr}
-use Rattle.std.specs.Prelude.{IfSome, option_to_list}
-use Rattle.std.proofs.lemmas.Bool.Decides.{eqb_tells}
-use Rattle.osdp_frame.specs.Packet.{Packet, next_sequence}
-use Rattle.osdp_msg.specs.ReplyTable.{ReplyFits}
-use Rattle.osdp_msg.specs.declared.command.Command.{Command}
+use Rattle.osdp_link_laws.proofs.Common.{◌≡◌, ◌⊎◌, ◌<◌, ℕ, List, [], ◌∷◌, ◌++◌, Option, Some, None, Result, Ok, refl, sym, subst, inl, inr, IfSome, option_to_list, eqb_tells, Packet, next_sequence, ReplyFits, Command, MsgFault, Reply, ControllerConfig, Exchange, Opening, Polling, Asking, exchange_command, Answer, Kind, Zero, Taken, Busy, event_for, offering, released, refused, reply_packet, UnexpectedSequence, ReaderState, answer_to, begun, command_in, event_or_answer, kind_of, moved, new_address, outcome, taken, IsPlain, MaySubmit, Link}
 use Rattle.osdp_msg.specs.declared.command.Command.TheVariants as command
-use Rattle.osdp_msg.specs.declared.fault.MsgFault.{MsgFault}
-use Rattle.osdp_msg.specs.declared.reply.Reply.{Reply}
 use Rattle.osdp_msg.specs.declared.reply.Reply.TheVariants as reply
-use Rattle.osdp_controller.specs.declared.config.ControllerConfig.{ControllerConfig}
-use Rattle.osdp_controller.specs.declared.exchange.Exchange.{Exchange}
-use Rattle.osdp_controller.specs.declared.exchange.Exchange.TheVariants.{Opening, Polling, Asking}
-use Rattle.osdp_controller.specs.Exchanges.{exchange_command}
-use Rattle.osdp_reader.specs.declared.handler.Answer.{Answer}
-use Rattle.osdp_reader.specs.declared.kind.Kind.{Kind}
-use Rattle.osdp_reader.specs.declared.kind.Kind.TheVariants.{Zero, Taken, Busy}
-use Rattle.osdp_reader.specs.Queue.{event_for, offering, released}
-use Rattle.osdp_reader.specs.Replies.{refused, reply_packet}
-use Rattle.osdp_msg.specs.declared.nak.NakReason.TheVariants.{UnexpectedSequence}
-use Rattle.osdp_reader.specs.State.{ReaderState}
-use Rattle.osdp_reader.specs.Table.{answer_to, begun, command_in, event_or_answer, kind_of, moved, new_address, outcome, taken}
-use Rattle.osdp_reader_laws.specs.Laws.{IsPlain}
-use Rattle.osdp_link_laws.specs.Headline.{MaySubmit}
-use Rattle.osdp_link_laws.specs.Link.{Link}
 use Rattle.osdp_link_laws.proofs.Acting.{kind_next, kind_unknown, kind_zero, moved_acted, no_event, polled}
 use Rattle.osdp_link_laws.proofs.Lines.{both, each_append, runs_first}
 use Rattle.osdp_link_laws.proofs.Numbers.{next_above_zero}

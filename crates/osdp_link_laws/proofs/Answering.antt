@@ -1,25 +1,8 @@
 -- What a reader that is ready says to the frame of the outstanding exchange.
-use Rattle.std.proofs.Common.{◌≡◌, ◌≢◌, ◌⊎◌, ℕ, false, cond, Some, None, Ok, refl, sym, subst, ap, ◌∙◌, inl, inr, arith}
-use Rattle.std.specs.Prelude.{IfSome}
-use Rattle.osdp_frame.specs.Packet.{Packet, next_sequence}
-use Rattle.osdp_msg.specs.ReplyTable.{ReplyFits}
-use Rattle.osdp_msg.specs.declared.command.Command.{Command}
+use Rattle.osdp_link_laws.proofs.Common.{◌≡◌, ◌≢◌, ◌⊎◌, ℕ, false, cond, Some, None, Ok, refl, sym, subst, ap, ◌∙◌, inl, inr, arith, IfSome, Packet, next_sequence, ReplyFits, Command, Reply, exchange_command, ControllerConfig, Exchange, Opening, Polling, Asking, Answer, Zero, Repeat, Taken, Busy, event_for, offering, released, refused, ReaderState, UnexpectedSequence, IsPlain, Link}
 use Rattle.osdp_msg.specs.declared.command.Command.TheVariants as command
-use Rattle.osdp_msg.specs.declared.reply.Reply.{Reply}
 use Rattle.osdp_msg.specs.declared.reply.Reply.TheVariants as reply
-use Rattle.osdp_controller.specs.Exchanges.{exchange_command}
-use Rattle.osdp_controller.specs.declared.config.ControllerConfig.{ControllerConfig}
-use Rattle.osdp_controller.specs.declared.exchange.Exchange.{Exchange}
-use Rattle.osdp_controller.specs.declared.exchange.Exchange.TheVariants.{Opening, Polling, Asking}
-use Rattle.osdp_reader.specs.declared.handler.Answer.{Answer}
-use Rattle.osdp_reader.specs.declared.kind.Kind.TheVariants.{Zero, Repeat, Taken, Busy}
-use Rattle.osdp_reader.specs.Queue.{event_for, offering, released}
-use Rattle.osdp_reader.specs.Replies.{refused}
-use Rattle.osdp_reader.specs.State.{ReaderState}
-use Rattle.osdp_msg.specs.declared.nak.NakReason.TheVariants.{UnexpectedSequence}
 use Rattle.osdp_reader.specs.Table.{Answered, begun, event_or_answer, hears, kind_of, moved, new_address, outcome, taken}
-use Rattle.osdp_reader_laws.specs.Laws.{IsPlain}
-use Rattle.osdp_link_laws.specs.Link.{Link}
 use Rattle.osdp_link_laws.proofs.Acting.{kind_again, kind_next, kind_unknown, kind_zero}
 use Rattle.osdp_link_laws.proofs.Moves.{Premises, asked_fits}
 use Rattle.osdp_link_laws.proofs.Numbers.{next_above_zero}

@@ -1,14 +1,6 @@
 -- What laws ask of moves, by each move, and by the list.
-use Rattle.std.proofs.Common.{◌≡◌, ◌≢◌, ℕ, List, [], ◌∷◌, ◌++◌, refl, subst, ap}
-use Rattle.osdp_msg.specs.declared.command.Command.{Command}
-use Rattle.osdp_reader.specs.declared.handler.Answer.{Answer}
-use Rattle.osdp_link_laws.specs.Addresses.{SetsNoOther}
-use Rattle.osdp_link_laws.specs.Asked.{AtEach, BeginsNoSession, EachIsAsked, FindsRoom, HasItsHandler, LeavingIsExact, LosesNoneWithin, RestartsNoController, RestartsNoReader, SetsNoHandler, SetsOnly, TakesNothingBack}
-use Rattle.osdp_link_laws.specs.Lapses.{KeepSession, KeepsSession}
+use Rattle.osdp_link_laws.proofs.Common.{◌≡◌, ◌≢◌, ℕ, List, [], ◌∷◌, ◌++◌, refl, subst, ap, Command, Answer, SetsNoOther, AtEach, BeginsNoSession, EachIsAsked, FindsRoom, HasItsHandler, LeavingIsExact, LosesNoneWithin, RestartsNoController, RestartsNoReader, SetsNoHandler, SetsOnly, TakesNothingBack, KeepSession, KeepsSession, KeepHandler, KeepsDevice, KeepsHandler, IsOrdinary, IsSteady, KeepsReader}
 use Rattle.osdp_link_laws.specs.Link.{Link, LoseToController, LoseToReader, Move, Queue, Reopen, RestartController, RestartReader, Retarget, SetHandler, Withdraw, WithdrawEvent, after_move, run}
-use Rattle.osdp_link_laws.specs.OneHandler.{KeepHandler, KeepsDevice, KeepsHandler}
-use Rattle.osdp_link_laws.specs.Ordinary.{IsOrdinary, IsSteady}
-use Rattle.osdp_link_laws.specs.Refusals.{KeepsReader}
 
 -- two lists are the same where their first items are, and the rest
 pub first_same : {A : Type 0} (x y : A) (xs ys : List A) → (x ∷ xs) ≡ (y ∷ ys) → (x ≡ y) × (xs ≡ ys)

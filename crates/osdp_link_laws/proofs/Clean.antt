@@ -1,33 +1,9 @@
 -- Rounds without losses, from the first: what they settle and report, exactly.
 use Rattle.std.proofs.Common.{◌≡◌, ◌≤◌, ◌-◌, ℕ, zero, suc, arith, Bool, true, false, if◌then◌else◌, List, [], ◌∷◌, ◌++◌, length, take, drop, Option, Some, None, refl, sym, subst, ap, ◌∙◌, append_assoc}
-use Rattle.std.proofs.lemmas.Bool.{le-leb}
-use Rattle.std.proofs.lemmas.List.{append-nil, length-take}
-use Rattle.std.specs.Prelude.{IfSome, min}
-use Rattle.osdp_msg.specs.declared.command.Command.{Command}
-use Rattle.osdp_msg.specs.declared.event.Event.{Event}
-use Rattle.osdp_controller.specs.Machine.{submit_refusal}
-use Rattle.osdp_controller.specs.Sessions.{later as later_by, seen}
-use Rattle.osdp_controller.specs.States.{is_closed, moment_of}
-use Rattle.osdp_controller.specs.Ticking.{begins, stays, ticks, ticks_in}
-use Rattle.osdp_controller.specs.declared.config.ControllerConfig.{ControllerConfig}
-use Rattle.osdp_controller.specs.declared.exchange.Exchange.TheVariants.{Polling}
-use Rattle.osdp_controller.specs.declared.fault.ControllerFault.{ControllerFault}
-use Rattle.osdp_controller.specs.declared.session.Session.{Session}
-use Rattle.osdp_controller.specs.declared.state.State.TheVariants.{Closed, Quiet, Idle}
-use Rattle.osdp_frame.specs.Packet.{next_sequence}
-use Rattle.osdp_controller.specs.Exchanges.{exchange_command}
+use Rattle.osdp_link_laws.proofs.Common.{le-leb, append-nil, length-take, IfSome, min, Command, Event, submit_refusal, later_by, seen, is_closed, moment_of, begins, stays, ticks, ticks_in, ControllerConfig, Polling, ControllerFault, Session, Closed, Quiet, Idle, next_sequence, exchange_command, ReaderState, answer_to, event_or_answer, ReaderConfig, Answer, MovesFit, MaySubmit, Account, Link, Move, QueueEvent, Reopen, RestartController, RestartReader, Retarget, SetBusy, SetHandler, Submit, Tick, ToController, ToReader, Withdraw, WithdrawEvent, after_move, new_account, run, LoseToReader, LoseToController, with_answers, ReadEachOther, SetsNoAddress, round, rounds}
 use Rattle.osdp_reader.specs.Queue.{Queue, event_for, offering, queued, released, lacks_room}
-use Rattle.osdp_reader.specs.State.{ReaderState}
-use Rattle.osdp_reader.specs.Table.{answer_to, event_or_answer}
-use Rattle.osdp_reader.specs.declared.config.ReaderConfig.{ReaderConfig}
-use Rattle.osdp_reader.specs.declared.handler.Answer.{Answer}
 use Rattle.osdp_link_laws.specs.Clean.{AreSpaced, GoesInTurn, IsInTurn, IsOrder}
-use Rattle.osdp_link_laws.specs.Headline.{MovesFit, MaySubmit}
 use Rattle.osdp_link_laws.specs.Link as link
-use Rattle.osdp_link_laws.specs.Link.{Account, Link, Move, Queue as QueueEvent, Reopen, RestartController, RestartReader, Retarget, SetBusy, SetHandler, Submit, Tick, ToController, ToReader, Withdraw, WithdrawEvent, after_move, new_account, run, LoseToReader, LoseToController}
-use Rattle.osdp_link_laws.specs.OneHandler.{with_answers}
-use Rattle.osdp_link_laws.specs.Peers.{ReadEachOther}
-use Rattle.osdp_link_laws.specs.Progress.{SetsNoAddress, round, rounds}
 use Rattle.osdp_link_laws.proofs.Acting.{no_event}
 use Rattle.osdp_link_laws.proofs.Due.{Acts, next_exchange}
 use Rattle.osdp_link_laws.proofs.Exchanges.{accounted, opening_exchange, rested_link}

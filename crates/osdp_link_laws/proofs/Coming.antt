@@ -1,31 +1,11 @@
 -- How the stage of a session comes from the one before it, by what moves; and what is due at a stage.
-use Rattle.std.proofs.Common.{◌≡◌, ◌⊎◌, ℕ, List, [], ◌∷◌, ◌++◌, length, Option, Some, None, Result, Ok, refl}
-use Rattle.std.proofs.lemmas.List.{append-nil}
-use Rattle.std.specs.Prelude.{option_to_list}
-use Rattle.osdp_frame.specs.Packet.{Packet}
-use Rattle.osdp_msg.specs.declared.command.Command.{Command}
+use Rattle.osdp_link_laws.proofs.Common.{◌≡◌, ◌⊎◌, ℕ, List, [], ◌∷◌, ◌++◌, length, Option, Some, None, Result, Ok, refl, append-nil, option_to_list, Packet, Command, Event, MsgFault, Reply, exchange_command, Ticked, ticks, Exchange, ControllerFault, Report, State, Closed, ReaderState, command_in, kind_of, outcome, Answer, Kind, Delivered, Delivery, Link, Lost, Move, Reopen, Repeated, RestartReader, Tick, ToController, ToReader, told_by_front}
 use Rattle.osdp_msg.specs.declared.command.Command.TheVariants as command
-use Rattle.osdp_msg.specs.declared.event.Event.{Event}
-use Rattle.osdp_msg.specs.declared.fault.MsgFault.{MsgFault}
-use Rattle.osdp_msg.specs.declared.reply.Reply.{Reply}
 use Rattle.osdp_msg.specs.declared.reply.Reply.TheVariants as reply
-use Rattle.osdp_controller.specs.Exchanges.{exchange_command}
 use Rattle.osdp_controller.specs.Machine as controllers
-use Rattle.osdp_controller.specs.Ticking.{Ticked, ticks}
-use Rattle.osdp_controller.specs.declared.exchange.Exchange.{Exchange}
-use Rattle.osdp_controller.specs.declared.fault.ControllerFault.{ControllerFault}
-use Rattle.osdp_controller.specs.declared.report.Report.{Report}
 use Rattle.osdp_controller.specs.declared.report.Report.TheVariants as report
-use Rattle.osdp_controller.specs.declared.state.State.{State}
-use Rattle.osdp_controller.specs.declared.state.State.TheVariants.{Closed}
-use Rattle.osdp_reader.specs.State.{ReaderState}
-use Rattle.osdp_reader.specs.Table.{command_in, kind_of, outcome}
-use Rattle.osdp_reader.specs.declared.handler.Answer.{Answer}
-use Rattle.osdp_reader.specs.declared.kind.Kind.{Kind}
 use Rattle.osdp_reader.specs.declared.kind.Kind.TheVariants as kind
 use Rattle.osdp_link_laws.specs.Link as link
-use Rattle.osdp_link_laws.specs.Link.{Delivered, Delivery, Link, Lost, Move, Reopen, Repeated, RestartReader, Tick, ToController, ToReader}
-use Rattle.osdp_link_laws.specs.Refusals.{told_by_front}
 use Rattle.osdp_link_laws.proofs.Since.{Hears}
 use Rattle.osdp_link_laws.proofs.Stages.{After, Before, Behind, Fresh, HasRestarted, Level, Never, Now, Past, Rest, Restarted, Stage, Start, given_up_at, number_after, owed, owed_at, pending_at, shown, shown_at, unreported_at}
 

@@ -1,21 +1,6 @@
 -- What holds of the session of a link's controller along its moves, by what ticks, frames and beginnings keep of it.
-use Rattle.std.proofs.Common.{◌≡◌, ℕ, Bool, true, false, List, [], ◌∷◌, Option, Some, None, refl}
-use Rattle.osdp_frame.specs.Packet.{Packet}
-use Rattle.osdp_msg.specs.declared.limits.Room.{Room}
-use Rattle.osdp_msg.specs.declared.command.Command.{Command}
-use Rattle.osdp_msg.specs.declared.event.Event.{Event}
-use Rattle.osdp_controller.specs.Hearing.{hears}
-use Rattle.osdp_controller.specs.Machine.{AreSettings, Machine, after_begin, after_retarget, begin_refusal, retarget_refusal, submit_refusal}
-use Rattle.osdp_controller.specs.Sessions.{new_session}
-use Rattle.osdp_controller.specs.declared.config.ControllerConfig.{ControllerConfig}
-use Rattle.osdp_controller.specs.Ticking.{ticks}
-use Rattle.osdp_controller.specs.declared.fault.ControllerFault.{ControllerFault}
-use Rattle.osdp_controller.specs.declared.session.Session.{Session}
-use Rattle.osdp_reader.specs.declared.handler.Answer.{Answer}
-use Rattle.osdp_reader.specs.Queue.{lacks_room}
+use Rattle.osdp_link_laws.proofs.Common.{◌≡◌, ℕ, Bool, true, false, List, [], ◌∷◌, Option, Some, None, refl, Packet, Room, Command, Event, hears, AreSettings, Machine, after_begin, after_retarget, begin_refusal, retarget_refusal, submit_refusal, new_session, ControllerConfig, ticks, ControllerFault, Session, Answer, lacks_room, Delivered, Delivery, Link, Lost, Move, QueueEvent, Reopen, Repeated, RestartController, Retarget, SetBusy, Submit, Tick, ToController, ToReader, Withdraw, after_move, run, MoveFits, MovesFit}
 use Rattle.osdp_link_laws.specs.Link as link
-use Rattle.osdp_link_laws.specs.Link.{Delivered, Delivery, Link, Lost, Move, Queue as QueueEvent, Reopen, Repeated, RestartController, Retarget, SetBusy, Submit, Tick, ToController, ToReader, Withdraw, after_move, run}
-use Rattle.osdp_link_laws.specs.Headline.{MoveFits, MovesFit}
 
 -- a move that begins no session, withdraws nothing, and leaves the controller as it is or sends something to it
 abbrev pub IsInside : {H : Type 0} → Move H → Type 0

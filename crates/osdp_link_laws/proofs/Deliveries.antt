@@ -1,33 +1,10 @@
 -- What holds of a session holds after each packet that comes, or is lost.
-use Rattle.std.proofs.Common.{◌≡◌, ◌⊎◌, ℕ, List, [], ◌∷◌, ◌++◌, Option, Some, None, refl, sym, subst, ap, ◌∙◌, inl, inr, arith}
-use Rattle.std.proofs.lemmas.List.{append-nil}
-use Rattle.std.specs.Prelude.{IfSome}
-use Rattle.osdp_frame.specs.Packet.{Packet, next_sequence}
-use Rattle.osdp_msg.specs.ReplyTable.{ReplyFits}
-use Rattle.osdp_msg.specs.declared.command.Command.{Command}
-use Rattle.osdp_msg.specs.declared.reply.Reply.{Reply}
+use Rattle.osdp_link_laws.proofs.Common.{◌≡◌, ◌⊎◌, ℕ, List, [], ◌∷◌, ◌++◌, Option, Some, None, refl, sym, subst, ap, ◌∙◌, inl, inr, arith, append-nil, IfSome, Packet, next_sequence, ReplyFits, Command, Reply, PdId, Machine, Closed, NotTaken, NumberRefused, Plain, ControllerConfig, Report, Session, Exchange, Opening, Polling, Asking, Answer, refused, UnexpectedSequence, IsPlain, SaysWhatFitsIf, Delivered, Delivery, Link, Lost, Repeated, lost_at, IsPlainlySaid, told_by_front}
 use Rattle.osdp_msg.specs.declared.reply.Reply.TheVariants as reply
-use Rattle.osdp_msg.specs.declared.reply_fields.PdId.{PdId}
 use Rattle.osdp_controller.specs.Answers as packets
 use Rattle.osdp_controller.specs.Hearing as controller
-use Rattle.osdp_controller.specs.Machine.{Machine}
-use Rattle.osdp_controller.specs.declared.state.State.TheVariants.{Closed}
-use Rattle.osdp_controller.specs.declared.meaning.ReplyMeaning.TheVariants.{NotTaken, NumberRefused, Plain}
-use Rattle.osdp_controller.specs.declared.config.ControllerConfig.{ControllerConfig}
-use Rattle.osdp_controller.specs.declared.report.Report.{Report}
-use Rattle.osdp_controller.specs.declared.session.Session.{Session}
-use Rattle.osdp_controller.specs.declared.exchange.Exchange.{Exchange}
-use Rattle.osdp_controller.specs.declared.exchange.Exchange.TheVariants.{Opening, Polling, Asking}
-use Rattle.osdp_reader.specs.declared.handler.Answer.{Answer}
-use Rattle.osdp_reader.specs.Replies.{refused}
-use Rattle.osdp_msg.specs.declared.nak.NakReason.TheVariants.{UnexpectedSequence}
 use Rattle.osdp_reader.specs.Table as reader
-use Rattle.osdp_reader_laws.specs.Laws.{IsPlain}
-use Rattle.osdp_link_laws.specs.Headline.{SaysWhatFitsIf}
 use Rattle.osdp_link_laws.specs.Link as link
-use Rattle.osdp_link_laws.specs.Link.{Delivered, Delivery, Link, Lost, Repeated, lost_at}
-use Rattle.osdp_link_laws.specs.Peers.{IsPlainlySaid}
-use Rattle.osdp_link_laws.specs.Refusals.{told_by_front}
 use Rattle.osdp_link_laws.proofs.Advancing.{SaysWell, goes_on, opens}
 use Rattle.osdp_link_laws.proofs.Coming.{Announces, Controls, HearsTo, Reads, ReadsFront, lost_in, reported_in, settled_in}
 use Rattle.osdp_link_laws.proofs.Hearing.{Ignored, Settles, closed_hears, hears_answer, hears_other, hears_refused, hears_resting}

@@ -1,23 +1,6 @@
 -- A controller stays at a device's address: a COMSET moves it to such a one alone.
-use Rattle.std.proofs.Common.{◌≡◌, ◌<◌, ℕ, List, max, cond, Option, Some, None, sym, ap, ◌∙◌, inl, inr}
-use Rattle.std.proofs.lemmas.Bool.{le-ltb}
-use Rattle.std.proofs.lemmas.Bool.Decides.{leb_tells}
-use Rattle.osdp_frame.specs.Packet.{Packet}
-use Rattle.osdp_msg.specs.declared.command.Command.{Command}
-use Rattle.osdp_controller.specs.Hearing.{hears}
-use Rattle.osdp_controller.specs.Sessions.{seen}
-use Rattle.osdp_controller.specs.Ticking.{ticks_in}
-use Rattle.osdp_controller.specs.declared.config.ControllerConfig.{ControllerConfig}
-use Rattle.osdp_controller.specs.declared.report.Report.{Report}
-use Rattle.osdp_controller.specs.declared.session.Session.{Session}
-use Rattle.osdp_controller.specs.Machine.{or_no_device, refused_unless_closed}
-use Rattle.osdp_controller.specs.declared.fault.ControllerFault.TheVariants.{OutOfRange}
-use Rattle.osdp_controller.specs.declared.state.State.{State}
-use Rattle.osdp_controller.specs.declared.state.State.TheVariants.{Closed}
+use Rattle.osdp_link_laws.proofs.Common.{◌≡◌, ◌<◌, ℕ, List, max, cond, Option, Some, None, sym, ap, ◌∙◌, inl, inr, le-ltb, leb_tells, Packet, Command, hears, seen, ticks_in, ControllerConfig, Report, Session, or_no_device, refused_unless_closed, OutOfRange, State, Closed, HandlerAnswer, MoveFits, Link, Move, after_move}
 use Rattle.osdp_controller_laws.proofs.Kept.{HoldsOfKept, frame_keeps, tick_keeps}
-use Rattle.osdp_reader.specs.declared.handler.Answer.{Answer as HandlerAnswer}
-use Rattle.osdp_link_laws.specs.Headline.{MoveFits}
-use Rattle.osdp_link_laws.specs.Link.{Link, Move, after_move}
 use Rattle.osdp_link_laws.proofs.Controllers.{IsKept, IsKeptOutside, move_keeps}
 
 abbrev pub AtDevice : Session → Type 0

@@ -1,31 +1,9 @@
 -- What each move does to a link, however it stands.
-use Rattle.std.proofs.Common.{◌≡◌, ◌≢◌, ◌⊎◌, ◌≤◌, ◌<◌, ◌+◌, ℕ, zero, suc, Bool, true, false, cond, eqb, List, [], ◌∷◌, ◌++◌, length, map, drop, Some, None, refl, sym, subst, ap, ◌∙◌, inl, inr, arith, append_assoc}
-use Rattle.std.proofs.lemmas.Bool.{le-ltb, lt-ltb}
-use Rattle.std.proofs.lemmas.List.{append-nil}
+use Rattle.osdp_link_laws.proofs.Common.{◌≡◌, ◌≢◌, ◌⊎◌, ◌≤◌, ◌<◌, ◌+◌, ℕ, zero, suc, Bool, true, false, cond, eqb, List, [], ◌∷◌, ◌++◌, length, map, drop, Some, None, refl, sym, subst, ap, ◌∙◌, inl, inr, arith, append_assoc, le-ltb, lt-ltb, append-nil, Packet, Room, Command, Event, UnexpectedSequence, ControllerConfig, ControllerFault, NotClosed, OutOfRange, State, Closed, EventQueue, never_offered, released, withdrawn, refused, ReaderState, after_set_handler, new_reader, event_or_answer, is_for_another, kind_by_number, kind_of, ReaderConfig, Answer, Silent, Secured, Zero, Busy, Wrong, ComesTo, AnswersBy, CountsRestarts, EachMoveDoes, HasAddress, HasHandler, HasNewController, HasNewReader, HasWithdrawn, LosesOne, RefusesNumbers, Retargets, ThrowsAway, Withdraws, WithdrawsEvents, Account, Link, RestartController, RestartReader, SetHandler, Withdrawn, after_move, but_oldest, lost_at, reader_restarted, unoffered_in}
 use Rattle.std.specs.Prelude.{◌-◌, ◌||◌, if◌then◌else◌, not, option_to_list}
-use Rattle.osdp_frame.specs.Packet.{Packet}
-use Rattle.osdp_msg.specs.declared.limits.Room.{Room}
-use Rattle.osdp_msg.specs.declared.command.Command.{Command}
-use Rattle.osdp_msg.specs.declared.event.Event.{Event}
-use Rattle.osdp_msg.specs.declared.nak.NakReason.TheVariants.{UnexpectedSequence}
 use Rattle.osdp_controller.specs.Machine as controllers
-use Rattle.osdp_controller.specs.declared.config.ControllerConfig.{ControllerConfig}
-use Rattle.osdp_controller.specs.declared.fault.ControllerFault.{ControllerFault}
-use Rattle.osdp_controller.specs.declared.fault.ControllerFault.TheVariants.{NotClosed, OutOfRange}
-use Rattle.osdp_controller.specs.declared.state.State.{State}
-use Rattle.osdp_controller.specs.declared.state.State.TheVariants.{Closed}
-use Rattle.osdp_reader.specs.Queue.{Queue as EventQueue, never_offered, released, withdrawn}
-use Rattle.osdp_reader.specs.Replies.{refused}
-use Rattle.osdp_reader.specs.State.{ReaderState, after_set_handler, new_reader}
 use Rattle.osdp_reader.specs.Table as reader
-use Rattle.osdp_reader.specs.Table.{event_or_answer, is_for_another, kind_by_number, kind_of}
-use Rattle.osdp_reader.specs.declared.config.ReaderConfig.{ReaderConfig}
-use Rattle.osdp_reader.specs.declared.handler.Answer.{Answer}
-use Rattle.osdp_reader.specs.declared.kind.Kind.TheVariants.{Silent, Secured, Zero, Busy, Wrong}
-use Rattle.osdp_reader_laws.specs.Laws.{ComesTo}
-use Rattle.osdp_link_laws.specs.Effects.{AnswersBy, CountsRestarts, EachMoveDoes, HasAddress, HasHandler, HasNewController, HasNewReader, HasWithdrawn, LosesOne, RefusesNumbers, Retargets, ThrowsAway, Withdraws, WithdrawsEvents}
 use Rattle.osdp_link_laws.specs.Link as link
-use Rattle.osdp_link_laws.specs.Link.{Account, Link, RestartController, RestartReader, SetHandler, Withdrawn, after_move, but_oldest, lost_at, reader_restarted, unoffered_in}
 use Rattle.osdp_link_laws.proofs.Acting.{no_event}
 use Rattle.osdp_link_laws.proofs.Numbers.{is_false, is_true}
 use Rattle.osdp_link_laws.proofs.Accounting.{drop_front}

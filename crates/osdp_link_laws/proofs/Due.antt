@@ -1,16 +1,5 @@
 -- A tick that is due: the frame of an exchange goes out, or the session ends.
-use Rattle.std.proofs.Common.{◌≡◌, ◌⊎◌, ℕ, ◌+◌, true, leb, ltb, List, [], ◌∷◌, Some, None, drop, refl, ap, subst, inl, inr}
-use Rattle.osdp_frame.specs.Packet.{next_sequence}
-use Rattle.osdp_msg.specs.declared.command.Command.{Command}
-use Rattle.osdp_controller.specs.Machine.{acts}
-use Rattle.osdp_controller.specs.Sessions.{frame_of, later, seen}
-use Rattle.osdp_controller.specs.Ticking.{Ticked, begins, gives_up, sends_frame, stays, ticks, ticks_in, tries_again}
-use Rattle.osdp_controller.specs.declared.exchange.Exchange.{Exchange}
-use Rattle.osdp_controller.specs.declared.exchange.Exchange.TheVariants.{Opening, Polling, Asking}
-use Rattle.osdp_controller.specs.declared.exchange.Outstanding.{Outstanding}
-use Rattle.osdp_controller.specs.declared.session.Session.{Session}
-use Rattle.osdp_controller.specs.declared.state.State.{State}
-use Rattle.osdp_controller.specs.declared.state.State.TheVariants.{Closed, Quiet, Idle, Waiting, Pausing}
+use Rattle.osdp_link_laws.proofs.Common.{◌≡◌, ◌⊎◌, ℕ, ◌+◌, true, leb, ltb, List, [], ◌∷◌, Some, None, drop, refl, ap, subst, inl, inr, next_sequence, Command, acts, frame_of, later, seen, Ticked, begins, gives_up, sends_frame, stays, ticks, ticks_in, tries_again, Exchange, Opening, Polling, Asking, Outstanding, Session, State, Closed, Quiet, Idle, Waiting, Pausing}
 use Rattle.osdp_link_laws.proofs.Lines.{chosen}
 
 abbrev pub Acts : Ticked → Type 0

@@ -1,21 +1,11 @@
 -- What holds of each account of a link, where it goes by what is queued, withdrawn, kept and thrown away, by what is forgotten and removed, and by the restarts: it
 -- is kept by moves with which neither end restarts and no command or event is withdrawn.
-use Rattle.std.proofs.Common.{ℕ, Bool, true, false, List, [], ◌∷◌, ◌++◌, Option, Some, None, sym, subst}
-use Rattle.osdp_frame.specs.Packet.{Packet}
-use Rattle.osdp_msg.specs.declared.command.Command.{Command}
-use Rattle.osdp_msg.specs.declared.event.Event.{Event}
+use Rattle.osdp_link_laws.proofs.Common.{ℕ, Bool, true, false, List, [], ◌∷◌, ◌++◌, Option, Some, None, sym, subst, Packet, Command, Event, ticks, ControllerFault, Report, Answer, lacks_room, Account, Delivered, Delivery, Link, Lost, Move, QueueEvent, Reopen, Repeated, RestartController, RestartReader, Retarget, Submit, Tick, ToController, ToReader, Withdraw, WithdrawEvent, after_move, after_report, new_account, IsOrdinary}
 use Rattle.osdp_controller.specs.Hearing as controller
 use Rattle.osdp_controller.specs.Machine as controllers
-use Rattle.osdp_controller.specs.Ticking.{ticks}
-use Rattle.osdp_controller.specs.declared.fault.ControllerFault.{ControllerFault}
-use Rattle.osdp_controller.specs.declared.report.Report.{Report}
 use Rattle.osdp_controller.specs.declared.report.Report.TheVariants as report
 use Rattle.osdp_reader.specs.Table as reader
-use Rattle.osdp_reader.specs.declared.handler.Answer.{Answer}
-use Rattle.osdp_reader.specs.Queue.{lacks_room}
 use Rattle.osdp_link_laws.specs.Link as link
-use Rattle.osdp_link_laws.specs.Link.{Account, Delivered, Delivery, Link, Lost, Move, Queue as QueueEvent, Reopen, Repeated, RestartController, RestartReader, Retarget, Submit, Tick, ToController, ToReader, Withdraw, WithdrawEvent, after_move, after_report, new_account}
-use Rattle.osdp_link_laws.specs.Ordinary.{IsOrdinary}
 use Rattle.osdp_link_laws.proofs.Growing.{taken_takes}
 use Rattle.osdp_link_laws.proofs.Stages.{Each}
 

@@ -1,25 +1,10 @@
 -- Each session ends once at most, and the next begins only then.
-use Rattle.std.proofs.Common.{◌≡◌, ◌+◌, ℕ, Bool, true, false, arith, List, [], ◌∷◌, ◌++◌, length, Option, Some, None, refl, ap}
+use Rattle.osdp_link_laws.proofs.Common.{◌≡◌, ◌+◌, ℕ, Bool, true, false, arith, List, [], ◌∷◌, ◌++◌, length, Option, Some, None, refl, ap, Packet, Command, Event, hears, seen, is_closed, ticks, ControllerFault, Report, Session, silent_frame, silent_tick, was_closed, HandlerAnswer, lacks_room, Delivered, Delivery, Link, Lost, Move, QueueEvent, Reopen, Repeated, RestartController, Retarget, Submit, Tick, ToController, ToReader, after_move, run, reports, told_by, told_by_front}
 use Rattle.std.specs.Prelude.{◌||◌, not, option_to_list}
-use Rattle.osdp_frame.specs.Packet.{Packet}
-use Rattle.osdp_msg.specs.declared.command.Command.{Command}
-use Rattle.osdp_msg.specs.declared.event.Event.{Event}
-use Rattle.osdp_controller.specs.Hearing.{hears}
 use Rattle.osdp_controller.specs.Machine as controllers
-use Rattle.osdp_controller.specs.Sessions.{seen}
-use Rattle.osdp_controller.specs.States.{is_closed}
-use Rattle.osdp_controller.specs.Ticking.{ticks}
-use Rattle.osdp_controller.specs.declared.fault.ControllerFault.{ControllerFault}
-use Rattle.osdp_controller.specs.declared.report.Report.{Report}
-use Rattle.osdp_controller.specs.declared.session.Session.{Session}
 use Rattle.osdp_controller_laws.specs.Commands.{TellsEnds, tells_end}
-use Rattle.osdp_controller_laws.proofs.Closed.{silent_frame, silent_tick, was_closed}
-use Rattle.osdp_reader.specs.declared.handler.Answer.{Answer as HandlerAnswer}
-use Rattle.osdp_reader.specs.Queue.{lacks_room}
 use Rattle.osdp_link_laws.specs.Ends.{EndOnce, count, ends_in, lasting, untold, untold_by}
 use Rattle.osdp_link_laws.specs.Link as link
-use Rattle.osdp_link_laws.specs.Link.{Delivered, Delivery, Link, Lost, Move, Queue as QueueEvent, Reopen, Repeated, RestartController, Retarget, Submit, Tick, ToController, ToReader, after_move, run}
-use Rattle.osdp_link_laws.specs.Refusals.{reports, told_by, told_by_front}
 
 -- a session that lasted lasts on, or its end is told
 one_less : (closed told next : Bool) → next ≡ (closed || told) → (closed ≡ true → told ≡ false) → count told + lasting next ≡ lasting closed

@@ -1,37 +1,10 @@
 -- A whole exchange without losses: what it does, and what both ends are after it.
-use Rattle.std.proofs.Common.{◌≡◌, ◌≤◌, ℕ, arith, leb, cond, List, [], ◌∷◌, ◌++◌, drop, take, Some, refl, sym, subst, ap, ◌∙◌}
-use Rattle.std.proofs.lemmas.Bool.{le-leb}
-use Rattle.std.proofs.lemmas.List.{append-nil}
+use Rattle.osdp_link_laws.proofs.Common.{◌≡◌, ◌≤◌, ℕ, arith, leb, cond, List, [], ◌∷◌, ◌++◌, drop, take, Some, refl, sym, subst, ap, ◌∙◌, le-leb, append-nil, packed, next_sequence, event_reply, Command, Event, Reply, exchange_body, exchange_command, poll_told, at_rest, frame_of, later, seen, begins, stays, ticks, ticks_in, ControllerConfig, Exchange, Opening, Polling, Session, State, Idle, Quiet, event_for, offering, released, unoffered, ReaderState, Answer, Kind, Busy, Taken, Zero, MaySubmit, SaysWhatFits, Account, Link, after_report, TellsItsEvent, SetsNoAddress}
 use Rattle.std.specs.Prelude.{max, false}
-use Rattle.osdp_frame.specs.Packed.{packed}
-use Rattle.osdp_frame.specs.Packet.{next_sequence}
-use Rattle.osdp_msg.specs.Events.{event_reply}
-use Rattle.osdp_msg.specs.declared.command.Command.{Command}
-use Rattle.osdp_msg.specs.declared.event.Event.{Event}
-use Rattle.osdp_msg.specs.declared.reply.Reply.{Reply}
 use Rattle.osdp_msg.specs.declared.reply.Reply.TheVariants as reply
-use Rattle.osdp_controller.specs.Exchanges.{exchange_body, exchange_command}
-use Rattle.osdp_controller.specs.Hearing.{poll_told}
-use Rattle.osdp_controller.specs.Sessions.{at_rest, frame_of, later, seen}
-use Rattle.osdp_controller.specs.Ticking.{begins, stays, ticks, ticks_in}
-use Rattle.osdp_controller.specs.declared.config.ControllerConfig.{ControllerConfig}
-use Rattle.osdp_controller.specs.declared.exchange.Exchange.{Exchange}
-use Rattle.osdp_controller.specs.declared.exchange.Exchange.TheVariants.{Opening, Polling}
 use Rattle.osdp_controller.specs.declared.report.Report.TheVariants as report
-use Rattle.osdp_controller.specs.declared.session.Session.{Session}
-use Rattle.osdp_controller.specs.declared.state.State.{State}
-use Rattle.osdp_controller.specs.declared.state.State.TheVariants.{Idle, Quiet}
-use Rattle.osdp_reader.specs.Queue.{event_for, offering, released, unoffered}
-use Rattle.osdp_reader.specs.State.{ReaderState}
 use Rattle.osdp_reader.specs.Table.{Outcome, answer_to, begun, event_or_answer, hears, kind_of, moved, outcome}
-use Rattle.osdp_reader.specs.declared.handler.Answer.{Answer}
-use Rattle.osdp_reader.specs.declared.kind.Kind.{Kind}
-use Rattle.osdp_reader.specs.declared.kind.Kind.TheVariants.{Busy, Taken, Zero}
-use Rattle.osdp_link_laws.specs.Headline.{MaySubmit, SaysWhatFits}
 use Rattle.osdp_link_laws.specs.Link as link
-use Rattle.osdp_link_laws.specs.Link.{Account, Link, after_report}
-use Rattle.osdp_link_laws.specs.Peers.{TellsItsEvent}
-use Rattle.osdp_link_laws.specs.Progress.{SetsNoAddress}
 use Rattle.osdp_link_laws.proofs.Acting.{kind_next, kind_zero, no_event, taken_is}
 use Rattle.osdp_link_laws.proofs.Answering.{Replies, SaysFit, no_address, opening, taken_answer, taken_hears, taking}
 use Rattle.osdp_link_laws.proofs.Due.{Acts, next_exchange, stays_rests}

@@ -1,28 +1,8 @@
 -- What a packet does to the controller, by how far the session has come.
-use Rattle.std.proofs.Common.{◌≡◌, ◌≢◌, ◌⊎◌, ℕ, zero, suc, ◌+◌, Bool, true, false, cond, eqb, ltb, List, [], ◌∷◌, Option, Some, None, refl, sym, subst, ap, ◌∙◌, inl, inr}
-use Rattle.std.specs.Prelude.{◌&&◌, ◌||◌, option_to_list}
-use Rattle.osdp_frame.specs.Packet.{Packet}
-use Rattle.osdp_msg.specs.declared.command.Command.{Command}
-use Rattle.osdp_msg.specs.declared.command_fields.Communication.{Communication}
-use Rattle.osdp_msg.specs.declared.event.Event.{Event}
-use Rattle.osdp_msg.specs.declared.reply.Reply.{Reply}
+use Rattle.osdp_link_laws.proofs.Common.{◌≡◌, ◌≢◌, ◌⊎◌, ℕ, zero, suc, ◌+◌, Bool, true, false, cond, eqb, ltb, List, [], ◌∷◌, Option, Some, None, refl, sym, subst, ap, ◌∙◌, inl, inr, ◌&&◌, ◌||◌, option_to_list, Packet, Command, Communication, Event, Reply, PdId, ReplyMeaning, NotTaken, NumberRefused, Plain, ControllerConfig, Exchange, Opening, Polling, Asking, Outstanding, Session, State, Closed, Quiet, Idle, Waiting, Pausing, meaning_of, event_in, Heard, answered, com_of, command_answered, comset_of, hears, hears_busy, hears_in, ignores, is_ack, is_from_reader, is_numbered, loses, moved_by, pausing_hears, poll_told, rests, waiting_hears, later, seen}
 use Rattle.osdp_msg.specs.declared.reply.Reply.TheVariants as reply
-use Rattle.osdp_msg.specs.declared.reply_fields.PdId.{PdId}
-use Rattle.osdp_controller.specs.declared.meaning.ReplyMeaning.{ReplyMeaning}
-use Rattle.osdp_controller.specs.declared.meaning.ReplyMeaning.TheVariants.{NotTaken, NumberRefused, Plain}
-use Rattle.osdp_controller.specs.declared.config.ControllerConfig.{ControllerConfig}
-use Rattle.osdp_controller.specs.declared.exchange.Exchange.{Exchange}
-use Rattle.osdp_controller.specs.declared.exchange.Exchange.TheVariants.{Opening, Polling, Asking}
-use Rattle.osdp_controller.specs.declared.exchange.Outstanding.{Outstanding}
 use Rattle.osdp_controller.specs.declared.report.LostCause.TheVariants as cause
 use Rattle.osdp_controller.specs.declared.report.Report.TheVariants as report
-use Rattle.osdp_controller.specs.declared.session.Session.{Session}
-use Rattle.osdp_controller.specs.declared.state.State.{State}
-use Rattle.osdp_controller.specs.declared.state.State.TheVariants.{Closed, Quiet, Idle, Waiting, Pausing}
-use Rattle.osdp_controller.specs.Answers.{meaning_of}
-use Rattle.osdp_msg.specs.Events.{event_in}
-use Rattle.osdp_controller.specs.Hearing.{Heard, answered, com_of, command_answered, comset_of, hears, hears_busy, hears_in, ignores, is_ack, is_from_reader, is_numbered, loses, moved_by, pausing_hears, poll_told, rests, waiting_hears}
-use Rattle.osdp_controller.specs.Sessions.{later, seen}
 use Rattle.osdp_link_laws.proofs.Coming.{Announces, lost_in}
 use Rattle.osdp_link_laws.proofs.Lines.{both}
 use Rattle.osdp_link_laws.proofs.Numbers.{is_false}

@@ -1,19 +1,7 @@
 -- A reader hears on until it restarts, and again from number 0 on.
-use Rattle.std.proofs.Common.{◌≡◌, Some, Result, Ok, Err, refl, sym, subst, ap, arith, inl, inr}
-use Rattle.osdp_frame.specs.Packet.{Packet}
-use Rattle.osdp_msg.specs.declared.command.Command.{Command}
-use Rattle.osdp_msg.specs.declared.fault.MsgFault.{MsgFault}
-use Rattle.osdp_msg.specs.declared.limits.Room.{Room}
-use Rattle.osdp_reader.specs.Queue.{unoffered}
-use Rattle.osdp_reader.specs.State.{ReaderState}
+use Rattle.osdp_link_laws.proofs.Common.{◌≡◌, Some, Result, Ok, Err, refl, sym, subst, ap, arith, inl, inr, Packet, Command, MsgFault, Room, unoffered, ReaderState, command_in, kind_of, ReaderConfig, Answer, Link, RestartReader, after_move, HearsOn, SetsNoAddress, KeepsReader}
 use Rattle.osdp_reader.specs.Table as table
-use Rattle.osdp_reader.specs.Table.{command_in, kind_of}
-use Rattle.osdp_reader.specs.declared.config.ReaderConfig.{ReaderConfig}
-use Rattle.osdp_reader.specs.declared.handler.Answer.{Answer}
 use Rattle.osdp_link_laws.specs.HearingOn.{HearsOnUntilRestart}
-use Rattle.osdp_link_laws.specs.Link.{Link, RestartReader, after_move}
-use Rattle.osdp_link_laws.specs.Progress.{HearsOn, SetsNoAddress}
-use Rattle.osdp_link_laws.specs.Refusals.{KeepsReader}
 use Rattle.osdp_link_laws.proofs.Kept.{first_kept, moves_kept}
 use Rattle.osdp_link_laws.proofs.Lines.{each_of}
 

@@ -1,22 +1,7 @@
 -- From the beginning of a first session to each list of moves after it.
-use Rattle.std.proofs.Common.{◌≡◌, ◌<◌, ℕ, List, [], ◌∷◌, ◌++◌, Option, Some, None, refl, sym, subst, ap, ◌∙◌, append_assoc}
-use Rattle.std.proofs.lemmas.List.{append-nil}
-use Rattle.osdp_frame.specs.Packet.{Packet}
-use Rattle.osdp_msg.specs.declared.command.Command.{Command}
-use Rattle.osdp_msg.specs.declared.event.Event.{Event}
+use Rattle.osdp_link_laws.proofs.Common.{◌≡◌, ◌<◌, ℕ, List, [], ◌∷◌, ◌++◌, Option, Some, None, refl, sym, subst, ap, ◌∙◌, append_assoc, append-nil, Packet, Command, Event, ControllerConfig, Polling, ControllerFault, Closed, was_closed, Queue, Answer, EachIsOnce, HoldsOnce, IsOnce, IsWithout, MovesFit, Begins, MoveFits, MaySubmit, IsBeginning, Account, Link, Move, Reopen, after_move, run, unoffered_in, ReadEachOther, CommandsHavePlaces, LastOneLasts, SessionsInARow, all_submitted, ended_commands, ended_in, queued, submitted}
 use Rattle.osdp_controller.specs.Machine as controllers
-use Rattle.osdp_controller.specs.declared.config.ControllerConfig.{ControllerConfig}
-use Rattle.osdp_controller.specs.declared.exchange.Exchange.TheVariants.{Polling}
-use Rattle.osdp_controller.specs.declared.fault.ControllerFault.{ControllerFault}
-use Rattle.osdp_controller.specs.declared.state.State.TheVariants.{Closed}
-use Rattle.osdp_controller_laws.proofs.Closed.{was_closed}
-use Rattle.osdp_reader.specs.Queue.{Queue}
-use Rattle.osdp_reader.specs.declared.handler.Answer.{Answer}
-use Rattle.osdp_link_laws.specs.Headline.{EachIsOnce, HoldsOnce, IsOnce, IsWithout, MovesFit, Begins, MoveFits, MaySubmit, IsBeginning}
 use Rattle.osdp_link_laws.specs.Link as link
-use Rattle.osdp_link_laws.specs.Link.{Account, Link, Move, Reopen, after_move, run, unoffered_in}
-use Rattle.osdp_link_laws.specs.Peers.{ReadEachOther}
-use Rattle.osdp_link_laws.specs.Sessions.{CommandsHavePlaces, LastOneLasts, SessionsInARow, all_submitted, ended_commands, ended_in, queued, submitted}
 use Rattle.osdp_link_laws.proofs.Coming.{MovesTo, ReopensTo}
 use Rattle.osdp_link_laws.proofs.Devices.{IsDevice, move_there}
 use Rattle.osdp_link_laws.proofs.Growing.{GoesOn, Grows, goes_on}

@@ -1,20 +1,9 @@
 -- Ticks that come late enough are due, unless the session has ended.
-use Rattle.std.proofs.Common.{◌≡◌, ◌⊎◌, ℕ, List, [], ◌∷◌, refl, sym, subst, inl, inr}
+use Rattle.osdp_link_laws.proofs.Common.{◌≡◌, ◌⊎◌, ℕ, List, [], ◌∷◌, refl, sym, subst, inl, inr, Command, after_begin, after_retarget, changed_unless, seen, ticks_in, State, Closed, Answer, MovesFit, Delivered, Link, Move, Tick, ToReader, after_move, run, AreDue, AreLate, ComesThroughInTime, round, rounds, ReadEachOther}
 use Rattle.std.specs.Prelude.{◌≢◌}
-use Rattle.osdp_msg.specs.declared.command.Command.{Command}
-use Rattle.osdp_controller.specs.Machine.{after_begin, after_retarget, changed_unless}
-use Rattle.osdp_controller.specs.Sessions.{seen}
-use Rattle.osdp_controller.specs.Ticking.{ticks_in}
-use Rattle.osdp_controller.specs.declared.state.State.{State}
-use Rattle.osdp_controller.specs.declared.state.State.TheVariants.{Closed}
 use Rattle.osdp_controller_laws.specs.Calls.{ComesDue, IsInRange, StaysInRange}
 use Rattle.osdp_controller_laws.specs.Runs.{Begin, Hear, Retarget as Target, Tick as TickCall}
-use Rattle.osdp_reader.specs.declared.handler.Answer.{Answer}
-use Rattle.osdp_link_laws.specs.Headline.{MovesFit}
-use Rattle.osdp_link_laws.specs.Link.{Delivered, Link, Move, Tick, ToReader, after_move, run}
-use Rattle.osdp_link_laws.specs.Progress.{AreDue, AreLate, ComesThroughInTime, round, rounds}
 use Rattle.osdp_link_laws.proofs.Controllers.{IsKept, IsKeptOutside, moves_keep}
-use Rattle.osdp_link_laws.specs.Peers.{ReadEachOther}
 use Rattle.osdp_link_laws.proofs.Through.{comes_through, to_controller_closed, to_reader_closed}
 
 or_open : (state : State) → (state ≡ Closed) ⊎ (state ≢ Closed)

@@ -1,10 +1,5 @@
 -- Where the reader never restarts, no session has a restart.
-use Rattle.std.proofs.Common.{◌≡◌, List, [], ◌∷◌, refl, sym, subst}
-use Rattle.osdp_msg.specs.declared.command.Command.{Command}
-use Rattle.osdp_reader.specs.declared.handler.Answer.{Answer}
-use Rattle.osdp_link_laws.specs.Headline.{Begins}
-use Rattle.osdp_link_laws.specs.Link.{Account, Link, Move, RestartController, RestartReader, Withdraw, WithdrawEvent, after_move, run}
-use Rattle.osdp_link_laws.specs.Refusals.{KeepsReader}
+use Rattle.osdp_link_laws.proofs.Common.{◌≡◌, List, [], ◌∷◌, refl, sym, subst, Command, Answer, Begins, Account, Link, Move, RestartController, RestartReader, Withdraw, WithdrawEvent, after_move, run, KeepsReader}
 use Rattle.osdp_link_laws.proofs.EachAccount.{IsKept, each_kept}
 use Rattle.osdp_link_laws.proofs.Stages.{Each}
 

@@ -1,24 +1,8 @@
 -- A link whose device lets an event lapse, beside the same link without the lapse.
 use Rattle.std.proofs.Common.{◌≡◌, ◌≢◌, ◌<◌, ◌+◌, ◌-◌, ◌&&◌, ◌⊎◌, ltb, leb, not, ℕ, suc, Bool, true, false, List, [], ◌∷◌, ◌++◌, length, Option, Some, None, Ok, Err, refl, sym, subst, ap, inl, inr, arith}
-use Rattle.std.proofs.lemmas.Bool.{and_from, leb-true, le-leb, lt-ltb, ltb-true}
-use Rattle.osdp_frame.specs.Packet.{Packet}
-use Rattle.osdp_msg.specs.declared.command.Command.{Command}
-use Rattle.osdp_msg.specs.declared.event.Event.{Event}
-use Rattle.osdp_msg.specs.declared.limits.Room.{Room}
+use Rattle.osdp_link_laws.proofs.Common.{and_from, leb-true, le-leb, lt-ltb, ltb-true, Packet, Command, Event, Room, ControllerFault, Queue, bytes_waiting, event_size, has_room, lacks_room, ReaderState, kind_of, outcome, Answer, Kind, Zero, Taken, option_to_list, DifferByLapse, IsNotZero, IsNotZeroIf, KeepSession, KeepsSession, LapsesAreUnheard, NextBeginsWithout, Offers, SessionsHideLapses, StayInSession, StaysInSession, lapses, Delivered, Delivery, Link, Lost, Move, QueueEvent, Reopen, Repeated, RestartController, RestartReader, Retarget, Submit, ToController, ToReader, Withdraw, WithdrawEvent, after_move, run, Begins, MaySubmit, ReadEachOther}
 use Rattle.osdp_controller.specs.Machine as controllers
-use Rattle.osdp_controller.specs.declared.fault.ControllerFault.{ControllerFault}
-use Rattle.osdp_reader.specs.Queue.{Queue, bytes_waiting, event_size, has_room, lacks_room}
-use Rattle.osdp_reader.specs.State.{ReaderState}
-use Rattle.osdp_reader.specs.Table.{kind_of, outcome}
-use Rattle.osdp_reader.specs.declared.handler.Answer.{Answer}
-use Rattle.osdp_reader.specs.declared.kind.Kind.{Kind}
-use Rattle.osdp_reader.specs.declared.kind.Kind.TheVariants.{Zero, Taken}
-use Rattle.std.specs.Prelude.{option_to_list}
-use Rattle.osdp_link_laws.specs.Lapses.{DifferByLapse, IsNotZero, IsNotZeroIf, KeepSession, KeepsSession, LapsesAreUnheard, NextBeginsWithout, Offers, SessionsHideLapses, StayInSession, StaysInSession, lapses}
 use Rattle.osdp_link_laws.specs.Link as link
-use Rattle.osdp_link_laws.specs.Link.{Delivered, Delivery, Link, Lost, Move, Queue as QueueEvent, Reopen, Repeated, RestartController, RestartReader, Retarget, Submit, ToController, ToReader, Withdraw, WithdrawEvent, after_move, run}
-use Rattle.osdp_link_laws.specs.Headline.{Begins, MaySubmit}
-use Rattle.osdp_link_laws.specs.Peers.{ReadEachOther}
 use Rattle.osdp_link_laws.proofs.InARow.{stands}
 use Rattle.osdp_link_laws.proofs.Lines.{each_all}
 use Rattle.osdp_link_laws.proofs.PastOpening.{IsNoReopen, IsNumbered, NoneOfferedOrPast, OpeningIsPast, numbered_goes_on, opening_is_past, past_on}

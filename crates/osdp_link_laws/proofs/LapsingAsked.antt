@@ -1,20 +1,10 @@
 -- What is asked of lists of moves with lapses, by each move, and by the list.
-use Rattle.std.proofs.Common.{◌≡◌, true, List, [], ◌∷◌, ◌++◌, Option, Some, None, Ok, refl, sym, subst, ap, ◌∙◌, inl, inr}
+use Rattle.osdp_link_laws.proofs.Common.{◌≡◌, true, List, [], ◌∷◌, ◌++◌, Option, Some, None, Ok, refl, sym, subst, ap, ◌∙◌, inl, inr, Packet, Command, Event, ControllerFault, EventQueue, event_for, has_room, offering, released, command_in, kind_of, Answer, Taken, MovesFit, AllFit, Doubtful, Lapse, LapsingFits, LapsingMove, LeavesRoom, Moves, after_lapsing, after_reopen, run_lapsing}
 use Rattle.std.specs.Prelude.{◌||◌, is_some, map, take}
-use Rattle.osdp_frame.specs.Packet.{Packet}
-use Rattle.osdp_msg.specs.declared.command.Command.{Command}
 use Rattle.osdp_msg.specs.declared.command.Command.TheVariants.{Poll}
-use Rattle.osdp_msg.specs.declared.event.Event.{Event}
 use Rattle.osdp_controller.specs.Machine as controllers
-use Rattle.osdp_controller.specs.declared.fault.ControllerFault.{ControllerFault}
-use Rattle.osdp_reader.specs.Queue.{Queue as EventQueue, event_for, has_room, offering, released}
 use Rattle.osdp_reader.specs.Table as table
-use Rattle.osdp_reader.specs.Table.{command_in, kind_of}
-use Rattle.osdp_reader.specs.declared.handler.Answer.{Answer}
-use Rattle.osdp_reader.specs.declared.kind.Kind.TheVariants.{Taken}
-use Rattle.osdp_link_laws.specs.Headline.{MovesFit}
 use Rattle.osdp_link_laws.specs.LapsingAsked.{LapsingAskedIsExact}
-use Rattle.osdp_link_laws.specs.LapsingRuns.{AllFit, Doubtful, Lapse, LapsingFits, LapsingMove, LeavesRoom, Moves, after_lapsing, after_reopen, run_lapsing}
 use Rattle.osdp_link_laws.specs.Link as link
 use Rattle.osdp_link_laws.specs.Link.{Link, Move, Queue, Reopen, after_move, reader_gets}
 use Rattle.osdp_link_laws.proofs.AskedMoves.{first_same}

@@ -1,29 +1,8 @@
 -- Lists of moves with lapses: beside each link stands the one in which the event that has lapsed is offered yet, and what holds of a session holds of that.
-use Rattle.std.proofs.Common.{◌≡◌, ◌≢◌, ◌<◌, ◌⊎◌, ℕ, false, cond, List, [], ◌∷◌, ◌++◌, Option, Some, None, Result, Ok, Err, refl, sym, subst, ap, ◌∙◌, inl, inr}
-use Rattle.std.proofs.lemmas.List.{append-nil}
-use Rattle.std.specs.Prelude.{IfSome, option_to_list}
-use Rattle.osdp_frame.specs.Packet.{Packet}
-use Rattle.osdp_msg.specs.ReplyTable.{ReplyFits}
-use Rattle.osdp_msg.specs.declared.command.Command.{Command}
-use Rattle.osdp_msg.specs.declared.event.Event.{Event}
-use Rattle.osdp_msg.specs.declared.limits.Room.{Room}
+use Rattle.osdp_link_laws.proofs.Common.{◌≡◌, ◌≢◌, ◌<◌, ◌⊎◌, ℕ, false, cond, List, [], ◌∷◌, ◌++◌, Option, Some, None, Result, Ok, Err, refl, sym, subst, ap, ◌∙◌, inl, inr, append-nil, IfSome, option_to_list, Packet, ReplyFits, Command, Event, Room, ControllerConfig, ControllerFault, was_closed, in_doubt, command_in, kind_of, outcome, Answer, Kind, Zero, Taken, EachIsOnce, MoveFits, SaysWhatFitsIf, Offers, StaysInSession, lapses, AllFit, AreInARowButLapsed, Doubtful, Lapse, LapsingFits, LapsingHoldsOnce, LapsingMove, LeavesRoom, Moves, after_lapsing, after_reopen, run_lapsing, Account, Delivered, Delivery, Link, Lost, Move, QueueEvent, Reopen, Repeated, RestartController, RestartReader, Submit, ToReader, after_move, ReadEachOther, Leaves, queued, submitted}
 use Rattle.osdp_controller.specs.Machine as controllers
-use Rattle.osdp_controller.specs.declared.config.ControllerConfig.{ControllerConfig}
-use Rattle.osdp_controller.specs.declared.fault.ControllerFault.{ControllerFault}
-use Rattle.osdp_controller_laws.proofs.Closed.{was_closed}
-use Rattle.osdp_reader.specs.Queue.{in_doubt}
 use Rattle.osdp_reader.specs.Table as table
-use Rattle.osdp_reader.specs.Table.{command_in, kind_of, outcome}
-use Rattle.osdp_reader.specs.declared.handler.Answer.{Answer}
-use Rattle.osdp_reader.specs.declared.kind.Kind.{Kind}
-use Rattle.osdp_reader.specs.declared.kind.Kind.TheVariants.{Zero, Taken}
-use Rattle.osdp_link_laws.specs.Headline.{EachIsOnce, MoveFits, SaysWhatFitsIf}
-use Rattle.osdp_link_laws.specs.Lapses.{Offers, StaysInSession, lapses}
-use Rattle.osdp_link_laws.specs.LapsingRuns.{AllFit, AreInARowButLapsed, Doubtful, Lapse, LapsingFits, LapsingHoldsOnce, LapsingMove, LeavesRoom, Moves, after_lapsing, after_reopen, run_lapsing}
 use Rattle.osdp_link_laws.specs.Link as link
-use Rattle.osdp_link_laws.specs.Link.{Account, Delivered, Delivery, Link, Lost, Move, Queue as QueueEvent, Reopen, Repeated, RestartController, RestartReader, Submit, ToReader, after_move}
-use Rattle.osdp_link_laws.specs.Peers.{ReadEachOther}
-use Rattle.osdp_link_laws.specs.Sessions.{Leaves, queued, submitted}
 use Rattle.osdp_link_laws.proofs.Devices.{IsDevice, move_there}
 use Rattle.osdp_link_laws.proofs.Growing.{GoesOn, Grows, goes_on}
 use Rattle.osdp_link_laws.proofs.InARow.{Assumed, StaysApart, apart_on, assumed, begins as begins_so, begins_apart, begins_more, begins_on, begun_again, stays_whole}

@@ -1,3 +1,4 @@
+pub mod Common
 pub mod Tables
 pub mod Stages
 pub mod Lines

@@ -1,7 +1,5 @@
 -- Lines: what is on the way, the oldest first.
-use Rattle.std.proofs.Common.{Bool, true, false, cond, zero, suc, All, arith, List, [], ◌∷◌, ◌++◌, inl, inr, ℕ}
-use Rattle.osdp_frame.specs.Packet.{Packet}
-use Rattle.osdp_link_laws.specs.Link.{lost_at}
+use Rattle.osdp_link_laws.proofs.Common.{Bool, true, false, cond, zero, suc, All, arith, List, [], ◌∷◌, ◌++◌, inl, inr, ℕ, Packet, lost_at}
 use Rattle.osdp_link_laws.proofs.Stages.{Each, Runs}
 
 pub each_append : {A : Type 0} (P : A → Type 0) (xs ys : List A) → Each P xs → Each P ys → Each P (xs ++ ys)

@@ -1,36 +1,10 @@
 -- What holds of a session holds after each move.
-use Rattle.std.proofs.Common.{◌≡◌, ◌≢◌, ◌<◌, ℕ, Bool, true, false, List, [], ◌∷◌, ◌++◌, Option, Some, None, Ok, refl, sym, subst, ap, ◌∙◌, inl, inr, arith}
-use Rattle.std.proofs.lemmas.List.{append-nil}
+use Rattle.osdp_link_laws.proofs.Common.{◌≡◌, ◌≢◌, ◌<◌, ℕ, Bool, true, false, List, [], ◌∷◌, ◌++◌, Option, Some, None, Ok, refl, sym, subst, ap, ◌∙◌, inl, inr, arith, append-nil, Packet, CommandFits, ReplyFits, Command, Machine, submit_refusal, Event, Reply, meaning_by_reply, exchange_command, event_in, Ticked, ticks, Plain, ControllerConfig, Session, State, Exchange, Opening, Polling, Asking, ControllerFault, Answer, ReaderState, after_submit, after_withdraw_event, command_in, AnswersPlainly, IsPlain, MaySubmit, Link, TellsItsEvent}
 use Rattle.std.specs.Prelude.{drop, if◌then◌else◌, option_to_list, take}
-use Rattle.osdp_frame.specs.Packet.{Packet}
-use Rattle.osdp_msg.specs.CommandTable.{CommandFits}
-use Rattle.osdp_msg.specs.ReplyTable.{ReplyFits}
-use Rattle.osdp_msg.specs.declared.command.Command.{Command}
 use Rattle.osdp_msg.specs.declared.command.Command.TheVariants as command
-use Rattle.osdp_controller.specs.Machine.{Machine, submit_refusal}
-use Rattle.osdp_msg.specs.declared.event.Event.{Event}
-use Rattle.osdp_msg.specs.declared.reply.Reply.{Reply}
 use Rattle.osdp_controller.specs.Answers as packets
-use Rattle.osdp_controller.specs.Answers.{meaning_by_reply}
-use Rattle.osdp_controller.specs.Exchanges.{exchange_command}
-use Rattle.osdp_msg.specs.Events.{event_in}
-use Rattle.osdp_controller.specs.Ticking.{Ticked, ticks}
-use Rattle.osdp_controller.specs.declared.meaning.ReplyMeaning.TheVariants.{Plain}
-use Rattle.osdp_controller.specs.declared.config.ControllerConfig.{ControllerConfig}
-use Rattle.osdp_controller.specs.declared.session.Session.{Session}
-use Rattle.osdp_controller.specs.declared.state.State.{State}
-use Rattle.osdp_controller.specs.declared.exchange.Exchange.{Exchange}
-use Rattle.osdp_controller.specs.declared.exchange.Exchange.TheVariants.{Opening, Polling, Asking}
-use Rattle.osdp_controller.specs.declared.fault.ControllerFault.{ControllerFault}
-use Rattle.osdp_reader.specs.declared.handler.Answer.{Answer}
 use Rattle.osdp_reader.specs.Queue.{Queue, queued, withdrawn}
-use Rattle.osdp_reader.specs.State.{ReaderState, after_submit, after_withdraw_event}
-use Rattle.osdp_reader.specs.Table.{command_in}
-use Rattle.osdp_reader_laws.specs.Laws.{AnswersPlainly, IsPlain}
-use Rattle.osdp_link_laws.specs.Headline.{MaySubmit}
 use Rattle.osdp_link_laws.specs.Link as link
-use Rattle.osdp_link_laws.specs.Link.{Link}
-use Rattle.osdp_link_laws.specs.Peers.{TellsItsEvent}
 use Rattle.osdp_link_laws.proofs.Coming.{BeginsFrom, Controls, TicksTo, lost_in}
 use Rattle.osdp_link_laws.proofs.Lines.{each_append, each_rest, runs_append, runs_first}
 use Rattle.osdp_link_laws.proofs.Stages.{After, Before, Behind, ControllerAt, Each, Fresh, HasActed, IsAsked, IsFrame, IsOldFrame, IsPast, Knows, Level, Never, Now, Offers, OffersEvent, Past, ReaderAt, ReaderBehind, Rest, Restarted, Runs, SaysOld, Stage, Start, ToReaderAt, answer, frame, given_up_at, number_after, pending, pending_at}

@@ -1,16 +1,7 @@
 -- When a move fits, by each move.
-use Rattle.std.proofs.Common.{◌≡◌, ◌≢◌, List, [], ◌∷◌, refl, subst}
-use Rattle.std.specs.Prelude.{IfSome}
-use Rattle.osdp_frame.specs.Packet.{Packet}
-use Rattle.osdp_msg.specs.ReplyTable.{ReplyFits}
-use Rattle.osdp_msg.specs.declared.command.Command.{Command}
-use Rattle.osdp_reader.specs.State.{ReaderState}
+use Rattle.osdp_link_laws.proofs.Common.{◌≡◌, ◌≢◌, List, [], ◌∷◌, refl, subst, IfSome, Packet, ReplyFits, Command, ReaderState, Answer, AtEach, MoveFits, MovesFit, SaysWhatFits, SaysWhatFitsIf, Delivered, Delivery, Link, Lost, Move, Repeated, RestartController, RestartReader, Submit, ToReader, after_move}
 use Rattle.osdp_reader.specs.Table.{hears}
-use Rattle.osdp_reader.specs.declared.handler.Answer.{Answer}
-use Rattle.osdp_link_laws.specs.Asked.{AtEach}
 use Rattle.osdp_link_laws.specs.Fitting.{FittingIsExact, IsInItsRanges}
-use Rattle.osdp_link_laws.specs.Headline.{MoveFits, MovesFit, SaysWhatFits, SaysWhatFitsIf}
-use Rattle.osdp_link_laws.specs.Link.{Delivered, Delivery, Link, Lost, Move, Repeated, RestartController, RestartReader, Submit, ToReader, after_move}
 use Rattle.osdp_link_laws.proofs.AskedMoves.{each_asked, each_then}
 
 module _ {H : Type 0} (answer_of : H → Command → Answer) (after : H → Command → H) where

@@ -1,7 +1,5 @@
 -- Numbers of exchanges, and tests of numbers.
-use Rattle.std.proofs.Common.{◌≡◌, ◌≢◌, ℕ, true, false, eqb, inl, inr, arith}
-use Rattle.std.proofs.lemmas.Bool.Decides.{eqb_tells}
-use Rattle.osdp_frame.specs.Packet.{next_sequence}
+use Rattle.osdp_link_laws.proofs.Common.{◌≡◌, ◌≢◌, ℕ, true, false, eqb, inl, inr, arith, eqb_tells, next_sequence}
 
 pub is_true : (a b : ℕ) → a ≡ b → eqb a b ≡ true
 is_true a b same = elim (eqb_tells a b) [ inl is ↦ is.0 | inr other ↦ absurd (other.1 same) ]

@@ -1,22 +1,7 @@
 -- Within one session: each move keeps what holds, and what holds says that all is once and in order.
-use Rattle.std.proofs.Common.{◌≡◌, ◌≤◌, ℕ, [], ◌++◌, length, Option, Some, None, refl, sym, subst, ap, ◌∙◌, inl, arith, append_assoc}
-use Rattle.std.specs.Prelude.{option_to_list}
-use Rattle.osdp_msg.specs.declared.command.Command.{Command}
-use Rattle.osdp_msg.specs.declared.reply.Reply.{Reply}
+use Rattle.osdp_link_laws.proofs.Common.{◌≡◌, ◌≤◌, ℕ, [], ◌++◌, length, Option, Some, None, refl, sym, subst, ap, ◌∙◌, inl, arith, append_assoc, option_to_list, Command, Reply, new_session, ControllerConfig, Exchange, Opening, Polling, Asking, ControllerFault, Session, State, Closed, lacks_room, Answer, IsOnce, IsWithout, MoveFits, MaySubmit, Account, Link, LoseToController, LoseToReader, Move, QueueEvent, Reopen, RestartController, RestartReader, Retarget, SetBusy, SetHandler, Submit, Tick, ToController, ToReader, Withdraw, WithdrawEvent, after_move, new_account}
 use Rattle.osdp_controller.specs.Machine as controllers
-use Rattle.osdp_controller.specs.Sessions.{new_session}
-use Rattle.osdp_controller.specs.declared.config.ControllerConfig.{ControllerConfig}
-use Rattle.osdp_controller.specs.declared.exchange.Exchange.{Exchange}
-use Rattle.osdp_controller.specs.declared.exchange.Exchange.TheVariants.{Opening, Polling, Asking}
-use Rattle.osdp_controller.specs.declared.fault.ControllerFault.{ControllerFault}
-use Rattle.osdp_controller.specs.declared.session.Session.{Session}
-use Rattle.osdp_controller.specs.declared.state.State.{State}
-use Rattle.osdp_controller.specs.declared.state.State.TheVariants.{Closed}
-use Rattle.osdp_reader.specs.Queue.{lacks_room}
-use Rattle.osdp_reader.specs.declared.handler.Answer.{Answer}
-use Rattle.osdp_link_laws.specs.Headline.{IsOnce, IsWithout, MoveFits, MaySubmit}
 use Rattle.osdp_link_laws.specs.Link as link
-use Rattle.osdp_link_laws.specs.Link.{Account, Link, LoseToController, LoseToReader, Move, Queue as QueueEvent, Reopen, RestartController, RestartReader, Retarget, SetBusy, SetHandler, Submit, Tick, ToController, ToReader, Withdraw, WithdrawEvent, after_move, new_account}
 use Rattle.osdp_link_laws.proofs.Accounting.{accounts_so, withdrawn_first}
 use Rattle.osdp_link_laws.proofs.Accounts.{Accounted, Accounts, gone}
 use Rattle.osdp_link_laws.proofs.Coming.{MovesTo}

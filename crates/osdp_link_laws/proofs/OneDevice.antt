@@ -1,14 +1,5 @@
 -- All that is on the line names one device: commands go one way, and replies the other.
-use Rattle.std.proofs.Common.{ℕ, List, subst, sym, ap, inl, inr}
-use Rattle.osdp_frame.specs.Packet.{Packet}
-use Rattle.osdp_msg.specs.declared.command.Command.{Command}
-use Rattle.osdp_msg.specs.declared.reply.Reply.{Reply}
-use Rattle.osdp_controller.specs.declared.config.ControllerConfig.{ControllerConfig}
-use Rattle.osdp_controller.specs.declared.exchange.Exchange.{Exchange}
-use Rattle.osdp_reader.specs.declared.handler.Answer.{Answer}
-use Rattle.osdp_link_laws.specs.Link.{Link, run}
-use Rattle.osdp_link_laws.specs.Names.{IsCommandTo, IsReplyFrom, NameOneDevice, NamesOne}
-use Rattle.osdp_link_laws.specs.Peers.{ReadEachOther}
+use Rattle.osdp_link_laws.proofs.Common.{ℕ, List, subst, sym, ap, inl, inr, Packet, Command, Reply, ControllerConfig, Exchange, Answer, Link, run, IsCommandTo, IsReplyFrom, NameOneDevice, NamesOne, ReadEachOther}
 use Rattle.osdp_link_laws.proofs.InARow.{Stands, stands}
 use Rattle.osdp_link_laws.proofs.Lines.{each_all, each_map, runs_each}
 use Rattle.osdp_link_laws.proofs.Stages.{After, Behind, Each, Fresh, IsFrame, IsOldFrame, Level, Past, Rest, Restarted, Says, SaysOld, Stage, Start, ToControllerAt, ToReaderAt, number_after}

@@ -1,9 +1,5 @@
 -- Where neither end restarts and nothing is withdrawn: no list of such moves grows.
-use Rattle.std.proofs.Common.{List, [], ◌∷◌, ◌++◌, refl, sym, subst, ap}
-use Rattle.osdp_msg.specs.declared.command.Command.{Command}
-use Rattle.osdp_reader.specs.declared.handler.Answer.{Answer}
-use Rattle.osdp_link_laws.specs.Link.{Account, Link, Move, after_move, run}
-use Rattle.osdp_link_laws.specs.Ordinary.{AreUndisturbed, IsOrdinary, IsUndisturbed, OrdinaryIsUndisturbed}
+use Rattle.osdp_link_laws.proofs.Common.{List, [], ◌∷◌, ◌++◌, refl, sym, subst, ap, Command, Answer, Account, Link, Move, after_move, run, AreUndisturbed, IsOrdinary, IsUndisturbed, OrdinaryIsUndisturbed}
 use Rattle.osdp_link_laws.proofs.EachAccount.{IsKept, each_kept}
 use Rattle.osdp_link_laws.proofs.Lines.{each_of}
 use Rattle.osdp_link_laws.proofs.Stages.{Each}

@@ -1,15 +1,7 @@
 -- What ordinary moves keep, and what their sessions have ended.
-use Rattle.std.proofs.Common.{List, [], ◌∷◌, All, refl, sym, subst}
+use Rattle.osdp_link_laws.proofs.Common.{List, [], ◌∷◌, All, refl, sym, subst, Command, Answer, SetsNoOther, Begins, Link, Move, after_move, KeepHandler, KeepsDevice, KeepsHandler, AreUndisturbed, IsOrdinary, IsSteady, IsUndisturbed, KeepsReader}
 use Rattle.std.specs.Prelude.{ℕ}
-use Rattle.osdp_msg.specs.declared.command.Command.{Command}
-use Rattle.osdp_reader.specs.declared.handler.Answer.{Answer}
-use Rattle.osdp_link_laws.specs.Addresses.{SetsNoOther}
-use Rattle.osdp_link_laws.specs.Headline.{Begins}
 use Rattle.osdp_link_laws.specs.Link as link
-use Rattle.osdp_link_laws.specs.Link.{Link, Move, after_move}
-use Rattle.osdp_link_laws.specs.OneHandler.{KeepHandler, KeepsDevice, KeepsHandler}
-use Rattle.osdp_link_laws.specs.Ordinary.{AreUndisturbed, IsOrdinary, IsSteady, IsUndisturbed}
-use Rattle.osdp_link_laws.specs.Refusals.{KeepsReader}
 use Rattle.osdp_link_laws.proofs.Lines.{each_all, each_map}
 use Rattle.osdp_link_laws.proofs.Stages.{Each}
 

@@ -1,12 +1,5 @@
 -- What holds of a session where one part of the link changes.
-use Rattle.std.proofs.Common.{List}
-use Rattle.osdp_frame.specs.Packet.{Packet}
-use Rattle.osdp_msg.specs.declared.command.Command.{Command}
-use Rattle.osdp_controller.specs.declared.config.ControllerConfig.{ControllerConfig}
-use Rattle.osdp_controller.specs.declared.session.Session.{Session}
-use Rattle.osdp_reader.specs.declared.handler.Answer.{Answer}
-use Rattle.osdp_reader.specs.State.{ReaderState}
-use Rattle.osdp_link_laws.specs.Link.{Link}
+use Rattle.osdp_link_laws.proofs.Common.{List, Packet, Command, ControllerConfig, Session, Answer, ReaderState, Link}
 use Rattle.osdp_link_laws.proofs.Stages.{ControllerAt, Holds, HoldsOf, ReaderAt, Restarted, Stage, ToControllerAt, ToReaderAt}
 
 module _ (fixed : ControllerConfig) {H : Type 0} (answer_of : H → Command → Answer) (after : H → Command → H) where

@@ -1,15 +1,6 @@
 -- No session in which the reader hasn't restarted ends by a refused number.
-use Rattle.std.proofs.Common.{◌≡◌, ℕ, List, [], ◌∷◌, Option, Some, None, sym, subst, arith}
-use Rattle.std.specs.Prelude.{IfSome, option_to_list}
-use Rattle.osdp_msg.specs.declared.command.Command.{Command}
-use Rattle.osdp_controller.specs.Sessions.{seen}
-use Rattle.osdp_controller.specs.declared.report.Report.{Report}
+use Rattle.osdp_link_laws.proofs.Common.{◌≡◌, ℕ, List, [], ◌∷◌, Option, Some, None, sym, subst, arith, IfSome, option_to_list, Command, seen, Report, Answer, MovesFit, Link, Move, Tick, ToController, after_move, run, IsPlainlySaid, ReadEachOther, IsNoRefusal, IsOtherCause, KeepsReader, RefusesNoNumber, RefusesNoNumberWithoutRestart, SaysAllPlainly, reports, told_by, told_by_front}
 use Rattle.osdp_controller.specs.declared.report.Report.TheVariants as report
-use Rattle.osdp_reader.specs.declared.handler.Answer.{Answer}
-use Rattle.osdp_link_laws.specs.Headline.{MovesFit}
-use Rattle.osdp_link_laws.specs.Link.{Link, Move, Tick, ToController, after_move, run}
-use Rattle.osdp_link_laws.specs.Peers.{IsPlainlySaid, ReadEachOther}
-use Rattle.osdp_link_laws.specs.Refusals.{IsNoRefusal, IsOtherCause, KeepsReader, RefusesNoNumber, RefusesNoNumberWithoutRestart, SaysAllPlainly, reports, told_by, told_by_front}
 use Rattle.osdp_link_laws.proofs.Deliveries.{all_said}
 use Rattle.osdp_link_laws.proofs.InARow.{Assumed, Stands, assumed, begins, standing, stands}
 use Rattle.osdp_link_laws.proofs.Kept.{AllKept, first_kept, move_kept}

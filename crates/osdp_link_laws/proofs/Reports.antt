@@ -1,29 +1,6 @@
 -- What the controller's user is told by a tick, and by a packet that says BUSY or a reply that settles.
-use Rattle.std.proofs.Common.{◌≡◌, ◌+◌, ℕ, leb, ltb, List, [], ◌∷◌, Option, Some, None, refl, sym, subst, inl, inr}
-use Rattle.osdp_frame.specs.Packet.{Packet, next_sequence}
-use Rattle.osdp_msg.specs.declared.command.Command.{Command}
-use Rattle.osdp_msg.specs.declared.command_fields.Communication.{Communication}
-use Rattle.osdp_msg.specs.declared.event.Event.{Event}
-use Rattle.osdp_msg.specs.declared.reply.Reply.{Reply}
-use Rattle.osdp_msg.specs.declared.reply_fields.PdId.{PdId}
-use Rattle.osdp_controller.specs.Answers.{meaning_of as said_by}
-use Rattle.osdp_msg.specs.Events.{event_in}
-use Rattle.osdp_controller.specs.Hearing.{Heard, answered, com_of, command_answered, comset_of, hears, hears_busy, hears_in, ignores, is_ack, is_from_reader, is_numbered, loses, moved_by, opening_answered, pausing_hears, pd_id_of, poll_told, waiting_hears}
-use Rattle.osdp_controller.specs.Sessions.{later, lost, seen}
-use Rattle.osdp_controller.specs.Ticking.{Ticked, begins, gives_up, sends_frame, stays, ticks_in, tries_again}
-use Rattle.osdp_controller.specs.declared.meaning.ReplyMeaning.TheVariants.{NotTaken, Plain}
-use Rattle.osdp_controller.specs.declared.exchange.Exchange.{Exchange}
-use Rattle.osdp_controller.specs.declared.exchange.Exchange.TheVariants.{Opening, Polling, Asking}
-use Rattle.osdp_controller.specs.declared.exchange.Outstanding.{Outstanding}
-use Rattle.osdp_controller.specs.declared.report.LostCause.TheVariants.{NoReply, TooBusy}
-use Rattle.osdp_controller.specs.declared.report.Report.{Report}
+use Rattle.osdp_link_laws.proofs.Common.{◌≡◌, ◌+◌, ℕ, leb, ltb, List, [], ◌∷◌, Option, Some, None, refl, sym, subst, inl, inr, Packet, next_sequence, Command, Communication, Event, Reply, PdId, said_by, event_in, Heard, answered, com_of, command_answered, comset_of, hears, hears_busy, hears_in, ignores, is_ack, is_from_reader, is_numbered, loses, moved_by, opening_answered, pausing_hears, pd_id_of, poll_told, waiting_hears, later, lost, seen, Ticked, begins, gives_up, sends_frame, stays, ticks_in, tries_again, NotTaken, Plain, Exchange, Opening, Polling, Asking, Outstanding, NoReply, TooBusy, Report, Session, State, Closed, Quiet, Idle, Waiting, Pausing, Delivered, Delivery, Repeated, IsPlainlySaid, told_by_front}
 use Rattle.osdp_controller.specs.declared.report.Report.TheVariants as report
-use Rattle.osdp_controller.specs.declared.session.Session.{Session}
-use Rattle.osdp_controller.specs.declared.state.State.{State}
-use Rattle.osdp_controller.specs.declared.state.State.TheVariants.{Closed, Quiet, Idle, Waiting, Pausing}
-use Rattle.osdp_link_laws.specs.Link.{Delivered, Delivery, Repeated}
-use Rattle.osdp_link_laws.specs.Peers.{IsPlainlySaid}
-use Rattle.osdp_link_laws.specs.Refusals.{told_by_front}
 use Rattle.osdp_link_laws.proofs.Lines.{both}
 use Rattle.osdp_link_laws.proofs.Stages.{Each}
 

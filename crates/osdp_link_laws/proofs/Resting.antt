@@ -1,15 +1,5 @@
 -- A round from a clear link leaves it clear and at rest, or ends the session; and from rest each round brings one more.
-use Rattle.std.proofs.Common.{◌≡◌, ◌+◌, ℕ, length, Some, ap, sym, subst, ◌∙◌, inl, inr, arith}
-use Rattle.std.proofs.Math.Nat.{min-le_left, min-le_right}
-use Rattle.osdp_msg.specs.declared.command.Command.{Command}
-use Rattle.osdp_controller.specs.Sessions.{seen}
-use Rattle.osdp_controller.specs.declared.config.ControllerConfig.{ControllerConfig}
-use Rattle.osdp_controller.specs.declared.state.State.{State}
-use Rattle.osdp_controller.specs.declared.state.State.TheVariants.{Closed, Idle}
-use Rattle.osdp_reader.specs.declared.handler.Answer.{Answer}
-use Rattle.osdp_link_laws.specs.Link.{Link, run}
-use Rattle.osdp_link_laws.specs.Peers.{ReadEachOther}
-use Rattle.osdp_link_laws.specs.Progress.{ComesThroughFromRest, ComesToRest, SetsNoAddress, round, rounds}
+use Rattle.osdp_link_laws.proofs.Common.{◌≡◌, ◌+◌, ℕ, length, Some, ap, sym, subst, ◌∙◌, inl, inr, arith, min-le_left, min-le_right, Command, seen, ControllerConfig, State, Closed, Idle, Answer, Link, run, ReadEachOther, ComesThroughFromRest, ComesToRest, SetsNoAddress, round, rounds}
 use Rattle.osdp_link_laws.proofs.Due.{closed_rests}
 use Rattle.osdp_link_laws.proofs.InARow.{assumed, stands}
 use Rattle.osdp_link_laws.proofs.Lines.{each_all}

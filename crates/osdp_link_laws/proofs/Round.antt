@@ -1,29 +1,9 @@
 -- A round that loses nothing, from a tick that is due: the exchange ends, or the session does.
-use Rattle.std.proofs.Common.{◌≡◌, ◌⊎◌, ℕ, [], ◌∷◌, ◌++◌, Some, refl, sym, subst, ap, ◌∙◌, inl, inr}
-use Rattle.std.specs.Prelude.{option_to_list}
-use Rattle.osdp_frame.specs.Packet.{Packet}
-use Rattle.osdp_msg.specs.declared.command.Command.{Command}
-use Rattle.osdp_msg.specs.declared.reply.Reply.{Reply}
+use Rattle.osdp_link_laws.proofs.Common.{◌≡◌, ◌⊎◌, ℕ, [], ◌∷◌, ◌++◌, Some, refl, sym, subst, ap, ◌∙◌, inl, inr, option_to_list, Packet, Command, Reply, Heard, at_rest, later, seen, ticks, Plain, ControllerConfig, Exchange, Opening, Polling, Asking, Session, Closed, Idle, Answer, refused, UnexpectedSequence, SaysWhatFits, Delivered, Link, after_report, SetsNoAddress, settled_commands}
 use Rattle.osdp_controller.specs.Answers as packets
 use Rattle.osdp_controller.specs.Hearing as controller
-use Rattle.osdp_controller.specs.Hearing.{Heard}
-use Rattle.osdp_controller.specs.Sessions.{at_rest, later, seen}
-use Rattle.osdp_controller.specs.Ticking.{ticks}
-use Rattle.osdp_controller.specs.declared.meaning.ReplyMeaning.TheVariants.{Plain}
-use Rattle.osdp_controller.specs.declared.config.ControllerConfig.{ControllerConfig}
-use Rattle.osdp_controller.specs.declared.exchange.Exchange.{Exchange}
-use Rattle.osdp_controller.specs.declared.exchange.Exchange.TheVariants.{Opening, Polling, Asking}
-use Rattle.osdp_controller.specs.declared.session.Session.{Session}
-use Rattle.osdp_controller.specs.declared.state.State.TheVariants.{Closed, Idle}
-use Rattle.osdp_reader.specs.declared.handler.Answer.{Answer}
-use Rattle.osdp_reader.specs.Replies.{refused}
 use Rattle.osdp_reader.specs.Table.{hears, kind_of}
-use Rattle.osdp_msg.specs.declared.nak.NakReason.TheVariants.{UnexpectedSequence}
-use Rattle.osdp_link_laws.specs.Headline.{SaysWhatFits}
 use Rattle.osdp_link_laws.specs.Link as link
-use Rattle.osdp_link_laws.specs.Link.{Delivered, Link, after_report}
-use Rattle.osdp_link_laws.specs.Progress.{SetsNoAddress}
-use Rattle.osdp_link_laws.specs.Sessions.{settled_commands}
 use Rattle.osdp_link_laws.proofs.Deliveries.{refusal_fits}
 use Rattle.osdp_link_laws.proofs.Answering.{IsReady, Refused, Replies, SaysFit, replies_at}
 use Rattle.osdp_link_laws.proofs.Due.{Awaits, Sends}

@@ -1,21 +1,5 @@
 -- Rounds that lose nothing: each but the first settles a command or reports an event, until all are.
-use Rattle.std.proofs.Common.{◌≡◌, ◌⊎◌, ◌≤◌, ◌+◌, ℕ, suc, List, [], ◌∷◌, ◌++◌, length, map, drop, refl, sym, subst, ap, ◌∙◌, inl, inr, arith}
-use Rattle.std.proofs.lemmas.List.{append-nil, length-append, length-map}
-use Rattle.osdp_msg.specs.declared.command.Command.{Command}
-use Rattle.osdp_msg.specs.declared.event.Event.{Event}
-use Rattle.osdp_controller.specs.Sessions.{later, seen}
-use Rattle.osdp_controller.specs.Ticking.{ticks}
-use Rattle.osdp_controller.specs.declared.config.ControllerConfig.{ControllerConfig}
-use Rattle.osdp_controller.specs.declared.state.State.TheVariants.{Closed, Idle}
-use Rattle.osdp_frame.specs.Packet.{next_sequence}
-use Rattle.osdp_reader.specs.declared.handler.Answer.{Answer}
-use Rattle.osdp_reader.specs.Queue.{released}
-use Rattle.osdp_reader.specs.State.{ReaderState}
-use Rattle.osdp_reader.specs.Table.{answer_to}
-use Rattle.osdp_link_laws.specs.Headline.{SaysWhatFits, asked}
-use Rattle.osdp_link_laws.specs.Link.{Account, Link}
-use Rattle.osdp_link_laws.specs.Progress.{SetsNoAddress}
-use Rattle.osdp_link_laws.specs.Sessions.{removed_command, settled_commands}
+use Rattle.osdp_link_laws.proofs.Common.{◌≡◌, ◌⊎◌, ◌≤◌, ◌+◌, ℕ, suc, List, [], ◌∷◌, ◌++◌, length, map, drop, refl, sym, subst, ap, ◌∙◌, inl, inr, arith, append-nil, length-append, length-map, Command, Event, later, seen, ticks, ControllerConfig, Closed, Idle, next_sequence, Answer, released, ReaderState, answer_to, SaysWhatFits, asked, Account, Link, SetsNoAddress, removed_command, settled_commands}
 use Rattle.osdp_link_laws.proofs.Due.{Acts}
 use Rattle.osdp_link_laws.proofs.Exchanges.{accounted, exchange_from_rest, rested_link}
 use Rattle.osdp_link_laws.proofs.Lines.{each_rest}

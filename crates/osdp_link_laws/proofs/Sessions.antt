@@ -1,20 +1,5 @@
 -- A session that has ended leaves what the next one begins with.
-use Rattle.std.proofs.Common.{◌≡◌, ◌≤◌, ◌⊎◌, ◌+◌, ℕ, List, [], ◌++◌, length, map, Option, Some, None, refl, sym, subst, ap, ◌∙◌, inl, inr, arith, append_assoc}
-use Rattle.std.proofs.lemmas.List.{append-nil, append_cancel_right, map-append}
-use Rattle.std.specs.Prelude.{option_to_list}
-use Rattle.osdp_msg.specs.declared.command.Command.{Command}
-use Rattle.osdp_msg.specs.declared.event.Event.{Event}
-use Rattle.osdp_msg.specs.declared.reply.Reply.{Reply}
-use Rattle.osdp_msg.specs.Events.{event_in}
-use Rattle.osdp_controller.specs.declared.config.ControllerConfig.{ControllerConfig}
-use Rattle.osdp_controller.specs.declared.exchange.Exchange.{Exchange}
-use Rattle.osdp_controller.specs.declared.exchange.Exchange.TheVariants.{Opening, Polling, Asking}
-use Rattle.osdp_controller.specs.declared.state.State.{State}
-use Rattle.osdp_controller.specs.declared.state.State.TheVariants.{Closed}
-use Rattle.osdp_reader.specs.declared.handler.Answer.{Answer}
-use Rattle.osdp_link_laws.specs.Headline.{asked}
-use Rattle.osdp_link_laws.specs.Link.{Account, Link}
-use Rattle.osdp_link_laws.specs.Sessions.{LastsOrLeaves, Leaves, LeavesCommands, LeavesEvents, settled_commands}
+use Rattle.osdp_link_laws.proofs.Common.{◌≡◌, ◌≤◌, ◌⊎◌, ◌+◌, ℕ, List, [], ◌++◌, length, map, Option, Some, None, refl, sym, subst, ap, ◌∙◌, inl, inr, arith, append_assoc, append-nil, append_cancel_right, map-append, option_to_list, Command, Event, Reply, event_in, ControllerConfig, Exchange, Opening, Polling, Asking, State, Closed, Answer, asked, Account, Link, LastsOrLeaves, Leaves, LeavesCommands, LeavesEvents, settled_commands}
 use Rattle.osdp_link_laws.proofs.Once.{Goes}
 use Rattle.osdp_link_laws.proofs.Accounts.{EventsAre, OrdersAre, gone}
 use Rattle.osdp_link_laws.proofs.Coming.{standing_at}

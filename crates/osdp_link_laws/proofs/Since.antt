@@ -1,10 +1,5 @@
 -- What holds of the reader, and of what it has said, by whether it has restarted in this session.
-use Rattle.std.proofs.Common.{ℕ, List, inl, inr}
-use Rattle.osdp_frame.specs.Packet.{Packet}
-use Rattle.osdp_msg.specs.declared.reply.Reply.{Reply}
-use Rattle.osdp_controller.specs.declared.config.ControllerConfig.{ControllerConfig}
-use Rattle.osdp_controller.specs.declared.exchange.Exchange.{Exchange}
-use Rattle.osdp_reader.specs.State.{ReaderState}
+use Rattle.osdp_link_laws.proofs.Common.{ℕ, List, inl, inr, Packet, Reply, ControllerConfig, Exchange, ReaderState}
 use Rattle.osdp_link_laws.proofs.Lines.{each_map, runs_map}
 use Rattle.osdp_link_laws.proofs.Stages.{After, Before, Behind, Fresh, HasActed, Knows, Level, MayRefuse, Never, Now, Past, Rest, Restarted, Says, SaysOld, Stage, Start, ToControllerAt, number_after}
 

@@ -1,29 +1,7 @@
 -- How far a session has come, and what holds of each part of the link then.
-use Rattle.std.proofs.Common.{◌≡◌, ◌≢◌, ◌⊎◌, ℕ, zero, suc, true, false, List, [], ◌∷◌, Option, Some, None}
+use Rattle.osdp_link_laws.proofs.Common.{◌≡◌, ◌≢◌, ◌⊎◌, ℕ, zero, suc, true, false, List, [], ◌∷◌, Option, Some, None, packed, Packet, next_sequence, ReplyFits, reply_code, reply_data, Command, Event, Reply, PdId, ControllerConfig, Exchange, Opening, Polling, Asking, Session, State, Closed, Quiet, Idle, Waiting, Pausing, exchange_body, event_in, Queue, ReaderState, refused, UnexpectedSequence, IsPlain, MaySubmit, Link}
 use Rattle.std.specs.Prelude.{◌≤◌, option_to_list}
-use Rattle.osdp_frame.specs.Packed.{packed}
-use Rattle.osdp_frame.specs.Packet.{Packet, next_sequence}
-use Rattle.osdp_msg.specs.ReplyTable.{ReplyFits, reply_code, reply_data}
-use Rattle.osdp_msg.specs.declared.command.Command.{Command}
-use Rattle.osdp_msg.specs.declared.event.Event.{Event}
-use Rattle.osdp_msg.specs.declared.reply.Reply.{Reply}
 use Rattle.osdp_msg.specs.declared.reply.Reply.TheVariants as reply
-use Rattle.osdp_msg.specs.declared.reply_fields.PdId.{PdId}
-use Rattle.osdp_controller.specs.declared.config.ControllerConfig.{ControllerConfig}
-use Rattle.osdp_controller.specs.declared.exchange.Exchange.{Exchange}
-use Rattle.osdp_controller.specs.declared.exchange.Exchange.TheVariants.{Opening, Polling, Asking}
-use Rattle.osdp_controller.specs.declared.session.Session.{Session}
-use Rattle.osdp_controller.specs.declared.state.State.{State}
-use Rattle.osdp_controller.specs.declared.state.State.TheVariants.{Closed, Quiet, Idle, Waiting, Pausing}
-use Rattle.osdp_controller.specs.Exchanges.{exchange_body}
-use Rattle.osdp_msg.specs.Events.{event_in}
-use Rattle.osdp_reader.specs.Queue.{Queue}
-use Rattle.osdp_reader.specs.State.{ReaderState}
-use Rattle.osdp_reader.specs.Replies.{refused}
-use Rattle.osdp_msg.specs.declared.nak.NakReason.TheVariants.{UnexpectedSequence}
-use Rattle.osdp_reader_laws.specs.Laws.{IsPlain}
-use Rattle.osdp_link_laws.specs.Headline.{MaySubmit}
-use Rattle.osdp_link_laws.specs.Link.{Link}
 
 -- the exchange that was answered last, with its number and its answer
 pub data Past : Type 0 where

@@ -1,11 +1,6 @@
 -- A value of a table is read from its code and data.
-use Rattle.std.proofs.Common.{◌≡◌, ℕ, suc, List, Result, Ok, refl}
-use Rattle.osdp_msg.specs.CommandTable.{CommandFits, IsCommand, command_code, command_data, command_of}
+use Rattle.osdp_link_laws.proofs.Common.{◌≡◌, ℕ, suc, List, Result, Ok, refl, CommandFits, IsCommand, command_code, command_data, command_of, IsReply, ReplyFits, reply_code, reply_data, reply_of, Command, MsgFault, Reply}
 use Rattle.osdp_msg_laws.specs.Laws.{FitsAPacket, ReadsTheTable}
-use Rattle.osdp_msg.specs.ReplyTable.{IsReply, ReplyFits, reply_code, reply_data, reply_of}
-use Rattle.osdp_msg.specs.declared.command.Command.{Command}
-use Rattle.osdp_msg.specs.declared.fault.MsgFault.{MsgFault}
-use Rattle.osdp_msg.specs.declared.reply.Reply.{Reply}
 
 read_back : {M : Type 0} (Is : ℕ → List ℕ → M → Type 0) (reading : ℕ → List ℕ → Result M MsgFault)
     → ReadsTheTable Is reading → FitsAPacket Is

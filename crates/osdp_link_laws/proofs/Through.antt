@@ -1,29 +1,10 @@
 -- From a link without losses over its rounds.
-use Rattle.std.proofs.Common.{◌≡◌, ◌⊎◌, ◌≤◌, ◌+◌, ◌-◌, ℕ, List, [], ◌∷◌, length, refl, sym, subst, ap, ◌∙◌, inl, inr, arith, Option, Some, None}
-use Rattle.std.proofs.Math.Nat.{min-le_left, min-le_right}
-use Rattle.std.proofs.lemmas.List.{length-append}
-use Rattle.osdp_frame.specs.Packet.{Packet}
-use Rattle.osdp_msg.specs.declared.command.Command.{Command}
+use Rattle.osdp_link_laws.proofs.Common.{◌≡◌, ◌⊎◌, ◌≤◌, ◌+◌, ◌-◌, ℕ, List, [], ◌∷◌, length, refl, sym, subst, ap, ◌∙◌, inl, inr, arith, Option, Some, None, min-le_left, min-le_right, length-append, Packet, Command, said_by, hears_in, ignores, is_from_reader, seen, ticks, ControllerConfig, Exchange, Report, Session, State, Closed, Quiet, Idle, Waiting, Pausing, Answer, MovesFit, SaysWhatFits, Account, Delivered, Link, Move, Tick, ToController, ToReader, run, after_report, AreDue, ComeOn, ComesThrough, IsClear, SetsNoAddress, round, rounds, ReadEachOther}
 use Rattle.osdp_msg.specs.declared.reply.Reply.TheVariants as reply
-use Rattle.osdp_controller.specs.Answers.{meaning_of as said_by}
 use Rattle.osdp_controller.specs.Hearing as controller
-use Rattle.osdp_controller.specs.Hearing.{hears_in, ignores, is_from_reader}
-use Rattle.osdp_controller.specs.Sessions.{seen}
-use Rattle.osdp_controller.specs.Ticking.{ticks}
-use Rattle.osdp_controller.specs.declared.config.ControllerConfig.{ControllerConfig}
-use Rattle.osdp_controller.specs.declared.exchange.Exchange.{Exchange}
-use Rattle.osdp_controller.specs.declared.report.Report.{Report}
 use Rattle.osdp_controller.specs.declared.report.Report.TheVariants as report
-use Rattle.osdp_controller.specs.declared.session.Session.{Session}
-use Rattle.osdp_controller.specs.declared.state.State.{State}
-use Rattle.osdp_controller.specs.declared.state.State.TheVariants.{Closed, Quiet, Idle, Waiting, Pausing}
-use Rattle.osdp_reader.specs.declared.handler.Answer.{Answer}
 use Rattle.osdp_reader.specs.Table.{hears, kind_of}
-use Rattle.osdp_link_laws.specs.Headline.{MovesFit, SaysWhatFits}
 use Rattle.osdp_link_laws.specs.Link as link
-use Rattle.osdp_link_laws.specs.Link.{Account, Delivered, Link, Move, Tick, ToController, ToReader, run, after_report}
-use Rattle.osdp_link_laws.specs.Progress.{AreDue, ComeOn, ComesThrough, IsClear, SetsNoAddress, round, rounds}
-use Rattle.osdp_link_laws.specs.Peers.{ReadEachOther}
 use Rattle.osdp_link_laws.proofs.Due.{Acts, closed_rests, due_sends}
 use Rattle.osdp_link_laws.proofs.Growing.{taken_takes}
 use Rattle.osdp_link_laws.proofs.InARow.{assumed, stands}

@@ -1,25 +1,7 @@
 -- What a tick does to the controller, by how far the session has come.
-use Rattle.std.proofs.Common.{◌≡◌, ◌⊎◌, ℕ, ◌+◌, leb, ltb, List, [], ◌∷◌, ◌++◌, Option, Some, None, refl, sym, subst, ap, ◌∙◌, inl, inr}
-use Rattle.std.proofs.lemmas.List.{append-nil}
-use Rattle.std.specs.Prelude.{option_to_list}
-use Rattle.osdp_frame.specs.Packet.{next_sequence}
-use Rattle.osdp_msg.specs.declared.command.Command.{Command}
-use Rattle.osdp_msg.specs.declared.reply.Reply.{Reply}
-use Rattle.osdp_controller.specs.declared.config.ControllerConfig.{ControllerConfig}
-use Rattle.osdp_controller.specs.declared.exchange.Exchange.{Exchange}
-use Rattle.osdp_controller.specs.declared.exchange.Exchange.TheVariants.{Opening, Polling, Asking}
-use Rattle.osdp_controller.specs.declared.exchange.Outstanding.{Outstanding}
+use Rattle.osdp_link_laws.proofs.Common.{◌≡◌, ◌⊎◌, ℕ, ◌+◌, leb, ltb, List, [], ◌∷◌, ◌++◌, Option, Some, None, refl, sym, subst, ap, ◌∙◌, inl, inr, append-nil, option_to_list, next_sequence, Command, Reply, ControllerConfig, Exchange, Opening, Polling, Asking, Outstanding, NoReply, Report, Session, State, Closed, Quiet, Idle, Waiting, Pausing, submitted_command, after_send, frame_of, seen, Ticked, begins, gives_up, sends_frame, stays, ticks, ticks_in, tries_again, MaySubmit}
 use Rattle.osdp_controller.specs.declared.report.LostCause.{LostCause}
-use Rattle.osdp_controller.specs.declared.report.LostCause.TheVariants.{NoReply}
-use Rattle.osdp_controller.specs.declared.report.Report.{Report}
 use Rattle.osdp_controller.specs.declared.report.Report.TheVariants as report
-use Rattle.osdp_controller.specs.declared.session.Session.{Session}
-use Rattle.osdp_controller.specs.declared.state.State.{State}
-use Rattle.osdp_controller.specs.declared.state.State.TheVariants.{Closed, Quiet, Idle, Waiting, Pausing}
-use Rattle.osdp_controller.specs.Exchanges.{submitted_command}
-use Rattle.osdp_controller.specs.Sessions.{after_send, frame_of, seen}
-use Rattle.osdp_controller.specs.Ticking.{Ticked, begins, gives_up, sends_frame, stays, ticks, ticks_in, tries_again}
-use Rattle.osdp_link_laws.specs.Headline.{MaySubmit}
 use Rattle.osdp_link_laws.proofs.Coming.{lost_in}
 use Rattle.osdp_link_laws.proofs.Lines.{both}
 use Rattle.osdp_link_laws.proofs.Stages.{After, Asks, Each, IsAsked, IsFrame, IsOpen, Past, Rests, Start, Waits, frame, given_up, pending}

@@ -1,32 +1,9 @@
 -- A COMSET to a device's address is only ever told moved.
-use Rattle.std.proofs.Common.{◌≡◌, ◌<◌, ℕ, Bool, true, false, cond, eqb, leb, ltb, List, [], ◌∷◌, ◌++◌, Option, Some, None, refl, sym, subst, ap, ◌∙◌, inl, inr, arith}
-use Rattle.std.proofs.lemmas.Bool.{leb-false, leb-true, lt-ltb}
-use Rattle.std.specs.Prelude.{◌&&◌, IfSome, option_to_list}
-use Rattle.osdp_frame.specs.Packet.{Packet}
-use Rattle.osdp_msg.specs.declared.command.Command.{Command}
+use Rattle.osdp_link_laws.proofs.Common.{◌≡◌, ◌<◌, ℕ, Bool, true, false, cond, eqb, leb, ltb, List, [], ◌∷◌, ◌++◌, Option, Some, None, refl, sym, subst, ap, ◌∙◌, inl, inr, arith, leb-false, leb-true, lt-ltb, ◌&&◌, IfSome, option_to_list, Packet, Command, Communication, Reply, com_of, comset_of, hears, hears_in, ignores, is_from_reader, is_numbered, moved_by, pausing_hears, waiting_hears, said_by, NumberRefused, Session, State, Waiting, Pausing, seen, Report, ReaderConfig, Answer, not_processed, answer_to, MovesFit, IsOnce, MoveFits, Account, Delivered, Delivery, Link, Move, Repeated, Tick, ToController, after_move, after_report, IsNoDevice, IsToldAsAsked, TellAsAsked, ReadEachOther, reports, told_by, told_by_front}
 use Rattle.osdp_msg.specs.declared.command.Command.TheVariants as command
-use Rattle.osdp_msg.specs.declared.command_fields.Communication.{Communication}
-use Rattle.osdp_msg.specs.declared.reply.Reply.{Reply}
 use Rattle.osdp_msg.specs.declared.reply.Reply.TheVariants as reply
-use Rattle.osdp_controller.specs.Hearing.{com_of, comset_of, hears, hears_in, ignores, is_from_reader, is_numbered, moved_by, pausing_hears, waiting_hears}
-use Rattle.osdp_controller.specs.Answers.{meaning_of as said_by}
-use Rattle.osdp_controller.specs.declared.meaning.ReplyMeaning.TheVariants.{NumberRefused}
-use Rattle.osdp_controller.specs.declared.session.Session.{Session}
-use Rattle.osdp_controller.specs.declared.state.State.{State}
-use Rattle.osdp_controller.specs.declared.state.State.TheVariants.{Waiting, Pausing}
-use Rattle.osdp_controller.specs.Sessions.{seen}
-use Rattle.osdp_controller.specs.declared.report.Report.{Report}
 use Rattle.osdp_controller.specs.declared.report.Report.TheVariants as report
-use Rattle.osdp_reader.specs.declared.config.ReaderConfig.{ReaderConfig}
-use Rattle.osdp_reader.specs.declared.handler.Answer.{Answer}
-use Rattle.osdp_reader.specs.Replies.{not_processed}
-use Rattle.osdp_reader.specs.Table.{answer_to}
-use Rattle.osdp_link_laws.specs.Headline.{MovesFit, IsOnce, MoveFits}
-use Rattle.osdp_link_laws.specs.Link.{Account, Delivered, Delivery, Link, Move, Repeated, Tick, ToController, after_move, after_report}
 use Rattle.osdp_link_laws.specs.Link as link
-use Rattle.osdp_link_laws.specs.Names.{IsNoDevice, IsToldAsAsked, TellAsAsked}
-use Rattle.osdp_link_laws.specs.Peers.{ReadEachOther}
-use Rattle.osdp_link_laws.specs.Refusals.{reports, told_by, told_by_front}
 use Rattle.osdp_link_laws.proofs.Deliveries.{IsRead, all_read}
 use Rattle.osdp_link_laws.proofs.GivenAnswers.{AreAnswers, IsAnswerOf, first_given, move_given}
 use Rattle.osdp_link_laws.proofs.InARow.{Assumed, Stands, assumed, begins, is_once_now, standing}

@@ -1,11 +1,6 @@
 -- An event is taken back: the queue, and lists that end with what is in it.
-use Rattle.std.proofs.Common.{◌≡◌, ◌⊎◌, ℕ, Bool, true, false, List, [], ◌∷◌, ◌++◌, length, take, refl, sym, subst, ap, ◌∙◌, inl, inr, arith, append_assoc}
-use Rattle.std.proofs.lemmas.List.{append-nil, length-append}
+use Rattle.osdp_link_laws.proofs.Common.{◌≡◌, ◌⊎◌, ℕ, Bool, true, false, List, [], ◌∷◌, ◌++◌, length, take, refl, sym, subst, ap, ◌∙◌, inl, inr, arith, append_assoc, append-nil, length-append, Event, Queue, never_offered, withdrawn, IsWithout, but_oldest, lost_at, unoffered_in}
 use Rattle.std.specs.Prelude.{◌-◌, if◌then◌else◌, option_to_list}
-use Rattle.osdp_msg.specs.declared.event.Event.{Event}
-use Rattle.osdp_reader.specs.Queue.{Queue, never_offered, withdrawn}
-use Rattle.osdp_link_laws.specs.Headline.{IsWithout}
-use Rattle.osdp_link_laws.specs.Link.{but_oldest, lost_at, unoffered_in}
 use Rattle.osdp_link_laws.proofs.Without.{without_drops, without_keeps}
 
 -- ---- the queue

@@ -1,6 +1,5 @@
 -- Lists with some items left out, each at its own place.
-use Rattle.std.proofs.Common.{List, [], ◌∷◌, ◌++◌, refl, ap, sym, subst, inl, inr}
-use Rattle.osdp_link_laws.specs.Headline.{IsWithout}
+use Rattle.osdp_link_laws.proofs.Common.{List, [], ◌∷◌, ◌++◌, refl, ap, sym, subst, inl, inr, IsWithout}
 
 module _ {A : Type 0} where
   -- nothing is left out

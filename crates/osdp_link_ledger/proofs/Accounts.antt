@@ -1,37 +1,10 @@
 -- The steps of each move come to what its accounts say.
-use Rattle.std.proofs.Common.{◌+◌, ◌++◌, ℕ, Bool, true, false, List, [], ◌∷◌, is_some, Option, Some, None, Result, Ok, Err, refl, sym, subst, ap, ◌∙◌, append_assoc}
-use Rattle.std.proofs.lemmas.List.{append-nil}
-use Rattle.std.specs.Prelude.{option_to_list}
-use Rattle.osdp_frame.specs.Packet.{Packet}
-use Rattle.osdp_msg.specs.declared.command.Command.{Command}
-use Rattle.osdp_msg.specs.declared.event.Event.{Event}
-use Rattle.osdp_msg.specs.declared.fault.MsgFault.{MsgFault}
+use Rattle.osdp_link_ledger.proofs.Common.{◌+◌, ◌++◌, ℕ, Bool, true, false, List, [], ◌∷◌, is_some, Option, Some, None, Result, Ok, Err, refl, sym, subst, ap, ◌∙◌, append_assoc, append-nil, option_to_list, Packet, Command, Event, MsgFault, ticks, ControllerFault, event_for, lacks_room, never_offered, released, begun, command_in, event_or_answer, kind_of, outcome, taken, Answer, Kind, History, new_history, runs, steps_on, Card, Order, Step, new_ledger, at_first, runs_then, Events, Begins, MoveFits, MovesFit, Account, Delivered, Delivery, Link, Lost, Move, QueueEvent, Reopen, Repeated, RestartController, RestartReader, Retarget, Submit, Tick, ToController, ToReader, Withdraw, WithdrawEvent, after_move, front_of, outstanding_command, run, ReadEachOther, told_by_front, accepted, all_queued, all_submitted, queued, submitted, unless_full, Assumed, Stands, StandsThen, assumed, begins_so, standing_so, MovesTo, Reads, ReadsFront, Restarted, Stage, LedgerTellsAccounts, acts, after_steps, all_steps, leaves, leaves_and_acts, leaving, opens, queued_before, queues, steps_before, steps_of, submits, submitted_before, ticked, to_reader, told}
 use Rattle.osdp_controller.specs.Hearing as controller
 use Rattle.osdp_controller.specs.Machine as controllers
-use Rattle.osdp_controller.specs.Ticking.{ticks}
-use Rattle.osdp_controller.specs.declared.fault.ControllerFault.{ControllerFault}
-use Rattle.osdp_reader.specs.Queue.{event_for, lacks_room, never_offered, released}
-use Rattle.osdp_reader.specs.Table.{begun, command_in, event_or_answer, kind_of, outcome, taken}
-use Rattle.osdp_reader.specs.declared.handler.Answer.{Answer}
-use Rattle.osdp_reader.specs.declared.kind.Kind.{Kind}
 use Rattle.osdp_reader.specs.declared.kind.Kind.TheVariants as kind
-use Rattle.osdp_ledger.specs.History.{History, new_history, runs, steps_on}
 use Rattle.osdp_ledger.specs.Ledger as ledger
-use Rattle.osdp_ledger.specs.Ledger.{Card, Order, Step, new_ledger}
-use Rattle.osdp_ledger.proofs.Events.{at_first}
-use Rattle.osdp_ledger.proofs.InTurn.{runs_then}
-use Rattle.osdp_ledger.proofs.Waiting.{Events}
-use Rattle.osdp_link_laws.specs.Headline.{Begins, MoveFits, MovesFit}
 use Rattle.osdp_link_laws.specs.Link as link
-use Rattle.osdp_link_laws.specs.Link.{Account, Delivered, Delivery, Link, Lost, Move, Queue as QueueEvent, Reopen, Repeated, RestartController, RestartReader, Retarget, Submit, Tick, ToController, ToReader, Withdraw, WithdrawEvent, after_move, front_of, outstanding_command, run}
-use Rattle.osdp_link_laws.specs.Peers.{ReadEachOther}
-use Rattle.osdp_link_laws.specs.Refusals.{told_by_front}
-use Rattle.osdp_link_laws.specs.Sessions.{accepted, all_queued, all_submitted, queued, submitted, unless_full}
-use Rattle.osdp_link_laws.proofs.InARow.{Assumed, Stands, StandsThen, assumed, begins_so, standing_so}
-use Rattle.osdp_link_laws.proofs.Coming.{MovesTo, Reads, ReadsFront}
-use Rattle.osdp_link_laws.proofs.Stages.{Restarted, Stage}
-use Rattle.osdp_link_ledger.specs.Accounts.{LedgerTellsAccounts}
-use Rattle.osdp_link_ledger.specs.Steps.{acts, after_steps, all_steps, leaves, leaves_and_acts, leaving, opens, queued_before, queues, steps_before, steps_of, submits, submitted_before, ticked, to_reader, told}
 use Rattle.osdp_link_ledger.proofs.Keeping.{due_of, keeps_one}
 use Rattle.osdp_link_ledger.proofs.Running.{begins_tied, tied_at_first}
 use Rattle.osdp_link_ledger.proofs.Tallies.{Tally, Tells, begins_anew, device_tally, ends_at, leaving_tally, of_accounts, of_history, opening, panel_tally, queues_more, submits_more, taking_tally, tells, withdrawing_event_tally, withdrawing_tally}

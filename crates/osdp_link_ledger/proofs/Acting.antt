@@ -1,26 +1,8 @@
 -- What the device does with a packet: the ledger stays tied.
-use Rattle.std.proofs.Common.{◌≡◌, ◌<◌, ◌+◌, ◌⊎◌, ◌==◌, ℕ, suc, Bool, true, false, cond, List, [], ◌∷◌, ◌++◌, length, map, drop, take, Option, Some, None, All, refl, sym, subst, ap, ◌∙◌, inl, inr, arith}
-use Rattle.std.proofs.lemmas.List.{append-nil, length-map}
-use Rattle.std.proofs.lemmas.List.Elements.{All-head}
-use Rattle.std.specs.Prelude.{option_to_list}
-use Rattle.osdp_frame.specs.Packet.{Packet}
-use Rattle.osdp_msg.specs.declared.command.Command.{Command}
+use Rattle.osdp_link_ledger.proofs.Common.{◌≡◌, ◌<◌, ◌+◌, ◌⊎◌, ◌==◌, ℕ, suc, Bool, true, false, cond, List, [], ◌∷◌, ◌++◌, length, map, drop, take, Option, Some, None, All, refl, sym, subst, ap, ◌∙◌, inl, inr, arith, append-nil, length-map, All-head, option_to_list, Packet, Command, Event, Reply, State, Closed, EventQueue, event_for, offering, released, Act, Card, Leave, Ledger, MayFollow, NoOffer, Offer, Offers, Order, Reported, Unreported, acted_on, is_in_front, Beyond, IsUpTo, asked, Link, is_true, is_under_way, unreported_in, card_at, leaves, order_acted, order_at, Due}
 use Rattle.osdp_msg.specs.declared.command.Command.TheVariants as command
-use Rattle.osdp_msg.specs.declared.event.Event.{Event}
-use Rattle.osdp_msg.specs.declared.reply.Reply.{Reply}
-use Rattle.osdp_controller.specs.declared.state.State.{State}
-use Rattle.osdp_controller.specs.declared.state.State.TheVariants.{Closed}
-use Rattle.osdp_reader.specs.Queue.{Queue as EventQueue, event_for, offering, released}
 use Rattle.osdp_ledger.specs.Ledger as ledger
-use Rattle.osdp_ledger.specs.Ledger.{Act, Card, Leave, Ledger, MayFollow, NoOffer, Offer, Offers, Order, Reported, Unreported, acted_on, is_in_front}
-use Rattle.osdp_ledger.proofs.Waiting.{Beyond, IsUpTo}
-use Rattle.osdp_link_laws.specs.Headline.{asked}
-use Rattle.osdp_link_laws.specs.Link.{Link}
-use Rattle.osdp_link_laws.proofs.Numbers.{is_true}
-use Rattle.osdp_link_ledger.specs.Laws.{is_under_way, unreported_in}
-use Rattle.osdp_link_ledger.specs.Steps.{card_at, leaves, order_acted, order_at}
 use Rattle.osdp_link_ledger.proofs.Events.{beyond_front}
-use Rattle.osdp_link_laws.proofs.Coming.{Due}
 use Rattle.osdp_link_ledger.proofs.Facts.{OutIs, out_of}
 use Rattle.osdp_link_ledger.proofs.Lists.{FrontUnshown, IsOfferedFront, after_card, commands, events, front_card, front_order, not_offered}
 use Rattle.osdp_link_ledger.proofs.Reading.{TakesNext}

@@ -1,41 +1,13 @@
 -- What a device acts on, move by move beside its handler: where it never changes, each command has its answer.
-use Rattle.std.proofs.Common.{◌≡◌, ◌⊎◌, ◌+◌, ℕ, Bool, true, false, eqb, List, [], ◌∷◌, ◌++◌, map, Option, Some, None, Result, Ok, Err, refl, sym, subst, ap, ◌∙◌, inl, inr, append_assoc}
-use Rattle.std.proofs.lemmas.List.{append-nil, map-append}
-use Rattle.osdp_frame.specs.Packet.{Packet}
-use Rattle.osdp_msg.specs.Events.{event_in}
-use Rattle.osdp_msg.specs.declared.command.Command.{Command}
-use Rattle.osdp_msg.specs.declared.command.Command.TheVariants.{Id, Poll}
-use Rattle.osdp_msg.specs.declared.event.Event.{Event}
-use Rattle.osdp_msg.specs.declared.fault.MsgFault.{MsgFault}
-use Rattle.osdp_msg.specs.declared.reply.Reply.{Reply}
+use Rattle.osdp_link_ledger.proofs.Common.{◌≡◌, ◌⊎◌, ◌+◌, ℕ, Bool, true, false, eqb, List, [], ◌∷◌, ◌++◌, map, Option, Some, None, Result, Ok, Err, refl, sym, subst, ap, ◌∙◌, inl, inr, append_assoc, append-nil, map-append, Packet, event_in, Command, Id, Poll, Event, MsgFault, Reply, ticks, ControllerFault, Report, State, Quiet, event_for, lacks_room, never_offered, offering, released, unoffered, reply_packet, ReaderState, answer_to, answered, begun, command_in, event_or_answer, hears, kind_of, moved, new_address, outcome, taken, Answer, Kind, History, new_history, runs, steps_on, Act, Ledger, Order, Step, new_ledger, Begins, EachIsOnce, HoldsOnce, MovesFit, asked, Account, Delivered, Delivery, Link, Lost, Move, QueueEvent, Reopen, Repeated, RestartReader, Retarget, SetHandler, Submit, Tick, ToController, ToReader, Withdraw, WithdrawEvent, after_move, run, told_by_front, in_all, both, LedgerTellsAccounts, acts_at_zero, after_steps, all_steps, gets, leaves, leaves_and_acts, leaving, offers, opens, order_acted, queued_before, queues, steps_before, steps_from, steps_of, submits, submitted_before, to_reader, told, withdraws, withdraws_event}
 use Rattle.osdp_controller.specs.Machine as controllers
-use Rattle.osdp_controller.specs.Ticking.{ticks}
-use Rattle.osdp_controller.specs.declared.fault.ControllerFault.{ControllerFault}
-use Rattle.osdp_controller.specs.declared.report.Report.{Report}
 use Rattle.osdp_controller.specs.declared.report.Report.TheVariants as report
-use Rattle.osdp_controller.specs.declared.state.State.{State}
-use Rattle.osdp_controller.specs.declared.state.State.TheVariants.{Quiet}
-use Rattle.osdp_reader.specs.Queue.{event_for, lacks_room, never_offered, offering, released, unoffered}
-use Rattle.osdp_reader.specs.Replies.{reply_packet}
-use Rattle.osdp_reader.specs.State.{ReaderState}
-use Rattle.osdp_reader.specs.Table.{answer_to, answered, begun, command_in, event_or_answer, hears, kind_of, moved, new_address, outcome, taken}
 use Rattle.osdp_reader.specs.declared.config.ReaderConfig.{ReaderConfig}
-use Rattle.osdp_reader.specs.declared.handler.Answer.{Answer}
-use Rattle.osdp_reader.specs.declared.kind.Kind.{Kind}
 use Rattle.osdp_reader.specs.declared.kind.Kind.TheVariants as kind
 use Rattle.osdp_reader_laws.proofs.Sequences.{same_own}
-use Rattle.osdp_ledger.specs.History.{History, new_history, runs, steps_on}
-use Rattle.osdp_ledger.specs.Ledger.{Act, Ledger, Order, Step, new_ledger}
-use Rattle.osdp_link_laws.specs.Headline.{Begins, EachIsOnce, HoldsOnce, MovesFit, asked}
 use Rattle.osdp_link_laws.specs.Link as link
-use Rattle.osdp_link_laws.specs.Link.{Account, Delivered, Delivery, Link, Lost, Move, Queue as QueueEvent, Reopen, Repeated, RestartReader, Retarget, SetHandler, Submit, Tick, ToController, ToReader, Withdraw, WithdrawEvent, after_move, run}
 use Rattle.osdp_link_laws.specs.OneHandler.{IsSameModel, KeepHandler, KeepsHandler, with_answers}
-use Rattle.osdp_link_laws.specs.Refusals.{told_by_front}
-use Rattle.osdp_link_laws.specs.Sessions.{in_all}
-use Rattle.osdp_link_laws.proofs.Lines.{both}
-use Rattle.osdp_link_ledger.specs.Accounts.{LedgerTellsAccounts}
 use Rattle.osdp_link_ledger.specs.Answers.{ActsHaveAnswersOfOneHandler, HasAnswersOf}
-use Rattle.osdp_link_ledger.specs.Steps.{acts_at_zero, after_steps, all_steps, gets, leaves, leaves_and_acts, leaving, offers, opens, order_acted, queued_before, queues, steps_before, steps_from, steps_of, submits, submitted_before, to_reader, told, withdraws, withdraws_event}
 use Rattle.osdp_link_ledger.proofs.Tallies.{order_is}
 
 -- ---- what steps act on

@@ -1,15 +1,5 @@
 -- An event is withdrawn: the ledger stays tied.
-use Rattle.std.proofs.Common.{◌≡◌, ◌≤◌, ◌+◌, ◌⊎◌, ◌==◌, ℕ, suc, Bool, true, false, not, cond, List, [], ◌∷◌, length, drop, filter, Contains, refl, sym, subst, ap, ◌∙◌, inl, inr, arith}
-use Rattle.std.proofs.lemmas.List.Elements.{All-head}
-use Rattle.osdp_frame.specs.Packet.{Packet}
-use Rattle.osdp_msg.specs.declared.command.Command.{Command}
-use Rattle.osdp_msg.specs.declared.event.Event.{Event}
-use Rattle.osdp_controller.specs.declared.state.State.{State}
-use Rattle.osdp_reader.specs.Queue.{Queue as EventQueue, never_offered, withdrawn}
-use Rattle.osdp_ledger.specs.Ledger.{Card, Ledger, NoOffer, Offer, Reported, Unreported}
-use Rattle.osdp_ledger.proofs.Waiting.{Beyond, Rising}
-use Rattle.osdp_link_ledger.specs.Steps.{card_at, withdraws_event}
-use Rattle.osdp_link_laws.proofs.Coming.{Due}
+use Rattle.osdp_link_ledger.proofs.Common.{◌≡◌, ◌≤◌, ◌+◌, ◌⊎◌, ◌==◌, ℕ, suc, Bool, true, false, not, cond, List, [], ◌∷◌, length, drop, filter, Contains, refl, sym, subst, ap, ◌∙◌, inl, inr, arith, All-head, Packet, Command, Event, State, EventQueue, never_offered, withdrawn, Card, Ledger, NoOffer, Offer, Reported, Unreported, Beyond, Rising, card_at, withdraws_event, Due}
 use Rattle.osdp_link_ledger.proofs.Lists.{FrontUnshown, IsOfferedFront, StandsAt, after_card, all_unoffered, events, filter_front, filter_second, front_card, not_offered}
 use Rattle.osdp_link_ledger.proofs.Ties.{Leads, OffersAre, Placed, SessionIs, Ties}
 

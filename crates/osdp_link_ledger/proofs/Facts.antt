@@ -1,29 +1,8 @@
 -- What is outstanding at a stage of a session, and how what is due changes with the stage.
-use Rattle.std.proofs.Common.{◌≡◌, ℕ, true, false, ◌⊎◌, List, [], ◌∷◌, ◌++◌, length, map, Option, Some, None, refl, sym, subst, ap, ◌∙◌, inl, inr}
-use Rattle.std.proofs.lemmas.List.{append-nil}
-use Rattle.std.specs.Prelude.{option_to_list}
-use Rattle.osdp_frame.specs.Packet.{Packet}
-use Rattle.osdp_msg.specs.declared.command.Command.{Command}
-use Rattle.osdp_msg.specs.declared.event.Event.{Event}
-use Rattle.osdp_msg.specs.declared.reply.Reply.{Reply}
-use Rattle.osdp_controller.specs.Exchanges.{submitted_command}
-use Rattle.osdp_controller.specs.Ticking.{Ticked}
-use Rattle.osdp_controller.specs.declared.config.ControllerConfig.{ControllerConfig}
-use Rattle.osdp_controller.specs.declared.exchange.Exchange.{Exchange}
-use Rattle.osdp_controller.specs.declared.fault.ControllerFault.{ControllerFault}
-use Rattle.osdp_controller.specs.declared.report.Report.{Report}
-use Rattle.osdp_controller.specs.declared.session.Session.{Session}
-use Rattle.osdp_controller.specs.declared.state.State.{State}
-use Rattle.osdp_controller.specs.declared.state.State.TheVariants.{Closed, Quiet, Idle, Waiting, Pausing}
-use Rattle.osdp_reader.specs.declared.handler.Answer.{Answer}
-use Rattle.osdp_link_laws.specs.Headline.{asked}
-use Rattle.osdp_link_laws.specs.Link.{outstanding_command}
+use Rattle.osdp_link_ledger.proofs.Common.{◌≡◌, ℕ, true, false, ◌⊎◌, List, [], ◌∷◌, ◌++◌, length, map, Option, Some, None, refl, sym, subst, ap, ◌∙◌, inl, inr, append-nil, option_to_list, Packet, Command, Event, Reply, submitted_command, Ticked, ControllerConfig, Exchange, ControllerFault, Report, Session, State, Closed, Quiet, Idle, Waiting, Pausing, Answer, asked, outstanding_command, BeginsFrom, Due, HearsTo, IsSent, ReopensTo, Stays, TicksTo, due_at, reported_in, settled_in, Asks, Before, Behind, ControllerAt, Fresh, IsOpen, Level, Never, Now, Rest, Restarted, Rests, Stage, Waits, number_after, owed_at, pending, pending_at, is_poll, is_polling, is_under_way}
 use Rattle.osdp_link_laws.proofs.Accounts.{begins_tells, hears_tell}
-use Rattle.osdp_link_laws.proofs.Coming.{BeginsFrom, Due, HearsTo, IsSent, ReopensTo, Stays, TicksTo, due_at, reported_in, settled_in}
 use Rattle.osdp_link_laws.proofs.Sessions.{owed_command}
 use Rattle.osdp_link_laws.proofs.Ticks.{submitted_is}
-use Rattle.osdp_link_laws.proofs.Stages.{Asks, Before, Behind, ControllerAt, Fresh, IsOpen, Level, Never, Now, Rest, Restarted, Rests, Stage, Waits, number_after, owed_at, pending, pending_at}
-use Rattle.osdp_link_ledger.specs.Laws.{is_poll, is_polling, is_under_way}
 
 abbrev pub out_of : State → List Command
 out_of state = option_to_list (outstanding_command state)

@@ -1,18 +1,10 @@
 -- Sessions in which the device acts on an order, and in which it offers an event, by what is computed of them.
-use Rattle.std.proofs.Common.{◌≤◌, ◌<◌, ℕ, zero, suc, List, [], ◌∷◌, All, refl, arith}
-use Rattle.std.specs.Prelude.{slice_index}
+use Rattle.osdp_link_ledger.proofs.Common.{◌≤◌, ◌<◌, ℕ, zero, suc, List, [], ◌∷◌, All, refl, arith, slice_index, Command, Cap, Answer, Begins, MaySubmit, MovesFit, each_all, Each, LinkKeepsLedger}
 use Rattle.osdp_msg.specs.CommandTable.{command_at, command_fault, command_of}
 use Rattle.osdp_msg.specs.ReplyFields.{CapabilityFits, PdIdFits}
 use Rattle.osdp_msg.specs.ReplyTable.{reply_at, reply_fault, reply_of}
-use Rattle.osdp_msg.specs.declared.command.Command.{Command}
-use Rattle.osdp_msg.specs.declared.command.Command.TheVariants.{Cap}
 use Rattle.osdp_msg.proofs.ReplyRows.{pd_id_fits}
-use Rattle.osdp_reader.specs.declared.handler.Answer.{Answer}
-use Rattle.osdp_link_laws.specs.Headline.{Begins, MaySubmit, MovesFit}
-use Rattle.osdp_link_laws.proofs.Lines.{each_all}
-use Rattle.osdp_link_laws.proofs.Stages.{Each}
 use Rattle.osdp_link_ledger.specs.Instance.{DevicesActAndOffer, acting, begun_with, offering, the_device}
-use Rattle.osdp_link_ledger.specs.Laws.{LinkKeepsLedger}
 
 bytes_of : (bs : List ℕ) → Each (λ b. b < 256) bs → (i : ℕ) → slice_index bs i < 256
 bytes_of [] all i = omega arith

@@ -1,46 +1,15 @@
 -- Each move keeps the ledger tied to the link, and so does each list of moves.
-use Rattle.std.proofs.Common.{◌≡◌, ◌≢◌, ◌==◌, ℕ, Bool, true, false, cond, List, [], ◌∷◌, ◌++◌, length, Option, Some, None, Result, Ok, refl, sym, subst, ap, ◌∙◌, inl, inr, arith}
-use Rattle.std.proofs.lemmas.List.{append-nil, length-map}
-use Rattle.std.specs.Prelude.{option_to_list}
-use Rattle.osdp_frame.specs.Packet.{Packet}
-use Rattle.osdp_msg.specs.Events.{event_in, event_reply}
-use Rattle.osdp_msg.specs.declared.command.Command.{Command}
+use Rattle.osdp_link_ledger.proofs.Common.{◌≡◌, ◌≢◌, ◌==◌, ℕ, Bool, true, false, cond, List, [], ◌∷◌, ◌++◌, length, Option, Some, None, Result, Ok, refl, sym, subst, ap, ◌∙◌, inl, inr, arith, append-nil, length-map, option_to_list, Packet, event_in, event_reply, Command, Event, MsgFault, Reply, exchange_command, Ticked, ticks, Exchange, Opening, Polling, Asking, Report, reply_packet, EventQueue, event_for, lacks_room, offering, released, unoffered, ReaderState, begun, event_or_answer, kind_of, moved, new_address, outcome, Answer, Kind, Ledger, Open, Step, MaySubmit, MoveFits, Delivered, Delivery, Link, Lost, LoseToController, LoseToReader, Move, QueueEvent, Reopen, Repeated, RestartController, RestartReader, Retarget, SetBusy, SetHandler, Submit, Tick, ToController, ToReader, Withdraw, WithdrawEvent, after_move, lost_at, told_by_front, no_event, IsRead, all_read, Due, IsSent, MovesTo, ReadsFront, Stays, due_at, Assumed, Stands, standing_so, Premises, After, Each, IsAsked, Restarted, Stage, pending, shown, is_under_way, acts_on, after_steps, gets, leaves, leaves_and_acts, leaving_events, offers, opens, order_acted, steps_of, ticked, told, to_reader}
 use Rattle.osdp_msg.specs.declared.command.Command.TheVariants as command
-use Rattle.osdp_msg.specs.declared.event.Event.{Event}
-use Rattle.osdp_msg.specs.declared.fault.MsgFault.{MsgFault}
-use Rattle.osdp_msg.specs.declared.reply.Reply.{Reply}
 use Rattle.osdp_msg.specs.declared.reply.Reply.TheVariants as reply
-use Rattle.osdp_controller.specs.Exchanges.{exchange_command}
 use Rattle.osdp_controller.specs.Hearing as controller
 use Rattle.osdp_controller.specs.Machine as controllers
-use Rattle.osdp_controller.specs.Ticking.{Ticked, ticks}
-use Rattle.osdp_controller.specs.declared.exchange.Exchange.{Exchange}
-use Rattle.osdp_controller.specs.declared.exchange.Exchange.TheVariants.{Opening, Polling, Asking}
-use Rattle.osdp_controller.specs.declared.report.Report.{Report}
 use Rattle.osdp_controller.specs.declared.report.Report.TheVariants as report
-use Rattle.osdp_reader.specs.Replies.{reply_packet}
-use Rattle.osdp_reader.specs.Queue.{Queue as EventQueue, event_for, lacks_room, offering, released, unoffered}
-use Rattle.osdp_reader.specs.State.{ReaderState}
 use Rattle.osdp_reader.specs.Table as reader
-use Rattle.osdp_reader.specs.Table.{begun, event_or_answer, kind_of, moved, new_address, outcome}
-use Rattle.osdp_reader.specs.declared.handler.Answer.{Answer}
-use Rattle.osdp_reader.specs.declared.kind.Kind.{Kind}
 use Rattle.osdp_reader.specs.declared.kind.Kind.TheVariants as kind
 use Rattle.osdp_ledger.specs.Ledger as ledger
-use Rattle.osdp_ledger.specs.Ledger.{Ledger, Open, Step}
-use Rattle.osdp_link_laws.specs.Headline.{MaySubmit, MoveFits}
 use Rattle.osdp_link_laws.specs.Link as link
-use Rattle.osdp_link_laws.specs.Link.{Delivered, Delivery, Link, Lost, LoseToController, LoseToReader, Move, Queue as QueueEvent, Reopen, Repeated, RestartController, RestartReader, Retarget, SetBusy, SetHandler, Submit, Tick, ToController, ToReader, Withdraw, WithdrawEvent, after_move, lost_at}
-use Rattle.osdp_link_laws.specs.Refusals.{told_by_front}
-use Rattle.osdp_link_laws.proofs.Acting.{no_event}
-use Rattle.osdp_link_laws.proofs.Deliveries.{IsRead, all_read}
-use Rattle.osdp_link_laws.proofs.Coming.{Due, IsSent, MovesTo, ReadsFront, Stays, due_at}
-use Rattle.osdp_link_laws.proofs.InARow.{Assumed, Stands, standing_so}
-use Rattle.osdp_link_laws.proofs.Moves.{Premises}
 use Rattle.osdp_link_laws.proofs.Hearing.{closed_hears}
-use Rattle.osdp_link_laws.proofs.Stages.{After, Each, IsAsked, Restarted, Stage, pending, shown}
-use Rattle.osdp_link_ledger.specs.Laws.{is_under_way}
-use Rattle.osdp_link_ledger.specs.Steps.{acts_on, after_steps, gets, leaves, leaves_and_acts, leaving as leaving_events, offers, opens, order_acted, steps_of, ticked, told, to_reader}
 use Rattle.osdp_link_ledger.proofs.Acting.{Acts, IsReady, OrdersAre, Polled, acts as acting, leaving, offers_front, offers_none, with_offers}
 use Rattle.osdp_link_ledger.proofs.Events.{withdrawing_event}
 use Rattle.osdp_link_ledger.proofs.Facts.{DueAfterReport, DueAfterTick, IsAlike, IsTold, OutIs, alike, due_hears, due_reopened, due_stays, due_ticks, none_told, out_at, reopened, told_none}

@@ -1,13 +1,6 @@
 -- Lists of orders and of cards, and how long they are.
-use Rattle.std.proofs.Common.{◌≡◌, ◌≢◌, ◌≤◌, ◌<◌, ◌+◌, ◌==◌, ℕ, Bool, true, false, not, cond, List, [], ◌∷◌, ◌++◌, length, map, drop, filter, refl, ap, ◌∙◌, arith}
+use Rattle.osdp_link_ledger.proofs.Common.{◌≡◌, ◌≢◌, ◌≤◌, ◌<◌, ◌+◌, ◌==◌, ℕ, Bool, true, false, not, cond, List, [], ◌∷◌, ◌++◌, length, map, drop, filter, refl, ap, ◌∙◌, arith, length-append, Command, Event, Card, NoOffer, Offer, Order, Reported, Unreported, is_in_front, is_true, Rising, card_at, order_at}
 use Rattle.std.proofs.lemmas.Bool.{ne_eqb}
-use Rattle.std.proofs.lemmas.List.{length-append}
-use Rattle.osdp_msg.specs.declared.command.Command.{Command}
-use Rattle.osdp_msg.specs.declared.event.Event.{Event}
-use Rattle.osdp_ledger.specs.Ledger.{Card, NoOffer, Offer, Order, Reported, Unreported, is_in_front}
-use Rattle.osdp_link_laws.proofs.Numbers.{is_true}
-use Rattle.osdp_ledger.proofs.Waiting.{Rising}
-use Rattle.osdp_link_ledger.specs.Steps.{card_at, order_at}
 
 abbrev pub commands : List Order → List Command
 commands = map (λ o. o.command)

@@ -1,25 +1,5 @@
 -- What the two machines keep says what is acted on and isn't settled, and what is offered and isn't reported.
-use Rattle.std.proofs.Common.{◌≡◌, ℕ, ◌==◌, Bool, true, false, cond, take, List, [], ◌∷◌, Option, Some, None, refl, sym, ap, ◌∙◌, inl, inr}
-use Rattle.std.specs.Prelude.{option_to_list}
-use Rattle.osdp_msg.specs.Events.{event_in}
-use Rattle.osdp_msg.specs.declared.command.Command.{Command}
-use Rattle.osdp_msg.specs.declared.event.Event.{Event}
-use Rattle.osdp_msg.specs.declared.reply.Reply.{Reply}
-use Rattle.osdp_controller.specs.Answers.{meaning_of}
-use Rattle.osdp_controller.specs.declared.config.ControllerConfig.{ControllerConfig}
-use Rattle.osdp_controller.specs.declared.exchange.Exchange.{Exchange}
-use Rattle.osdp_controller.specs.declared.exchange.Exchange.TheVariants.{Opening, Polling, Asking}
-use Rattle.osdp_controller.specs.declared.meaning.ReplyMeaning.TheVariants.{Plain}
-use Rattle.osdp_controller.specs.declared.session.Session.{Session}
-use Rattle.osdp_frame.specs.Packet.{Packet, next_sequence}
-use Rattle.osdp_reader.specs.Queue.{Queue as EventQueue}
-use Rattle.osdp_reader.specs.State.{ReaderState}
-use Rattle.osdp_reader.specs.declared.handler.Answer.{Answer}
-use Rattle.osdp_ledger.specs.Ledger.{Order}
-use Rattle.osdp_link_laws.specs.Link.{outstanding_command}
-use Rattle.osdp_link_laws.proofs.Moves.{Premises}
-use Rattle.osdp_link_laws.proofs.Numbers.{is_false, is_true, next_differs}
-use Rattle.osdp_link_laws.proofs.Stages.{After, Before, Behind, ControllerAt, Fresh, HasActed, IsStage, Knows, Level, Never, Now, OffersEvent, ReaderAt, Rest, Restarted, Stage, Start, answer, number_after, owed, owed_at, shown, unreported_at}
+use Rattle.osdp_link_ledger.proofs.Common.{◌≡◌, ℕ, ◌==◌, Bool, true, false, cond, take, List, [], ◌∷◌, Option, Some, None, refl, sym, ap, ◌∙◌, inl, inr, option_to_list, event_in, Command, Event, Reply, meaning_of, ControllerConfig, Exchange, Opening, Polling, Asking, Plain, Session, Packet, next_sequence, EventQueue, ReaderState, Answer, Order, outstanding_command, Premises, is_false, is_true, next_differs, After, Before, Behind, ControllerAt, Fresh, HasActed, IsStage, Knows, Level, Never, Now, OffersEvent, ReaderAt, Rest, Restarted, Stage, Start, answer, number_after, owed, owed_at, shown, unreported_at}
 use Rattle.osdp_link_ledger.specs.Laws.{answer_to, is_polling, is_under_way, offered_to, read_as}
 use Rattle.osdp_link_ledger.proofs.Facts.{IsAsking, asking, resting, unopened}
 use Rattle.osdp_link_ledger.proofs.Ties.{ActedIs}

@@ -1,35 +1,13 @@
 -- What ordinary moves show: steps by which nobody loses power, and nothing is taken back.
-use Rattle.std.proofs.Common.{◌+◌, ℕ, Bool, true, false, List, [], ◌∷◌, Option, Some, None}
-use Rattle.osdp_frame.specs.Packet.{Packet}
-use Rattle.osdp_msg.specs.Events.{event_in}
-use Rattle.osdp_msg.specs.declared.command.Command.{Command}
-use Rattle.osdp_msg.specs.declared.command.Command.TheVariants.{Id, Poll}
-use Rattle.osdp_msg.specs.declared.event.Event.{Event}
-use Rattle.osdp_msg.specs.declared.reply.Reply.{Reply}
+use Rattle.osdp_link_ledger.proofs.Common.{◌+◌, ℕ, Bool, true, false, List, [], ◌∷◌, Option, Some, None, Packet, event_in, Command, Id, Poll, Event, Reply, ticks, ControllerFault, Report, State, Quiet, lacks_room, ReaderState, hears, kind_of, Answer, Kind, Act, Card, Close, Doubt, Lapse, Leave, Ledger, Offers, Open, Order, Reports, RestartDevice, RestartPanel, Settle, Step, new_ledger, Delivered, Delivery, Link, Lost, Move, Repeated, RestartController, RestartReader, Tick, ToController, ToReader, after_move, told_by_front, each_all, each_append, each_map, each_of, Each, acts, acts_at_zero, acts_on, after_steps, all_steps, gets, leaves, leaving, offers, opens, queued_before, queues, steps_before, steps_from, steps_of, submits, submitted_before, to_reader, told}
 use Rattle.osdp_controller.specs.Machine.{submit_refusal}
-use Rattle.osdp_controller.specs.Ticking.{ticks}
-use Rattle.osdp_controller.specs.declared.fault.ControllerFault.{ControllerFault}
-use Rattle.osdp_controller.specs.declared.report.Report.{Report}
 use Rattle.osdp_controller.specs.declared.report.Report.TheVariants as report
-use Rattle.osdp_controller.specs.declared.state.State.{State}
-use Rattle.osdp_controller.specs.declared.state.State.TheVariants.{Quiet}
-use Rattle.osdp_reader.specs.Queue.{lacks_room}
-use Rattle.osdp_reader.specs.State.{ReaderState}
-use Rattle.osdp_reader.specs.Table.{hears, kind_of}
-use Rattle.osdp_reader.specs.declared.handler.Answer.{Answer}
-use Rattle.osdp_reader.specs.declared.kind.Kind.{Kind}
 use Rattle.osdp_reader.specs.declared.kind.Kind.TheVariants as kind
 use Rattle.osdp_ledger.specs.Plain.{IsPlain, PlainStepsEndTold}
 use Rattle.osdp_ledger.specs.Ledger as ledger
-use Rattle.osdp_ledger.specs.Ledger.{Act, Card, Close, Doubt, Lapse, Leave, Ledger, Offers, Open, Order, Report as Reports, RestartDevice, RestartPanel, Settle, Step, new_ledger}
 use Rattle.osdp_link_laws.specs.Link as link
-use Rattle.osdp_link_laws.specs.Link.{Delivered, Delivery, Link, Lost, Move, Repeated, RestartController, RestartReader, Tick, ToController, ToReader, after_move}
 use Rattle.osdp_link_laws.specs.Ordinary.{IsOrdinary}
-use Rattle.osdp_link_laws.specs.Refusals.{told_by_front}
-use Rattle.osdp_link_laws.proofs.Lines.{each_all, each_append, each_map, each_of}
-use Rattle.osdp_link_laws.proofs.Stages.{Each}
 use Rattle.osdp_link_ledger.specs.Ordinary.{OrdinaryMovesEndTold}
-use Rattle.osdp_link_ledger.specs.Steps.{acts, acts_at_zero, acts_on, after_steps, all_steps, gets, leaves, leaving, offers, opens, queued_before, queues, steps_before, steps_from, steps_of, submits, submitted_before, to_reader, told}
 
 -- ---- what the device has done, and what is reported
 

@@ -1,25 +1,11 @@
 -- What programs do, and a loss of power: the ledger stays tied.
-use Rattle.std.proofs.Common.{◌≡◌, ◌+◌, ◌⊎◌, ℕ, Bool, true, false, List, [], ◌∷◌, ◌++◌, length, map, is_some, Option, Some, None, refl, sym, subst, ap, ◌∙◌, inl, inr, arith, append_assoc}
-use Rattle.std.proofs.lemmas.List.{append-nil, length-append, length-map, map-append}
+use Rattle.osdp_link_ledger.proofs.Common.{◌≡◌, ◌+◌, ◌⊎◌, ℕ, Bool, true, false, List, [], ◌∷◌, ◌++◌, length, map, is_some, Option, Some, None, refl, sym, subst, ap, ◌∙◌, inl, inr, arith, append_assoc, append-nil, length-append, length-map, map-append, Packet, Command, Event, Reply, ControllerFault, State, Closed, Waiting, Pausing, Card, Ledger, May, NoOffer, Offer, Order, Reported, RestartDevice, RestartPanel, Unreported, late_after, late_at_restart, panel_restarted, asked, Link, outstanding_command, is_under_way, queues, submits, withdraws, Due}
 use Rattle.std.specs.Prelude.{drop, option_to_list}
-use Rattle.osdp_frame.specs.Packet.{Packet}
-use Rattle.osdp_msg.specs.declared.command.Command.{Command}
-use Rattle.osdp_msg.specs.declared.event.Event.{Event}
 use Rattle.osdp_msg.specs.declared.limits.Room.{Room}
-use Rattle.osdp_msg.specs.declared.reply.Reply.{Reply}
 use Rattle.osdp_controller.specs.Machine as controllers
-use Rattle.osdp_controller.specs.declared.fault.ControllerFault.{ControllerFault}
-use Rattle.osdp_controller.specs.declared.state.State.{State}
-use Rattle.osdp_controller.specs.declared.state.State.TheVariants.{Closed, Waiting, Pausing}
 use Rattle.osdp_controller_laws.proofs.Closed.{was_closed}
 use Rattle.osdp_reader.specs.Queue.{Queue as EventQueue, empty_queue, queued}
-use Rattle.osdp_ledger.specs.Ledger.{Card, Ledger, May, NoOffer, Offer, Order, Reported, RestartDevice, RestartPanel, Unreported, late_after, late_at_restart, panel_restarted}
-use Rattle.osdp_link_laws.specs.Headline.{asked}
 use Rattle.osdp_link_laws.specs.Link as link
-use Rattle.osdp_link_laws.specs.Link.{Link, outstanding_command}
-use Rattle.osdp_link_ledger.specs.Laws.{is_under_way}
-use Rattle.osdp_link_ledger.specs.Steps.{queues, submits, withdraws}
-use Rattle.osdp_link_laws.proofs.Coming.{Due}
 use Rattle.osdp_link_ledger.proofs.Facts.{OutIs, out_of, reopened}
 use Rattle.osdp_link_ledger.proofs.Lists.{IsOfferedFront, commands, front_more, front_order, no_items, not_offered, one_more_unoffered, still_front}
 use Rattle.osdp_link_ledger.proofs.Ties.{ActedIs, IsTied, IsUnderWay, Leads, OffersAre, Placed, SessionIs, Ties}

@@ -1,26 +1,7 @@
 -- What a packet that the device reads says of the session.
-use Rattle.std.proofs.Common.{◌≡◌, ◌+◌, ℕ, true, false, [], length, Option, Some, None, Ok, refl, sym, subst, ap, ◌∙◌, arith}
-use Rattle.std.proofs.lemmas.List.{length-append}
-use Rattle.std.specs.Prelude.{option_to_list}
-use Rattle.osdp_frame.specs.Packet.{Packet}
-use Rattle.osdp_msg.specs.Events.{event_in}
-use Rattle.osdp_msg.specs.declared.command.Command.{Command}
+use Rattle.osdp_link_ledger.proofs.Common.{◌≡◌, ◌+◌, ℕ, true, false, [], length, Option, Some, None, Ok, refl, sym, subst, ap, ◌∙◌, arith, length-append, option_to_list, Packet, event_in, Command, Event, Reply, exchange_command, ControllerConfig, Exchange, Opening, Polling, Asking, EventQueue, released, command_in, Answer, Kind, Link, leaves_shown, Due, ReadsTo, due_at, stands, stood, At}
 use Rattle.osdp_msg.specs.declared.command.Command.TheVariants as command
-use Rattle.osdp_msg.specs.declared.event.Event.{Event}
-use Rattle.osdp_msg.specs.declared.reply.Reply.{Reply}
-use Rattle.osdp_controller.specs.Exchanges.{exchange_command}
-use Rattle.osdp_controller.specs.declared.config.ControllerConfig.{ControllerConfig}
-use Rattle.osdp_controller.specs.declared.exchange.Exchange.{Exchange}
-use Rattle.osdp_controller.specs.declared.exchange.Exchange.TheVariants.{Opening, Polling, Asking}
-use Rattle.osdp_reader.specs.Queue.{Queue as EventQueue, released}
-use Rattle.osdp_reader.specs.Table.{command_in}
-use Rattle.osdp_reader.specs.declared.handler.Answer.{Answer}
-use Rattle.osdp_reader.specs.declared.kind.Kind.{Kind}
 use Rattle.osdp_reader.specs.declared.kind.Kind.TheVariants as kind
-use Rattle.osdp_link_laws.specs.Link.{Link}
-use Rattle.osdp_link_laws.proofs.Acting.{leaves_shown}
-use Rattle.osdp_link_laws.proofs.Coming.{Due, ReadsTo, due_at, stands, stood}
-use Rattle.osdp_link_laws.proofs.Parts.{At}
 use Rattle.osdp_link_laws.proofs.Since.{Hears, has_acted}
 use Rattle.osdp_link_laws.proofs.Stages.{After, Behind, IsAsked, Level, Offers, OffersEvent, Past, Restarted, Stage, Start, owed, pending, shown}
 use Rattle.osdp_link_ledger.proofs.Facts.{due_stays}

@@ -1,23 +1,8 @@
 -- What a report says: the ledger stays tied.
-use Rattle.std.proofs.Common.{◌≡◌, ◌+◌, ◌⊎◌, suc, true, List, [], ◌∷◌, ◌++◌, length, map, drop, Option, Some, None, refl, sym, subst, ap, ◌∙◌, inl, inr, arith}
-use Rattle.std.proofs.lemmas.List.{length-append, length-map}
-use Rattle.std.specs.Prelude.{option_to_list}
-use Rattle.osdp_frame.specs.Packet.{Packet}
-use Rattle.osdp_msg.specs.declared.command.Command.{Command}
-use Rattle.osdp_msg.specs.declared.event.Event.{Event}
-use Rattle.osdp_msg.specs.declared.reply.Reply.{Reply}
+use Rattle.osdp_link_ledger.proofs.Common.{◌≡◌, ◌+◌, ◌⊎◌, suc, true, List, [], ◌∷◌, ◌++◌, length, map, drop, Option, Some, None, refl, sym, subst, ap, ◌∙◌, inl, inr, arith, length-append, length-map, option_to_list, Packet, Command, Event, Reply, Report, State, Closed, Close, Doubt, Ledger, NoOffer, Offer, Order, Reported, Settle, Unreported, asked, Link, is_under_way, unreported_in, offered_at, order_at, told, Due}
 use Rattle.osdp_msg.specs.declared.reply.Reply.TheVariants as reply
-use Rattle.osdp_controller.specs.declared.report.Report.{Report}
 use Rattle.osdp_controller.specs.declared.report.Report.TheVariants as report
-use Rattle.osdp_controller.specs.declared.state.State.{State}
-use Rattle.osdp_controller.specs.declared.state.State.TheVariants.{Closed}
 use Rattle.osdp_ledger.specs.Ledger as ledger
-use Rattle.osdp_ledger.specs.Ledger.{Close, Doubt, Ledger, NoOffer, Offer, Order, Reported, Settle, Unreported}
-use Rattle.osdp_link_laws.specs.Headline.{asked}
-use Rattle.osdp_link_laws.specs.Link.{Link}
-use Rattle.osdp_link_ledger.specs.Laws.{is_under_way, unreported_in}
-use Rattle.osdp_link_ledger.specs.Steps.{offered_at, order_at, told}
-use Rattle.osdp_link_laws.proofs.Coming.{Due}
 use Rattle.osdp_link_ledger.proofs.Facts.{DueAfterReport, IsTold, OutIs, none_told, out_of}
 use Rattle.osdp_link_ledger.proofs.Lists.{IsOfferedFront, commands, front_order, no_items, not_offered}
 use Rattle.osdp_link_ledger.proofs.Programs.{front_late, nothing_out}

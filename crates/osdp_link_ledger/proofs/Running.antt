@@ -1,25 +1,6 @@
 -- From the beginning of a first session, over every list of moves.
-use Rattle.std.proofs.Common.{◌≡◌, ◌+◌, ℕ, true, false, List, [], ◌∷◌, ◌++◌, None, refl, sym, subst, ap, ◌∙◌, inl, inr, arith, append_assoc}
-use Rattle.std.proofs.lemmas.List.{append-nil, map-append}
-use Rattle.osdp_msg.specs.declared.command.Command.{Command}
-use Rattle.osdp_msg.specs.declared.event.Event.{Event}
-use Rattle.osdp_reader.specs.declared.handler.Answer.{Answer}
-use Rattle.osdp_ledger.specs.History.{AreAllowed, History, new_history, runs}
+use Rattle.osdp_link_ledger.proofs.Common.{◌≡◌, ◌+◌, ℕ, true, false, List, [], ◌∷◌, ◌++◌, None, refl, sym, subst, ap, ◌∙◌, inl, inr, arith, append_assoc, append-nil, map-append, Command, Event, Answer, AreAllowed, History, new_history, runs, Card, Ledger, Order, new_ledger, at_first, allowed_both, runs_then, Events, Begins, MovesFit, Link, Move, after_move, run, ReadEachOther, Assumed, Stands, assumed, begins_so, standing_so, Premises, At, Fresh, Stage, owed_at, unreported_at, HasNumber, HoldsByLedger, IsLedgerOf, LinkKeepsLedger, is_under_way, unreported_in, after_steps, all_steps, queued_before, steps_before, steps_from, steps_of, submitted_before, due_at}
 use Rattle.osdp_ledger.specs.Laws.{KeepsEvents, KeepsOrders}
-use Rattle.osdp_ledger.specs.Ledger.{Card, Ledger, Order, new_ledger}
-use Rattle.osdp_ledger.proofs.Events.{at_first}
-use Rattle.osdp_ledger.proofs.InTurn.{allowed_both, runs_then}
-use Rattle.osdp_ledger.proofs.Waiting.{Events}
-use Rattle.osdp_link_laws.specs.Headline.{Begins, MovesFit}
-use Rattle.osdp_link_laws.specs.Link.{Link, Move, after_move, run}
-use Rattle.osdp_link_laws.specs.Peers.{ReadEachOther}
-use Rattle.osdp_link_laws.proofs.InARow.{Assumed, Stands, assumed, begins_so, standing_so}
-use Rattle.osdp_link_laws.proofs.Moves.{Premises}
-use Rattle.osdp_link_laws.proofs.Parts.{At}
-use Rattle.osdp_link_laws.proofs.Stages.{Fresh, Stage, owed_at, unreported_at}
-use Rattle.osdp_link_ledger.specs.Laws.{HasNumber, HoldsByLedger, IsLedgerOf, LinkKeepsLedger, is_under_way, unreported_in}
-use Rattle.osdp_link_ledger.specs.Steps.{after_steps, all_steps, queued_before, steps_before, steps_from, steps_of, submitted_before}
-use Rattle.osdp_link_laws.proofs.Coming.{due_at}
 use Rattle.osdp_link_ledger.proofs.Facts.{due_fresh, goes_to, none_due, out_of}
 use Rattle.osdp_link_ledger.proofs.Keeping.{due_of, keeps_one}
 use Rattle.osdp_link_ledger.proofs.Lists.{FrontUnshown, commands, events}

@@ -1,28 +1,12 @@
 -- What a history says and what accounts say, as plain lists: what each step adds to the ones its move adds to the others.
-use Rattle.std.proofs.Common.{◌≡◌, ℕ, Bool, true, false, List, [], ◌∷◌, ◌++◌, flat_map, is_some, map, Option, Some, None, refl, sym, ap, ◌∙◌, append_assoc}
+use Rattle.osdp_link_ledger.proofs.Common.{◌≡◌, ℕ, Bool, true, false, List, [], ◌∷◌, ◌++◌, flat_map, is_some, map, Option, Some, None, refl, sym, ap, ◌∙◌, append_assoc, append-nil, map-append, Packet, event_in, Command, Event, Reply, Report, State, Closed, Quiet, Idle, AfterReport, End, Forgotten, GivenBack, History, InDoubt, Left, Settled, TakenBack, ThrownAway, ends_at_restart, runs, steps_on, Card, Ledger, NoOffer, Offer, Order, RestartDevice, RestartPanel, Account, Removal, after_report, outstanding_command, in_all, cut_off_as, doubted_as, removed_as, settled_as, taken_back_as, is_under_way, acts_on, card_at, leaves, offered_at, offers, opens, order_acted, order_at, told, withdraws, withdraws_event}
 use Rattle.std.proofs.lemmas.Grind.{flat_map-append}
-use Rattle.std.proofs.lemmas.List.{append-nil, map-append}
 use Rattle.std.specs.Prelude.{drop, if◌then◌else◌, option_to_list}
-use Rattle.osdp_frame.specs.Packet.{Packet}
-use Rattle.osdp_msg.specs.Events.{event_in}
-use Rattle.osdp_msg.specs.declared.command.Command.{Command}
 use Rattle.osdp_msg.specs.declared.command.Command.TheVariants as command
-use Rattle.osdp_msg.specs.declared.event.Event.{Event}
-use Rattle.osdp_msg.specs.declared.reply.Reply.{Reply}
 use Rattle.osdp_msg.specs.declared.reply.Reply.TheVariants as reply
-use Rattle.osdp_controller.specs.declared.report.Report.{Report}
 use Rattle.osdp_controller.specs.declared.report.Report.TheVariants as report
-use Rattle.osdp_controller.specs.declared.state.State.{State}
-use Rattle.osdp_controller.specs.declared.state.State.TheVariants.{Closed, Quiet, Idle}
-use Rattle.osdp_ledger.specs.History.{AfterReport, End, Forgotten, GivenBack, History, InDoubt, Left, Settled, TakenBack, ThrownAway, ends_at_restart, runs, steps_on}
 use Rattle.osdp_ledger.specs.Ledger as ledger
-use Rattle.osdp_ledger.specs.Ledger.{Card, Ledger, NoOffer, Offer, Order, RestartDevice, RestartPanel}
 use Rattle.osdp_link_laws.specs.Link as link
-use Rattle.osdp_link_laws.specs.Link.{Account, Removal, after_report, outstanding_command}
-use Rattle.osdp_link_laws.specs.Sessions.{in_all}
-use Rattle.osdp_link_ledger.specs.Accounts.{cut_off_as, doubted_as, removed_as, settled_as, taken_back_as}
-use Rattle.osdp_link_ledger.specs.Laws.{is_under_way}
-use Rattle.osdp_link_ledger.specs.Steps.{acts_on, card_at, leaves, offered_at, offers, opens, order_acted, order_at, told, withdraws, withdraws_event}
 use Rattle.osdp_link_ledger.proofs.Lists.{commands, events}
 use Rattle.osdp_link_ledger.proofs.Programs.{none_outstanding}
 

@@ -1,33 +1,12 @@
 -- What a report says of the controller's state before it and after it, and what a tick does.
-use Rattle.std.proofs.Common.{◌≡◌, ◌⊎◌, ◌+◌, ℕ, true, false, leb, ltb, List, [], ◌∷◌, ◌++◌, Option, Some, None, refl, sym, subst, ap, ◌∙◌, inl, inr}
-use Rattle.std.specs.Prelude.{option_to_list}
-use Rattle.osdp_frame.specs.Packet.{Packet, next_sequence}
-use Rattle.osdp_msg.specs.Events.{event_in}
-use Rattle.osdp_msg.specs.declared.command.Command.{Command}
+use Rattle.osdp_link_ledger.proofs.Common.{◌≡◌, ◌⊎◌, ◌+◌, ℕ, true, false, leb, ltb, List, [], ◌∷◌, ◌++◌, Option, Some, None, refl, sym, subst, ap, ◌∙◌, inl, inr, option_to_list, Packet, next_sequence, event_in, Command, Event, Reply, meaning_of, submitted_command, Ticked, begins, gives_up, sends_frame, stays, ticks, ticks_in, tries_again, Exchange, Opening, Polling, Asking, NotTaken, NumberRefused, Plain, Report, Session, State, Closed, Quiet, Idle, Waiting, Pausing, Open, IsRead, both, is_under_way, opens}
 use Rattle.osdp_msg.specs.declared.command_fields.Communication.{Communication}
-use Rattle.osdp_msg.specs.declared.event.Event.{Event}
-use Rattle.osdp_msg.specs.declared.reply.Reply.{Reply}
 use Rattle.osdp_msg.specs.declared.reply_fields.PdId.{PdId}
-use Rattle.osdp_controller.specs.Answers.{meaning_of}
-use Rattle.osdp_controller.specs.Exchanges.{submitted_command}
 use Rattle.osdp_controller.specs.Hearing.{Heard, answered, com_of, command_answered, comset_of, hears, hears_busy, hears_in, ignores, is_ack, is_from_reader, is_numbered, loses, moved_by, opening_answered, pausing_hears, pd_id_of, poll_told, rests, waiting_hears}
 use Rattle.osdp_controller.specs.Sessions.{later, seen}
-use Rattle.osdp_controller.specs.Ticking.{Ticked, begins, gives_up, sends_frame, stays, ticks, ticks_in, tries_again}
-use Rattle.osdp_controller.specs.declared.exchange.Exchange.{Exchange}
-use Rattle.osdp_controller.specs.declared.exchange.Exchange.TheVariants.{Opening, Polling, Asking}
-use Rattle.osdp_controller.specs.declared.meaning.ReplyMeaning.TheVariants.{NotTaken, NumberRefused, Plain}
 use Rattle.osdp_controller.specs.declared.report.LostCause.{LostCause}
 use Rattle.osdp_controller.specs.declared.report.LostCause.TheVariants as cause
-use Rattle.osdp_controller.specs.declared.report.Report.{Report}
 use Rattle.osdp_controller.specs.declared.report.Report.TheVariants as report
-use Rattle.osdp_controller.specs.declared.session.Session.{Session}
-use Rattle.osdp_controller.specs.declared.state.State.{State}
-use Rattle.osdp_controller.specs.declared.state.State.TheVariants.{Closed, Quiet, Idle, Waiting, Pausing}
-use Rattle.osdp_ledger.specs.Ledger.{Open}
-use Rattle.osdp_link_laws.proofs.Deliveries.{IsRead}
-use Rattle.osdp_link_laws.proofs.Lines.{both}
-use Rattle.osdp_link_ledger.specs.Laws.{is_under_way}
-use Rattle.osdp_link_ledger.specs.Steps.{opens}
 use Rattle.osdp_link_ledger.proofs.Facts.{out_of}
 
 -- nothing is outstanding that wasn't, and a session lasts where one did

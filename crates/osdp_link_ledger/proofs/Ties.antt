@@ -1,21 +1,5 @@
 -- What ties the ledger to a link.
-use Rattle.std.proofs.Common.{◌≡◌, ◌≤◌, ◌+◌, ◌⊎◌, ℕ, true, false, List, [], ◌∷◌, ◌++◌, length, Option, Some, None, All, refl}
-use Rattle.std.specs.Prelude.{option_to_list}
-use Rattle.osdp_frame.specs.Packet.{Packet}
-use Rattle.osdp_msg.specs.declared.command.Command.{Command}
-use Rattle.osdp_msg.specs.declared.event.Event.{Event}
-use Rattle.osdp_msg.specs.declared.reply.Reply.{Reply}
-use Rattle.osdp_controller.specs.declared.state.State.{State}
-use Rattle.osdp_controller.specs.declared.state.State.TheVariants.{Closed}
-use Rattle.osdp_reader.specs.Queue.{Queue as EventQueue}
-use Rattle.osdp_ledger.specs.History.{AreAllowed, History, runs, steps_on}
-use Rattle.osdp_ledger.specs.Ledger.{Card, Ledger, May, NoOffer, Offer, Order, Reported, Step, Unreported, after}
-use Rattle.osdp_ledger.proofs.Events.{keeps}
-use Rattle.osdp_ledger.proofs.Waiting.{Beyond, Events, IsUpTo, OfferIs, Rising}
-use Rattle.osdp_link_laws.specs.Link.{Link}
-use Rattle.osdp_link_ledger.specs.Laws.{is_under_way, unreported_in}
-use Rattle.osdp_link_ledger.specs.Steps.{after_steps}
-use Rattle.osdp_link_laws.proofs.Coming.{Due}
+use Rattle.osdp_link_ledger.proofs.Common.{◌≡◌, ◌≤◌, ◌+◌, ◌⊎◌, ℕ, true, false, List, [], ◌∷◌, ◌++◌, length, Option, Some, None, All, refl, option_to_list, Packet, Command, Event, Reply, State, Closed, EventQueue, AreAllowed, History, runs, steps_on, Card, Ledger, May, NoOffer, Offer, Order, Reported, Step, Unreported, after, keeps, Beyond, Events, IsUpTo, OfferIs, Rising, Link, is_under_way, unreported_in, after_steps, Due}
 use Rattle.osdp_link_ledger.proofs.Facts.{none_due, out_of}
 use Rattle.osdp_link_ledger.proofs.Lists.{FrontUnshown, IsOfferedFront, StandsAt, commands, events, not_offered}
 

@@ -1,14 +1,7 @@
 -- What is read of a POLL and of an ACK, by their codes alone.
-use Rattle.std.specs.Prelude.{slice_index}
-use Rattle.std.proofs.Common.{◌≡◌, ◌↔◌, ◌∙◌, ℕ, Bool, List, [], ◌∷◌, drop, length, is_some, nat_eq, true, false, Option, Some, None, Result, Ok, Err, refl, sym, ap, arith}
-use Rattle.std.proofs.lemmas.Bool.{eqb-true, false≢true}
+use Rattle.osdp_monitor.proofs.Common.{slice_index, ◌≡◌, ◌↔◌, ◌∙◌, ℕ, Bool, List, [], ◌∷◌, drop, length, is_some, nat_eq, true, false, Option, Some, None, Result, Ok, Err, refl, sym, ap, arith, eqb-true, false≢true, Command, Poll, MsgFault, Reply, Ack}
 use Rattle.osdp_msg.specs.CommandTable.{command_of, command_fault, command_at, command_counts_agree, command_length_allowed}
 use Rattle.osdp_msg.specs.Refusal.{refusal, unless_fault}
-use Rattle.osdp_msg.specs.declared.command.Command.{Command}
-use Rattle.osdp_msg.specs.declared.command.Command.TheVariants.{Poll}
-use Rattle.osdp_msg.specs.declared.fault.MsgFault.{MsgFault}
-use Rattle.osdp_msg.specs.declared.reply.Reply.{Reply}
-use Rattle.osdp_msg.specs.declared.reply.Reply.TheVariants.{Ack}
 use Rattle.osdp_msg.specs.ReplyTable.{reply_of, reply_fault, reply_at, reply_counts_agree, reply_length_allowed}
 
 -- ---- a message without data that is read of one code alone

@@ -1,14 +1,7 @@
 -- What is known in blocks, when one of them changes.
-use Rattle.std.proofs.Common.{◌≡◌, eqb, refl, subst, ℕ, ◌<◌, ◌≤◌, ◌+◌, List, length, get_or, slice_set, Option, None, sym, ◌∙◌, ap, arith, get_or-set_same, get_or-set_other}
+use Rattle.osdp_monitor.proofs.Common.{◌≡◌, eqb, refl, subst, ℕ, ◌<◌, ◌≤◌, ◌+◌, List, length, get_or, slice_set, Option, None, sym, ◌∙◌, ap, arith, get_or-set_same, get_or-set_other, cond_both, eqb-true, Box, Known, Packet, after_answered, after_reply_if, devices_after_reply, devices_after_sent, known_at, moves_to, after_sent, known_in, known_of}
 use Rattle.std.proofs.lemmas.List.{get_or_default}
-use Rattle.std.proofs.lemmas.Bool.{cond_both, eqb-true}
 use Rattle.std.proofs.Math.Path.{fun_ext}
-use Rattle.std.specs.Prelude.{Box}
-use Rattle.osdp_monitor.specs.Known.{Known}
-use Rattle.osdp_frame.specs.Packet.{Packet}
-use Rattle.osdp_monitor.specs.Line.{after_answered, after_reply_if, devices_after_reply, devices_after_sent, known_at, moves_to}
-use Rattle.osdp_monitor.specs.Panel.{after_sent}
-use Rattle.osdp_monitor.specs.Private.{known_in, known_of}
 
 known_at_place : {A : Type 0} (blocks : List (Option (Box Known A))) (address : ℕ) (block : Option (Box Known A)) (other : ℕ)
     → address < length blocks → known_in (slice_set blocks address block) other ≡ known_at address (known_of block) (known_in blocks) other

@@ -1,3 +1,4 @@
+pub mod Common
 pub mod Bare
 pub mod Blocks
 pub mod Passing

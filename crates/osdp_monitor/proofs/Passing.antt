@@ -1,15 +1,7 @@
 -- What is passed over, and what moves a device.
-use Rattle.std.proofs.Common.{◌≡◌, ◌≢◌, ◌==◌, ◌≤◌, ◌↔◌, ◌⊎◌, ◌&&◌, not, ℕ, Bool, true, false, cond, nat_le, Some, None, Result, Ok, Err, refl, inl, inr, ◌∙◌, subst, arith}
-use Rattle.std.proofs.lemmas.Bool.{leb-true, eqb-false}
-use Rattle.osdp_msg.specs.declared.command.Command.{Command}
-use Rattle.osdp_msg.specs.declared.command.Command.TheVariants.{Comset}
+use Rattle.osdp_monitor.proofs.Common.{◌≡◌, ◌≢◌, ◌==◌, ◌≤◌, ◌↔◌, ◌⊎◌, ◌&&◌, not, ℕ, Bool, true, false, cond, nat_le, Some, None, Result, Ok, Err, refl, inl, inr, ◌∙◌, subst, arith, leb-true, eqb-false, Command, Comset, MsgFault, Reply, Com, HasUnknownCode, MovesByCom, PassesOver, asked, is_foreign, is_unknown, moved_by, reply_told}
 use Rattle.osdp_msg.specs.declared.command_fields.Communication.{Communication}
-use Rattle.osdp_msg.specs.declared.fault.MsgFault.{MsgFault}
 use Rattle.osdp_msg.specs.declared.fault.MsgFault.TheVariants.{UnknownCode}
-use Rattle.osdp_msg.specs.declared.reply.Reply.{Reply}
-use Rattle.osdp_msg.specs.declared.reply.Reply.TheVariants.{Com}
-use Rattle.osdp_monitor.specs.Laws.{HasUnknownCode, MovesByCom, PassesOver}
-use Rattle.osdp_monitor.specs.Saying.{asked, is_foreign, is_unknown, moved_by, reply_told}
 
 unknown_is : {M : Type 0} (m : Result M MsgFault) → is_unknown m ≡ true → m ≡ Err UnknownCode
 unknown_is (Ok x) h = cc

@@ -1,19 +1,8 @@
 -- A packet after one that was answered, and an ACK that answers a POLL in turn: nothing is found in them.
-use Rattle.std.proofs.Common.{◌≡◌, ◌≢◌, ◌==◌, ◌-◌, ◌&&◌, ℕ, Bool, true, false, Option, Some, None, Result, Ok, Err, refl, ap, subst, ◌∙◌, arith}
-use Rattle.std.proofs.lemmas.Bool.{ne_eqb}
-use Rattle.osdp_frame.specs.Packet.{Packet, next_sequence}
-use Rattle.osdp_msg.specs.declared.command.Command.{Command}
-use Rattle.osdp_msg.specs.declared.command.Command.TheVariants.{Comset, Poll}
-use Rattle.osdp_msg.specs.declared.fault.MsgFault.{MsgFault}
-use Rattle.osdp_msg.specs.declared.reply.Reply.TheVariants.{Ack}
+use Rattle.osdp_monitor.proofs.Common.{◌≡◌, ◌≢◌, ◌==◌, ◌-◌, ◌&&◌, ℕ, Bool, true, false, Option, Some, None, Result, Ok, Err, refl, ap, subst, ◌∙◌, arith, ne_eqb, Packet, next_sequence, Command, Comset, Poll, MsgFault, Ack, Known, Knowledge, after_reply_if, copies_last, devices_after, devices_after_reply, devices_after_sent, found_in, found_in_reply, found_in_sent, is_last, moves_to, nothing_wrong, after_sent, PlainIsFine, asked, is_foreign, is_unknown, moved_by, reply_told}
 use Rattle.osdp_monitor.specs.declared.found.Found.{Found}
-use Rattle.osdp_monitor.specs.Known.{Known}
-use Rattle.osdp_monitor.specs.Line.{Knowledge, after_reply_if, copies_last, devices_after, devices_after_reply, devices_after_sent, found_in, found_in_reply, found_in_sent, is_last, moves_to, nothing_wrong}
-use Rattle.osdp_monitor.specs.Panel.{after_sent}
-use Rattle.osdp_monitor.specs.Laws.{PlainIsFine}
 use Rattle.osdp_monitor.specs.Plain.{AnswersPoll, IsNext, IsPlain, IsPlainTurn, IsPollTo, is_next, number_of}
 use Rattle.osdp_monitor.specs.Reader.{after_reply, is_owed_number}
-use Rattle.osdp_monitor.specs.Saying.{asked, is_foreign, is_unknown, moved_by, reply_told}
 use Rattle.osdp_rules.specs.Packets.{same_check, same_packet}
 
 -- the number is not the one taken last

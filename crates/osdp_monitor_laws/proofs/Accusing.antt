@@ -1,33 +1,13 @@
 -- Who is accused of what: panels by name, and whoever sent the packet.
-use Rattle.std.proofs.Common.{◌≡◌, ◌≢◌, inl, inr, ℕ, Bool, true, false, cond, eqb, ◌&&◌, ◌||◌, not, List, [], ◌∷◌, Option, Some, None, Result, Ok, Err, refl, sym, subst, ap, ◌∙◌}
-use Rattle.std.proofs.lemmas.Bool.{and_from, and_parts, cases_Bool, cond_both, eqb-false, eqb-true, false≢true, not-true, not_from_false}
-use Rattle.std.proofs.lemmas.List.Elements.{All-cons, All-head, All-nil, All-tail}
-use Rattle.osdp_frame.specs.Packet.{Packet, next_sequence}
-use Rattle.osdp_frame.specs.Reading.{RunItem, PacketItem, SkippedItem, RefusedItem}
-use Rattle.osdp_msg.specs.declared.command.Command.{Command}
-use Rattle.osdp_msg.specs.declared.fault.MsgFault.{MsgFault}
-use Rattle.osdp_msg.specs.declared.reply.Reply.{Reply}
-use Rattle.osdp_monitor.specs.declared.accusation.Accusation.{Accusation}
-use Rattle.osdp_monitor.specs.declared.accusation.Accusation.TheVariants.{AnotherPacket, NotAnswered, SentOutOfTurn, SecondReply, AnotherNumber, AnotherCheck, BusyToRepeat, RefusedZero, AnotherReply, TakenOutOfTurn, UnreadReply, UnfitReply, EventAtZero}
-use Rattle.osdp_monitor.specs.declared.found.Found.{Found}
-use Rattle.osdp_monitor.specs.declared.found.Notice.TheVariants.{Unanswered, Unsure}
-use Rattle.osdp_monitor.specs.declared.said.Said.{Said}
-use Rattle.osdp_monitor.specs.declared.said.Said.TheVariants.{Busy, Damage, Refusal, Answer}
-use Rattle.osdp_monitor.specs.Known.{Known}
+use Rattle.osdp_monitor_laws.proofs.Common.{◌≡◌, ◌≢◌, inl, inr, ℕ, Bool, true, false, cond, eqb, ◌&&◌, ◌||◌, not, List, [], ◌∷◌, Option, Some, None, Result, Ok, Err, refl, sym, subst, ap, ◌∙◌, and_from, and_parts, cases_Bool, cond_both, eqb-false, eqb-true, false≢true, not-true, not_from_false, All-cons, All-head, All-nil, All-tail, Packet, next_sequence, RunItem, PacketItem, SkippedItem, RefusedItem, Command, MsgFault, Reply, Accusation, AnotherPacket, NotAnswered, SentOutOfTurn, SecondReply, AnotherNumber, AnotherCheck, BusyToRepeat, RefusedZero, AnotherReply, TakenOutOfTurn, UnreadReply, UnfitReply, EventAtZero, Found, Unanswered, Unsure, Said, Busy, Damage, Refusal, Answer, Known, after_another, after_copy, after_sent, is_doubt, is_first_doubt, is_missed, keeps_number, left_waiting, panel_accused, sent_after, answer_accused, fit_accused, is_doubtful, is_one_more, is_owed, reading_accused, repeat_reply, reply_accused, taken_accused, turn_accused, asked, is_damage, is_foreign, reply_told, said, is_packet, Each, IsCopyOrReply, IsRemembered, LeavesUnanswered, NothingForgotten, OfAddress, suspicion, same_packet}
 use Rattle.osdp_monitor.specs.Line.{Knowledge, after_item, after_items, after_packet, found_in, found_in_reply, found_in_sent, is_reply_judged, is_sent_judged, nothing_found, notice_if, notice_in_sent}
-use Rattle.osdp_monitor.specs.Panel.{after_another, after_copy, after_sent, is_doubt, is_first_doubt, is_missed, keeps_number, left_waiting, panel_accused, sent_after}
-use Rattle.osdp_monitor.specs.Reader.{answer_accused, fit_accused, is_doubtful, is_one_more, is_owed, reading_accused, repeat_reply, reply_accused, taken_accused, turn_accused}
-use Rattle.osdp_monitor.specs.Saying.{asked, is_damage, is_foreign, reply_told, said}
 use Rattle.osdp_monitor_laws.proofs.Agreeing.{none_some, same_some, sent_asked}
 use Rattle.osdp_monitor_laws.proofs.Late.{by_fate}
 use Rattle.osdp_monitor_laws.proofs.Missing.{IsLast, device_of, first_last, in_doubt, is_first, last_step, misses_no_other_packet, misses_no_unanswered, sent_found, sent_told}
 use Rattle.osdp_monitor_laws.proofs.Naming.{misses_no_packet_out_of_turn}
 use Rattle.osdp_monitor_laws.proofs.PanelLines.{answered_by, answers, last_by}
 use Rattle.osdp_monitor_laws.proofs.Remembering.{after_one, at_remembered, item_keeps, items_keep}
-use Rattle.osdp_rules.proofs.Comparing.{is_packet}
-use Rattle.osdp_monitor_laws.specs.Misses.{Each, IsCopyOrReply, IsRemembered, LeavesUnanswered, NothingForgotten, OfAddress, suspicion}
 use Rattle.osdp_monitor_laws.specs.Panels.{AccusesTheSender, IsDoubt, NamesPanels, PanelBreaks, TellsFirstDoubts, is_readers}
-use Rattle.osdp_rules.specs.Packets.{same_packet}
 
 -- ---- once answered, a packet stays answered
 

@@ -1,18 +1,7 @@
 -- What is known of a reader's address agrees with the reader: what each packet and each reply make of it.
-use Rattle.std.proofs.Common.{◌≡◌, ◌≢◌, ◌⊎◌, inl, inr, ℕ, Bool, true, false, eqb, not, Option, Some, None, refl, sym, subst, ap, ◌∙◌}
-use Rattle.std.proofs.lemmas.Bool.{and_parts, cond_both, eq-eqb, eqb-true, false≢true, not-true, or_cases}
-use Rattle.std.specs.Prelude.{is_some}
-use Rattle.osdp_frame.specs.Packet.{Packet, next_sequence}
-use Rattle.osdp_monitor.specs.declared.said.Said.{Said}
-use Rattle.osdp_monitor.specs.declared.said.Said.TheVariants.{Busy, Damage, Refusal, Answer}
-use Rattle.osdp_monitor.specs.Known.{Known, is_number, nothing_known}
-use Rattle.osdp_monitor.specs.Panel.{after_another, after_copy, after_sent, keeps_number, left_waiting}
-use Rattle.osdp_monitor.specs.Reader.{after_answer, after_reply, after_reply_of, repeat_reply, taken_accused}
-use Rattle.osdp_monitor.specs.Saying.{said}
+use Rattle.osdp_monitor_laws.proofs.Common.{◌≡◌, ◌≢◌, ◌⊎◌, inl, inr, ℕ, Bool, true, false, eqb, not, Option, Some, None, refl, sym, subst, ap, ◌∙◌, and_parts, cond_both, eq-eqb, eqb-true, false≢true, not-true, or_cases, is_some, Packet, next_sequence, Said, Busy, Damage, Refusal, Answer, Known, is_number, nothing_known, after_another, after_copy, after_sent, keeps_number, left_waiting, after_answer, after_reply, after_reply_of, repeat_reply, taken_accused, said, packet_is, same_packet}
 use Rattle.osdp_monitor_laws.proofs.Late.{by_fate, by_number}
 use Rattle.osdp_monitor_laws.proofs.Numbers.{next_differs}
-use Rattle.osdp_rules.proofs.Comparing.{packet_is}
-use Rattle.osdp_rules.specs.Packets.{same_packet}
 
 pub same_some : {A : Type 0} (x y : A) → Some x ≡ Some y → x ≡ y
 same_some x y e = cc

@@ -1,25 +1,11 @@
 -- Any panel that keeps the rules, and a listener on two wires: what the listener knows fits the panel, whatever happens.
-use Rattle.std.proofs.Common.{◌≡◌, ◌≢◌, inl, inr, ◌+◌, Bool, true, false, cond, eqb, ◌||◌, List, [], ◌∷◌, ◌++◌, Option, Some, None, refl, sym, subst, ap, ◌∙◌}
-use Rattle.std.proofs.lemmas.Bool.{cond_both, eq-eqb, false≢true, ne_eqb}
-use Rattle.std.specs.Prelude.{nat_lt, option_to_list}
-use Rattle.osdp_frame.specs.declared.check_kind.CheckKind.TheVariants.{Sum}
-use Rattle.osdp_frame.specs.Packet.{Packet, next_sequence}
-use Rattle.osdp_frame.specs.Reading.{smallest}
-use Rattle.osdp_monitor.specs.declared.accusation.Accusation.TheVariants.{AnotherPacket, NotAnswered, SentOutOfTurn}
-use Rattle.osdp_monitor.specs.Known.{Known, nothing_known}
-use Rattle.osdp_monitor.specs.Line.{Knowledge, after_packet, no_knowledge}
-use Rattle.osdp_monitor.specs.Panel.{is_first_doubt, panel_accused, sent_after}
-use Rattle.osdp_monitor.specs.Reader.{after_reply}
-use Rattle.osdp_monitor.specs.Saying.{said}
+use Rattle.osdp_monitor_laws.proofs.Common.{◌≡◌, ◌≢◌, inl, inr, ◌+◌, Bool, true, false, cond, eqb, ◌||◌, List, [], ◌∷◌, ◌++◌, Option, Some, None, refl, sym, subst, ap, ◌∙◌, cond_both, eq-eqb, false≢true, ne_eqb, nat_lt, option_to_list, Sum, Packet, next_sequence, smallest, AnotherPacket, NotAnswered, SentOutOfTurn, Known, nothing_known, Knowledge, after_packet, no_knowledge, is_first_doubt, panel_accused, sent_after, after_reply, said, is_packet, ADeviceAlone, Both, ListenerAlone, Nobody, PanelAlone, Reaches, Reads, TheListener, same_packet}
 use Rattle.osdp_monitor_laws.proofs.Agreeing.{none_some, same_some, sent_asked}
 use Rattle.osdp_monitor_laws.proofs.Knowing.{at_address, sent_in_order}
 use Rattle.osdp_monitor_laws.proofs.Late.{by_fate}
 use Rattle.osdp_monitor_laws.proofs.Numbers.{next_above_zero, next_differs}
 use Rattle.osdp_monitor_laws.proofs.PanelLines.{answered_by, answers, last_by}
-use Rattle.osdp_rules.proofs.Comparing.{is_packet}
 use Rattle.osdp_monitor_laws.specs.AnyPanel.{AccusesNoPanelByTheRules, AnyLine, AnyMove, AnyPanel, AreAllowed, Forget, IsAllowed, IsAnswer, IsNext, IsToIts, MaySay, Repeat, Restart, Say, Send, Skip, accusations, accused_by, accused_of, after_move, new_line}
-use Rattle.osdp_monitor_laws.specs.PanelLine.{ADeviceAlone, Both, ListenerAlone, Nobody, PanelAlone, Reaches, Reads, TheListener}
-use Rattle.osdp_rules.specs.Packets.{same_packet}
 
 -- What is known of the last packet, beside the panel's own: it is the same, where somebody has read that. Else the panel's may come next.
 abbrev FitsBy : Bool → Bool → Bool → Packet → Packet → Type 0

@@ -1,30 +1,13 @@
 -- Any reader that keeps the rules, and a listener: what the listener knows agrees with the reader, whatever happens.
-use Rattle.std.proofs.Common.{◌≡◌, ◌≢◌, ◌⊎◌, inl, inr, ℕ, ◌+◌, true, false, cond, eqb, not, List, [], ◌∷◌, ◌++◌, Option, Some, None, Result, Ok, Err, refl, sym, subst, ap, ◌∙◌}
-use Rattle.std.proofs.lemmas.Bool.{and_left, and_right, cases_Bool, cond-false, cond-true, cond_both, eqb-false, eqb-true, false≢true, not_from_true}
-use Rattle.std.specs.Prelude.{nat_lt, option_to_list}
-use Rattle.osdp_frame.specs.Packet.{Packet}
-use Rattle.osdp_frame.specs.declared.check_kind.CheckKind.{CheckKind}
-use Rattle.osdp_frame.specs.declared.check_kind.CheckKind.TheVariants.{Sum}
-use Rattle.osdp_frame.specs.Reading.{smallest}
-use Rattle.osdp_msg.specs.Fitting.{reply_fits}
-use Rattle.osdp_msg.specs.declared.command.Command.{Command}
+use Rattle.osdp_monitor_laws.proofs.Common.{◌≡◌, ◌≢◌, ◌⊎◌, inl, inr, ℕ, ◌+◌, true, false, cond, eqb, not, List, [], ◌∷◌, ◌++◌, Option, Some, None, Result, Ok, Err, refl, sym, subst, ap, ◌∙◌, and_left, and_right, cases_Bool, cond-false, cond-true, cond_both, eqb-false, eqb-true, false≢true, not_from_true, nat_lt, option_to_list, Packet, CheckKind, Sum, smallest, reply_fits, Command, MsgFault, Reply, AnotherCheck, EventAtZero, UnfitReply, Known, nothing_known, Knowledge, after_packet, no_knowledge, after_reply, fit_accused, is_event_at_zero, is_plain, reader_accused, reading_accused, taken_accused, asked, reply_told, said, check_same, same_check}
 use Rattle.osdp_msg.specs.declared.command.Command.TheVariants as command
-use Rattle.osdp_msg.specs.declared.fault.MsgFault.{MsgFault}
-use Rattle.osdp_msg.specs.declared.reply.Reply.{Reply}
-use Rattle.osdp_monitor.specs.declared.accusation.Accusation.TheVariants.{AnotherCheck, EventAtZero, UnfitReply}
-use Rattle.osdp_monitor.specs.Known.{Known, nothing_known}
-use Rattle.osdp_monitor.specs.Line.{Knowledge, after_packet, no_knowledge}
-use Rattle.osdp_monitor.specs.Reader.{after_reply, fit_accused, is_event_at_zero, is_plain, reader_accused, reading_accused, taken_accused}
-use Rattle.osdp_monitor.specs.Saying.{asked, reply_told, said}
 use Rattle.osdp_monitor_laws.proofs.Agreeing.{Agrees, IsAsked, TakesZero, agrees_new, agrees_untaken, none_some, same_some, sent_agrees, sent_asked, zero_untaken}
 use Rattle.osdp_monitor_laws.proofs.Hearing.{IsSaid, Keeps, settle}
 use Rattle.osdp_monitor_laws.proofs.Knowing.{at_address}
 use Rattle.osdp_monitor_laws.proofs.ReaderLines.{Coming, coming_forgotten, coming_of, coming_unknown, zero_after}
 use Rattle.osdp_monitor_laws.proofs.Replying.{Replies, acting, busy, damaged, refusing, repeating}
-use Rattle.osdp_rules.proofs.Comparing.{check_same}
 use Rattle.osdp_monitor_laws.specs.ReaderLine.{Reads, Both, ReaderAlone, ListenerAlone, accused_in, known_after}
 use Rattle.osdp_monitor_laws.specs.AnyReader.{AccusesNoReaderByTheRules, Answers, AnyLine, AnyMove, AnyReader, AreAllowed, Goes, IsAllowed, IsFromIt, MaySay, Way, Acts, Repeats, IsBusy, FindsDamage, Refuses, IsSilent, Restart, Say, AnswerComes, Skip, Forget, accusations, accused_by, after_move, after_said, new_line}
-use Rattle.osdp_rules.specs.Packets.{same_check}
 
 -- ---- an answer by the rules
 

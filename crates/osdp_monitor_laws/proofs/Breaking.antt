@@ -1,31 +1,10 @@
 -- What an accusation of a first reply comes from: by its name the rule is broken.
-use Rattle.std.proofs.Common.{◌≡◌, ◌≢◌, inl, inr, ℕ, true, false, cond, eqb, ◌||◌, not, Some, None, Result, Ok, Err, refl, sym, subst, ap, ◌∙◌}
-use Rattle.std.proofs.lemmas.Bool.{and_parts, cond_both, eqb-false, eqb-true, false≢true, not-false, not-true, or_cases, or_parts}
-use Rattle.std.specs.Prelude.{is_some}
-use Rattle.osdp_frame.specs.declared.check_kind.CheckKind.{CheckKind}
-use Rattle.osdp_frame.specs.declared.check_kind.CheckKind.TheVariants.{Sum, Crc}
-use Rattle.osdp_frame.specs.Packet.{Packet, next_sequence}
-use Rattle.osdp_msg.specs.Fitting.{reply_fits}
-use Rattle.osdp_msg.specs.declared.command.Command.{Command}
-use Rattle.osdp_msg.specs.declared.command.Command.TheVariants.{Poll}
+use Rattle.osdp_monitor_laws.proofs.Common.{◌≡◌, ◌≢◌, inl, inr, ℕ, true, false, cond, eqb, ◌||◌, not, Some, None, Result, Ok, Err, refl, sym, subst, ap, ◌∙◌, and_parts, cond_both, eqb-false, eqb-true, false≢true, not-false, not-true, or_cases, or_parts, is_some, CheckKind, Sum, Crc, Packet, next_sequence, reply_fits, Command, Poll, MsgFault, Reply, Accusation, AnotherNumber, AnotherCheck, BusyToRepeat, RefusedZero, TakenOutOfTurn, UnreadReply, UnfitReply, EventAtZero, Said, Busy, Damage, Refusal, Answer, Known, Found, Knowledge, found_in, answer_accused, fit_accused, is_event_at_zero, is_plain, reader_accused, reading_accused, repeat_reply, reply_accused, taken_accused, turn_accused, asked, reply_told, said, Breaks, IsEvent, IsInTurn, IsTaken, NamesReaders, same_check}
 use Rattle.osdp_msg.specs.declared.command.Command.TheVariants as command
-use Rattle.osdp_msg.specs.declared.fault.MsgFault.{MsgFault}
-use Rattle.osdp_msg.specs.declared.reply.Reply.{Reply}
-use Rattle.osdp_monitor.specs.declared.accusation.Accusation.{Accusation}
-use Rattle.osdp_monitor.specs.declared.accusation.Accusation.TheVariants.{AnotherNumber, AnotherCheck, BusyToRepeat, RefusedZero, TakenOutOfTurn, UnreadReply, UnfitReply, EventAtZero}
-use Rattle.osdp_monitor.specs.declared.said.Said.{Said}
-use Rattle.osdp_monitor.specs.declared.said.Said.TheVariants.{Busy, Damage, Refusal, Answer}
-use Rattle.osdp_monitor.specs.Known.{Known}
-use Rattle.osdp_monitor.specs.declared.found.Found.{Found}
-use Rattle.osdp_monitor.specs.Line.{Knowledge, found_in}
-use Rattle.osdp_monitor.specs.Reader.{answer_accused, fit_accused, is_event_at_zero, is_plain, reader_accused, reading_accused, repeat_reply, reply_accused, taken_accused, turn_accused}
-use Rattle.osdp_monitor.specs.Saying.{asked, reply_told, said}
 use Rattle.osdp_monitor_laws.proofs.Agreeing.{none_some, same_some}
 use Rattle.osdp_monitor_laws.proofs.Missing.{device_of}
 use Rattle.osdp_monitor_laws.proofs.Naming.{IsFresh, is_fresh, judged_is, line7, named, new, whole}
 use Rattle.osdp_monitor_laws.proofs.Telling.{reply_found}
-use Rattle.osdp_monitor_laws.specs.Names.{Breaks, IsEvent, IsInTurn, IsTaken, NamesReaders}
-use Rattle.osdp_rules.specs.Packets.{same_check}
 
 pub checks_equal : (c d : CheckKind) → same_check c d ≡ true → c ≡ d
 checks_equal Sum Sum is = refl

@@ -1,7 +1,6 @@
 -- What is told as expected is one burst.
-use Rattle.std.proofs.Common.{◌≡◌, ◌∙◌, ℕ, List, Option, Some, None, sym}
+use Rattle.osdp_monitor_laws.proofs.Common.{◌≡◌, ◌∙◌, ℕ, List, Option, Some, None, sym, Packet}
 use Rattle.osdp_frame.proofs.Spelled.{spelled_is}
-use Rattle.osdp_frame.specs.Packet.{Packet}
 use Rattle.osdp_monitor.specs.Private.{IsSpelledIf}
 
 pub one_burst : (expected : Option Packet) (a b : List ℕ) → IsSpelledIf expected a → IsSpelledIf expected b → a ≡ b

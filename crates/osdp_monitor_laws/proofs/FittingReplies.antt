@@ -1,24 +1,11 @@
 -- What a reader says anew is an answer, and fits its command, whatever the handler does.
-use Rattle.std.proofs.Common.{◌≡◌, true, not, ◌&&◌, eqb, List, refl}
-use Rattle.std.proofs.lemmas.Bool.{false≢true}
-use Rattle.osdp_controller.specs.Answers.{meaning_by_reason, meaning_by_reply}
-use Rattle.osdp_msg.specs.declared.command.Command.{Command}
+use Rattle.osdp_monitor_laws.proofs.Common.{◌≡◌, true, not, ◌&&◌, eqb, List, refl, false≢true, meaning_by_reason, meaning_by_reply, Command, MsgFault, CheckCharacters, UnexpectedSequence, Reply, reply_fits, Answer, said_by, AnswerOfHandler, event_for, refused, unread_reason, answer_to, event_or_answer}
 use Rattle.osdp_msg.specs.declared.event.Event.{Event}
-use Rattle.osdp_msg.specs.declared.fault.MsgFault.{MsgFault}
 use Rattle.osdp_msg.specs.declared.nak.NakReason.{NakReason}
-use Rattle.osdp_msg.specs.declared.nak.NakReason.TheVariants.{CheckCharacters, UnexpectedSequence}
-use Rattle.osdp_msg.specs.declared.reply.Reply.{Reply}
 use Rattle.osdp_msg.specs.declared.reply.Reply.TheVariants as reply
 use Rattle.osdp_msg.specs.declared.reply_fields.Nak.{Nak}
-use Rattle.osdp_msg.specs.Fitting.{reply_fits}
 use Rattle.osdp_msg.specs.NakReasons.{reason_number}
-use Rattle.osdp_monitor.specs.declared.said.Said.TheVariants.{Answer}
-use Rattle.osdp_monitor.specs.Saying.{said_by}
 use Rattle.osdp_reader.specs.declared.config.ReaderConfig.{ReaderConfig}
-use Rattle.osdp_reader.specs.declared.handler.Answer.{Answer as AnswerOfHandler}
-use Rattle.osdp_reader.specs.Queue.{event_for}
-use Rattle.osdp_reader.specs.Replies.{refused, unread_reason}
-use Rattle.osdp_reader.specs.Table.{answer_to, event_or_answer}
 use Rattle.osdp_reader_laws.proofs.FittingReplies as replies
 use Rattle.osdp_reader_laws.proofs.PlainReplies.{unread_plain}
 

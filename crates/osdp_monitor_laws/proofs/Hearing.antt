@@ -1,30 +1,12 @@
 -- What a reader answers to a packet, beside what is known of its address.
-use Rattle.std.proofs.Common.{◌≡◌, ◌≢◌, ◌⊎◌, inl, inr, ℕ, Bool, true, false, cond, eqb, Option, Some, None, Result, Ok, Err, refl, sym, subst, ap, ◌∙◌}
-use Rattle.std.proofs.lemmas.Bool.{cond_both, eqb-false, eqb-true, false≢true}
-use Rattle.std.specs.Prelude.{IfSome}
-use Rattle.osdp_frame.specs.Packet.{Packet, next_sequence}
-use Rattle.osdp_msg.specs.Fitting.{reply_fits}
-use Rattle.osdp_msg.specs.ReplyTable.{ReplyFits}
-use Rattle.osdp_msg.specs.declared.command.Command.{Command}
-use Rattle.osdp_msg.specs.declared.fault.MsgFault.{MsgFault}
-use Rattle.osdp_msg.specs.declared.nak.NakReason.TheVariants.{UnexpectedSequence}
+use Rattle.osdp_monitor_laws.proofs.Common.{◌≡◌, ◌≢◌, ◌⊎◌, inl, inr, ℕ, Bool, true, false, cond, eqb, Option, Some, None, Result, Ok, Err, refl, sym, subst, ap, ◌∙◌, cond_both, eqb-false, eqb-true, false≢true, IfSome, Packet, next_sequence, reply_fits, ReplyFits, Command, MsgFault, UnexpectedSequence, Answer, Known, after_reply, is_event_at_zero, is_plain, said, AnswerOfHandler, event_for, offering, released, unoffered, refused, reply_packet, unread_reason, ReaderState, Outcome, answer_to, begun, command_in, event_or_answer, hears, is_for_another, kind_by_number, kind_of, moved, new_address, outcome, taken, check_same}
 use Rattle.osdp_msg.specs.declared.reply.Reply.TheVariants as reply
-use Rattle.osdp_monitor.specs.declared.said.Said.TheVariants.{Answer}
-use Rattle.osdp_monitor.specs.Known.{Known}
-use Rattle.osdp_monitor.specs.Reader.{after_reply, is_event_at_zero, is_plain}
-use Rattle.osdp_monitor.specs.Saying.{said}
-use Rattle.osdp_reader.specs.declared.handler.Answer.{Answer as AnswerOfHandler}
 use Rattle.osdp_reader.specs.declared.kind.Kind.{Kind}
 use Rattle.osdp_reader.specs.declared.kind.Kind.TheVariants.{Silent, Secured, Zero, Repeat, Taken, Busy, Wrong}
-use Rattle.osdp_reader.specs.Queue.{event_for, offering, released, unoffered}
-use Rattle.osdp_reader.specs.Replies.{refused, reply_packet, unread_reason}
-use Rattle.osdp_reader.specs.State.{ReaderState}
-use Rattle.osdp_reader.specs.Table.{Outcome, answer_to, begun, command_in, event_or_answer, hears, is_for_another, kind_by_number, kind_of, moved, new_address, outcome, taken}
 use Rattle.osdp_monitor_laws.proofs.Agreeing.{Agrees, IsAsked, TakesZero, agrees_new, none_some, same_some}
 use Rattle.osdp_monitor_laws.proofs.FittingReplies.{answer_suits, event_or_answer_suits, unread_answers}
 use Rattle.osdp_monitor_laws.proofs.Numbers.{next_above_zero}
 use Rattle.osdp_monitor_laws.proofs.Replying.{IsNext, Replies, acting, busy, refusing, repeating}
-use Rattle.osdp_rules.proofs.Comparing.{check_same}
 use Rattle.osdp_monitor_laws.proofs.Saying.{IsActedOn, IsOwnReply, ReadsReplies, no_event_above, no_event_of, own_reply_of, said_is}
 
 abbrev ok : Command → Result Command MsgFault

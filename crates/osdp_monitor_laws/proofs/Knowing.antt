@@ -1,12 +1,5 @@
 -- What a packet does to what is known of an address.
-use Rattle.std.proofs.Common.{◌≡◌, ◌≢◌, ℕ, true, false, cond, ◌||◌, eqb, Option, Some, None, refl, sym, subst}
-use Rattle.std.proofs.lemmas.Bool.{cond_both, eq-eqb, eqb-false, eqb-true}
-use Rattle.osdp_frame.specs.Packet.{Packet}
-use Rattle.osdp_monitor.specs.Known.{Known, nothing_known}
-use Rattle.osdp_monitor.specs.Line.{Knowledge, after_answered, after_packet, after_reply_if, devices_after_reply, devices_after_sent, found_in, found_in_reply, found_in_sent, known_at, moves_to, no_knowledge, nothing_found}
-use Rattle.osdp_monitor.specs.Panel.{after_sent, panel_accused}
-use Rattle.osdp_monitor.specs.Reader.{after_reply, reader_accused}
-use Rattle.osdp_monitor.specs.Saying.{is_foreign}
+use Rattle.osdp_monitor_laws.proofs.Common.{◌≡◌, ◌≢◌, ℕ, true, false, cond, ◌||◌, eqb, Option, Some, None, refl, sym, subst, cond_both, eq-eqb, eqb-false, eqb-true, Packet, Known, nothing_known, Knowledge, after_answered, after_packet, after_reply_if, devices_after_reply, devices_after_sent, found_in, found_in_reply, found_in_sent, known_at, moves_to, no_knowledge, nothing_found, after_sent, panel_accused, after_reply, reader_accused, is_foreign}
 
 module _ (Q : Known → Type 0) where
   pub at_known : (address a : ℕ) (k : Known) (devices : ℕ → Known) → (address ≡ a → Q k) → (address ≢ a → Q (devices a))

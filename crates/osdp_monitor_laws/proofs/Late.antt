@@ -1,13 +1,5 @@
 -- What a reply does to what is known, by whether it comes late, whether its packet was heard, and its number.
-use Rattle.std.proofs.Common.{◌≡◌, ◌≢◌, inl, inr, ℕ, Bool, true, false, cond, eqb, not, ◌&&◌, ◌||◌, Some, None, refl, sym, ap, ◌∙◌}
-use Rattle.std.proofs.lemmas.Bool.{and_left, and_right, cases_Bool, cond_both, eq-eqb, eqb-false, eqb-true, false≢true, ne_eqb, not_from_true, or_from, or_left, or_right}
-use Rattle.osdp_frame.specs.Packet.{Packet, next_sequence}
-use Rattle.osdp_monitor.specs.Known.{Known, is_number, nothing_known}
-use Rattle.osdp_monitor.specs.Panel.{is_in_row}
-use Rattle.osdp_monitor.specs.Reader.{after_answer, after_other, after_own, after_reply, after_reply_of, has_earlier_number, has_no_number, is_busy_of_either, is_doubtful, is_late, is_of_either, is_owed, is_owed_number, is_stray, is_unheard, tells_number}
-use Rattle.osdp_monitor.specs.declared.said.Said.{Said}
-use Rattle.osdp_monitor.specs.declared.said.Said.TheVariants.{Answer}
-use Rattle.osdp_monitor.specs.Saying.{is_answer, said}
+use Rattle.osdp_monitor_laws.proofs.Common.{◌≡◌, ◌≢◌, inl, inr, ℕ, Bool, true, false, cond, eqb, not, ◌&&◌, ◌||◌, Some, None, refl, sym, ap, ◌∙◌, and_left, and_right, cases_Bool, cond_both, eq-eqb, eqb-false, eqb-true, false≢true, ne_eqb, not_from_true, or_from, or_left, or_right, Packet, next_sequence, Known, is_number, nothing_known, is_in_row, after_answer, after_other, after_own, after_reply, after_reply_of, has_earlier_number, has_no_number, is_busy_of_either, is_doubtful, is_late, is_of_either, is_owed, is_owed_number, is_stray, is_unheard, tells_number, Said, Answer, is_answer, said}
 use Rattle.osdp_monitor_laws.proofs.Numbers.{next_differs}
 
 -- nothing is new after a late one or a stray BUSY, and nothing is known where its packet wasn't heard

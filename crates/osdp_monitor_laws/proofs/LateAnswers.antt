@@ -1,17 +1,5 @@
 -- A reader that answers late, by the rules: it is accused of nothing, and is told by name.
-use Rattle.std.proofs.Common.{◌≡◌, ◌≢◌, inl, inr, ℕ, ◌+◌, Bool, true, false, ◌||◌, List, [], ◌∷◌, ◌++◌, Some, None, refl, sym, subst, ap, ◌∙◌}
-use Rattle.std.proofs.lemmas.Bool.{and_parts, cond_both, eqb-true, or_cases}
-use Rattle.std.specs.Prelude.{nat_lt, option_to_list}
-use Rattle.osdp_frame.specs.Packet.{Packet}
-use Rattle.osdp_frame.specs.declared.check_kind.CheckKind.TheVariants.{Sum}
-use Rattle.osdp_frame.specs.Reading.{smallest}
-use Rattle.osdp_monitor.specs.declared.found.Found.{Found}
-use Rattle.osdp_monitor.specs.declared.found.Notice.TheVariants.{Late}
-use Rattle.osdp_monitor.specs.Known.{Known, nothing_known}
-use Rattle.osdp_monitor.specs.Line.{after_packet, found_in, moves_to, no_knowledge}
-use Rattle.osdp_monitor.specs.Reader.{is_late}
-use Rattle.osdp_monitor.specs.declared.said.Said.TheVariants.{Answer}
-use Rattle.osdp_monitor.specs.Saying.{is_answer, said}
+use Rattle.osdp_monitor_laws.proofs.Common.{◌≡◌, ◌≢◌, inl, inr, ℕ, ◌+◌, Bool, true, false, ◌||◌, List, [], ◌∷◌, ◌++◌, Some, None, refl, sym, subst, ap, ◌∙◌, and_parts, cond_both, eqb-true, or_cases, nat_lt, option_to_list, Packet, Sum, smallest, Found, Late, Known, nothing_known, after_packet, found_in, moves_to, no_knowledge, is_late, Answer, is_answer, said, AnyReader, accused_in}
 use Rattle.osdp_monitor_laws.proofs.Agreeing.{none_some, zero_untaken}
 use Rattle.osdp_monitor_laws.proofs.AnyReaders.{Stores, goes_sends, stores_none}
 use Rattle.osdp_monitor_laws.proofs.Hearing.{IsSaid}
@@ -23,9 +11,7 @@ use Rattle.osdp_monitor_laws.proofs.LateOlder.{is_late_by, late_both, late_unkno
 use Rattle.osdp_monitor_laws.proofs.LateLines.{Holds, came_fine, came_holds, forgotten, known_holds, repeats, sends, steps_stores}
 use Rattle.osdp_monitor_laws.proofs.ReaderLines.{zero_after}
 use Rattle.osdp_monitor_laws.proofs.Telling.{late_told, reply_found}
-use Rattle.osdp_monitor_laws.specs.AnyReader.{AnyReader}
 use Rattle.osdp_monitor_laws.specs.LateReader.{AccusesNoLateReader, AreAllowed, IsAllowed, LateLine, LateMove, Owed, TellsLateReaders, Restart, Send, Repeat, Others, AnswerComes, Skip, Forget, accusations, accused_by, after_answer, after_move, after_moves, after_owed, answers, comes, first_of, has_number, new_line, next_answer}
-use Rattle.osdp_monitor_laws.specs.ReaderLine.{accused_in}
 
 -- ---- the answers, one after the other
 

@@ -1,17 +1,7 @@
 -- What is known of a reader that answers late: the answers that are owed, and what each packet to it makes of that.
-use Rattle.std.proofs.Common.{◌≡◌, ◌≢◌, ◌⊎◌, inl, inr, ℕ, Bool, true, false, eqb, ◌||◌, not, List, [], ◌∷◌, ◌++◌, Option, Some, None, refl, sym, subst, ap, ◌∙◌, append-nil}
-use Rattle.std.proofs.lemmas.Bool.{and_from, and_left, cases_Bool, cond-false, cond-true, cond_both, eq-eqb, eqb-true, false≢true, not_from_false, not_from_true, or_left, or_right}
-use Rattle.std.specs.Prelude.{is_some}
-use Rattle.osdp_frame.specs.Packet.{Packet}
-use Rattle.osdp_monitor.specs.Known.{Known, is_number, nothing_known}
-use Rattle.osdp_monitor.specs.Panel.{after_another, after_copy, after_sent, before_row, is_in_row, is_waiting, keeps_number, left_waiting}
-use Rattle.osdp_monitor.specs.Reader.{is_owed}
+use Rattle.osdp_monitor_laws.proofs.Common.{◌≡◌, ◌≢◌, ◌⊎◌, inl, inr, ℕ, Bool, true, false, eqb, ◌||◌, not, List, [], ◌∷◌, ◌++◌, Option, Some, None, refl, sym, subst, ap, ◌∙◌, append-nil, and_from, and_left, cases_Bool, cond-false, cond-true, cond_both, eq-eqb, eqb-true, false≢true, not_from_false, not_from_true, or_left, or_right, is_some, Packet, Known, is_number, nothing_known, after_another, after_copy, after_sent, before_row, is_in_row, is_waiting, keeps_number, left_waiting, is_owed, is_packet, packet_is, AnyReader, Goes, Way, IsSilent, Owed, owed_of, same_packet}
 use Rattle.osdp_monitor_laws.proofs.Agreeing.{none_some, same_some, sent_asked}
 use Rattle.osdp_monitor_laws.proofs.LateReaders.{Follows, IsTakenOr, follows_untaken, sent_follows}
-use Rattle.osdp_rules.proofs.Comparing.{is_packet, packet_is}
-use Rattle.osdp_monitor_laws.specs.AnyReader.{AnyReader, Goes, Way, IsSilent}
-use Rattle.osdp_monitor_laws.specs.LateReader.{Owed, owed_of}
-use Rattle.osdp_rules.specs.Packets.{same_packet}
 
 -- ---- the answers that haven't come yet, from the reader as it was when it heard the packet of the first of them
 

@@ -1,18 +1,11 @@
 -- A reader that answers late, and its listener: what holds of them, whatever is sent.
-use Rattle.std.proofs.Common.{◌≡◌, ◌⊎◌, inl, inr, ℕ, Bool, true, false, eqb, List, [], ◌++◌, Option, Some, None, refl, sym, subst, ap, ◌∙◌, append_assoc}
-use Rattle.std.proofs.lemmas.Bool.{cases_Bool, eqb-false, eqb-true, false≢true}
-use Rattle.osdp_frame.specs.Packet.{Packet}
-use Rattle.osdp_monitor.specs.Known.{Known, nothing_known}
-use Rattle.osdp_monitor.specs.Line.{Knowledge, after_packet, found_in, no_knowledge}
-use Rattle.osdp_monitor.specs.Panel.{after_sent}
-use Rattle.osdp_monitor.specs.Reader.{after_reply, reader_accused}
+use Rattle.osdp_monitor_laws.proofs.Common.{◌≡◌, ◌⊎◌, inl, inr, ℕ, Bool, true, false, eqb, List, [], ◌++◌, Option, Some, None, refl, sym, subst, ap, ◌∙◌, append_assoc, cases_Bool, eqb-false, eqb-true, false≢true, Packet, Known, nothing_known, Knowledge, after_packet, found_in, no_knowledge, after_sent, after_reply, reader_accused, AnyReader, Way}
 use Rattle.osdp_monitor_laws.proofs.Agreeing.{TakesZero, none_some, same_some, zero_untaken}
 use Rattle.osdp_monitor_laws.proofs.AnyReaders.{Stores, same_stores, stores_none}
 use Rattle.osdp_monitor_laws.proofs.Hearing.{IsSaid}
 use Rattle.osdp_monitor_laws.proofs.Knowing.{all_in_order, at_address, at_all, reply_in_order}
 use Rattle.osdp_monitor_laws.proofs.Numbers.{next_differs}
 use Rattle.osdp_monitor_laws.proofs.ReaderLines.{zero_after}
-use Rattle.osdp_monitor_laws.specs.AnyReader.{AnyReader, Way}
 use Rattle.osdp_monitor_laws.specs.LateReader.{Hears, IsNext, LateLine, MaySend, Owed, known_if, owed_of}
 use Rattle.osdp_monitor_laws.proofs.LateKnown.{AreApart, AreInOrder, AreNumbered, AreTo, Came, Chain, HoldsAt, Steps, again_holds, apart_numbered, apart_zero, chain_heard, nothing_holds, numbered_more, numbered_to, order_more, order_numbered, sent_holds, to_more}
 

@@ -1,12 +1,5 @@
 -- An answer to a packet before the last one, of a reader that answers late.
-use Rattle.std.proofs.Common.{◌≡◌, ◌≢◌, ◌⊎◌, inl, inr, ℕ, Bool, true, false, eqb, ◌||◌, not, List, [], ◌∷◌, Option, Some, None, refl, sym, subst, ap, ◌∙◌}
-use Rattle.std.proofs.lemmas.Bool.{and_from, and_right, cases_Bool, cond-true, eq-eqb, eqb-false, eqb-true, false≢true, ne_eqb, not_from_false, or_cases, or_left, or_right}
-use Rattle.std.specs.Prelude.{is_some}
-use Rattle.osdp_frame.specs.Packet.{Packet}
-use Rattle.osdp_monitor.specs.declared.said.Said.TheVariants.{Busy, Damage, Answer}
-use Rattle.osdp_monitor.specs.Known.{Known, is_number}
-use Rattle.osdp_monitor.specs.Reader.{after_answer, after_reply, after_reply_of, has_earlier_number, is_late, is_owed, is_owed_number, is_stray, reader_accused, repeat_reply, tells_number}
-use Rattle.osdp_monitor.specs.Saying.{is_answer, said}
+use Rattle.osdp_monitor_laws.proofs.Common.{◌≡◌, ◌≢◌, ◌⊎◌, inl, inr, ℕ, Bool, true, false, eqb, ◌||◌, not, List, [], ◌∷◌, Option, Some, None, refl, sym, subst, ap, ◌∙◌, and_from, and_right, cases_Bool, cond-true, eq-eqb, eqb-false, eqb-true, false≢true, ne_eqb, not_from_false, or_cases, or_left, or_right, is_some, Packet, Busy, Damage, Answer, Known, is_number, after_answer, after_reply, after_reply_of, has_earlier_number, is_late, is_owed, is_owed_number, is_stray, reader_accused, repeat_reply, tells_number, is_answer, said, AnyReader, Goes, Way, Acts, Repeats, IsBusy, FindsDamage, Refuses, IsSilent, HasItsNumber, Owed, answers, has_number}
 use Rattle.osdp_monitor_laws.proofs.Agreeing.{none_some, same_some}
 use Rattle.osdp_monitor_laws.proofs.AnyReaders.{Stores}
 use Rattle.osdp_monitor_laws.proofs.Late.{busy_doubtful, by_number, own_counts}
@@ -14,9 +7,6 @@ use Rattle.osdp_monitor_laws.proofs.LateReaders.{Follows, IsTakenOr, damage_accu
 use Rattle.osdp_monitor_laws.proofs.PanelLines.{last_by}
 use Rattle.osdp_monitor_laws.proofs.Replying.{no_repeat}
 use Rattle.osdp_monitor_laws.proofs.Telling.{late_accused, left_alone, owing_by, settled_by, tells}
-use Rattle.osdp_monitor_laws.specs.AnyReader.{AnyReader, Goes, Way, Acts, Repeats, IsBusy, FindsDamage, Refuses, IsSilent}
-use Rattle.osdp_monitor_laws.specs.Late.{HasItsNumber}
-use Rattle.osdp_monitor_laws.specs.LateReader.{Owed, answers, has_number}
 use Rattle.osdp_monitor_laws.proofs.LateKnown.{AreLeft, AreNumbered, HoldsAt, IsOwed, KnownSo, Left, Steps, waits_owing}
 use Rattle.osdp_monitor_laws.proofs.LateOwn.{no_answer, taken_own}
 

@@ -1,13 +1,5 @@
 -- An answer to the last packet, of a reader that answers late.
-use Rattle.std.proofs.Common.{◌≡◌, ◌≢◌, ◌⊎◌, inl, inr, ℕ, Bool, true, false, cond, ◌&&◌, ◌||◌, not, List, [], ◌∷◌, Option, Some, None, refl, sym, subst, ap, ◌∙◌}
-use Rattle.std.proofs.lemmas.Bool.{and_left, false≢true, not_from_true, or_cases, or_left}
-use Rattle.std.specs.Prelude.{is_some}
-use Rattle.osdp_frame.specs.Packet.{Packet}
-use Rattle.osdp_monitor.specs.declared.said.Said.{Said}
-use Rattle.osdp_monitor.specs.declared.said.Said.TheVariants.{Busy, Damage, Refusal, Answer}
-use Rattle.osdp_monitor.specs.Known.{Known}
-use Rattle.osdp_monitor.specs.Reader.{after_reply, after_reply_of, is_owed, reader_accused, repeat_reply}
-use Rattle.osdp_monitor.specs.Saying.{is_answer, said}
+use Rattle.osdp_monitor_laws.proofs.Common.{◌≡◌, ◌≢◌, ◌⊎◌, inl, inr, ℕ, Bool, true, false, cond, ◌&&◌, ◌||◌, not, List, [], ◌∷◌, Option, Some, None, refl, sym, subst, ap, ◌∙◌, and_left, false≢true, not_from_true, or_cases, or_left, is_some, Packet, Said, Busy, Damage, Refusal, Answer, Known, after_reply, after_reply_of, is_owed, reader_accused, repeat_reply, is_answer, said, AnyReader, Goes, Way, Acts, Repeats, IsBusy, FindsDamage, Refuses, IsSilent, Owed, answers, has_number}
 use Rattle.osdp_monitor_laws.proofs.Agreeing.{TakesZero, none_some, same_some}
 use Rattle.osdp_monitor_laws.proofs.AnyReaders.{Stores}
 use Rattle.osdp_monitor_laws.proofs.Late.{by_fate, by_number, own_counts}
@@ -15,8 +7,6 @@ use Rattle.osdp_monitor_laws.proofs.LateReaders.{Follows, IsTakenOr, follows_new
 use Rattle.osdp_monitor_laws.proofs.Naming.{repeat_taken}
 use Rattle.osdp_monitor_laws.proofs.PanelLines.{last_by}
 use Rattle.osdp_monitor_laws.proofs.Telling.{owing_by}
-use Rattle.osdp_monitor_laws.specs.AnyReader.{AnyReader, Goes, Way, Acts, Repeats, IsBusy, FindsDamage, Refuses, IsSilent}
-use Rattle.osdp_monitor_laws.specs.LateReader.{Owed, answers, has_number}
 use Rattle.osdp_monitor_laws.proofs.LateKnown.{AreTo, HoldsAt, KnownSo, Steps, Waits, first_waits}
 
 -- ---- an answer to the last packet

@@ -1,22 +1,10 @@
 -- A reader that answers late, by the rules: what its listener knows follows it, one answer after the other.
-use Rattle.std.proofs.Common.{◌≡◌, ◌⊎◌, inl, inr, ℕ, Bool, true, false, cond, eqb, ◌&&◌, ◌||◌, not, Option, Some, None, refl, sym, subst, ap, ◌∙◌}
-use Rattle.std.proofs.lemmas.Bool.{and_from, and_left, and_right, cases_Bool, cond-false, cond-true, cond_both, eq-eqb, false≢true, not_from_true, or_left}
-use Rattle.std.specs.Prelude.{is_some}
-use Rattle.osdp_frame.specs.Packet.{Packet, next_sequence}
-use Rattle.osdp_monitor.specs.declared.accusation.Accusation.TheVariants.{SecondReply}
-use Rattle.osdp_monitor.specs.declared.said.Said.{Said}
-use Rattle.osdp_monitor.specs.declared.said.Said.TheVariants.{Busy, Damage, Refusal, Answer}
-use Rattle.osdp_monitor.specs.Known.{Known, nothing_known}
-use Rattle.osdp_monitor.specs.Panel.{after_another, after_copy, after_sent, keeps_number, left_waiting}
-use Rattle.osdp_monitor.specs.Reader.{after_answer, after_reply, after_reply_of, answer_accused, has_earlier_number, is_doubtful, is_late, is_one_more, is_owed, is_stray, reader_accused, repeat_reply, reply_accused}
-use Rattle.osdp_monitor.specs.Saying.{is_answer, is_damage, said}
+use Rattle.osdp_monitor_laws.proofs.Common.{◌≡◌, ◌⊎◌, inl, inr, ℕ, Bool, true, false, cond, eqb, ◌&&◌, ◌||◌, not, Option, Some, None, refl, sym, subst, ap, ◌∙◌, and_from, and_left, and_right, cases_Bool, cond-false, cond-true, cond_both, eq-eqb, false≢true, not_from_true, or_left, is_some, Packet, next_sequence, SecondReply, Said, Busy, Damage, Refusal, Answer, Known, nothing_known, after_another, after_copy, after_sent, keeps_number, left_waiting, after_answer, after_reply, after_reply_of, answer_accused, has_earlier_number, is_doubtful, is_late, is_one_more, is_owed, is_stray, reader_accused, repeat_reply, reply_accused, is_answer, is_damage, said, AnyReader, Goes, Way, Acts, Repeats, IsBusy, FindsDamage, Refuses, IsSilent, same_packet}
 use Rattle.osdp_monitor_laws.proofs.Agreeing.{Agrees, IsAsked, Level, TakesZero, none_some, same_some}
 use Rattle.osdp_monitor_laws.proofs.AnyReaders.{Stores, goes_comes}
 use Rattle.osdp_monitor_laws.proofs.Late.{by_fate, by_number, either_doubtful, own_counts}
 use Rattle.osdp_monitor_laws.proofs.Numbers.{next_differs}
 use Rattle.osdp_monitor_laws.proofs.Replying.{taking_agrees}
-use Rattle.osdp_monitor_laws.specs.AnyReader.{AnyReader, Goes, Way, Acts, Repeats, IsBusy, FindsDamage, Refuses, IsSilent}
-use Rattle.osdp_rules.specs.Packets.{same_packet}
 
 -- both have the same last number, where both are known, and a repeat of it has the reply that is known
 abbrev pub Follows : Known → AnyReader → Type 0

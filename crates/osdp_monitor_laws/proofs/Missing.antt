@@ -1,27 +1,10 @@
 -- What the rules never miss.
-use Rattle.std.proofs.Common.{◌≡◌, ◌≢◌, ◌⊎◌, inl, inr, ℕ, Bool, true, false, cond, eqb, ◌&&◌, ◌||◌, not, ◌∷◌, ◌++◌, Option, Some, None, refl, sym, subst, ap, ◌∙◌}
-use Rattle.std.proofs.lemmas.Bool.{not_from_true, and_from, and_left, and_right, cond-false, cond-true, cond_both, eq-eqb, false≢true, false_from_ne_true, ne_eqb, not_from_false, or_right}
-use Rattle.std.specs.Prelude.{is_some}
-use Rattle.osdp_frame.specs.Packet.{Packet, next_sequence}
-use Rattle.osdp_frame.specs.Reading.{PacketItem}
-use Rattle.osdp_monitor.specs.declared.accusation.Accusation.{Accusation}
-use Rattle.osdp_monitor.specs.declared.accusation.Accusation.TheVariants.{AnotherCheck, AnotherNumber, AnotherPacket, AnotherReply, BusyToRepeat, NotAnswered, SecondReply}
-use Rattle.osdp_monitor.specs.declared.found.Notice.TheVariants.{Unsure}
-use Rattle.osdp_monitor.specs.declared.said.Said.{Said}
-use Rattle.osdp_monitor.specs.declared.said.Said.TheVariants.{Busy, Damage, Refusal, Answer}
-use Rattle.osdp_monitor.specs.Known.{Known, is_number}
-use Rattle.osdp_monitor.specs.Line.{Knowledge, after_items, after_packet, found_in, found_in_reply, found_in_sent, notice_in_sent}
-use Rattle.osdp_monitor.specs.Panel.{after_another, after_copy, after_sent, is_doubt, is_first_doubt, keeps_number, left_waiting, panel_accused, sent_after}
-use Rattle.osdp_monitor.specs.Reader.{after_answer, after_reply_of, has_earlier_number, is_doubtful, is_late, is_one_more, is_owed, is_owed_number, is_stray, is_unheard, reader_accused, repeat_reply, reply_accused, tells_number}
-use Rattle.osdp_monitor.specs.Saying.{is_answer, is_foreign, said}
+use Rattle.osdp_monitor_laws.proofs.Common.{◌≡◌, ◌≢◌, ◌⊎◌, inl, inr, ℕ, Bool, true, false, cond, eqb, ◌&&◌, ◌||◌, not, ◌∷◌, ◌++◌, Option, Some, None, refl, sym, subst, ap, ◌∙◌, not_from_true, and_from, and_left, and_right, cond-false, cond-true, cond_both, eq-eqb, false≢true, false_from_ne_true, ne_eqb, not_from_false, or_right, is_some, Packet, next_sequence, PacketItem, Accusation, AnotherCheck, AnotherNumber, AnotherPacket, AnotherReply, BusyToRepeat, NotAnswered, SecondReply, Unsure, Said, Busy, Damage, Refusal, Answer, Known, is_number, Knowledge, after_items, after_packet, found_in, found_in_reply, found_in_sent, notice_in_sent, after_another, after_copy, after_sent, is_doubt, is_first_doubt, keeps_number, left_waiting, panel_accused, sent_after, after_answer, after_reply_of, has_earlier_number, is_doubtful, is_late, is_one_more, is_owed, is_owed_number, is_stray, is_unheard, reader_accused, repeat_reply, reply_accused, tells_number, is_answer, is_foreign, said, packet_is, IsCopyOrReply, IsFrom, IsRemembered, IsTo, LeavesUnanswered, MissesNoOtherPacket, MissesNoOtherReply, MissesNoUnanswered, RefusesNothing, SaysOther, TakesNothing, same_check, same_packet}
 use Rattle.osdp_monitor_laws.proofs.Agreeing.{none_some, same_some, sent_asked}
 use Rattle.osdp_monitor_laws.proofs.Late.{by_fate, by_number, certain, own_counts, own_heard, own_in_time}
 use Rattle.osdp_monitor_laws.proofs.Numbers.{next_above_zero, next_differs}
 use Rattle.osdp_monitor_laws.proofs.PanelLines.{last_by}
 use Rattle.osdp_monitor_laws.proofs.Remembering.{after_append, after_one, at_remembered, forgotten_append, items_keep, sent_remembered}
-use Rattle.osdp_rules.proofs.Comparing.{packet_is}
-use Rattle.osdp_monitor_laws.specs.Misses.{IsCopyOrReply, IsFrom, IsRemembered, IsTo, LeavesUnanswered, MissesNoOtherPacket, MissesNoOtherReply, MissesNoUnanswered, RefusesNothing, SaysOther, TakesNothing}
-use Rattle.osdp_rules.specs.Packets.{same_check, same_packet}
 
 -- ---- what is found, where the packet is judged
 

@@ -1,34 +1,10 @@
 -- Each accusation by its name.
-use Rattle.std.proofs.Common.{◌≡◌, ◌≢◌, ◌⊎◌, inl, inr, ℕ, Bool, true, false, cond, eqb, ◌&&◌, ◌||◌, not, List, ◌∷◌, ◌++◌, Option, Some, None, Ok, refl, sym, subst, ap, ◌∙◌}
-use Rattle.std.proofs.lemmas.Bool.{and_left, and_right, cond-false, cond-true, cond_both, eq-eqb, eqb-true, false≢true, ne_eqb, not_from_true, or_from, or_left, or_right}
-use Rattle.std.specs.Prelude.{is_some}
-use Rattle.osdp_frame.specs.declared.check_kind.CheckKind.{CheckKind}
-use Rattle.osdp_frame.specs.declared.check_kind.CheckKind.TheVariants.{Sum, Crc}
-use Rattle.osdp_frame.specs.Packet.{Packet, next_sequence}
-use Rattle.osdp_frame.specs.Reading.{RunItem, PacketItem}
-use Rattle.osdp_msg.specs.Fitting.{reply_fits}
-use Rattle.osdp_msg.specs.declared.command.Command.{Command}
-use Rattle.osdp_msg.specs.declared.command.Command.TheVariants.{Poll}
-use Rattle.osdp_msg.specs.declared.reply.Reply.{Reply}
+use Rattle.osdp_monitor_laws.proofs.Common.{◌≡◌, ◌≢◌, ◌⊎◌, inl, inr, ℕ, Bool, true, false, cond, eqb, ◌&&◌, ◌||◌, not, List, ◌∷◌, ◌++◌, Option, Some, None, Ok, refl, sym, subst, ap, ◌∙◌, and_left, and_right, cond-false, cond-true, cond_both, eq-eqb, eqb-true, false≢true, ne_eqb, not_from_true, or_from, or_left, or_right, is_some, CheckKind, Sum, Crc, Packet, next_sequence, RunItem, PacketItem, reply_fits, Command, Poll, Reply, Accusation, SentOutOfTurn, AnotherNumber, AnotherCheck, RefusedZero, TakenOutOfTurn, UnreadReply, UnfitReply, EventAtZero, Said, Busy, Damage, Refusal, Answer, Known, is_number, Knowledge, after_items, after_packet, found_in, after_another, after_copy, after_sent, before_row, is_in_row, is_waiting, keeps_number, left_waiting, panel_accused, sent_after, after_answer, after_reply, after_reply_of, has_earlier_number, has_no_number, is_doubtful, is_late, is_owed, is_plain, is_stray, is_unheard, reader_accused, reading_accused, repeat_reply, reply_accused, taken_accused, turn_accused, asked, is_answer, reply_told, said, packet_is, IsNone, Each, IsCopyOrReply, IsFrom, IsRemembered, IsTo, NothingForgotten, Breaks, Exchange, FitsNumber, Happens, IsEvent, IsInTurn, IsTaken, MissesNoPacketOutOfTurn, items_of, same_check, same_packet}
 use Rattle.osdp_msg.specs.declared.reply.Reply.TheVariants as reply
-use Rattle.osdp_monitor.specs.declared.accusation.Accusation.{Accusation}
-use Rattle.osdp_monitor.specs.declared.accusation.Accusation.TheVariants.{SentOutOfTurn, AnotherNumber, AnotherCheck, RefusedZero, TakenOutOfTurn, UnreadReply, UnfitReply, EventAtZero}
-use Rattle.osdp_monitor.specs.declared.said.Said.{Said}
-use Rattle.osdp_monitor.specs.declared.said.Said.TheVariants.{Busy, Damage, Refusal, Answer}
-use Rattle.osdp_monitor.specs.Known.{Known, is_number}
-use Rattle.osdp_monitor.specs.Line.{Knowledge, after_items, after_packet, found_in}
-use Rattle.osdp_monitor.specs.Panel.{after_another, after_copy, after_sent, before_row, is_in_row, is_waiting, keeps_number, left_waiting, panel_accused, sent_after}
-use Rattle.osdp_monitor.specs.Reader.{after_answer, after_reply, after_reply_of, has_earlier_number, has_no_number, is_doubtful, is_late, is_owed, is_plain, is_stray, is_unheard, reader_accused, reading_accused, repeat_reply, reply_accused, taken_accused, turn_accused}
-use Rattle.osdp_monitor.specs.Saying.{asked, is_answer, reply_told, said}
 use Rattle.osdp_monitor_laws.proofs.Agreeing.{none_some, same_some, sent_asked}
 use Rattle.osdp_monitor_laws.proofs.Late.{by_number, certain, none_owed, own_counts}
 use Rattle.osdp_monitor_laws.proofs.Missing.{IsLast, by_rules, device_of, first_last, last_step, no_doubt, sent_found}
 use Rattle.osdp_monitor_laws.proofs.Remembering.{after_append, after_one, at_remembered, forgotten_append, items_keep, sent_remembered}
-use Rattle.osdp_rules.proofs.Comparing.{packet_is}
-use Rattle.osdp_monitor_laws.specs.Late.{IsNone}
-use Rattle.osdp_monitor_laws.specs.Misses.{Each, IsCopyOrReply, IsFrom, IsRemembered, IsTo, NothingForgotten}
-use Rattle.osdp_monitor_laws.specs.Names.{Breaks, Exchange, FitsNumber, Happens, IsEvent, IsInTurn, IsTaken, MissesNoPacketOutOfTurn, items_of}
-use Rattle.osdp_rules.specs.Packets.{same_check, same_packet}
 
 -- ---- a packet out of turn
 

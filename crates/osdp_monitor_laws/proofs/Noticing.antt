@@ -1,23 +1,8 @@
 -- Each notice by its name.
-use Rattle.std.proofs.Common.{◌≡◌, ◌≢◌, ℕ, true, false, cond, eqb, ◌&&◌, not, [], ◌∷◌, ◌++◌, Option, Some, None, Result, Ok, refl, sym, subst, ap, ◌∙◌}
-use Rattle.std.proofs.lemmas.Bool.{and_from, and_left, and_parts, and_right, cond-false, cond-true, cond_both, eq-eqb, eqb-true, false≢true, ne_eqb, not-true, not_from_false, not_from_true, or_from}
-use Rattle.std.specs.Prelude.{is_some}
-use Rattle.osdp_frame.specs.Packet.{Packet, next_sequence}
-use Rattle.osdp_frame.specs.Reading.{PacketItem}
-use Rattle.osdp_msg.specs.declared.fault.MsgFault.{MsgFault}
-use Rattle.osdp_msg.specs.declared.reply.Reply.{Reply}
+use Rattle.osdp_monitor_laws.proofs.Common.{◌≡◌, ◌≢◌, ℕ, true, false, cond, eqb, ◌&&◌, not, [], ◌∷◌, ◌++◌, Option, Some, None, Result, Ok, refl, sym, subst, ap, ◌∙◌, and_from, and_left, and_parts, and_right, cond-false, cond-true, cond_both, eq-eqb, eqb-true, false≢true, ne_eqb, not-true, not_from_false, not_from_true, or_from, is_some, Packet, next_sequence, PacketItem, MsgFault, Reply, Found, Opened, Moved, Restarted, Unanswered, Unsure, Said, Refusal, Known, Knowledge, after_items, after_packet, found_in, late_notice, moves_to, notice_if, reply_notice, after_another, after_copy, after_sent, is_first_doubt, is_missed, keeps_number, left_waiting, has_earlier_number, is_late, is_nak, is_one_more, is_opening, is_owed, is_unheard, reader_accused, is_answer, is_foreign, is_refusal, reply_told, said, IsRemembered, IsTo, NothingForgotten, Exchange, Happens, items_of, same_packet}
 use Rattle.osdp_msg.specs.declared.reply.Reply.TheVariants as reply
 use Rattle.osdp_msg.specs.declared.reply_fields.Nak as nak
-use Rattle.osdp_monitor.specs.declared.found.Found.{Found}
 use Rattle.osdp_monitor.specs.declared.found.Notice.{Notice}
-use Rattle.osdp_monitor.specs.declared.found.Notice.TheVariants.{Opened, Moved, Restarted, Unanswered, Unsure}
-use Rattle.osdp_monitor.specs.declared.said.Said.{Said}
-use Rattle.osdp_monitor.specs.declared.said.Said.TheVariants.{Refusal}
-use Rattle.osdp_monitor.specs.Known.{Known}
-use Rattle.osdp_monitor.specs.Line.{Knowledge, after_items, after_packet, found_in, late_notice, moves_to, notice_if, reply_notice}
-use Rattle.osdp_monitor.specs.Panel.{after_another, after_copy, after_sent, is_first_doubt, is_missed, keeps_number, left_waiting}
-use Rattle.osdp_monitor.specs.Reader.{has_earlier_number, is_late, is_nak, is_one_more, is_opening, is_owed, is_unheard, reader_accused}
-use Rattle.osdp_monitor.specs.Saying.{is_answer, is_foreign, is_refusal, reply_told, said}
 use Rattle.osdp_monitor_laws.proofs.Accusing.{IsAnswered, now_answered}
 use Rattle.osdp_monitor_laws.proofs.Agreeing.{none_some, same_some, sent_asked}
 use Rattle.osdp_monitor_laws.proofs.Late.{none_owed, says_answer, unheard_doubtful}
@@ -26,10 +11,7 @@ use Rattle.osdp_monitor_laws.proofs.Naming.{IsFresh, heard, in_time, is_fresh, l
 use Rattle.osdp_monitor_laws.proofs.Seconds.{nothing_more, replied}
 use Rattle.osdp_monitor_laws.proofs.Remembering.{after_append, after_one, forgotten_append, sent_remembered}
 use Rattle.osdp_monitor_laws.proofs.Telling.{late_accused, reply_found, tells}
-use Rattle.osdp_monitor_laws.specs.Misses.{IsRemembered, IsTo, NothingForgotten}
-use Rattle.osdp_monitor_laws.specs.Names.{Exchange, Happens, items_of}
 use Rattle.osdp_monitor_laws.specs.Notices.{or_doubt, IsWorth, TellsNoAnswered, TellsReplies, TellsTooLittle, TellsUnanswered, TellsUnansweredOnce, TellsUnheard}
-use Rattle.osdp_rules.specs.Packets.{same_packet}
 
 -- ---- a reply
 

@@ -1,6 +1,5 @@
 -- Numbers that follow one another.
-use Rattle.std.proofs.Common.{◌≢◌, ℕ, arith}
-use Rattle.osdp_frame.specs.Packet.{next_sequence}
+use Rattle.osdp_monitor_laws.proofs.Common.{◌≢◌, ℕ, arith, next_sequence}
 
 pub next_differs : (n : ℕ) → next_sequence n ≢ n
 next_differs n same = omega (arith, same)

@@ -1,25 +1,9 @@
 -- A panel and a listener on two wires: what the listener knows fits the panel, whatever happens.
-use Rattle.std.proofs.Common.{◌≡◌, inl, inr, ℕ, ◌+◌, Bool, true, false, eqb, ◌&&◌, not, List, [], ◌∷◌, ◌++◌, Option, Some, None, refl, sym, subst, ap, ◌∙◌}
-use Rattle.std.proofs.lemmas.Bool.{cond_both, eqb-true, false≢true, or_from}
-use Rattle.std.specs.Prelude.{is_some, nat_lt, option_to_list}
-use Rattle.osdp_controller.specs.declared.config.ControllerConfig.{ControllerConfig}
+use Rattle.osdp_monitor_laws.proofs.Common.{◌≡◌, inl, inr, ℕ, ◌+◌, Bool, true, false, eqb, ◌&&◌, not, List, [], ◌∷◌, ◌++◌, Option, Some, None, refl, sym, subst, ap, ◌∙◌, cond_both, eqb-true, false≢true, or_from, is_some, nat_lt, option_to_list, ControllerConfig, Session, State, Closed, Quiet, Idle, Waiting, Pausing, seen, Sum, Packet, smallest, Said, Answer, Known, nothing_known, Knowledge, after_packet, no_knowledge, after_reply, after_reply_of, is_late, is_stray, repeat_reply, said}
 use Rattle.osdp_controller.specs.declared.exchange.Exchange.{Exchange}
 use Rattle.osdp_controller.specs.declared.fault.ControllerFault.{ControllerFault}
-use Rattle.osdp_controller.specs.declared.session.Session.{Session}
-use Rattle.osdp_controller.specs.declared.state.State.{State}
-use Rattle.osdp_controller.specs.declared.state.State.TheVariants.{Closed, Quiet, Idle, Waiting, Pausing}
 use Rattle.osdp_controller.specs.Hearing.{hears, is_from_reader}
 use Rattle.osdp_controller.specs.Machine.{Machine, after_begin, after_frame, after_retarget, after_submit, after_tick, begin_refusal, changed_unless, or_no_device, refused_unless_closed, retarget_refusal, submit_refusal}
-use Rattle.osdp_controller.specs.Sessions.{seen}
-use Rattle.osdp_frame.specs.declared.check_kind.CheckKind.TheVariants.{Sum}
-use Rattle.osdp_frame.specs.Packet.{Packet}
-use Rattle.osdp_frame.specs.Reading.{smallest}
-use Rattle.osdp_monitor.specs.declared.said.Said.{Said}
-use Rattle.osdp_monitor.specs.declared.said.Said.TheVariants.{Answer}
-use Rattle.osdp_monitor.specs.Known.{Known, nothing_known}
-use Rattle.osdp_monitor.specs.Line.{Knowledge, after_packet, no_knowledge}
-use Rattle.osdp_monitor.specs.Reader.{after_reply, after_reply_of, is_late, is_stray, repeat_reply}
-use Rattle.osdp_monitor.specs.Saying.{said}
 use Rattle.osdp_monitor_laws.proofs.Agreeing.{none_some, same_some, sent_asked}
 use Rattle.osdp_monitor_laws.proofs.Knowing.{at_address, sent_in_order}
 use Rattle.osdp_monitor_laws.proofs.Late.{by_fate, by_number, no_stray, own_counts, own_in_time}

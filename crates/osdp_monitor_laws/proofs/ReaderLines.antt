@@ -1,19 +1,6 @@
 -- A reader and a listener on two wires: what the listener knows agrees with the reader, whatever happens.
-use Rattle.std.proofs.Common.{◌≡◌, ◌⊎◌, inl, inr, ℕ, ◌+◌, true, false, eqb, ◌||◌, not, List, [], ◌∷◌, ◌++◌, Option, Some, None, refl, sym, subst, ap, ◌∙◌}
-use Rattle.std.proofs.lemmas.Bool.{cases_Bool, cond-true, cond_both, eqb-true, false≢true, not-false, or_cases, or_parts}
-use Rattle.std.specs.Prelude.{IfSome, nat_lt, option_to_list}
-use Rattle.osdp_frame.specs.Packet.{Packet}
-use Rattle.osdp_frame.specs.declared.check_kind.CheckKind.TheVariants.{Sum}
-use Rattle.osdp_frame.specs.Reading.{smallest}
-use Rattle.osdp_msg.specs.ReplyTable.{ReplyFits}
-use Rattle.osdp_msg.specs.declared.command.Command.{Command}
-use Rattle.osdp_monitor.specs.Known.{nothing_known}
-use Rattle.osdp_monitor.specs.Line.{Knowledge, after_packet, found_in, no_knowledge}
-use Rattle.osdp_monitor.specs.Reader.{after_reply, reader_accused}
+use Rattle.osdp_monitor_laws.proofs.Common.{◌≡◌, ◌⊎◌, inl, inr, ℕ, ◌+◌, true, false, eqb, ◌||◌, not, List, [], ◌∷◌, ◌++◌, Option, Some, None, refl, sym, subst, ap, ◌∙◌, cases_Bool, cond-true, cond_both, eqb-true, false≢true, not-false, or_cases, or_parts, IfSome, nat_lt, option_to_list, Packet, Sum, smallest, ReplyFits, Command, nothing_known, Knowledge, after_packet, found_in, no_knowledge, after_reply, reader_accused, Silent, ReaderState, new_reader, Outcome, hears, is_for_another, kind_of, outcome}
 use Rattle.osdp_reader.specs.declared.handler.Answer.{Answer}
-use Rattle.osdp_reader.specs.declared.kind.Kind.TheVariants.{Silent}
-use Rattle.osdp_reader.specs.State.{ReaderState, new_reader}
-use Rattle.osdp_reader.specs.Table.{Outcome, hears, is_for_another, kind_of, outcome}
 use Rattle.osdp_monitor_laws.proofs.Agreeing.{Agrees, IsAsked, TakesZero, agrees_new, agrees_untaken, none_some, reply_zero, same_some, sent_agrees, sent_asked, sent_zero, zero_untaken}
 use Rattle.osdp_monitor_laws.proofs.Hearing.{IsSaid, Stores, comes, sends, stores_new}
 use Rattle.osdp_monitor_laws.proofs.Knowing.{all_in_order, at_address, at_all, reply_in_order}

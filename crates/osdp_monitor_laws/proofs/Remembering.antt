@@ -1,17 +1,7 @@
 -- What stays known of an address of which nothing is forgotten.
-use Rattle.std.proofs.Common.{◌≡◌, ◌≢◌, ℕ, ◌+◌, true, false, cond, eqb, ltb, List, [], ◌∷◌, ◌++◌, Option, Some, None, refl, sym, subst, ◌∙◌}
-use Rattle.std.proofs.lemmas.Bool.{cond-true, cond_both, eqb-true, false≢true, lt-ltb}
-use Rattle.std.proofs.lemmas.List.Elements.{All-head, All-tail}
-use Rattle.osdp_frame.specs.declared.check_kind.CheckKind.TheVariants.{Sum}
-use Rattle.osdp_frame.specs.Packet.{Packet}
-use Rattle.osdp_frame.specs.Reading.{RunItem, PacketItem, SkippedItem, RefusedItem, smallest}
-use Rattle.osdp_monitor.specs.Known.{Known, nothing_known}
+use Rattle.osdp_monitor_laws.proofs.Common.{◌≡◌, ◌≢◌, ℕ, ◌+◌, true, false, cond, eqb, ltb, List, [], ◌∷◌, ◌++◌, Option, Some, None, refl, sym, subst, ◌∙◌, cond-true, cond_both, eqb-true, false≢true, lt-ltb, All-head, All-tail, Sum, Packet, RunItem, PacketItem, SkippedItem, RefusedItem, smallest, Known, nothing_known, after_sent, after_reply, is_unheard, is_foreign, Each, IsRemembered, IsTo, NothingForgotten, OfAddress}
 use Rattle.osdp_monitor.specs.Line.{Knowledge, after_answered, after_item, after_items, after_packet, after_reply_if, devices_after_reply, devices_after_sent, known_at, moves_to, no_knowledge}
-use Rattle.osdp_monitor.specs.Panel.{after_sent}
-use Rattle.osdp_monitor.specs.Reader.{after_reply, is_unheard}
-use Rattle.osdp_monitor.specs.Saying.{is_foreign}
 use Rattle.osdp_monitor_laws.proofs.Knowing.{at_known, at_last}
-use Rattle.osdp_monitor_laws.specs.Misses.{Each, IsRemembered, IsTo, NothingForgotten, OfAddress}
 
 module _ (a : ℕ) (Q : Known → Type 0) where
   at_moved : (moved : Option ℕ) (address : ℕ) (k : Known) (devices : ℕ → Known) → ((place : ℕ) → moved ≡ Some place → (place ≢ a) × (address ≢ a))

@@ -1,26 +1,12 @@
 -- What the answer to a repeat is accused of, by its name.
-use Rattle.std.proofs.Common.{◌≡◌, ◌≢◌, inl, inr, ℕ, false, cond, eqb, ◌||◌, not, ◌∷◌, ◌++◌, Some, None, refl, sym, subst, ap, ◌∙◌}
-use Rattle.std.proofs.lemmas.Bool.{cond_both, eq-eqb, false≢true, false_from_ne_true, not-false, not-true, not_from_true, or_left, or_right}
-use Rattle.osdp_frame.specs.Packet.{Packet}
-use Rattle.osdp_frame.specs.Reading.{PacketItem}
-use Rattle.osdp_monitor.specs.declared.accusation.Accusation.{Accusation}
-use Rattle.osdp_monitor.specs.declared.accusation.Accusation.TheVariants.{AnotherCheck, AnotherReply, BusyToRepeat}
-use Rattle.osdp_monitor.specs.declared.found.Found.{Found}
-use Rattle.osdp_monitor.specs.declared.said.Said.TheVariants.{Busy, Answer}
-use Rattle.osdp_monitor.specs.Known.{Known}
-use Rattle.osdp_monitor.specs.Line.{Knowledge, after_items, after_packet, found_in}
-use Rattle.osdp_monitor.specs.Reader.{answer_accused, reader_accused, repeat_reply, reply_accused}
-use Rattle.osdp_monitor.specs.Saying.{said}
+use Rattle.osdp_monitor_laws.proofs.Common.{◌≡◌, ◌≢◌, inl, inr, ℕ, false, cond, eqb, ◌||◌, not, ◌∷◌, ◌++◌, Some, None, refl, sym, subst, ap, ◌∙◌, cond_both, eq-eqb, false≢true, false_from_ne_true, not-false, not-true, not_from_true, or_left, or_right, Packet, PacketItem, Accusation, AnotherCheck, AnotherReply, BusyToRepeat, Found, Busy, Answer, Known, Knowledge, after_items, after_packet, found_in, answer_accused, reader_accused, repeat_reply, reply_accused, said, is_packet, packet_is, IsRemembered, IsTo, RefusesNothing, SaysOther, TakesNothing, same_check, same_packet}
 use Rattle.osdp_monitor_laws.proofs.Agreeing.{none_some, same_some, sent_asked}
 use Rattle.osdp_monitor_laws.proofs.Breaking.{checks_equal, checks_other}
 use Rattle.osdp_monitor_laws.proofs.Missing.{IsPending, IsStored, Keeps, device_of, first_pending, none_doubtful, old_repeat, pending_step, stored_sent, stored_step, taken_stored}
 use Rattle.osdp_monitor_laws.proofs.Naming.{checks_differ, checks_same, quiet_items}
 use Rattle.osdp_monitor_laws.proofs.Remembering.{after_append, after_one, forgotten_append, items_keep, sent_remembered}
-use Rattle.osdp_rules.proofs.Comparing.{is_packet, packet_is}
 use Rattle.osdp_monitor_laws.proofs.Telling.{reply_found}
-use Rattle.osdp_monitor_laws.specs.Misses.{IsRemembered, IsTo, RefusesNothing, SaysOther, TakesNothing}
 use Rattle.osdp_monitor_laws.specs.Repeats.{BreaksAgain, NamesAnswersToRepeats, Repeated, repeated_items}
-use Rattle.osdp_rules.specs.Packets.{same_check, same_packet}
 
 -- the repeat has come, and no reply to it
 abbrev IsAgain : Packet → ℕ → Packet → Known → Type 0

@@ -1,19 +1,8 @@
 -- How a reader may answer that agrees with what is known: it is not accused, and agrees then, whether or not the reply comes.
-use Rattle.std.proofs.Common.{◌≡◌, ◌≢◌, ◌⊎◌, inl, inr, ℕ, Bool, true, false, cond, eqb, ◌&&◌, not, Option, Some, None, refl, sym, subst, ap, ◌∙◌}
-use Rattle.std.proofs.lemmas.Bool.{and_left, and_right, cond-false, cond_both, eq-eqb, false≢true, ne_eqb, or_left, or_right}
-use Rattle.std.specs.Prelude.{is_some}
-use Rattle.osdp_frame.specs.Packet.{Packet, next_sequence}
-use Rattle.osdp_monitor.specs.declared.accusation.Accusation.TheVariants.{SecondReply}
-use Rattle.osdp_monitor.specs.declared.said.Said.{Said}
-use Rattle.osdp_monitor.specs.declared.said.Said.TheVariants.{Busy, Damage, Refusal, Answer}
-use Rattle.osdp_monitor.specs.Known.{Known, is_number, nothing_known}
-use Rattle.osdp_monitor.specs.Reader.{after_answer, after_other, after_own, after_reply, after_reply_of, answer_accused, is_doubtful, is_one_more, is_owed, reader_accused, repeat_reply, reply_accused, taken_accused, turn_accused}
-use Rattle.osdp_monitor.specs.Saying.{is_damage, said}
+use Rattle.osdp_monitor_laws.proofs.Common.{◌≡◌, ◌≢◌, ◌⊎◌, inl, inr, ℕ, Bool, true, false, cond, eqb, ◌&&◌, not, Option, Some, None, refl, sym, subst, ap, ◌∙◌, and_left, and_right, cond-false, cond_both, eq-eqb, false≢true, ne_eqb, or_left, or_right, is_some, Packet, next_sequence, SecondReply, Said, Busy, Damage, Refusal, Answer, Known, is_number, nothing_known, after_answer, after_other, after_own, after_reply, after_reply_of, answer_accused, is_doubtful, is_one_more, is_owed, reader_accused, repeat_reply, reply_accused, taken_accused, turn_accused, is_damage, said, is_packet, same_check, same_packet}
 use Rattle.osdp_monitor_laws.proofs.Agreeing.{Agrees, IsAsked, Level, TakesZero, Unheard, agrees_untaken, none_some, same_some}
 use Rattle.osdp_monitor_laws.proofs.Late.{by_fate, by_number}
 use Rattle.osdp_monitor_laws.proofs.Numbers.{next_above_zero, next_differs}
-use Rattle.osdp_rules.proofs.Comparing.{is_packet}
-use Rattle.osdp_rules.specs.Packets.{same_check, same_packet}
 
 module _ (k : Known) (p q : Packet) (asked : IsAsked k p) where
   -- one reply to one copy: it is judged by what it says

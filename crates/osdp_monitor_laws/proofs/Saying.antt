@@ -1,24 +1,9 @@
 -- What a reader says anew, as a listener reads it.
-use Rattle.std.proofs.Common.{◌≡◌, ◌≢◌, ℕ, suc, true, false, eqb, not, Some, None, Result, Ok, Err, refl, sym, subst, ap, ◌∙◌}
-use Rattle.std.proofs.lemmas.Bool.{and_left, and_right, ne_eqb, not_from_true}
-use Rattle.std.specs.Prelude.{IfSome}
-use Rattle.osdp_controller.specs.Answers.{meaning_by_reading, meaning_by_reply}
-use Rattle.osdp_frame.specs.Packet.{Packet}
-use Rattle.osdp_msg.specs.Fitting.{reply_fits}
-use Rattle.osdp_msg.specs.ReplyTable.{IsReply, ReplyFits, reply_code, reply_data, reply_of}
-use Rattle.osdp_msg.specs.declared.command.Command.{Command}
+use Rattle.osdp_monitor_laws.proofs.Common.{◌≡◌, ◌≢◌, ℕ, suc, true, false, eqb, not, Some, None, Result, Ok, Err, refl, sym, subst, ap, ◌∙◌, and_left, and_right, ne_eqb, not_from_true, IfSome, meaning_by_reading, meaning_by_reply, Packet, reply_fits, IsReply, ReplyFits, reply_code, reply_data, reply_of, Command, MsgFault, Reply, Answer, fit_accused, is_event_at_zero, is_plain, taken_accused, said, said_by, reply_packet, Outcome, command_in, check_same}
 use Rattle.osdp_msg.specs.declared.command.Command.TheVariants as command
-use Rattle.osdp_msg.specs.declared.fault.MsgFault.{MsgFault}
-use Rattle.osdp_msg.specs.declared.reply.Reply.{Reply}
 use Rattle.osdp_msg_laws.specs.Laws.{FitsAPacket, ReadsTheTable}
-use Rattle.osdp_monitor.specs.declared.said.Said.TheVariants.{Answer}
-use Rattle.osdp_monitor.specs.Reader.{fit_accused, is_event_at_zero, is_plain, taken_accused}
-use Rattle.osdp_monitor.specs.Saying.{said, said_by}
-use Rattle.osdp_reader.specs.Replies.{reply_packet}
-use Rattle.osdp_reader.specs.Table.{Outcome, command_in}
 use Rattle.osdp_monitor_laws.proofs.Agreeing.{same_some}
 use Rattle.osdp_monitor_laws.proofs.FittingReplies.{IsAnswer}
-use Rattle.osdp_rules.proofs.Comparing.{check_same}
 
 -- a reply is read from its code and data
 abbrev pub ReadsReplies : Type 0

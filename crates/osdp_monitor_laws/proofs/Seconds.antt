@@ -1,23 +1,11 @@
 -- A second reply to a packet: it is accused so.
-use Rattle.std.proofs.Common.{◌≡◌, ◌≢◌, ℕ, true, false, eqb, ◌&&◌, not, [], ◌∷◌, ◌++◌, Some, None, refl, sym, subst, ap, ◌∙◌}
-use Rattle.std.proofs.lemmas.Bool.{and_left, and_right, cond_both, false≢true, ne_eqb, or_from}
-use Rattle.std.specs.Prelude.{is_some}
-use Rattle.osdp_frame.specs.Packet.{Packet, next_sequence}
-use Rattle.osdp_frame.specs.Reading.{PacketItem}
-use Rattle.osdp_monitor.specs.declared.accusation.Accusation.TheVariants.{SecondReply}
-use Rattle.osdp_monitor.specs.declared.said.Said.{Said}
-use Rattle.osdp_monitor.specs.declared.said.Said.TheVariants.{Damage, Answer}
-use Rattle.osdp_monitor.specs.Known.{Known}
+use Rattle.osdp_monitor_laws.proofs.Common.{◌≡◌, ◌≢◌, ℕ, true, false, eqb, ◌&&◌, not, [], ◌∷◌, ◌++◌, Some, None, refl, sym, subst, ap, ◌∙◌, and_left, and_right, cond_both, false≢true, ne_eqb, or_from, is_some, Packet, next_sequence, PacketItem, SecondReply, Said, Damage, Answer, Known, after_reply, after_reply_of, has_earlier_number, has_no_number, is_doubtful, is_late, is_owed, is_stray, reader_accused, repeat_reply, is_answer, is_damage, said, IsFrom, IsRemembered, NamesSecondReplies, items_of}
 use Rattle.osdp_monitor.specs.Line.{Knowledge, after_items, after_packet, found_in}
-use Rattle.osdp_monitor.specs.Reader.{after_reply, after_reply_of, has_earlier_number, has_no_number, is_doubtful, is_late, is_owed, is_stray, reader_accused, repeat_reply}
-use Rattle.osdp_monitor.specs.Saying.{is_answer, is_damage, said}
 use Rattle.osdp_monitor_laws.proofs.Agreeing.{none_some, same_some}
 use Rattle.osdp_monitor_laws.proofs.Late.{by_fate, by_number, certain, none_owed}
 use Rattle.osdp_monitor_laws.proofs.Missing.{device_of, reply_found}
 use Rattle.osdp_monitor_laws.proofs.Naming.{IsFresh, heard, in_time, is_fresh, line7, not_stray, whole}
 use Rattle.osdp_monitor_laws.proofs.Remembering.{after_append, after_one, at_remembered, forgotten_append}
-use Rattle.osdp_monitor_laws.specs.Misses.{IsFrom, IsRemembered}
-use Rattle.osdp_monitor_laws.specs.Names.{NamesSecondReplies, items_of}
 
 pub record IsReplied (q : Packet) (k : Known) : Type 0 where
   pub last : k.last ≡ Some q

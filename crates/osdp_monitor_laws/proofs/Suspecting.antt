@@ -1,30 +1,14 @@
 -- Since when a panel is suspected, and for how long.
-use Rattle.std.proofs.Common.{◌≡◌, ◌≢◌, ◌⊎◌, inl, inr, ℕ, ◌+◌, ◌-◌, Bool, true, false, cond, eqb, not, List, [], ◌∷◌, ◌++◌, Some, refl, sym, ap, ◌∙◌, arith}
-use Rattle.std.proofs.lemmas.Bool.{and_from, and_left, and_parts, and_right, cases_Bool, cond_both, eq-eqb, eqb-true, false≢true, lt-ltb, ne_eqb, not-true, not_from_false, not_from_true}
+use Rattle.osdp_monitor_laws.proofs.Common.{◌≡◌, ◌≢◌, ◌⊎◌, inl, inr, ℕ, ◌+◌, ◌-◌, Bool, true, false, cond, eqb, not, List, [], ◌∷◌, ◌++◌, Some, refl, sym, ap, ◌∙◌, arith, and_from, and_left, and_parts, and_right, cases_Bool, cond_both, eq-eqb, eqb-true, false≢true, lt-ltb, ne_eqb, not-true, not_from_false, not_from_true, is_some, Sum, Packet, next_sequence, RunItem, PacketItem, SkippedItem, RefusedItem, smallest, NotAnswered, Unsure, Said, Answer, Known, after_another, after_copy, after_sent, is_doubt, keeps_number, left_waiting, panel_accused, after_reply_of, repeat_reply, is_foreign, said, packet_is, IsRemembered, IsTo, LeavesUnanswered, NothingForgotten, same_packet}
 use Rattle.std.proofs.lemmas.List.Sums.{sum_by-cons}
-use Rattle.std.specs.Prelude.{is_some}
-use Rattle.osdp_frame.specs.declared.check_kind.CheckKind.TheVariants.{Sum}
-use Rattle.osdp_frame.specs.Packet.{Packet, next_sequence}
-use Rattle.osdp_frame.specs.Reading.{RunItem, PacketItem, SkippedItem, RefusedItem, smallest}
-use Rattle.osdp_monitor.specs.declared.accusation.Accusation.TheVariants.{NotAnswered}
-use Rattle.osdp_monitor.specs.declared.found.Notice.TheVariants.{Unsure}
-use Rattle.osdp_monitor.specs.declared.said.Said.{Said}
-use Rattle.osdp_monitor.specs.declared.said.Said.TheVariants.{Answer}
-use Rattle.osdp_monitor.specs.Known.{Known}
 use Rattle.osdp_monitor.specs.Line.{Knowledge, after_item, after_items, after_packet, found_in}
-use Rattle.osdp_monitor.specs.Panel.{after_another, after_copy, after_sent, is_doubt, keeps_number, left_waiting, panel_accused}
-use Rattle.osdp_monitor.specs.Reader.{after_reply_of, repeat_reply}
-use Rattle.osdp_monitor.specs.Saying.{is_foreign, said}
 use Rattle.osdp_monitor_laws.proofs.Agreeing.{sent_asked}
 use Rattle.osdp_monitor_laws.proofs.Late.{by_fate, by_number}
 use Rattle.osdp_monitor_laws.proofs.Missing.{IsUnanswered, by_suspicion, device_of, first_is_unanswered, in_doubt, is_first, next_accused, sent_found, sent_told, unanswered_step}
 use Rattle.osdp_monitor_laws.proofs.Numbers.{next_differs}
 use Rattle.osdp_monitor_laws.proofs.PanelLines.{last_by}
 use Rattle.osdp_monitor_laws.proofs.Remembering.{after_append, after_one, at_remembered, forgotten_append, items_keep, sent_remembered}
-use Rattle.osdp_rules.proofs.Comparing.{packet_is}
-use Rattle.osdp_monitor_laws.specs.Misses.{IsRemembered, IsTo, LeavesUnanswered, NothingForgotten}
 use Rattle.osdp_monitor_laws.specs.Suspicion.{AreInNoDoubt, IsInNoDoubt, SuspectsAfterDoubts, SuspectsForAWhile, is_to, sent_to}
-use Rattle.osdp_rules.specs.Packets.{same_packet}
 
 -- ---- after a doubt
 

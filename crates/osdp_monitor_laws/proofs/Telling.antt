@@ -1,26 +1,10 @@
 -- A reply that comes late is told so.
-use Rattle.std.proofs.Common.{◌≡◌, ◌≢◌, inl, inr, ℕ, true, false, eqb, not, List, [], ◌∷◌, ◌++◌, Option, Some, None, refl, sym, subst, ap, ◌∙◌}
-use Rattle.std.proofs.lemmas.Bool.{and_from, cond-true, cond_both, eq-eqb, false≢true, ne_eqb, not_from_false, or_left, or_right}
-use Rattle.std.specs.Prelude.{is_some}
-use Rattle.osdp_frame.specs.Packet.{Packet}
-use Rattle.osdp_frame.specs.Reading.{PacketItem, RunItem}
-use Rattle.osdp_monitor.specs.declared.found.Found.{Found}
-use Rattle.osdp_monitor.specs.declared.found.Notice.TheVariants.{Late}
-use Rattle.osdp_monitor.specs.declared.said.Said.{Said}
-use Rattle.osdp_monitor.specs.declared.said.Said.TheVariants.{Busy, Answer}
-use Rattle.osdp_monitor.specs.Known.{Known}
+use Rattle.osdp_monitor_laws.proofs.Common.{◌≡◌, ◌≢◌, inl, inr, ℕ, true, false, eqb, not, List, [], ◌∷◌, ◌++◌, Option, Some, None, refl, sym, subst, ap, ◌∙◌, and_from, cond-true, cond_both, eq-eqb, false≢true, ne_eqb, not_from_false, or_left, or_right, is_some, Packet, PacketItem, RunItem, Found, Late, Said, Busy, Answer, Known, after_another, after_copy, after_sent, is_waiting, keeps_number, left_waiting, after_reply, after_reply_of, has_no_number, is_late, is_owed, is_stray, reader_accused, repeat_reply, tells_number, is_foreign, said, is_packet, packet_is, HasItsNumber, IsCopyOrOther, IsNone, LeavesStrayBusy, TellsLateAnswers, Each, IsCopyOrReply, IsFrom, IsRemembered, IsTo, NothingForgotten, same_packet}
 use Rattle.osdp_monitor.specs.Line.{Knowledge, after_items, after_packet, found_in, found_in_reply, found_in_sent, moves_to, reply_notice}
-use Rattle.osdp_monitor.specs.Panel.{after_another, after_copy, after_sent, is_waiting, keeps_number, left_waiting}
-use Rattle.osdp_monitor.specs.Reader.{after_reply, after_reply_of, has_no_number, is_late, is_owed, is_stray, reader_accused, repeat_reply, tells_number}
-use Rattle.osdp_monitor.specs.Saying.{is_foreign, said}
 use Rattle.osdp_monitor_laws.proofs.Agreeing.{none_some, same_some, sent_asked}
 use Rattle.osdp_monitor_laws.proofs.Late.{by_fate, by_number, late_doubtful, no_row}
 use Rattle.osdp_monitor_laws.proofs.PanelLines.{last_by}
 use Rattle.osdp_monitor_laws.proofs.Remembering.{after_append, after_one, at_remembered, forgotten_append, items_keep, sent_remembered}
-use Rattle.osdp_rules.proofs.Comparing.{is_packet, packet_is}
-use Rattle.osdp_monitor_laws.specs.Late.{HasItsNumber, IsCopyOrOther, IsNone, LeavesStrayBusy, TellsLateAnswers}
-use Rattle.osdp_monitor_laws.specs.Misses.{Each, IsCopyOrReply, IsFrom, IsRemembered, IsTo, NothingForgotten}
-use Rattle.osdp_rules.specs.Packets.{same_packet}
 
 -- what no reply changes
 pub owing_by : (s : Said) (k : Known) (p x : Packet) → (after_reply_of s k p x).owing ≡ k.owing

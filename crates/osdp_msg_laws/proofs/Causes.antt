@@ -1,11 +1,6 @@
 -- The causes of faults, for a table of which each code is that of some message.
-use Rattle.std.proofs.Common.{◌≡◌, ◌∙◌, ◌↔◌, ◌<◌, ◌≤◌, ◌+◌, ◌-◌, ap, sym, refl, arith, inl, inr, ℕ, Bool, true, false, not, ◌||◌, cond, eqb, ltb, List, length, Option, Some, None}
-use Rattle.std.specs.Prelude.{◌≢◌, ◌⊎◌}
-use Rattle.std.proofs.lemmas.Bool.{eqb-false, eqb-true, false_from_ne_true, le-ltb, lt-ltb, ltb-false, ltb-true, true≢false}
+use Rattle.osdp_msg_laws.proofs.Common.{◌≡◌, ◌∙◌, ◌↔◌, ◌<◌, ◌≤◌, ◌+◌, ◌-◌, ap, sym, refl, arith, inl, inr, ℕ, Bool, true, false, not, ◌||◌, cond, eqb, ltb, List, length, Option, Some, None, ◌≢◌, ◌⊎◌, eqb-false, eqb-true, false_from_ne_true, le-ltb, lt-ltb, ltb-false, ltb-true, true≢false, refusal, IsTable, passes, CountIsWrong, FaultsHaveCauses, IsKnown}
 use Rattle.osdp_msg.specs.declared.fault.MsgFault.TheVariants.{UnknownCode, Length, Count}
-use Rattle.osdp_msg.specs.Refusal.{refusal}
-use Rattle.osdp_msg.proofs.Table.{IsTable, passes}
-use Rattle.osdp_msg_laws.specs.Faults.{CountIsWrong, FaultsHaveCauses, IsKnown}
 
 unknown_where : (allowed : Option Bool) (len : ℕ) (agree : Bool) → refusal allowed len agree ≡ Some UnknownCode → allowed ≡ None
 unknown_where None len agree e = refl

@@ -1,18 +1,6 @@
 -- Each code of the table of commands is that of some command.
-use Rattle.std.proofs.Common.{◌≡◌, lit<, lit≤, refl, inl, inr, ℕ, [], ◌∷◌, length, None}
-use Rattle.std.specs.Prelude.{slice_index}
-use Rattle.std.proofs.lemmas.Bool.{eqb-false, leb-true}
-use Rattle.std.proofs.lemmas.List.Elements.{All-cons, All-nil}
-use Rattle.osdp_msg.specs.declared.command.Command.{Command}
-use Rattle.osdp_msg.specs.declared.command.Command.TheVariants.{Poll, Id, Cap, LocalStatus, InputStatus, OutputStatus, ReaderStatus, Output, Led, Buzzer, Text, Comset, Maker}
-use Rattle.osdp_msg.specs.declared.command_fields.MakerMessage.{MakerMessage}
-use Rattle.osdp_msg.specs.CommandFields.{LedFits, MakerFits, OutputFits, led_at, output_at}
+use Rattle.osdp_msg_laws.proofs.Common.{◌≡◌, lit<, lit≤, refl, inl, inr, ℕ, [], ◌∷◌, length, None, slice_index, eqb-false, leb-true, All-cons, All-nil, Command, Poll, Id, Cap, LocalStatus, InputStatus, OutputStatus, ReaderStatus, Output, Led, Buzzer, Text, Comset, Maker, MakerMessage, LedFits, MakerFits, OutputFits, led_at, output_at, IsBytes-each, IsBytes-nil, leds, outputs, commands, by_codes, some_is, CommandCounts, FaultsHaveCauses}
 use Rattle.osdp_msg.specs.CommandTable.{CommandFits, IsCommand, command_code, command_counts_agree, command_data, command_fault, command_length_allowed}
-use Rattle.osdp_msg.proofs.Bytes.{IsBytes-each, IsBytes-nil}
-use Rattle.osdp_msg.proofs.CommandRows.{leds, outputs}
-use Rattle.osdp_msg.proofs.Commands.{commands}
-use Rattle.osdp_msg.proofs.Table.{by_codes, some_is}
-use Rattle.osdp_msg_laws.specs.Faults.{CommandCounts, FaultsHaveCauses}
 use Rattle.osdp_msg_laws.proofs.Causes.{IsNoneOrKnown, Miscounts, counted, faults_have_causes, never_agree}
 
 known : (m : Command) → CommandFits m → ((len : ℕ) → command_length_allowed (command_code m) len ≡ None → ⊥)

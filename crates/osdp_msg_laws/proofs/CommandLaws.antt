@@ -1,15 +1,6 @@
 -- The laws of the table of commands, from its rows.
-use Rattle.std.proofs.Common.{◌<◌, lit<, [], ◌∷◌, length}
-use Rattle.hex.specs.Hex.{IsBytes}
-use Rattle.osdp_msg.specs.declared.command.Command.{Command}
-use Rattle.osdp_msg.specs.declared.command.Command.TheVariants.{Id, Cap, Output, Led}
-use Rattle.osdp_msg.specs.CommandFields.{LedFits, OutputFits, led_at, led_data, output_at, output_data}
+use Rattle.osdp_msg_laws.proofs.Common.{◌<◌, lit<, [], ◌∷◌, length, IsBytes, Command, Id, Cap, Output, Led, LedFits, OutputFits, led_at, led_data, output_at, output_data, IsBytes-each, IsBytes-nil, buzzer_spells, communication_spells, leds, maker_spells, outputs, text_spells, commands, records_spell, bounded}
 use Rattle.osdp_msg.specs.CommandTable.{CommandFits, IsCommand, command_code, command_counts_agree, command_data, command_fault, command_length_allowed, command_of}
-use Rattle.osdp_msg.proofs.Bytes.{IsBytes-each, IsBytes-nil}
-use Rattle.osdp_msg.proofs.CommandRows.{buzzer_spells, communication_spells, leds, maker_spells, outputs, text_spells}
-use Rattle.osdp_msg.proofs.Commands.{commands}
-use Rattle.osdp_msg.proofs.RecordLists.{records_spell}
-use Rattle.osdp_msg.proofs.Table.{bounded}
 use Rattle.osdp_msg_laws.proofs.TableLaws.{HasLaws, laws_of}
 
 -- its code and data are bytes

@@ -1,12 +1,7 @@
 -- What is given stands for one command at most, and one text is that of one command.
-use Rattle.std.proofs.Common.{refl, ap}
-use Rattle.osdp_msg.specs.declared.command.Command.TheVariants.{Poll, Id, Cap, LocalStatus, InputStatus, OutputStatus, ReaderStatus, Output, Led, Buzzer, Text, Comset, Maker}
-use Rattle.osdp_msg.specs.CommandFields.{LedFits, OutputFits, led_word, output_word}
+use Rattle.osdp_msg_laws.proofs.Common.{refl, ap, Poll, Id, Cap, LocalStatus, InputStatus, OutputStatus, ReaderStatus, Output, Led, Buzzer, Text, Comset, Maker, LedFits, OutputFits, led_word, output_word, CommandFits, command_fields, command_name, differ}
 use Rattle.osdp_msg_laws.proofs.OneMeaning.{buzzer_one, byte_one, communication_one, led_one, maker_one, output_one, records_one, text_one}
-use Rattle.osdp_msg.specs.CommandTable.{CommandFits}
 use Rattle.osdp_msg.specs.CommandText.{command_text, command_words}
-use Rattle.osdp_msg.proofs.CommandTextRows.{command_fields, command_name}
-use Rattle.osdp_msg.proofs.RowTexts.{differ}
 use Rattle.osdp_msg_laws.proofs.PlainCommands.{plain_commands}
 use Rattle.osdp_msg_laws.proofs.TableLaws.{HasTexts, RowsHaveOneMeaning, texts_of}
 

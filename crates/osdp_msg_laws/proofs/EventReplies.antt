@@ -1,10 +1,7 @@
 -- The reply that tells an event tells no other.
-use Rattle.std.proofs.Common.{◌≡◌, ◌∙◌, ap, refl, sym}
-use Rattle.osdp_msg.specs.declared.event.Event.{Event}
+use Rattle.osdp_msg_laws.proofs.Common.{◌≡◌, ◌∙◌, ap, refl, sym, Event, Reply, event_reply}
 use Rattle.osdp_msg.specs.declared.event.Event.TheVariants as events
-use Rattle.osdp_msg.specs.declared.reply.Reply.{Reply}
 use Rattle.osdp_msg.specs.declared.reply.Reply.TheVariants as replies
-use Rattle.osdp_msg.specs.Events.{event_reply}
 
 -- the event of a reply that tells one
 event_of : Event → Reply → Event

@@ -1,3 +1,4 @@
+pub mod Common
 pub mod OtherLaws
 pub mod OneMeaning
 pub mod TextWords

@@ -1,32 +1,10 @@
 -- The longest texts of commands, replies and events.
-use Rattle.std.proofs.Common.{◌≡◌, ◌<◌, ◌≤◌, ◌*◌, ◌^◌, lit<, ℕ, zero, suc, List, [], ◌∷◌, ◌++◌, codes, length, map, replicate, refl, arith, length-append}
+use Rattle.osdp_msg_laws.proofs.Common.{◌≡◌, ◌<◌, ◌≤◌, ◌*◌, ◌^◌, lit<, ℕ, zero, suc, List, [], ◌∷◌, ◌++◌, codes, length, map, replicate, refl, arith, length-append, All-replicate, IsBytes, upper_digits, length-encode_with, bytes, number, plain, printed, text_of, Capability, Command, Poll, Id, Cap, LocalStatus, InputStatus, OutputStatus, ReaderStatus, Output, Led, Buzzer, Text, Comset, Maker, Event, LedRecord, OutputRecord, Reply, Ack, Nak, PdId, PdCap, LocalState, Inputs, Outputs, Readers, Raw, Formatted, Keypad, Com, Busy, MakerReply, LedFits, OutputFits, led_at, led_word, output_word, CommandFits, EventFits, event_text, reason_number, RawCard, CapabilityFits, capability_word, detail_words, ReplyFits, leds, reason_byte, HasLongestText}
 use Rattle.std.specs.Fmt.{digits}
 use Rattle.std.proofs.lemmas.List.{length-replicate}
-use Rattle.std.proofs.lemmas.List.Elements.{All-replicate}
-use Rattle.hex.specs.Hex.{IsBytes, upper_digits}
-use Rattle.hex.proofs.HexLemmas.{length-encode_with}
-use Rattle.osdp_words.specs.Word.{bytes, number, plain, printed, text_of}
-use Rattle.osdp_msg.specs.declared.capability.Capability.{Capability}
-use Rattle.osdp_msg.specs.declared.command.Command.{Command}
-use Rattle.osdp_msg.specs.declared.command.Command.TheVariants.{Poll, Id, Cap, LocalStatus, InputStatus, OutputStatus, ReaderStatus, Output, Led, Buzzer, Text, Comset, Maker}
-use Rattle.osdp_msg.specs.declared.event.Event.{Event}
 use Rattle.osdp_msg.specs.declared.event.Event.TheVariants as events
-use Rattle.osdp_msg.specs.declared.leds.LedRecord.{LedRecord}
-use Rattle.osdp_msg.specs.declared.outputs.OutputRecord.{OutputRecord}
-use Rattle.osdp_msg.specs.declared.reply.Reply.{Reply}
-use Rattle.osdp_msg.specs.declared.reply.Reply.TheVariants.{Ack, Nak, PdId, PdCap, LocalState, Inputs, Outputs, Readers, Raw, Formatted, Keypad, Com, Busy, MakerReply}
-use Rattle.osdp_msg.specs.CommandFields.{LedFits, OutputFits, led_at, led_word, output_word}
-use Rattle.osdp_msg.specs.CommandTable.{CommandFits}
 use Rattle.osdp_msg.specs.CommandText.{command_text}
-use Rattle.osdp_msg.specs.Events.{EventFits, event_text}
-use Rattle.osdp_msg.specs.NakReasons.{reason_number}
-use Rattle.osdp_msg.specs.Raw.{RawCard}
-use Rattle.osdp_msg.specs.ReplyFields.{CapabilityFits, capability_word, detail_words}
-use Rattle.osdp_msg.specs.ReplyTable.{ReplyFits}
 use Rattle.osdp_msg.specs.ReplyText.{reply_text}
-use Rattle.osdp_msg.proofs.CommandRows.{leds}
-use Rattle.osdp_msg.proofs.ReplyRows.{reason_byte}
-use Rattle.osdp_msg_laws.specs.Laws.{HasLongestText}
 use Rattle.osdp_msg_laws.proofs.TextLengths.{byte_digits, bytes_digits, rate_digits, record_within, records_exactly, records_length, rest_of, rest_within, text_length, timer_digits, word_more}
 
 -- ---- records

@@ -1,31 +1,17 @@
 -- What is given stands for one value at most.
-use Rattle.std.proofs.Common.{◌≡◌, ◌<◌, ◌≤◌, ◌^◌, ℕ, suc, List, [], ◌∷◌, ◌++◌, length, map, get_or, refl, sym, ap, ◌∙◌, arith}
-use Rattle.std.specs.List.{All, AllByRecursion}
-use Rattle.std.proofs.lemmas.List.Elements.{All-head, All-tail}
+use Rattle.osdp_msg_laws.proofs.Common.{◌≡◌, ◌<◌, ◌≤◌, ◌^◌, ℕ, suc, List, [], ◌∷◌, ◌++◌, length, map, get_or, refl, sym, ap, ◌∙◌, arith, All, AllByRecursion, All-head, All-tail, IsBytes, AllStandFor, StandsFor, Word, bytes, number, numbers, has_one_word, is_decimal, parts_at_colons, Capability, MakerMessage, LedRecord, OutputRecord, BuzzerFits, buzzer_at, buzzer_words, CommunicationFits, communication_words, LedFits, led_word, MakerFits, maker_words, OutputFits, output_word, TextFits, text_words, reason_number, reason_of, RawCard, CapabilityFits, capability_at, capability_word, FormattedFits, formatted_words, KeypadFits, keypad_words, LocalStateFits, local_state_at, local_state_words, NakFits, detail_words, nak_words, PdIdFits, pd_id_words, RawFits, raw_words, reason_again, reason_byte}
 use Rattle.arrayvec.specs.ArrayVec.{ArrayVec}
-use Rattle.hex.specs.Hex.{IsBytes}
-use Rattle.osdp_words.specs.Word.{AllStandFor, StandsFor, Word, bytes, number, numbers}
-use Rattle.osdp_words.proofs.WordLaws.{has_one_word, is_decimal, parts_at_colons}
-use Rattle.osdp_msg.specs.declared.capability.Capability.{Capability}
 use Rattle.osdp_msg.specs.declared.command_fields.Buzzer.{Buzzer}
 use Rattle.osdp_msg.specs.declared.command_fields.Communication.{Communication}
-use Rattle.osdp_msg.specs.declared.command_fields.MakerMessage.{MakerMessage}
 use Rattle.osdp_msg.specs.declared.command_fields.Text.{Text}
-use Rattle.osdp_msg.specs.declared.leds.LedRecord.{LedRecord}
 use Rattle.osdp_msg.specs.declared.nak.NakReason.{NakReason}
-use Rattle.osdp_msg.specs.declared.outputs.OutputRecord.{OutputRecord}
 use Rattle.osdp_msg.specs.declared.event_fields.Formatted.{Formatted}
 use Rattle.osdp_msg.specs.declared.event_fields.Keypad.{Keypad}
 use Rattle.osdp_msg.specs.declared.reply_fields.LocalState.{LocalState}
 use Rattle.osdp_msg.specs.declared.reply_fields.Nak.{Nak}
 use Rattle.osdp_msg.specs.declared.reply_fields.PdId.{PdId}
-use Rattle.osdp_msg.specs.CommandFields.{BuzzerFits, buzzer_at, buzzer_words, CommunicationFits, communication_words, LedFits, led_word, MakerFits, maker_words, OutputFits, output_word, TextFits, text_words}
-use Rattle.osdp_msg.specs.NakReasons.{reason_number, reason_of}
-use Rattle.osdp_msg.specs.Raw.{RawCard}
-use Rattle.osdp_msg.specs.ReplyFields.{CapabilityFits, capability_at, capability_word, FormattedFits, formatted_words, KeypadFits, keypad_words, LocalStateFits, local_state_at, local_state_words, NakFits, detail_words, nak_words, PdIdFits, pd_id_words, RawFits, raw_words}
 use Rattle.osdp_msg.proofs.ParsedRows.{communication_from, formatted_from, keypad_from, maker_from, text_from}
 use Rattle.osdp_msg.proofs.RecordWordRows.{led_from, led_numbers, output_from, output_numbers}
-use Rattle.osdp_msg.proofs.ReplyRows.{reason_again, reason_byte}
 
 -- ---- words
 

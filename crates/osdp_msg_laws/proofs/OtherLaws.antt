@@ -1,15 +1,7 @@
 -- Laws of numbers in bytes, and of the replies that fit.
-use Rattle.std.proofs.Common.{◌≡◌, ◌<◌, ◌+◌, ◌*◌, ℕ, true, false, [], ◌∷◌, refl, ap, ◌∙◌, arith}
-use Rattle.byteorder.specs.Endian.{little_bytes}
-use Rattle.osdp_msg.specs.declared.command.Command.{Command}
-use Rattle.osdp_msg.specs.declared.command.Command.TheVariants.{Poll}
-use Rattle.osdp_msg.specs.declared.event.Event.{Event}
+use Rattle.osdp_msg_laws.proofs.Common.{◌≡◌, ◌<◌, ◌+◌, ◌*◌, ℕ, true, false, [], ◌∷◌, refl, ap, ◌∙◌, arith, little_bytes, Command, Poll, Event, Busy, event_reply, FitsByKind, HasLowByteFirst, number_2, number_4}
 use Rattle.osdp_msg.specs.declared.event.Event.TheVariants as events
-use Rattle.osdp_msg.specs.declared.reply.Reply.TheVariants.{Busy}
-use Rattle.osdp_msg.specs.Events.{event_reply}
 use Rattle.osdp_msg.specs.Fitting.{reply_fits}
-use Rattle.osdp_msg_laws.specs.Laws.{FitsByKind, HasLowByteFirst}
-use Rattle.osdp_msg.proofs.Bytes.{number_2, number_4}
 
 two_bytes : (a b : ℕ) → a < 256 → b < 256 → little_bytes 2 (a + 256 * b) ≡ a ∷ b ∷ []
 two_bytes a b ha hb =

@@ -1,13 +1,5 @@
 -- Each word of a command is printed as digits, colons and letters.
-use Rattle.std.proofs.Common.{[], ◌∷◌}
-use Rattle.osdp_words.specs.Word.{bytes}
-use Rattle.osdp_msg.specs.declared.command.Command.{Command}
-use Rattle.osdp_msg.specs.declared.command.Command.TheVariants.{Id, Cap, Output, Led, Buzzer, Text, Comset, Maker}
-use Rattle.osdp_msg.specs.CommandFields.{LedFits, OutputFits, led_word, output_word}
-use Rattle.osdp_msg.specs.CommandTable.{CommandFits}
-use Rattle.osdp_msg.specs.CommandText.{command_words}
-use Rattle.osdp_msg.proofs.CommandTextRows.{command_fields}
-use Rattle.osdp_msg_laws.specs.Laws.{HasPlainWords}
+use Rattle.osdp_msg_laws.proofs.Common.{[], ◌∷◌, bytes, Command, Id, Cap, Output, Led, Buzzer, Text, Comset, Maker, LedFits, OutputFits, led_word, output_word, CommandFits, command_words, command_fields, HasPlainWords}
 use Rattle.osdp_msg_laws.proofs.OneMeaning.{byte, led_small, output_small, word_4}
 use Rattle.osdp_msg_laws.proofs.PlainNames.{command_name_plain}
 use Rattle.osdp_msg_laws.proofs.PlainWords.{ArePlainWords, bytes_plain, numbers_plain, record_plain, records_plain}

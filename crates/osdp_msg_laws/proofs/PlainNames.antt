@@ -1,13 +1,5 @@
 -- The names of commands and of replies are plain words.
-use Rattle.std.proofs.Common.{lit<, refl}
-use Rattle.osdp_words.specs.Word.{plain}
-use Rattle.osdp_msg.specs.declared.command.Command.{Command}
-use Rattle.osdp_msg.specs.declared.command.Command.TheVariants.{Poll}
-use Rattle.osdp_msg.specs.declared.reply.Reply.{Reply}
-use Rattle.osdp_msg.specs.declared.reply.Reply.TheVariants.{Ack}
-use Rattle.osdp_msg.proofs.CommandTextRows.{command_name}
-use Rattle.osdp_msg.proofs.ReplyTextRows.{reply_name}
-use Rattle.osdp_msg_laws.specs.Laws.{IsPlainWord}
+use Rattle.osdp_msg_laws.proofs.Common.{lit<, refl, plain, Command, Poll, Reply, Ack, command_name, reply_name, IsPlainWord}
 use Rattle.osdp_msg_laws.proofs.PlainWords.{name_plain}
 
 pub command_name_plain : (m : Command) → IsPlainWord (plain (command_name m))

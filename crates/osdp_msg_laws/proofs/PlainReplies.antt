@@ -1,17 +1,5 @@
 -- Each word of a reply, and so of an event, is printed as digits, colons and letters.
-use Rattle.std.proofs.Common.{ℕ, List, [], ◌∷◌}
-use Rattle.hex.specs.Hex.{IsBytes}
-use Rattle.osdp_words.specs.Word.{bytes}
-use Rattle.osdp_msg.specs.declared.reply.Reply.{Reply}
-use Rattle.osdp_msg.specs.declared.reply.Reply.TheVariants.{Nak, PdId, PdCap, LocalState, Inputs, Outputs, Readers, Raw, Formatted, Keypad, Com, MakerReply}
-use Rattle.osdp_msg.specs.Events.{EventFits, event_reply, event_words}
-use Rattle.osdp_msg.specs.NakReasons.{reason_number}
-use Rattle.osdp_msg.specs.ReplyFields.{CapabilityFits, capability_word, detail_words}
-use Rattle.osdp_msg.specs.ReplyTable.{ReplyFits}
-use Rattle.osdp_msg.specs.ReplyText.{reply_words}
-use Rattle.osdp_msg.proofs.ReplyTextRows.{reply_fields}
-use Rattle.osdp_msg.proofs.ReplyRows.{reason_byte}
-use Rattle.osdp_msg_laws.specs.Laws.{HasPlainWords}
+use Rattle.osdp_msg_laws.proofs.Common.{ℕ, List, [], ◌∷◌, IsBytes, bytes, Reply, Nak, PdId, PdCap, LocalState, Inputs, Outputs, Readers, Raw, Formatted, Keypad, Com, MakerReply, EventFits, event_reply, event_words, reason_number, CapabilityFits, capability_word, detail_words, ReplyFits, reply_words, reply_fields, reason_byte, HasPlainWords}
 use Rattle.osdp_msg_laws.proofs.OneMeaning.{byte, word_2, word_4}
 use Rattle.osdp_msg_laws.proofs.PlainNames.{reply_name_plain}
 use Rattle.osdp_msg_laws.proofs.PlainWords.{ArePlainWords, bytes_plain, numbers_plain, record_plain, records_plain}

@@ -1,19 +1,11 @@
 -- Words that are printed as digits, colons and letters.
 use Rattle.std.proofs.Common.{◌≡◌, ◌<◌, ◌≤◌, ◌/◌, ◌%◌, ◌^◌, inl, inr, lit<, ℕ, suc, Bool, true, false, ◌&&◌, List, [], ◌∷◌, ◌++◌, codes, length, map, slice_index, refl, sym, subst, arith}
-use Rattle.std.specs.Prelude.{nat_le}
-use Rattle.std.specs.Fmt.{decimal, digit_glyph}
-use Rattle.std.specs.List.{All, AllByRecursion, flat_map}
+use Rattle.osdp_msg_laws.proofs.Common.{nat_le, decimal, digit_glyph, All, AllByRecursion, flat_map, leb-true, decimal_is_IsNumeral, All-head, All-tail, IsWord, Word, bytes, number, numbers, plain, are_all_words, IsPlainCharacter, IsPlainWord}
 use Rattle.std.specs.Str.Parse.{AllDigits}
-use Rattle.std.proofs.lemmas.Bool.{leb-true}
 use Rattle.std.proofs.lemmas.Bool.Decides.{nat_tests}
-use Rattle.std.proofs.lemmas.Fmt.{decimal_is_IsNumeral}
-use Rattle.std.proofs.lemmas.List.Elements.{All-head, All-tail}
 use Rattle.std.proofs.lemmas.Str.Parse.{digit_from_value}
 use Rattle.hex.specs.Hex.{IsBytes, encode_upper, encode_with, upper_digits}
-use Rattle.osdp_words.specs.Word.{IsWord, Word, bytes, number, numbers, plain}
 use Rattle.osdp_words.proofs.HexDigits.{upper_digit}
-use Rattle.osdp_words.proofs.WordLaws.{are_all_words}
-use Rattle.osdp_msg_laws.specs.Laws.{IsPlainCharacter, IsPlainWord}
 use Rattle.osdp_msg_laws.proofs.OneMeaning.{AreSmall}
 use Rattle.osdp_msg_laws.proofs.TextWords.{name_word, has_no_space, record_word}
 

@@ -1,13 +1,5 @@
 -- Words that are printed as characters from `!` to `~`, and texts of them.
-use Rattle.std.proofs.Common.{◌≡◌, ◌<◌, ◌≤◌, ◌^◌, inl, inr, ℕ, Bool, true, ◌&&◌, List, [], ◌∷◌, ◌++◌, codes, length, map, eqb, sym, ap, ◌∙◌, arith}
-use Rattle.std.specs.Prelude.{nat_le}
-use Rattle.std.specs.List.{AllByRecursion, flat_map, slice_split}
-use Rattle.std.specs.Str.Iter.{LacksByte}
-use Rattle.std.proofs.lemmas.Bool.{leb-true}
-use Rattle.osdp_words.specs.Word.{AllStandFor, AreWords, IsWord, Word, number, plain, printed, text_of}
-use Rattle.osdp_words.proofs.TextLaws.{parts_at_spaces}
-use Rattle.osdp_words.proofs.WordLaws.{lacks-cons}
-use Rattle.osdp_msg_laws.specs.Laws.{IsPlainCharacter, IsPlainWord}
+use Rattle.osdp_msg_laws.proofs.Common.{◌≡◌, ◌<◌, ◌≤◌, ◌^◌, inl, inr, ℕ, Bool, true, ◌&&◌, List, [], ◌∷◌, ◌++◌, codes, length, map, eqb, sym, ap, ◌∙◌, arith, nat_le, AllByRecursion, flat_map, slice_split, LacksByte, leb-true, AllStandFor, AreWords, IsWord, Word, number, plain, printed, text_of, parts_at_spaces, lacks-cons, IsPlainCharacter, IsPlainWord}
 use Rattle.osdp_msg_laws.proofs.PlainWords.{both, numbers_plain}
 use Rattle.osdp_msg_laws.proofs.TextWords.{all_printed}
 

@@ -1,18 +1,7 @@
 -- Each code of the table of replies is that of some reply.
-use Rattle.std.proofs.Common.{◌≡◌, ◌+◌, ◌/◌, lit<, lit≤, refl, inl, inr, arith, ℕ, List, [], ◌∷◌, drop, length, None}
-use Rattle.std.specs.Prelude.{slice_index}
-use Rattle.std.proofs.lemmas.Bool.{eqb-false, leb-true}
-use Rattle.std.proofs.lemmas.List.Elements.{All-nil}
-use Rattle.byteorder.specs.Endian.{little_number}
+use Rattle.osdp_msg_laws.proofs.Common.{◌≡◌, ◌+◌, ◌/◌, lit<, lit≤, refl, inl, inr, arith, ℕ, List, [], ◌∷◌, drop, length, None, slice_index, eqb-false, leb-true, All-nil, little_number, Reply, Ack, Nak, PdId, PdCap, LocalState, Inputs, Outputs, Readers, Raw, Formatted, Keypad, Com, Busy, MakerReply, CapabilityFits, IsBytes-each, IsBytes-nil, replies, by_codes, some_is, FaultsHaveCauses, ReplyCounts}
 use Rattle.osdp_msg.specs.declared.nak.NakReason.TheVariants.{CheckCharacters}
-use Rattle.osdp_msg.specs.declared.reply.Reply.{Reply}
-use Rattle.osdp_msg.specs.declared.reply.Reply.TheVariants.{Ack, Nak, PdId, PdCap, LocalState, Inputs, Outputs, Readers, Raw, Formatted, Keypad, Com, Busy, MakerReply}
-use Rattle.osdp_msg.specs.ReplyFields.{CapabilityFits}
 use Rattle.osdp_msg.specs.ReplyTable.{IsReply, ReplyFits, StatesFit, reply_code, reply_counts_agree, reply_data, reply_fault, reply_length_allowed}
-use Rattle.osdp_msg.proofs.Bytes.{IsBytes-each, IsBytes-nil}
-use Rattle.osdp_msg.proofs.Replies.{replies}
-use Rattle.osdp_msg.proofs.Table.{by_codes, some_is}
-use Rattle.osdp_msg_laws.specs.Faults.{FaultsHaveCauses, ReplyCounts}
 use Rattle.osdp_msg_laws.proofs.CommandCauses.{no_message, no_message_fits}
 use Rattle.osdp_msg_laws.proofs.Causes.{IsNoneOrKnown, Miscounts, counted, faults_have_causes, never_agree}
 

@@ -1,16 +1,6 @@
 -- The laws of the table of replies, from its rows.
-use Rattle.std.proofs.Common.{◌<◌, lit<, length}
-use Rattle.hex.specs.Hex.{IsBytes}
-use Rattle.osdp_msg.specs.declared.reply.Reply.{Reply}
-use Rattle.osdp_msg.specs.declared.reply.Reply.TheVariants.{PdCap, Inputs, Outputs, Readers}
-use Rattle.osdp_msg.specs.ReplyFields.{CapabilityFits, capability_at, capability_data}
+use Rattle.osdp_msg_laws.proofs.Common.{◌<◌, lit<, length, IsBytes, Reply, PdCap, Inputs, Outputs, Readers, CapabilityFits, capability_at, capability_data, IsBytes-nil, communication_spells, maker_spells, records_spell, replies, capabilities, formatted_spells, keypad_spells, local_state_spells, nak_spells, pd_id_spells, raw_spells, bounded}
 use Rattle.osdp_msg.specs.ReplyTable.{IsReply, ReplyFits, reply_code, reply_counts_agree, reply_data, reply_fault, reply_length_allowed, reply_of}
-use Rattle.osdp_msg.proofs.Bytes.{IsBytes-nil}
-use Rattle.osdp_msg.proofs.CommandRows.{communication_spells, maker_spells}
-use Rattle.osdp_msg.proofs.RecordLists.{records_spell}
-use Rattle.osdp_msg.proofs.Replies.{replies}
-use Rattle.osdp_msg.proofs.ReplyRows.{capabilities, formatted_spells, keypad_spells, local_state_spells, nak_spells, pd_id_spells, raw_spells}
-use Rattle.osdp_msg.proofs.Table.{bounded}
 use Rattle.osdp_msg_laws.proofs.TableLaws.{HasLaws, laws_of}
 
 -- its code and data are bytes

@@ -1,13 +1,7 @@
 -- What is given stands for one reply at most, and one text is that of one reply.
-use Rattle.std.proofs.Common.{List, refl, ap}
-use Rattle.osdp_msg.specs.declared.reply.Reply.TheVariants.{Ack, Nak, PdId, PdCap, LocalState, Inputs, Outputs, Readers, Raw, Formatted, Keypad, Com, Busy, MakerReply}
-use Rattle.osdp_msg.specs.declared.capability.Capability.{Capability}
-use Rattle.osdp_msg.specs.ReplyFields.{CapabilityFits, capability_word}
+use Rattle.osdp_msg_laws.proofs.Common.{List, refl, ap, Ack, Nak, PdId, PdCap, LocalState, Inputs, Outputs, Readers, Raw, Formatted, Keypad, Com, Busy, MakerReply, Capability, CapabilityFits, capability_word, ReplyFits, reply_fields, reply_name, differ}
 use Rattle.osdp_msg_laws.proofs.OneMeaning.{capability_one, communication_one, formatted_one, keypad_one, local_state_one, maker_one, nak_one, pd_id_one, raw_one, records_one, states_one}
-use Rattle.osdp_msg.specs.ReplyTable.{ReplyFits}
 use Rattle.osdp_msg.specs.ReplyText.{reply_text, reply_words}
-use Rattle.osdp_msg.proofs.ReplyTextRows.{reply_fields, reply_name}
-use Rattle.osdp_msg.proofs.RowTexts.{differ}
 use Rattle.osdp_msg_laws.proofs.PlainReplies.{plain_replies}
 use Rattle.osdp_msg_laws.proofs.TableLaws.{HasTexts, RowsHaveOneMeaning, texts_of}
 

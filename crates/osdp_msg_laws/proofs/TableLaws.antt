@@ -1,12 +1,6 @@
 -- What follows for a table and its texts from its rows.
-use Rattle.std.proofs.Common.{◌≡◌, ◌≤◌, ◌<◌, ℕ, List, [], ◌∷◌, length, map, Option, None, Result, sym, ◌∙◌, arith}
-use Rattle.hex.specs.Hex.{IsBytes}
-use Rattle.osdp_msg.proofs.Bytes.{IsBytes-cons}
-use Rattle.osdp_msg.proofs.Table.{IsTable, one_value, reading, unless_err}
-use Rattle.osdp_msg.specs.Refusal.{unless_fault}
+use Rattle.osdp_msg_laws.proofs.Common.{◌≡◌, ◌≤◌, ◌<◌, ℕ, List, [], ◌∷◌, length, map, Option, None, Result, sym, ◌∙◌, arith, IsBytes, IsBytes-cons, IsTable, one_value, reading, unless_err, unless_fault, AllStandFor, AreWords, Word, plain, printed, text_of, FitsAPacket, HasOneMeaning, HasOneSpelling, HasOneText, HasOneValue, HasPlainWords, ReadsTheFaults, ReadsTheTable}
 use Rattle.osdp_msg.specs.declared.fault.MsgFault.{MsgFault}
-use Rattle.osdp_words.specs.Word.{AllStandFor, AreWords, Word, plain, printed, text_of}
-use Rattle.osdp_msg_laws.specs.Laws.{FitsAPacket, HasOneMeaning, HasOneSpelling, HasOneText, HasOneValue, HasPlainWords, ReadsTheFaults, ReadsTheTable}
 use Rattle.osdp_msg_laws.proofs.PlainWords.{ArePlainWords}
 use Rattle.osdp_msg_laws.proofs.PrintedWords.{plain_words_printed, words_held}
 use Rattle.osdp_msg_laws.proofs.TextWords.{text_parts}

@@ -1,12 +1,5 @@
 -- How long texts of words are.
-use Rattle.std.proofs.Common.{◌≡◌, ◌<◌, ◌≤◌, ◌+◌, ◌*◌, ◌^◌, ℕ, zero, suc, List, [], ◌∷◌, ◌++◌, codes, length, map, replicate, arith, length-append, suc-mul}
-use Rattle.std.specs.Fmt.{decimal}
-use Rattle.std.specs.List.{All, AllZip, flat_map}
-use Rattle.std.proofs.lemmas.Fmt.{length-decimal-le}
-use Rattle.std.proofs.lemmas.List.Elements.{All-head, All-tail}
-use Rattle.hex.specs.Hex.{upper_digits}
-use Rattle.hex.proofs.HexLemmas.{length-encode_with}
-use Rattle.osdp_words.specs.Word.{Word, bytes, numbers, plain, printed, text_of}
+use Rattle.osdp_msg_laws.proofs.Common.{◌≡◌, ◌<◌, ◌≤◌, ◌+◌, ◌*◌, ◌^◌, ℕ, zero, suc, List, [], ◌∷◌, ◌++◌, codes, length, map, replicate, arith, length-append, suc-mul, decimal, All, AllZip, flat_map, length-decimal-le, All-head, All-tail, upper_digits, length-encode_with, Word, bytes, numbers, plain, printed, text_of}
 
 -- the words after the first of a text, each after a space
 abbrev pub rest_of : List Word → List ℕ

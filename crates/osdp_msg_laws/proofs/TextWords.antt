@@ -1,11 +1,5 @@
 -- The words of messages are words that a text can hold.
-use Rattle.std.proofs.Common.{◌≡◌, ◌<◌, ℕ, Bool, true, false, not, eqb, ◌&&◌, List, [], ◌∷◌, ◌++◌, length, map, refl, sym, ap, subst, ◌∙◌, arith}
-use Rattle.std.specs.List.{slice_split}
-use Rattle.std.specs.Str.Iter.{LacksByte}
-use Rattle.std.proofs.lemmas.Bool.{eqb-false}
-use Rattle.osdp_words.specs.Word.{AllStandFor, AreWords, IsWord, Word, numbers, plain, printed, text_of}
-use Rattle.osdp_words.proofs.TextLaws.{parts_at_spaces}
-use Rattle.osdp_words.proofs.WordLaws.{are_all_words, lacks-cons, stands_for_itself}
+use Rattle.osdp_msg_laws.proofs.Common.{◌≡◌, ◌<◌, ℕ, Bool, true, false, not, eqb, ◌&&◌, List, [], ◌∷◌, ◌++◌, length, map, refl, sym, ap, subst, ◌∙◌, arith, slice_split, LacksByte, eqb-false, AllStandFor, AreWords, IsWord, Word, numbers, plain, printed, text_of, parts_at_spaces, are_all_words, lacks-cons, stands_for_itself}
 use Rattle.osdp_msg_laws.proofs.OneMeaning.{AreSmall}
 
 -- a name has no space

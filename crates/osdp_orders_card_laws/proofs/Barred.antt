@@ -1,40 +1,13 @@
 -- After an order of an entry its next one waits for a POLL, over calls of orders and over those of their bus.
-use Rattle.std.proofs.Common.{◌≡◌, ◌∙◌, ap, sym, subst, inl, inr, refl, ℕ, ◌&&◌, ◌||◌, Bool, true, false, not, List, [], ◌∷◌, ◌++◌, Option, Some, None}
-use Rattle.std.specs.Prelude.{◌⊎◌, if◌then◌else◌, is_none, is_some, nat_eq, slice_get, slice_set}
-use Rattle.std.proofs.lemmas.Bool.{eqb-true, eqb-false}
+use Rattle.osdp_orders_card_laws.proofs.Common.{◌≡◌, ◌∙◌, ap, sym, subst, inl, inr, refl, ℕ, ◌&&◌, ◌||◌, Bool, true, false, not, List, [], ◌∷◌, ◌++◌, Option, Some, None, ◌⊎◌, if◌then◌else◌, is_none, is_some, nat_eq, slice_get, slice_set, eqb-true, eqb-false, Command, Exchange, Opening, Polling, Asking, State, Closed, Quiet, comset_of, is_closed, asked_in, command_of, exchange_in, is_under_way, Entry, BusState, device_of, after_begin_at, after_submit_at, begin_refusal_at, changed_unless, entry_submits, leads_nowhere, submit_refusal_at, BusTicked, bus_ticks, Call, Add, Begin, Submit, Withdraw, Retarget, OnBytes, OnSilence, Tick, NextReport, orders, after_bus_call, after_bus_calls, Begins, SoundBus, set_here, set_other, AsksAsItMay, PollsBetween, asked_at_bus, PanelState, both, is_closed_in, is_empty_in, polled_by, queue_of, all_bus_calls, PollsStandBetween, asked_at, asked_of, goes_out, heard_along, is_closed_at, is_heard, is_polling, polls_at, polls_of, AreCallsInARow, PollsComeBetween, may_ask}
 use Rattle.std.specs.Option.{option_map_or}
-use Rattle.osdp_msg.specs.declared.command.Command.{Command}
-use Rattle.osdp_controller.specs.declared.exchange.Exchange.{Exchange}
-use Rattle.osdp_controller.specs.declared.exchange.Exchange.TheVariants.{Opening, Polling, Asking}
-use Rattle.osdp_controller.specs.declared.state.State.{State}
-use Rattle.osdp_controller.specs.declared.state.State.TheVariants.{Closed, Quiet}
-use Rattle.osdp_controller.specs.Hearing.{comset_of}
-use Rattle.osdp_controller.specs.States.{is_closed}
-use Rattle.osdp_controller_laws.specs.Commands.{asked_in, command_of}
-use Rattle.osdp_controller_laws.specs.Laws.{exchange_in}
-use Rattle.osdp_time_laws.specs.Orders.{is_under_way}
-use Rattle.osdp_bus.specs.declared.entry.Entry.{Entry}
 use Rattle.osdp_bus.specs.declared.fault.BusFault.{BusFault}
-use Rattle.osdp_bus.specs.Buses.{BusState, device_of}
-use Rattle.osdp_bus.specs.Machine.{after_begin_at, after_submit_at, begin_refusal_at, changed_unless, entry_submits, leads_nowhere, submit_refusal_at}
-use Rattle.osdp_bus.specs.Ticking.{BusTicked, bus_ticks}
-use Rattle.osdp_bus_laws.specs.Calls.{Call, Add, Begin, Submit, Withdraw, Retarget, OnBytes, OnSilence, Tick, NextReport, orders}
-use Rattle.osdp_bus_laws.specs.Calls.{after_call as after_bus_call, after_calls as after_bus_calls}
-use Rattle.osdp_bus_laws.specs.Fairness.{Begins}
 use Rattle.osdp_bus_laws.proofs.Calling.{sound_call, sound_new}
-use Rattle.osdp_bus_laws.proofs.Sound.{SoundBus}
-use Rattle.osdp_bus_laws.proofs.Turning.{set_here, set_other}
-use Rattle.osdp_card_time_laws.specs.Among.{AsksAsItMay, PollsBetween}
-use Rattle.osdp_card_time_laws.specs.Beside.{asked_at as asked_at_bus}
 use Rattle.osdp_orders.specs.declared.queue.Queue.{Queue}
-use Rattle.osdp_orders.specs.Orders.{PanelState, both, is_closed_in, is_empty_in, polled_by, queue_of}
 use Rattle.osdp_orders.specs.Queues.{first_held}
 use Rattle.osdp_orders_laws.specs.Calls.{Always, after_call, after_calls, new_panel}
-use Rattle.osdp_orders_laws.specs.InTime.{all_bus_calls}
 use Rattle.osdp_orders_laws.specs.OfTheBus.{begin_calls, bus_calls, first_calls, let_go_after, let_go_of, submit_calls, ticked_calls}
-use Rattle.osdp_orders_laws.specs.Pacing.{PollsStandBetween, asked_at, asked_of, goes_out, heard_along, is_closed_at, is_heard, is_polling, polls_at, polls_of}
 use Rattle.osdp_orders_laws.proofs.OfBus.{calls_of_the_bus, sound_after}
-use Rattle.osdp_orders_card_laws.specs.Calls.{AreCallsInARow, PollsComeBetween, may_ask}
 use Rattle.osdp_orders_card_laws.proofs.Begun.{none_asked_before, opening_begins}
 use Rattle.osdp_orders_card_laws.proofs.Unbegun.{There, call_leaves, leaves_same, polls_in, state_of}
 

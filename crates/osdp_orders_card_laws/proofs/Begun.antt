@@ -1,36 +1,7 @@
 -- A call of a bus in which an entry begins an exchange: none of its orders waited for an answer, and where its session wasn't opened no order is asked.
-use Rattle.std.proofs.Common.{◌≡◌, ◌∙◌, ap, sym, subst, inl, inr, refl, ℕ, Bool, true, false, List, Option, Some, None}
-use Rattle.std.specs.Prelude.{◌⊎◌, nat_eq, nat_le, is_some, slice_get, slice_set}
-use Rattle.std.proofs.lemmas.Bool.{eqb-true, eqb-false}
-use Rattle.osdp_frame.specs.Packet.{Packet}
-use Rattle.osdp_msg.specs.declared.command.Command.{Command}
-use Rattle.osdp_controller.specs.declared.exchange.Exchange.{Exchange}
-use Rattle.osdp_controller.specs.declared.exchange.Exchange.TheVariants.{Opening}
+use Rattle.osdp_orders_card_laws.proofs.Common.{◌≡◌, ◌∙◌, ap, sym, subst, inl, inr, refl, ℕ, Bool, true, false, List, Option, Some, None, ◌⊎◌, nat_eq, nat_le, is_some, slice_get, slice_set, eqb-true, eqb-false, Packet, Command, Exchange, Opening, Session, State, Closed, Quiet, Waiting, Pausing, hears, is_outstanding, Ticked, begins, stays, ticks_in, either_way, GoesOn, IsAnswered, asked_in, command_of, told_command, exchange_in, frame_ends, is_under_way, Entry, BusState, Devices, device_of, waiting_after, entry_hears, entry_ticks, told_of, hears_with, BusTicked, Call, after_call, Begins, asking, begun_ticked, set_here, set_other, still_free, AtPlace, one_device, asked_of}
 use Rattle.osdp_controller.specs.declared.report.Report.{Report}
-use Rattle.osdp_controller.specs.declared.session.Session.{Session}
-use Rattle.osdp_controller.specs.declared.state.State.{State}
-use Rattle.osdp_controller.specs.declared.state.State.TheVariants.{Closed, Quiet, Waiting, Pausing}
-use Rattle.osdp_controller.specs.Hearing.{hears}
-use Rattle.osdp_controller.specs.Machine.{is_outstanding}
 use Rattle.osdp_controller.specs.Sessions.{seen as seen_by}
-use Rattle.osdp_controller.specs.Ticking.{Ticked, begins, stays, ticks_in}
-use Rattle.osdp_controller.proofs.Choices.{either_way}
-use Rattle.osdp_controller_laws.specs.Commands.{GoesOn, IsAnswered, asked_in, command_of, told_command}
-use Rattle.osdp_controller_laws.specs.Laws.{exchange_in}
-use Rattle.osdp_controller_laws.proofs.Endings.{frame_ends}
-use Rattle.osdp_time_laws.specs.Orders.{is_under_way}
-use Rattle.osdp_bus.specs.declared.entry.Entry.{Entry}
-use Rattle.osdp_bus.specs.Buses.{BusState, Devices, device_of, waiting_after}
-use Rattle.osdp_bus.specs.Entries.{entry_hears, entry_ticks, told_of}
-use Rattle.osdp_bus.specs.Hearing.{hears_with}
-use Rattle.osdp_bus.specs.Ticking.{BusTicked}
-use Rattle.osdp_bus_laws.specs.Calls.{Call, after_call}
-use Rattle.osdp_bus_laws.specs.Fairness.{Begins}
-use Rattle.osdp_bus_laws.specs.Turns.{asking}
-use Rattle.osdp_bus_laws.proofs.Fairness.{begun_ticked}
-use Rattle.osdp_bus_laws.proofs.Turning.{set_here, set_other, still_free}
-use Rattle.osdp_bus_time_laws.proofs.Places.{AtPlace, one_device}
-use Rattle.osdp_orders_laws.specs.Pacing.{asked_of}
 use Rattle.osdp_orders_card_laws.proofs.Unbegun.{There, asking_keeps, leaves_same, packet_leaves, state_of}
 
 -- ---- an order that waits for its answer waits on, or is told

@@ -1,19 +1,11 @@
 -- A card in time where orders wait for POLLs.
-use Rattle.std.proofs.Common.{◌≡◌, sym, subst, ℕ, ◌+◌, ◌*◌, Bool, true, false, List, arith}
-use Rattle.std.specs.Prelude.{if◌then◌else◌}
+use Rattle.osdp_orders_card_laws.proofs.Common.{◌≡◌, sym, subst, ℕ, ◌+◌, ◌*◌, Bool, true, false, List, arith, if◌then◌else◌, Call, turns_of, PollsBetween, PanelState, after_calls, new_panel, all_bus_calls, AreCallsInARow, PollsComeBetween, may_ask}
 use Rattle.osdp_bus.specs.declared.config.BusConfig.{BusConfig}
 use Rattle.osdp_bus.specs.Settings.{IsBusConfig}
-use Rattle.osdp_bus_laws.specs.Calls.{Call}
-use Rattle.osdp_bus_time_laws.specs.Turns.{turns_of}
 use Rattle.osdp_bus_time_laws.proofs.Devices.{Well, always_well}
 use Rattle.osdp_bus_time_laws.proofs.InTime.{same_turns}
-use Rattle.osdp_card_time_laws.specs.Among.{PollsBetween}
 use Rattle.osdp_card_time_laws.specs.Cards.{ReportedBy, to_offer_before}
 use Rattle.osdp_card_time_laws.proofs.Among.{cards_among_orders}
-use Rattle.osdp_orders.specs.Orders.{PanelState}
-use Rattle.osdp_orders_laws.specs.Calls.{after_calls, new_panel}
-use Rattle.osdp_orders_laws.specs.InTime.{all_bus_calls}
-use Rattle.osdp_orders_card_laws.specs.Calls.{AreCallsInARow, PollsComeBetween, may_ask}
 use Rattle.osdp_orders_card_laws.specs.Cards.{CardsComeAsAnswered, CardsComeInTime, orders_before}
 
 -- arithmetic on counts alone

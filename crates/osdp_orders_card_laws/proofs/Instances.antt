@@ -1,27 +1,18 @@
 -- The bound of a card among orders is reached.
-use Rattle.std.proofs.Common.{◌≡◌, ◌∙◌, ap, sym, subst, ℕ, ◌≤◌, ◌||◌, Bool, true, false, max, List, [], ◌∷◌, Option, Some, None, refl, arith}
+use Rattle.osdp_orders_card_laws.proofs.Common.{◌≡◌, ◌∙◌, ap, sym, subst, ℕ, ◌≤◌, ◌||◌, Bool, true, false, max, List, [], ◌∷◌, Option, Some, None, refl, arith, Command, Entry, BusState, has_report, holder, is_entry_due, Call, NextReport, OnBytes, Submit, Tick, after_call, Begins, stands_after, nobody, HasFew, OutstandingTakes, TurnsTake}
 use Rattle.std.specs.List.{list_any}
 use Rattle.osdp_frame.specs.Items.{items, left_over}
 use Rattle.osdp_frame.specs.Held.{decided}
 use Rattle.osdp_msg.specs.CommandTable.{command_at, command_fault, command_of}
 use Rattle.osdp_msg.specs.ReplyTable.{reply_at, reply_fault, reply_of}
-use Rattle.osdp_msg.specs.declared.command.Command.{Command}
 use Rattle.osdp_msg.specs.declared.command.Command.TheVariants.{Id}
 use Rattle.osdp_msg.specs.declared.event.Event.{Event}
 use Rattle.osdp_controller.specs.declared.report.Report.TheVariants as reports
 use Rattle.osdp_time_laws.proofs.Duties.{until_of}
-use Rattle.osdp_bus.specs.declared.entry.Entry.{Entry}
-use Rattle.osdp_bus.specs.Buses.{BusState, has_report, holder}
 use Rattle.osdp_bus.specs.Deadlines.{acts}
-use Rattle.osdp_bus.specs.Entries.{is_entry_due}
-use Rattle.osdp_bus_laws.specs.Calls.{Call, NextReport, OnBytes, Submit, Tick, after_call}
 use Rattle.osdp_bus_laws.specs.Exchanges.{IsOutstandingAt}
-use Rattle.osdp_bus_laws.specs.Fairness.{Begins}
-use Rattle.osdp_bus_laws.proofs.Fairness.{stands_after}
-use Rattle.osdp_bus_laws.proofs.Sound.{nobody}
 use Rattle.osdp_bus_time_laws.specs.Clock.{KeepsTime}
 use Rattle.osdp_bus_time_laws.specs.Instances.{ack_bytes}
-use Rattle.osdp_bus_time_laws.specs.Turns.{HasFew, OutstandingTakes, TurnsTake}
 use Rattle.osdp_bus_time_laws.proofs.Acting.{device_in, either_acts, free_due, no_other, owed_from, reached_of}
 use Rattle.osdp_bus_time_laws.proofs.Instances.{short_config}
 use Rattle.osdp_card_time_laws.specs.Beside.{Calls, Serves, asked_at, calls_of, taken}

@@ -1,3 +1,4 @@
+pub mod Common
 mod Unbegun
 mod Begun
 mod Barred

@@ -1,39 +1,9 @@
 -- A call of a bus in which an entry begins no exchange: none of its POLLs is outstanding that wasn't, and a session that waits for its opening, or for its beginning, does so still.
-use Rattle.std.proofs.Common.{◌≡◌, ◌∙◌, ap, sym, subst, inl, inr, refl, ℕ, Bool, true, false, max, List, [], ◌∷◌, ◌++◌, Option, Some, None}
-use Rattle.std.specs.Prelude.{◌⊎◌, if◌then◌else◌, nat_eq, slice_get, slice_set}
-use Rattle.std.proofs.lemmas.Bool.{eqb-true, eqb-false}
-use Rattle.osdp_frame.specs.Items.{items}
-use Rattle.osdp_frame.specs.Packet.{Packet}
-use Rattle.osdp_msg.specs.declared.command.Command.{Command}
-use Rattle.osdp_controller.specs.declared.exchange.Exchange.{Exchange}
-use Rattle.osdp_controller.specs.declared.session.Session.{Session}
-use Rattle.osdp_controller.specs.declared.state.State.{State}
-use Rattle.osdp_controller.specs.declared.state.State.TheVariants.{Closed, Waiting, Pausing}
-use Rattle.osdp_controller.specs.Hearing.{Heard, hears}
-use Rattle.osdp_controller.specs.Machine.{is_outstanding}
-use Rattle.osdp_controller.specs.States.{is_closed}
-use Rattle.osdp_controller.specs.Ticking.{ticks}
-use Rattle.osdp_controller.proofs.Choices.{either_way}
-use Rattle.osdp_controller_laws.specs.Commands.{GoesOn, IsAnswered, IsGivenUp}
-use Rattle.osdp_controller_laws.specs.Laws.{exchange_in}
-use Rattle.osdp_controller_laws.proofs.Endings.{frame_ends, tells_ends}
+use Rattle.osdp_orders_card_laws.proofs.Common.{◌≡◌, ◌∙◌, ap, sym, subst, inl, inr, refl, ℕ, Bool, true, false, max, List, [], ◌∷◌, ◌++◌, Option, Some, None, ◌⊎◌, if◌then◌else◌, nat_eq, slice_get, slice_set, eqb-true, eqb-false, items, Packet, Command, Exchange, Session, State, Closed, Waiting, Pausing, Heard, hears, is_outstanding, is_closed, ticks, either_way, GoesOn, IsAnswered, IsGivenUp, exchange_in, frame_ends, tells_ends, is_under_way, Entry, BusState, Devices, has_report, is_silent, seen, entry_hears, entry_ticks, holds, after_bytes, ends_run, hears_with, add_refusal, after_add, after_begin_at, after_retarget_at, after_submit_at, begin_refusal_at, changes_entry, entry_begins, entry_retargets, entry_submits, entry_withdraws, new_device, retarget_refusal_at, submit_refusal_at, Call, Add, Begin, Submit, Withdraw, Retarget, OnBytes, OnSilence, Tick, NextReport, after_call, Begins, asking, judged, SoundBus, set_here, set_other, AtPlace, Outcome, changed_place, in_front, one_device, tick_place, unless_place, is_polling}
 use Rattle.osdp_controller_laws.proofs.InOrder.{none_outstanding}
 use Rattle.osdp_controller_laws.proofs.Stepwise.{frames_in_steps}
-use Rattle.osdp_time_laws.specs.Orders.{is_under_way}
-use Rattle.osdp_bus.specs.declared.entry.Entry.{Entry}
-use Rattle.osdp_bus.specs.Buses.{BusState, Devices, has_report, is_silent, seen}
-use Rattle.osdp_bus.specs.Entries.{entry_hears, entry_ticks, holds}
-use Rattle.osdp_bus.specs.Hearing.{after_bytes, ends_run, hears_with}
-use Rattle.osdp_bus.specs.Machine.{add_refusal, after_add, after_begin_at, after_retarget_at, after_submit_at, begin_refusal_at, changes_entry, entry_begins, entry_retargets, entry_submits, entry_withdraws, new_device, retarget_refusal_at, submit_refusal_at}
 use Rattle.osdp_bus.specs.Ticking.{BusTicked, bus_ticks, stays, ticks_on}
-use Rattle.osdp_bus_laws.specs.Calls.{Call, Add, Begin, Submit, Withdraw, Retarget, OnBytes, OnSilence, Tick, NextReport, after_call}
-use Rattle.osdp_bus_laws.specs.Fairness.{Begins}
-use Rattle.osdp_bus_laws.specs.Turns.{asking, judged}
 use Rattle.osdp_bus_laws.proofs.Hearing.{items_keep}
-use Rattle.osdp_bus_laws.proofs.Sound.{SoundBus}
-use Rattle.osdp_bus_laws.proofs.Turning.{set_here, set_other}
-use Rattle.osdp_bus_time_laws.proofs.Places.{AtPlace, Outcome, changed_place, in_front, one_device, tick_place, unless_place}
-use Rattle.osdp_orders_laws.specs.Pacing.{is_polling}
 
 abbrev pub polls_in : State → Bool
 polls_in state = is_polling (exchange_in state)

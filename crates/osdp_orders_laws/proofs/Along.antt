@@ -1,17 +1,6 @@
 -- Lists of calls of a panel's orders.
 use Rattle.std.proofs.Common.{◌≡◌, ◌∙◌, ap, sym, inl, inr, refl, ℕ, ◌&&◌, ◌||◌, ◌==◌, Bool, true, false, not, List, [], ◌∷◌, ◌++◌, Option, Some, None, append_assoc, append-nil}
-use Rattle.std.specs.Prelude.{◌⊎◌, if◌then◌else◌, is_none, is_some}
-use Rattle.std.proofs.lemmas.Bool.{eqb-true}
-use Rattle.osdp_msg.specs.declared.command.Command.{Command}
-use Rattle.osdp_bus.specs.declared.entry.Entry.{Entry}
-use Rattle.osdp_bus.specs.Buses.{device_of}
-use Rattle.osdp_bus.specs.Machine.{order_refusal_of, withdrawal_of}
-use Rattle.osdp_bus_laws.specs.Calls.{Call, Submit, Withdraw}
-use Rattle.osdp_orders.specs.declared.queue.Queue.{Queue}
-use Rattle.osdp_orders.specs.Orders.{PanelState, held_back, is_closed_in, or_held, queue_of, submit_refusal, submit_refusal_in, withdrawal}
-use Rattle.osdp_orders_laws.specs.Calls.{after_call, after_calls}
-use Rattle.osdp_orders_laws.specs.Pacing.{PollsStandBetween, asked_of, goes_out, heard_along, is_heard, polls_of}
-use Rattle.osdp_orders_laws.specs.Places.{OrdersIt, OrdersKeepTheirPlaces, accepted, accepted_in, given, held_in, in_controller, left, taken_back_in, waiting_orders}
+use Rattle.osdp_orders_laws.proofs.Common.{◌⊎◌, if◌then◌else◌, is_none, is_some, eqb-true, Command, Entry, device_of, order_refusal_of, withdrawal_of, Call, Submit, Withdraw, Queue, PanelState, held_back, is_closed_in, or_held, queue_of, submit_refusal, submit_refusal_in, withdrawal, after_call, after_calls, PollsStandBetween, asked_of, goes_out, heard_along, is_heard, polls_of, OrdersIt, OrdersKeepTheirPlaces, accepted, accepted_in, given, held_in, in_controller, left, taken_back_in, waiting_orders}
 use Rattle.osdp_orders_laws.proofs.Going.{At, each}
 use Rattle.osdp_orders_laws.proofs.Keeping.{Inv, New, Nobody, fresh, has_queue, inv_after, nobody}
 use Rattle.osdp_orders_laws.proofs.Steps.{Gives, Owes, heard, listed, orders, out}

@@ -1,28 +1,8 @@
 -- By when an order that waits for POLLs has gone out: after each order of its entry a POLL begins within the interval and a turn of each entry, and the next order within
 -- one turn of each entry more.
-use Rattle.std.proofs.Common.{◌≡◌, ◌∙◌, ap, sym, subst, inl, inr, refl, ℕ, zero, suc, ◌+◌, ◌*◌, ◌≤◌, ◌==◌, Bool, true, false, List, [], ◌∷◌, ◌++◌, length, Option, Some, None, arith, append_assoc, append-nil}
+use Rattle.osdp_orders_laws.proofs.Common.{◌≡◌, ◌∙◌, ap, sym, subst, inl, inr, refl, ℕ, zero, suc, ◌+◌, ◌*◌, ◌≤◌, ◌==◌, Bool, true, false, List, [], ◌∷◌, ◌++◌, length, Option, Some, None, arith, append_assoc, append-nil, eqb-true, Command, lives, BusConfig, Entry, BusState, device_of, Call, Withdraw, Tick, after_bus_calls, Begins, IsUnderWay, BeginsBy, KeepsTurns, turns_of, polls_go_out, one_device, PanelState, withdrawal, after_call, all_bus_calls, bus_calls, goes_out, OrdersIt, accepted_in, given, taken_back_in, waiting_orders}
 use Rattle.std.specs.Prelude.{◌⊎◌, if◌then◌else◌, is_none, slice_get, Ok}
 use Rattle.std.proofs.Math.Nat.{suc-mul}
-use Rattle.std.proofs.lemmas.Bool.{eqb-true}
-use Rattle.osdp_msg.specs.declared.command.Command.{Command}
-use Rattle.osdp_time_laws.proofs.Orders.{lives}
-use Rattle.osdp_bus.specs.declared.config.BusConfig.{BusConfig}
-use Rattle.osdp_bus.specs.declared.entry.Entry.{Entry}
-use Rattle.osdp_bus.specs.Buses.{BusState, device_of}
-use Rattle.osdp_bus_laws.specs.Calls.{Call, Withdraw, Tick}
-use Rattle.osdp_bus_laws.specs.Calls.{after_calls as after_bus_calls}
-use Rattle.osdp_bus_laws.specs.Fairness.{Begins}
-use Rattle.osdp_bus_time_laws.specs.Laws.{IsUnderWay}
-use Rattle.osdp_bus_time_laws.specs.Laws.{GoesOutBy as BeginsBy}
-use Rattle.osdp_bus_time_laws.specs.Turns.{KeepsTurns, turns_of}
-use Rattle.osdp_bus_time_laws.proofs.Ordered.{polls_go_out}
-use Rattle.osdp_bus_time_laws.proofs.Places.{one_device}
-use Rattle.osdp_orders.specs.Orders.{PanelState, withdrawal}
-use Rattle.osdp_orders_laws.specs.Calls.{after_call}
-use Rattle.osdp_orders_laws.specs.InTime.{all_bus_calls}
-use Rattle.osdp_orders_laws.specs.OfTheBus.{bus_calls}
-use Rattle.osdp_orders_laws.specs.Pacing.{goes_out}
-use Rattle.osdp_orders_laws.specs.Places.{OrdersIt, accepted_in, given, taken_back_in, waiting_orders}
 use Rattle.osdp_orders_laws.proofs.Along.{one_place, out_is}
 use Rattle.osdp_orders_laws.proofs.Freeing.{reached_config}
 use Rattle.osdp_orders_laws.proofs.OfBus.{calls_of_the_bus}

@@ -1,29 +1,8 @@
 -- An order that waits for POLLs goes out in time, from its acceptance on.
-use Rattle.std.proofs.Common.{◌≡◌, ◌∙◌, ap, sym, subst, inl, inr, refl, ℕ, zero, suc, ◌+◌, ◌*◌, ◌≤◌, ◌&&◌, List, [], ◌∷◌, ◌++◌, length, Option, Some, None, append-nil, arith}
-use Rattle.std.specs.Prelude.{◌⊎◌, if◌then◌else◌, is_none}
-use Rattle.std.proofs.lemmas.Bool.{eq-eqb}
-use Rattle.osdp_msg.specs.declared.command.Command.{Command}
-use Rattle.osdp_controller.specs.declared.session.Session.{Session}
-use Rattle.osdp_controller_laws.specs.Commands.{asked_in}
+use Rattle.osdp_orders_laws.proofs.Common.{◌≡◌, ◌∙◌, ap, sym, subst, inl, inr, refl, ℕ, zero, suc, ◌+◌, ◌*◌, ◌≤◌, ◌&&◌, List, [], ◌∷◌, ◌++◌, length, Option, Some, None, append-nil, arith, ◌⊎◌, if◌then◌else◌, is_none, eq-eqb, Command, Session, asked_in, next_product, BusConfig, BusState, device_of, IsBusConfig, controller_config, Call, Submit, exchange_of, KeepsTime, HasFew, KeepsTurns, OutstandingTakes, TurnsTake, turns_of, well_new, polls_go_out, PanelState, queue_of, submit_refusal, after_call, after_calls, new_panel, AlwaysWritten, GoesOutBy, IsAccepted, OrdersGoOut, OrdersInTime, all_bus_calls, bus_calls, goes_out, AreWritten, accepted_in, waiting_orders}
 use Rattle.osdp_time_laws.specs.Bounds.{longest_exchange}
-use Rattle.osdp_time_laws.proofs.Orders.{next_product}
-use Rattle.osdp_bus.specs.declared.config.BusConfig.{BusConfig}
-use Rattle.osdp_bus.specs.Buses.{BusState, device_of}
-use Rattle.osdp_bus.specs.Settings.{IsBusConfig, controller_config}
-use Rattle.osdp_bus_laws.specs.Calls.{Call, Submit}
-use Rattle.osdp_bus_time_laws.specs.Laws.{exchange_of}
-use Rattle.osdp_bus_time_laws.specs.Clock.{KeepsTime}
-use Rattle.osdp_bus_time_laws.specs.Turns.{HasFew, KeepsTurns, OutstandingTakes, TurnsTake, turns_of}
-use Rattle.osdp_bus_time_laws.proofs.Devices.{well_new}
 use Rattle.osdp_bus_time_laws.proofs.InTime.{same_turns}
-use Rattle.osdp_bus_time_laws.proofs.Ordered.{polls_go_out}
 use Rattle.osdp_bus_time_laws.proofs.Outstanding.{exchanges_end}
-use Rattle.osdp_orders.specs.Orders.{PanelState, queue_of, submit_refusal}
-use Rattle.osdp_orders_laws.specs.Calls.{after_call, after_calls, new_panel}
-use Rattle.osdp_orders_laws.specs.InTime.{AlwaysWritten, GoesOutBy, IsAccepted, OrdersGoOut, OrdersInTime, all_bus_calls}
-use Rattle.osdp_orders_laws.specs.OfTheBus.{bus_calls}
-use Rattle.osdp_orders_laws.specs.Pacing.{goes_out}
-use Rattle.osdp_orders_laws.specs.Places.{AreWritten, accepted_in, waiting_orders}
 use Rattle.osdp_orders_laws.proofs.Along.{one_place, out_is}
 use Rattle.osdp_orders_laws.proofs.Bounding.{Stages, Waits, come, is_first, is_next, longer, moves, stays_placed}
 use Rattle.osdp_orders_laws.proofs.Freeing.{reached_config}

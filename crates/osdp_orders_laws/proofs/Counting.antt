@@ -1,18 +1,6 @@
 -- No call but `add` changes how many devices a bus has.
-use Rattle.std.proofs.Common.{◌≡◌, ◌∙◌, ap, refl, ℕ, zero, suc, ◌||◌, true, false, max, List, [], ◌∷◌, ◌++◌, length, Option, Some, None}
-use Rattle.std.specs.Prelude.{not, slice_get, slice_set}
-use Rattle.std.specs.Option.{option_map_or}
-use Rattle.osdp_frame.specs.Items.{items}
-use Rattle.osdp_controller.proofs.Choices.{either_way}
-use Rattle.osdp_bus.specs.declared.entry.Entry.{Entry}
-use Rattle.osdp_bus.specs.declared.fault.BusFault.{BusFault}
-use Rattle.osdp_bus.specs.Buses.{BusState, Devices, device_of, has_report, holder, is_silent, seen}
-use Rattle.osdp_bus.specs.Entries.{entry_hears}
-use Rattle.osdp_bus.specs.Hearing.{after_bytes, ends_run, ends_silent}
-use Rattle.osdp_bus.specs.Machine.{after_begin_at, after_retarget_at, after_submit_at, begin_refusal_at, changed_unless, changes_entry, entry_begins, entry_retargets, entry_submits, entry_withdraws, retarget_refusal_at, submit_refusal_at}
-use Rattle.osdp_bus.specs.Ticking.{BusTicked, bus_ticks, is_due_at, is_held_and_due, next_due, stays, ticks_at, ticks_by, ticks_held, ticks_on, ticks_with}
+use Rattle.osdp_orders_laws.proofs.Common.{◌≡◌, ◌∙◌, ap, refl, ℕ, zero, suc, ◌||◌, true, false, max, List, [], ◌∷◌, ◌++◌, length, Option, Some, None, not, slice_get, slice_set, option_map_or, items, either_way, Entry, BusFault, BusState, Devices, device_of, has_report, holder, is_silent, seen, entry_hears, after_bytes, ends_run, ends_silent, after_begin_at, after_retarget_at, after_submit_at, begin_refusal_at, changed_unless, changes_entry, entry_begins, entry_retargets, entry_submits, entry_withdraws, retarget_refusal_at, submit_refusal_at, BusTicked, bus_ticks, is_due_at, is_held_and_due, next_due, stays, ticks_at, ticks_by, ticks_held, ticks_on, ticks_with, items_keep}
 use Rattle.osdp_bus_laws.specs.Calls.{Call, Add, Begin, Submit, Withdraw, Retarget, OnBytes, OnSilence, Tick, NextReport, after_call}
-use Rattle.osdp_bus_laws.proofs.Hearing.{items_keep}
 
 pub set_length : {X : Type 0} (xs : List X) (i : ℕ) (x : X) → length (slice_set xs i x) ≡ length xs
 set_length [] i x = refl

@@ -1,39 +1,9 @@
 -- The end of a session is told.
-use Rattle.std.proofs.Common.{◌≡◌, ◌∙◌, ap, sym, subst, inl, inr, refl, ℕ, zero, suc, ◌||◌, Bool, true, false, max, List, [], ◌∷◌, ◌++◌, Option, Some, None}
-use Rattle.std.specs.Prelude.{◌⊎◌, is_some, nat_eq, not, slice_get, slice_set}
-use Rattle.std.specs.Option.{option_map_or}
-use Rattle.std.proofs.lemmas.Bool.{eqb-true, eqb-false}
-use Rattle.osdp_frame.specs.Items.{items}
-use Rattle.osdp_frame.specs.Packet.{Packet}
-use Rattle.osdp_controller.specs.declared.report.Report.{Report}
-use Rattle.osdp_controller.specs.declared.state.State.{State}
-use Rattle.osdp_controller.specs.declared.state.State.TheVariants.{Closed}
-use Rattle.osdp_controller.specs.Machine.{is_outstanding}
-use Rattle.osdp_controller.specs.States.{is_closed}
-use Rattle.osdp_controller_laws.specs.Commands.{tells_end}
-use Rattle.osdp_controller_laws.proofs.Endings.{tells_ends}
-use Rattle.osdp_controller.proofs.Choices.{either_way}
-use Rattle.osdp_time_laws.proofs.Orders.{lives}
-use Rattle.osdp_bus.specs.declared.entry.Entry.{Entry}
-use Rattle.osdp_bus.specs.declared.fault.BusFault.{BusFault}
-use Rattle.osdp_bus.specs.Buses.{BusState, Devices, device_of, has_report, holder, is_silent, seen, waiting_after}
-use Rattle.osdp_bus.specs.Entries.{entry_hears, entry_ticks, holds, step_of, told_of}
-use Rattle.osdp_bus.specs.Hearing.{after_bytes, ends_run, hears_items, hears_with}
+use Rattle.osdp_orders_laws.proofs.Common.{◌≡◌, ◌∙◌, ap, sym, subst, inl, inr, refl, ℕ, zero, suc, ◌||◌, Bool, true, false, max, List, [], ◌∷◌, ◌++◌, Option, Some, None, ◌⊎◌, is_some, nat_eq, not, slice_get, slice_set, option_map_or, eqb-true, eqb-false, items, Packet, Report, State, Closed, is_outstanding, is_closed, tells_end, tells_ends, either_way, lives, Entry, BusFault, BusState, Devices, device_of, has_report, holder, is_silent, seen, waiting_after, entry_hears, entry_ticks, holds, step_of, told_of, after_bytes, ends_run, hears_items, hears_with, BusTicked, bus_ticks, is_due_at, is_held_and_due, next_due, stays, ticks_at, ticks_by, ticks_held, ticks_on, ticks_with, judged, has_one_exchange, items_keep, IsAt, is_false, replaced, IsNobody, SoundBus, set_here, set_other, AtPlace, one_device, PanelState, is_closed_in, after_panel_call, bus_calls}
 use Rattle.osdp_bus.specs.Machine.{add_refusal, after_add, after_begin_at, after_retarget_at, after_submit_at, begin_refusal_at, changed_unless, changes_entry, entry_begins, entry_retargets, entry_submits, entry_withdraws, new_device, retarget_refusal_at, submit_refusal_at}
-use Rattle.osdp_bus.specs.Ticking.{BusTicked, bus_ticks, is_due_at, is_held_and_due, next_due, stays, ticks_at, ticks_by, ticks_held, ticks_on, ticks_with}
 use Rattle.osdp_bus_laws.specs.Calls.{Call, Add, Begin, Submit, Withdraw, Retarget, OnBytes, OnSilence, Tick, NextReport, after_call, after_calls}
-use Rattle.osdp_bus_laws.specs.Turns.{judged}
-use Rattle.osdp_bus_laws.proofs.Exchanging.{has_one_exchange}
-use Rattle.osdp_bus_laws.proofs.Hearing.{items_keep}
 use Rattle.osdp_bus_laws.proofs.OneDevice.{heard_holds, heard_told}
-use Rattle.osdp_bus_laws.proofs.Places.{IsAt, is_false, replaced}
-use Rattle.osdp_bus_laws.proofs.Sound.{IsNobody, SoundBus}
-use Rattle.osdp_bus_laws.proofs.Turning.{set_here, set_other}
-use Rattle.osdp_bus_time_laws.proofs.Places.{AtPlace, one_device}
-use Rattle.osdp_orders.specs.Orders.{PanelState, is_closed_in}
-use Rattle.osdp_orders_laws.specs.Calls.{after_call as after_panel_call}
 use Rattle.osdp_orders_laws.specs.Ended.{BusTellsEnds, EndsAreTold, IsEndTold}
-use Rattle.osdp_orders_laws.specs.OfTheBus.{bus_calls}
 use Rattle.osdp_orders_laws.proofs.Going.{changed_here, changed_there}
 use Rattle.osdp_orders_laws.proofs.OfBus.{calls_of_the_bus}
 use Rattle.osdp_orders_laws.proofs.Onward.{AreOrders, IsOrder}

@@ -1,31 +1,9 @@
 -- What is held back has room in its controller, once none waits there.
-use Rattle.std.proofs.Common.{◌≡◌, ◌∙◌, ap, sym, subst, refl, ℕ, zero, suc, ◌+◌, ◌-◌, ◌*◌, ◌≤◌, ◌&&◌, Bool, true, false, List, [], ◌∷◌, ◌++◌, length, Option, Some, None, Result, Ok, Err, arith}
-use Rattle.std.specs.Prelude.{◌≢◌, drop, if◌then◌else◌, nat_eq, nat_le, nat_lt, option_map, slice_get, slice_set}
-use Rattle.std.specs.Option.{option_map_or}
-use Rattle.std.proofs.lemmas.Bool.{eqb-true, eqb-false, leb-true, le-leb, lt-ltb}
-use Rattle.osdp_msg.specs.declared.command.Command.{Command}
-use Rattle.osdp_msg.specs.declared.command.Command.TheVariants.{Poll, Comset}
+use Rattle.osdp_orders_laws.proofs.Common.{◌≡◌, ◌∙◌, ap, sym, subst, refl, ℕ, zero, suc, ◌+◌, ◌-◌, ◌*◌, ◌≤◌, ◌&&◌, Bool, true, false, List, [], ◌∷◌, ◌++◌, length, Option, Some, None, Result, Ok, Err, arith, ◌≢◌, drop, if◌then◌else◌, nat_eq, nat_le, nat_lt, option_map, slice_get, slice_set, option_map_or, eqb-true, eqb-false, leb-true, le-leb, lt-ltb, Command, Poll, Comset, Room, command_kept, comset_of, on_its_way, Machine, bytes_on_its_way, bytes_waiting, command_size, has_room, refusal_of_controller, fits_in, popped, total, Entry, BusFault, BusState, device_of, add_refusal, after_submit_at, begin_refusal_at, bus_fault, changed_unless, is_comset_refused, is_withdrawn_at, leads_nowhere, order_refusal_at, order_refusal_of, bus_ticks, Call, Add, Begin, Submit, Withdraw, Tick, Queue, OrdersState, PanelState, after_add, after_submit_in, after_withdraw_by, begins_in, both, gone_to, is_closed_in, is_empty_in, lets_go_after, lets_go_of, polled_by, queue_of, submit_refusal, submit_refusal_in, waiting_in, with_queue, without_first, after_hold, first_held, goes, goes_first, goes_unless, has_place, hold_refusal, kept_as, new_queue, after_call, after_calls, AreWritten, IsWritten, OrdersIt}
 use Rattle.osdp_msg.specs.declared.command_fields.Communication.{Communication}
-use Rattle.osdp_msg.specs.declared.limits.Room.{Room}
-use Rattle.osdp_msg.specs.Kept.{command_kept}
 use Rattle.osdp_msg.specs.Limits.{most_data}
 use Rattle.osdp_controller.specs.declared.fault.ControllerFault.TheVariants as controllers
-use Rattle.osdp_controller.specs.Hearing.{comset_of}
-use Rattle.osdp_controller.specs.Held.{on_its_way}
-use Rattle.osdp_controller.specs.Machine.{Machine, bytes_on_its_way, bytes_waiting, command_size, has_room, submit_refusal as refusal_of_controller}
-use Rattle.osdp_ring.specs.Ring.{fits_in, popped, total}
-use Rattle.osdp_bus.specs.declared.entry.Entry.{Entry}
-use Rattle.osdp_bus.specs.declared.fault.BusFault.{BusFault}
 use Rattle.osdp_bus.specs.declared.fault.BusFault.TheVariants.{AddressOutOfRange, AddressTaken, Full}
-use Rattle.osdp_bus.specs.Buses.{BusState, device_of}
-use Rattle.osdp_bus.specs.Machine.{add_refusal, after_submit_at, begin_refusal_at, bus_fault, changed_unless, is_comset_refused, is_withdrawn_at, leads_nowhere, order_refusal_at, order_refusal_of}
-use Rattle.osdp_bus.specs.Ticking.{bus_ticks}
-use Rattle.osdp_bus_laws.specs.Calls.{Call, Add, Begin, Submit, Withdraw, Tick}
-use Rattle.osdp_orders.specs.declared.queue.Queue.{Queue}
-use Rattle.osdp_orders.specs.Orders.{OrdersState, PanelState, after_add, after_submit_in, after_withdraw_by, begins_in, both, gone_to, is_closed_in, is_empty_in, lets_go_after, lets_go_of, polled_by, queue_of, submit_refusal, submit_refusal_in, waiting_in, with_queue, without_first}
-use Rattle.osdp_orders.specs.Queues.{after_hold, first_held, goes, goes_first, goes_unless, has_place, hold_refusal, kept_as, new_queue}
-use Rattle.osdp_orders_laws.specs.Calls.{after_call, after_calls}
-use Rattle.osdp_orders_laws.specs.Places.{AreWritten, IsWritten, OrdersIt}
 
 -- an order that may be held back, as it is kept
 pub record Good (room : ℕ) (bytes : List ℕ) : Type 0 where

@@ -1,45 +1,7 @@
 -- An order goes to its controller as soon as it may.
-use Rattle.std.proofs.Common.{◌≡◌, ◌∙◌, ap, sym, subst, inl, inr, refl, ℕ, ◌==◌, Bool, true, false, max, List, [], ◌∷◌, ◌++◌, length, map, Option, Some, None, arith}
-use Rattle.std.specs.Prelude.{◌⊎◌, if◌then◌else◌, option_map, slice_get}
-use Rattle.std.proofs.lemmas.Bool.{eqb-true, eq-eqb}
-use Rattle.osdp_frame.specs.Packet.{Packet}
-use Rattle.osdp_frame.specs.Spelling.{address_byte}
-use Rattle.osdp_msg.specs.declared.command.Command.{Command}
-use Rattle.osdp_msg.specs.declared.limits.Room.{Room}
-use Rattle.osdp_msg.specs.Kept.{command_kept}
-use Rattle.osdp_controller.specs.declared.exchange.Exchange.{Exchange}
-use Rattle.osdp_controller.specs.declared.exchange.Exchange.TheVariants.{Opening, Polling, Asking}
-use Rattle.osdp_controller.specs.declared.state.State.{State}
-use Rattle.osdp_controller.specs.declared.state.State.TheVariants.{Closed, Quiet, Idle, Waiting, Pausing}
-use Rattle.osdp_controller.specs.Exchanges.{submitted_command}
-use Rattle.osdp_controller.specs.Held.{on_its_way}
-use Rattle.osdp_controller.specs.Sessions.{frame_of}
-use Rattle.osdp_controller_laws.specs.Laws.{exchange_in}
-use Rattle.osdp_bus.specs.declared.config.BusConfig.{BusConfig}
-use Rattle.osdp_bus.specs.declared.entry.Entry.{Entry}
-use Rattle.osdp_bus.specs.Buses.{BusState, device_of, new_bus, seen}
-use Rattle.osdp_bus.specs.Entries.{address_of, first_from, is_at}
-use Rattle.osdp_bus.specs.Machine.{after_begin_at, begin_refusal_of, changed_unless, entry_begins, entry_submits, order_refusal_at}
-use Rattle.osdp_bus.specs.Ticking.{bus_ticks}
-use Rattle.osdp_bus.proofs.Waiting.{IsFound, found}
-use Rattle.osdp_bus_laws.specs.Calls.{Call, Begin, Tick}
-use Rattle.osdp_bus_laws.specs.Calls.{after_call as after_bus_call, after_calls as after_bus_calls}
-use Rattle.osdp_bus_laws.specs.Exchanges.{own_frame}
-use Rattle.osdp_bus_laws.proofs.Calling.{sound_call}
-use Rattle.osdp_bus_laws.proofs.Changing.{Sound}
-use Rattle.osdp_bus_laws.proofs.Places.{none_at}
+use Rattle.osdp_orders_laws.proofs.Common.{◌≡◌, ◌∙◌, ap, sym, subst, inl, inr, refl, ℕ, ◌==◌, Bool, true, false, max, List, [], ◌∷◌, ◌++◌, length, map, Option, Some, None, arith, ◌⊎◌, if◌then◌else◌, option_map, slice_get, eqb-true, eq-eqb, Packet, address_byte, Command, Room, command_kept, Exchange, Opening, Polling, Asking, State, Closed, Quiet, Idle, Waiting, Pausing, submitted_command, on_its_way, frame_of, exchange_in, BusConfig, Entry, BusState, device_of, new_bus, seen, address_of, first_from, is_at, after_begin_at, begin_refusal_of, changed_unless, entry_begins, entry_submits, order_refusal_at, bus_ticks, IsFound, found, Call, Begin, Tick, after_bus_call, after_bus_calls, own_frame, sound_call, Sound, none_at, SoundBus, same_config, Queue, PanelState, begins_in, both, gone_to, is_empty_in, lets_go_after, lets_go_of, polled_by, queue_of, Gone, goes_first, goes_unless, read_kept, goes_from, after_call, after_calls, new_panel, bus_calls, is_polling, held_in, in_controller}
 use Rattle.osdp_bus_laws.proofs.Rooms.{HasRooms, always_rooms}
-use Rattle.osdp_bus_laws.proofs.Sound.{SoundBus}
-use Rattle.osdp_bus_time_laws.proofs.Devices.{same_config}
-use Rattle.osdp_orders.specs.declared.queue.Queue.{Queue}
-use Rattle.osdp_orders.specs.Orders.{PanelState, begins_in, both, gone_to, is_empty_in, lets_go_after, lets_go_of, polled_by, queue_of}
-use Rattle.osdp_orders.specs.Queues.{Gone, goes_first, goes_unless, read_kept}
-use Rattle.osdp_orders.specs.Queues.{goes as goes_from}
-use Rattle.osdp_orders_laws.specs.Calls.{after_call, after_calls, new_panel}
 use Rattle.osdp_orders_laws.specs.Freeing.{Begins, GoAsSoonAsTheyMay, IsAsked, OneIsNext}
-use Rattle.osdp_orders_laws.specs.OfTheBus.{bus_calls}
-use Rattle.osdp_orders_laws.specs.Pacing.{is_polling}
-use Rattle.osdp_orders_laws.specs.Places.{held_in, in_controller}
 use Rattle.osdp_orders_laws.proofs.Counting.{counts, set_same}
 use Rattle.osdp_orders_laws.proofs.Fitting.{AllFit, AreGood, Fits, fit_along, not_refused}
 use Rattle.osdp_orders_laws.proofs.Going.{At, changed_here, no_commands}

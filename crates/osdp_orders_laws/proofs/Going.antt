@@ -1,29 +1,6 @@
 -- An entry that there is, over one call of its panel's orders.
-use Rattle.std.proofs.Common.{◌≡◌, ◌∙◌, ap, sym, subst, inl, inr, refl, ℕ, zero, suc, ◌≤◌, ◌&&◌, ◌==◌, Bool, true, false, max, List, [], ◌∷◌, ◌++◌, length, Option, map, Some, None, Result, Ok, Err, arith}
-use Rattle.std.specs.Prelude.{drop, if◌then◌else◌, is_none, is_some, nat_eq, slice_get, slice_set}
-use Rattle.std.specs.Option.{option_map_or}
-use Rattle.std.proofs.lemmas.Bool.{eqb-true, eqb-false}
-use Rattle.osdp_msg.specs.declared.command.Command.{Command}
-use Rattle.osdp_msg.specs.Kept.{command_kept}
-use Rattle.osdp_controller.specs.Machine.{begin_refusal}
-use Rattle.osdp_controller.specs.States.{is_closed}
+use Rattle.osdp_orders_laws.proofs.Common.{◌≡◌, ◌∙◌, ap, sym, subst, inl, inr, refl, ℕ, zero, suc, ◌≤◌, ◌&&◌, ◌==◌, Bool, true, false, max, List, [], ◌∷◌, ◌++◌, length, Option, map, Some, None, Result, Ok, Err, arith, drop, if◌then◌else◌, is_none, is_some, nat_eq, slice_get, slice_set, option_map_or, eqb-true, eqb-false, Command, command_kept, begin_refusal, is_closed, popped, Entry, BusFault, BusState, device_of, seen, add_refusal, after_begin_at, after_retarget_at, after_submit_at, after_withdraw_at, begin_refusal_at, begin_refusal_of, changed_unless, changes_entry, entry_begins, entry_retargets, entry_submits, entry_withdraws, is_withdrawn_at, is_withdrawn_of, new_device, order_refusal_at, retarget_refusal_at, withdrawal_of, withdrawn_of, after_bytes, ends_run, bus_ticks, Call, Add, Begin, Submit, Withdraw, Retarget, OnBytes, OnSilence, Tick, NextReport, map_none, sound_call, SoundBus, Queue, OrdersState, PanelState, after_submit_in, after_ticked, after_withdraw_by, begins_in, both, gone_to, held_back, held_of, is_closed_in, is_empty_in, lets_go_after, lets_go_of, or_held, polled_by, queue_of, submit_refusal, with_new_queue, with_queue, withdrawal, withdraws_held, without_first, Gone, after_hold, first_held, goes_first, goes_unless, new_queue, read_kept, goes_from, after_call, accepted_in, given, taken_back_in}
 use Rattle.osdp_controller_laws.proofs.Closed.{was_closed}
-use Rattle.osdp_ring.specs.Ring.{popped}
-use Rattle.osdp_bus.specs.declared.entry.Entry.{Entry}
-use Rattle.osdp_bus.specs.declared.fault.BusFault.{BusFault}
-use Rattle.osdp_bus.specs.Buses.{BusState, device_of, seen}
-use Rattle.osdp_bus.specs.Machine.{add_refusal, after_begin_at, after_retarget_at, after_submit_at, after_withdraw_at, begin_refusal_at, begin_refusal_of, changed_unless, changes_entry, entry_begins, entry_retargets, entry_submits, entry_withdraws, is_withdrawn_at, is_withdrawn_of, new_device, order_refusal_at, retarget_refusal_at, withdrawal_of, withdrawn_of}
-use Rattle.osdp_bus.specs.Hearing.{after_bytes, ends_run}
-use Rattle.osdp_bus.specs.Ticking.{bus_ticks}
-use Rattle.osdp_bus_laws.specs.Calls.{Call, Add, Begin, Submit, Withdraw, Retarget, OnBytes, OnSilence, Tick, NextReport}
-use Rattle.osdp_bus_laws.proofs.Calling.{map_none, sound_call}
-use Rattle.osdp_bus_laws.proofs.Sound.{SoundBus}
-use Rattle.osdp_orders.specs.declared.queue.Queue.{Queue}
-use Rattle.osdp_orders.specs.Orders.{OrdersState, PanelState, after_submit_in, after_ticked, after_withdraw_by, begins_in, both, gone_to, held_back, held_of, is_closed_in, is_empty_in, lets_go_after, lets_go_of, or_held, polled_by, queue_of, submit_refusal, with_new_queue, with_queue, withdrawal, withdraws_held, without_first}
-use Rattle.osdp_orders.specs.Queues.{Gone, after_hold, first_held, goes_first, goes_unless, new_queue, read_kept}
-use Rattle.osdp_orders.specs.Queues.{goes as goes_from}
-use Rattle.osdp_orders_laws.specs.Calls.{after_call}
-use Rattle.osdp_orders_laws.specs.Places.{accepted_in, given, taken_back_in}
 use Rattle.osdp_orders_laws.proofs.Counting.{set_apart, set_same}
 use Rattle.osdp_orders_laws.proofs.Hearing.{Hears, hears_bytes, hears_nothing, hears_run, stills_heard}
 use Rattle.osdp_orders_laws.proofs.Polling.{polled}

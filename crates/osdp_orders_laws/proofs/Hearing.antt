@@ -1,29 +1,8 @@
 -- What comes in asks no order. Where the order that was asked is answered, that is told.
-use Rattle.std.proofs.Common.{◌≡◌, ◌∙◌, ap, sym, subst, inl, inr, refl, ℕ, Bool, true, false, max, List, [], ◌∷◌, ◌++◌, Option, Some, None}
-use Rattle.std.specs.Prelude.{◌⊎◌, nat_eq, is_some, slice_get, slice_set}
-use Rattle.std.proofs.lemmas.Bool.{eqb-true, eqb-false}
-use Rattle.osdp_frame.specs.Items.{items}
-use Rattle.osdp_frame.specs.Packet.{Packet}
-use Rattle.osdp_msg.specs.declared.command.Command.{Command}
-use Rattle.osdp_controller.specs.declared.exchange.Exchange.{Exchange}
-use Rattle.osdp_controller.specs.declared.report.Report.{Report}
-use Rattle.osdp_controller.specs.Exchanges.{submitted_command}
-use Rattle.osdp_controller.specs.Hearing.{Heard, hears}
-use Rattle.osdp_controller.proofs.Choices.{either_way}
-use Rattle.osdp_controller_laws.specs.Commands.{GoesOn, IsAnswered, asked_in, command_of, told_command}
-use Rattle.osdp_controller_laws.specs.Laws.{exchange_in}
-use Rattle.osdp_controller_laws.proofs.Endings.{frame_ends}
+use Rattle.osdp_orders_laws.proofs.Common.{◌≡◌, ◌∙◌, ap, sym, subst, inl, inr, refl, ℕ, Bool, true, false, max, List, [], ◌∷◌, ◌++◌, Option, Some, None, ◌⊎◌, nat_eq, is_some, slice_get, slice_set, eqb-true, eqb-false, items, Packet, Command, Exchange, Report, submitted_command, Heard, hears, either_way, GoesOn, IsAnswered, asked_in, command_of, told_command, exchange_in, frame_ends, Entry, BusState, Devices, is_silent, seen, waiting_after, entry_hears, told_of, after_bytes, ends_run, hears_items, hears_with, asking, judged, items_keep, set_here, set_other, one_device}
 use Rattle.osdp_controller_laws.proofs.InOrder.{none_outstanding}
 use Rattle.osdp_controller_laws.proofs.Stepwise.{frames_in_steps}
-use Rattle.osdp_bus.specs.declared.entry.Entry.{Entry}
-use Rattle.osdp_bus.specs.Buses.{BusState, Devices, is_silent, seen, waiting_after}
-use Rattle.osdp_bus.specs.Entries.{entry_hears, told_of}
-use Rattle.osdp_bus.specs.Hearing.{after_bytes, ends_run, hears_items, hears_with}
-use Rattle.osdp_bus_laws.specs.Turns.{asking, judged}
-use Rattle.osdp_bus_laws.proofs.Hearing.{items_keep}
 use Rattle.osdp_bus_laws.proofs.Staying.{stays_silent}
-use Rattle.osdp_bus_laws.proofs.Turning.{set_here, set_other}
-use Rattle.osdp_bus_time_laws.proofs.Places.{one_device}
 use Rattle.osdp_orders_laws.proofs.Steps.{Stills, asked, waits}
 
 -- ---- one device and one packet

@@ -1,27 +1,6 @@
 -- What calls of a panel's orders keep.
-use Rattle.std.proofs.Common.{◌≡◌, ◌∙◌, ap, sym, subst, inl, inr, refl, ℕ, ◌≤◌, ◌<◌, suc, Bool, true, false, max, List, [], ◌∷◌, ◌++◌, length, Option, Some, None, Result, Ok, Err, arith}
-use Rattle.std.specs.Prelude.{◌⊎◌, ◌≢◌, if◌then◌else◌, nat_eq, nat_lt, slice_get}
-use Rattle.std.proofs.lemmas.Bool.{eqb-true, eqb-false, ltb-true, ltb-false}
+use Rattle.osdp_orders_laws.proofs.Common.{◌≡◌, ◌∙◌, ap, sym, subst, inl, inr, refl, ℕ, ◌≤◌, ◌<◌, suc, Bool, true, false, max, List, [], ◌∷◌, ◌++◌, length, Option, Some, None, Result, Ok, Err, arith, ◌⊎◌, ◌≢◌, if◌then◌else◌, nat_eq, nat_lt, slice_get, eqb-true, eqb-false, ltb-true, ltb-false, Command, Room, popped, BusConfig, Entry, BusFault, BusState, device_of, seen, add_refusal, after_begin_at, after_submit_at, after_withdraw_at, begin_refusal_at, changed_unless, entry_begins, entry_submits, entry_withdraws, is_withdrawn_at, new_device, order_refusal_at, IsBusConfig, bus_ticks, Call, Add, Begin, Submit, Withdraw, Tick, after_bus_call, sound_new, SoundBus, one_device, Queue, OrdersState, PanelState, after_add, after_submit_in, after_withdraw_by, begins_in, both, gone_to, is_closed_in, is_empty_in, lets_go_after, lets_go_of, polled_by, queue_of, submit_refusal, with_new_queue, with_queue, without_first, after_hold, first_held, goes, goes_first, goes_unless, new_queue, after_call, after_calls, new_panel}
 use Rattle.std.proofs.lemmas.Option.{slice_get_cases}
-use Rattle.osdp_msg.specs.declared.command.Command.{Command}
-use Rattle.osdp_msg.specs.declared.limits.Room.{Room}
-use Rattle.osdp_ring.specs.Ring.{popped}
-use Rattle.osdp_bus.specs.declared.config.BusConfig.{BusConfig}
-use Rattle.osdp_bus.specs.declared.entry.Entry.{Entry}
-use Rattle.osdp_bus.specs.declared.fault.BusFault.{BusFault}
-use Rattle.osdp_bus.specs.Buses.{BusState, device_of, seen}
-use Rattle.osdp_bus.specs.Machine.{add_refusal, after_begin_at, after_submit_at, after_withdraw_at, begin_refusal_at, changed_unless, entry_begins, entry_submits, entry_withdraws, is_withdrawn_at, new_device, order_refusal_at}
-use Rattle.osdp_bus.specs.Settings.{IsBusConfig}
-use Rattle.osdp_bus.specs.Ticking.{bus_ticks}
-use Rattle.osdp_bus_laws.specs.Calls.{Call, Add, Begin, Submit, Withdraw, Tick}
-use Rattle.osdp_bus_laws.specs.Calls.{after_call as after_bus_call}
-use Rattle.osdp_bus_laws.proofs.Calling.{sound_new}
-use Rattle.osdp_bus_laws.proofs.Sound.{SoundBus}
-use Rattle.osdp_bus_time_laws.proofs.Places.{one_device}
-use Rattle.osdp_orders.specs.declared.queue.Queue.{Queue}
-use Rattle.osdp_orders.specs.Orders.{OrdersState, PanelState, after_add, after_submit_in, after_withdraw_by, begins_in, both, gone_to, is_closed_in, is_empty_in, lets_go_after, lets_go_of, polled_by, queue_of, submit_refusal, with_new_queue, with_queue, without_first}
-use Rattle.osdp_orders.specs.Queues.{after_hold, first_held, goes, goes_first, goes_unless, new_queue}
-use Rattle.osdp_orders_laws.specs.Calls.{after_call, after_calls, new_panel}
 use Rattle.osdp_orders_laws.proofs.Counting.{AddsNone, changes, counts, push_length, set_length}
 use Rattle.osdp_orders_laws.proofs.Going.{At, each}
 use Rattle.osdp_orders_laws.proofs.OfBus.{sound_after}

@@ -1,3 +1,4 @@
+pub mod Common
 mod Steps
 mod Hearing
 mod Polling

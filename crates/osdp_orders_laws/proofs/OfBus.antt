@@ -1,22 +1,5 @@
 -- The calls of orders as calls of their bus.
-use Rattle.std.proofs.Common.{◌≡◌, ◌∙◌, ap, sym, subst, refl, ℕ, Bool, true, false, [], Option, Some, None, Result, Ok, Err}
-use Rattle.std.specs.Prelude.{if◌then◌else◌}
-use Rattle.osdp_msg.specs.declared.command.Command.{Command}
-use Rattle.osdp_bus.specs.declared.fault.BusFault.{BusFault}
-use Rattle.osdp_bus.specs.Buses.{BusState, device_of}
-use Rattle.osdp_bus.specs.Machine.{add_refusal, after_begin_at, after_submit_at, after_withdraw_at, begin_refusal_at, changed_unless, is_withdrawn_at, order_refusal_at}
-use Rattle.osdp_bus.specs.Machine.{after_add as bus_after_add}
-use Rattle.osdp_bus.specs.Ticking.{bus_ticks}
-use Rattle.osdp_bus_laws.proofs.Calling.{sound_calls}
-use Rattle.osdp_bus_laws.proofs.Ordering.{order_made}
-use Rattle.osdp_bus_laws.proofs.Sound.{SoundBus}
-use Rattle.osdp_bus_laws.specs.Calls.{Add, Begin, Call, Submit, Tick, Withdraw, orders}
-use Rattle.osdp_bus_laws.specs.Calls.{after_call as after_bus_call, after_calls as after_bus_calls}
-use Rattle.osdp_orders.specs.declared.queue.Queue.{Queue}
-use Rattle.osdp_orders.specs.Orders.{PanelState, after_add, after_submit_in, after_withdraw_by, begins_in, both, gone_to, is_empty_in, lets_go_after, lets_go_of, polled_by, queue_of, submit_refusal_in, waiting_in}
-use Rattle.osdp_orders.specs.Queues.{first_held, goes, goes_first, goes_unless, hold_refusal}
-use Rattle.osdp_orders_laws.specs.Calls.{after_call}
-use Rattle.osdp_orders_laws.specs.OfTheBus.{AreCallsOfTheBus, begin_calls, bus_calls, first_calls, let_go_after, let_go_of, submit_calls}
+use Rattle.osdp_orders_laws.proofs.Common.{◌≡◌, ◌∙◌, ap, sym, subst, refl, ℕ, Bool, true, false, [], Option, Some, None, Result, Ok, Err, if◌then◌else◌, Command, BusFault, BusState, device_of, add_refusal, after_begin_at, after_submit_at, after_withdraw_at, begin_refusal_at, changed_unless, is_withdrawn_at, order_refusal_at, bus_after_add, bus_ticks, sound_calls, order_made, SoundBus, Add, Begin, Call, Submit, Tick, Withdraw, orders, after_bus_call, after_bus_calls, Queue, PanelState, after_add, after_submit_in, after_withdraw_by, begins_in, both, gone_to, is_empty_in, lets_go_after, lets_go_of, polled_by, queue_of, submit_refusal_in, waiting_in, first_held, goes, goes_first, goes_unless, hold_refusal, after_call, AreCallsOfTheBus, begin_calls, bus_calls, first_calls, let_go_after, let_go_of, submit_calls}
 
 -- an order goes to its controller, or stays
 unless_so : (f : Option BusFault) (entry : ℕ) (c : Command) (q : Queue) (b : BusState)

@@ -1,31 +1,7 @@
 -- An entry over calls of its bus in which no exchange of it begins, and over orders that come after a call.
-use Rattle.std.proofs.Common.{◌≡◌, ◌∙◌, ap, sym, subst, inl, inr, refl, ℕ, zero, Bool, true, false, max, List, [], ◌∷◌, ◌++◌, Option, Some, None, append_assoc, append-nil}
-use Rattle.std.specs.Prelude.{◌⊎◌, drop, if◌then◌else◌, is_some, nat_eq}
-use Rattle.std.proofs.lemmas.Bool.{eqb-true, eqb-false}
-use Rattle.osdp_frame.specs.Packet.{Packet}
-use Rattle.osdp_msg.specs.declared.command.Command.{Command}
-use Rattle.osdp_controller.specs.declared.session.Session.{Session}
-use Rattle.osdp_controller.specs.Machine.{is_outstanding}
-use Rattle.osdp_time_laws.specs.Orders.{is_under_way}
-use Rattle.osdp_bus.specs.declared.entry.Entry.{Entry}
-use Rattle.osdp_bus.specs.declared.fault.BusFault.{BusFault}
-use Rattle.osdp_bus.specs.Buses.{BusState, device_of, has_report}
-use Rattle.osdp_bus.specs.Entries.{entry_hears, entry_ticks, holds}
-use Rattle.osdp_bus.specs.Machine.{after_submit_at, changed_unless, entry_submits, entry_withdraws, submit_refusal_at}
-use Rattle.osdp_bus.specs.Ticking.{bus_ticks}
+use Rattle.osdp_orders_laws.proofs.Common.{◌≡◌, ◌∙◌, ap, sym, subst, inl, inr, refl, ℕ, zero, Bool, true, false, max, List, [], ◌∷◌, ◌++◌, Option, Some, None, append_assoc, append-nil, ◌⊎◌, drop, if◌then◌else◌, is_some, nat_eq, eqb-true, eqb-false, Packet, Command, Session, is_outstanding, is_under_way, Entry, BusFault, BusState, device_of, has_report, entry_hears, entry_ticks, holds, after_submit_at, changed_unless, entry_submits, entry_withdraws, submit_refusal_at, bus_ticks, IsOutstandingAt, Begins, asking, moments_are_seen, is_false, SoundBus, still_free, KeepsTime, ends_duty, EndsBy, HasFew, NoneBegins, TurnsTake, AtPlace, Outcome, call_place, one_device, tick_place, tick_of}
 use Rattle.osdp_bus_laws.specs.Calls.{Call, Submit, Tick, after_call, after_calls}
-use Rattle.osdp_bus_laws.specs.Exchanges.{IsOutstandingAt}
-use Rattle.osdp_bus_laws.specs.Fairness.{Begins}
-use Rattle.osdp_bus_laws.specs.Turns.{asking}
-use Rattle.osdp_bus_laws.proofs.Moments.{moments_are_seen}
-use Rattle.osdp_bus_laws.proofs.Places.{is_false}
-use Rattle.osdp_bus_laws.proofs.Sound.{SoundBus}
-use Rattle.osdp_bus_laws.proofs.Turning.{still_free}
-use Rattle.osdp_bus_time_laws.specs.Clock.{KeepsTime, ends_duty}
 use Rattle.osdp_bus_time_laws.specs.Laws.{GoesOutBy, IsUnderWay}
-use Rattle.osdp_bus_time_laws.specs.Turns.{EndsBy, HasFew, NoneBegins, TurnsTake}
-use Rattle.osdp_bus_time_laws.proofs.Places.{AtPlace, Outcome, call_place, one_device, tick_place}
-use Rattle.osdp_bus_time_laws.proofs.Turning.{tick_of}
 use Rattle.osdp_orders_laws.proofs.Going.{changed_here, changed_there}
 use Rattle.osdp_orders_laws.proofs.Hearing.{hears_asking, hears_nothing, stills_hears}
 use Rattle.osdp_orders_laws.proofs.Polling.{holder_ticks, none_asked}

@@ -1,41 +1,6 @@
 -- A POLL of an entry goes out whose orders are held back: the next of them goes to its controller in the same call, and has its turn.
-use Rattle.std.proofs.Common.{◌≡◌, ◌∙◌, ap, sym, subst, refl, ℕ, zero, ◌+◌, ◌*◌, ◌==◌, true, false, List, [], ◌∷◌, ◌++◌, length, map, Option, Some, None}
-use Rattle.std.specs.Prelude.{if◌then◌else◌, slice_get}
-use Rattle.osdp_msg.specs.declared.command.Command.{Command}
-use Rattle.osdp_msg.specs.Kept.{command_kept}
-use Rattle.osdp_controller.specs.declared.exchange.Exchange.{Exchange}
-use Rattle.osdp_controller.specs.declared.state.State.{State}
-use Rattle.osdp_controller.specs.declared.state.State.TheVariants.{Waiting, Pausing}
-use Rattle.osdp_controller.specs.Hearing.{comset_of}
-use Rattle.osdp_controller_laws.specs.Laws.{exchange_in}
-use Rattle.osdp_time_laws.specs.Orders.{is_under_way}
-use Rattle.osdp_bus.specs.declared.config.BusConfig.{BusConfig}
-use Rattle.osdp_bus.specs.declared.entry.Entry.{Entry}
-use Rattle.osdp_bus.specs.declared.fault.BusFault.{BusFault}
-use Rattle.osdp_bus.specs.Buses.{BusState, device_of}
-use Rattle.osdp_bus.specs.Machine.{after_submit_at, changed_unless, entry_submits, leads_nowhere, submit_refusal_at}
-use Rattle.osdp_bus.specs.Ticking.{bus_ticks}
-use Rattle.osdp_bus_laws.specs.Calls.{Call, Begin, Submit, Tick}
-use Rattle.osdp_bus_laws.specs.Calls.{after_call as after_bus_call, after_calls as after_bus_calls}
-use Rattle.osdp_bus_laws.specs.Fairness.{Begins}
-use Rattle.osdp_bus_laws.specs.Turns.{BeginsExchange, asking}
-use Rattle.osdp_bus_laws.proofs.Calling.{sound_call}
-use Rattle.osdp_bus_laws.proofs.Moments.{moments_are_seen}
-use Rattle.osdp_bus_laws.proofs.Ordering.{elsewhere_same}
-use Rattle.osdp_bus_laws.proofs.Turning.{takes_turns}
+use Rattle.osdp_orders_laws.proofs.Common.{◌≡◌, ◌∙◌, ap, sym, subst, refl, ℕ, zero, ◌+◌, ◌*◌, ◌==◌, true, false, List, [], ◌∷◌, ◌++◌, length, map, Option, Some, None, if◌then◌else◌, slice_get, Command, command_kept, Exchange, State, Waiting, Pausing, comset_of, exchange_in, is_under_way, BusConfig, Entry, BusFault, BusState, device_of, after_submit_at, changed_unless, entry_submits, leads_nowhere, submit_refusal_at, bus_ticks, Call, Begin, Submit, Tick, after_bus_call, after_bus_calls, Begins, BeginsExchange, asking, sound_call, moments_are_seen, elsewhere_same, takes_turns, BeginsBy, KeepsTurns, turns_of, polls_else, well_call, orders_go_out, one_device, PanelState, both, is_empty_in, polled_by, queue_of, first_held, read_kept, after_call, begin_calls, bus_calls, first_calls, let_go_after, let_go_of, is_polling, waiting_orders}
 use Rattle.osdp_bus_time_laws.specs.Laws.{IsAccepted, IsUnderWay}
-use Rattle.osdp_bus_time_laws.specs.Laws.{GoesOutBy as BeginsBy}
-use Rattle.osdp_bus_time_laws.specs.Turns.{KeepsTurns, turns_of}
-use Rattle.osdp_bus_time_laws.proofs.Asking.{polls_else}
-use Rattle.osdp_bus_time_laws.proofs.Devices.{well_call}
-use Rattle.osdp_bus_time_laws.proofs.Ordered.{orders_go_out}
-use Rattle.osdp_bus_time_laws.proofs.Places.{one_device}
-use Rattle.osdp_orders.specs.Orders.{PanelState, both, is_empty_in, polled_by, queue_of}
-use Rattle.osdp_orders.specs.Queues.{first_held, read_kept}
-use Rattle.osdp_orders_laws.specs.Calls.{after_call}
-use Rattle.osdp_orders_laws.specs.OfTheBus.{begin_calls, bus_calls, first_calls, let_go_after, let_go_of}
-use Rattle.osdp_orders_laws.specs.Pacing.{is_polling}
-use Rattle.osdp_orders_laws.specs.Places.{waiting_orders}
 use Rattle.osdp_orders_laws.proofs.Along.{waiting_is}
 use Rattle.osdp_orders_laws.proofs.Shapes.{Holds, submit_shape}
 use Rattle.osdp_orders_laws.proofs.Fitting.{AreGood}

@@ -1,39 +1,7 @@
 -- What a tick does to a device of its bus, and whom its packet asks for events.
-use Rattle.std.proofs.Common.{◌≡◌, ◌∙◌, ap, sym, subst, inl, inr, refl, ℕ, ◌+◌, ◌==◌, ◌||◌, Bool, true, false, List, [], ◌∷◌, Option, Some, None, arith}
-use Rattle.std.specs.Prelude.{◌⊎◌, IfSome, if◌then◌else◌, nat_le, nat_lt, not, option_map}
-use Rattle.std.proofs.lemmas.Bool.{eqb-true}
-use Rattle.osdp_frame.specs.Packet.{Packet, next_sequence}
-use Rattle.osdp_frame.specs.Spelling.{address_byte}
-use Rattle.osdp_msg.specs.CommandTable.{command_code}
-use Rattle.osdp_msg.specs.declared.command.Command.{Command}
-use Rattle.osdp_msg.specs.declared.command.Command.TheVariants.{Poll}
+use Rattle.osdp_orders_laws.proofs.Common.{◌≡◌, ◌∙◌, ap, sym, subst, inl, inr, refl, ℕ, ◌+◌, ◌==◌, ◌||◌, Bool, true, false, List, [], ◌∷◌, Option, Some, None, arith, ◌⊎◌, IfSome, if◌then◌else◌, nat_le, nat_lt, not, option_map, eqb-true, Packet, next_sequence, address_byte, command_code, Command, Poll, Exchange, Opening, Polling, Asking, Session, State, Closed, Quiet, Idle, Waiting, Pausing, exchange_body, submitted_command, IsState, IsSubmitted, is_outstanding, frame_of, seen_by, is_closed, either_way, asked_in, exchange_in, Entry, BusState, device_of, has_report, holder, seen, address_of, entry_ticks, first_from, holds, is_at, ends_run, BusTicked, bus_ticks, is_due_at, is_held_and_due, next_due, stays, ticks_at, ticks_by, ticks_held, ticks_on, ticks_with, IsFound, found, own_frame, judged, Sound, frame_sent, set_here, one_device, is_poll, polled_by, is_polling}
 use Rattle.osdp_controller.specs.declared.config.ControllerConfig.{ControllerConfig}
-use Rattle.osdp_controller.specs.declared.exchange.Exchange.{Exchange}
-use Rattle.osdp_controller.specs.declared.exchange.Exchange.TheVariants.{Opening, Polling, Asking}
-use Rattle.osdp_controller.specs.declared.session.Session.{Session}
-use Rattle.osdp_controller.specs.declared.state.State.{State}
-use Rattle.osdp_controller.specs.declared.state.State.TheVariants.{Closed, Quiet, Idle, Waiting, Pausing}
-use Rattle.osdp_controller.specs.Exchanges.{exchange_body, submitted_command}
-use Rattle.osdp_controller.specs.Machine.{IsState, IsSubmitted, is_outstanding}
-use Rattle.osdp_controller.specs.Sessions.{frame_of, seen as seen_by}
-use Rattle.osdp_controller.specs.States.{is_closed}
 use Rattle.osdp_controller.specs.Ticking.{Ticked, begins, gives_up, sends_frame, stays as stays_in, ticks_in, tries_again}
-use Rattle.osdp_controller.proofs.Choices.{either_way}
-use Rattle.osdp_controller_laws.specs.Commands.{asked_in}
-use Rattle.osdp_controller_laws.specs.Laws.{exchange_in}
-use Rattle.osdp_bus.specs.declared.entry.Entry.{Entry}
-use Rattle.osdp_bus.specs.Buses.{BusState, device_of, has_report, holder, seen}
-use Rattle.osdp_bus.specs.Entries.{address_of, entry_ticks, first_from, holds, is_at}
-use Rattle.osdp_bus.specs.Hearing.{ends_run}
-use Rattle.osdp_bus.specs.Ticking.{BusTicked, bus_ticks, is_due_at, is_held_and_due, next_due, stays, ticks_at, ticks_by, ticks_held, ticks_on, ticks_with}
-use Rattle.osdp_bus.proofs.Waiting.{IsFound, found}
-use Rattle.osdp_bus_laws.specs.Exchanges.{own_frame}
-use Rattle.osdp_bus_laws.specs.Turns.{judged}
-use Rattle.osdp_bus_laws.proofs.Changing.{Sound}
-use Rattle.osdp_bus_laws.proofs.Turning.{frame_sent, set_here}
-use Rattle.osdp_bus_time_laws.proofs.Places.{one_device}
-use Rattle.osdp_orders.specs.Orders.{is_poll, polled_by}
-use Rattle.osdp_orders_laws.specs.Pacing.{is_polling}
 use Rattle.osdp_orders_laws.proofs.Steps.{Stills, asked, closed, polls, waits}
 
 -- ---- a device that begins an exchange, and one that holds the line

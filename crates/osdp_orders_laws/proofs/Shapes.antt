@@ -1,25 +1,5 @@
 -- What each call of a panel's orders is of its bus, and what holds of the orders at all times.
-use Rattle.std.proofs.Common.{◌≡◌, sym, subst, inl, inr, refl, ℕ, Bool, true, false, List, [], ◌∷◌, Option, Some, None}
-use Rattle.std.specs.Prelude.{if◌then◌else◌}
-use Rattle.osdp_msg.specs.declared.command.Command.{Command}
-use Rattle.osdp_controller.specs.Hearing.{comset_of}
-use Rattle.osdp_bus.specs.declared.config.BusConfig.{BusConfig}
-use Rattle.osdp_bus.specs.declared.fault.BusFault.{BusFault}
-use Rattle.osdp_bus.specs.Buses.{device_of}
-use Rattle.osdp_bus.specs.Machine.{begin_refusal_at, leads_nowhere}
-use Rattle.osdp_bus.specs.Ticking.{bus_ticks}
-use Rattle.osdp_bus_laws.specs.Calls.{Call, Begin, Submit, Tick, orders}
-use Rattle.osdp_bus_laws.specs.Calls.{after_calls as after_bus_calls}
-use Rattle.osdp_bus_time_laws.specs.Clock.{KeepsTime}
-use Rattle.osdp_bus_time_laws.specs.Turns.{HasFew, KeepsTurns, TurnsTake}
-use Rattle.osdp_bus_time_laws.proofs.Devices.{Well, well_calls}
-use Rattle.osdp_orders.specs.declared.queue.Queue.{Queue}
-use Rattle.osdp_orders.specs.Orders.{PanelState, both, is_empty_in, polled_by, queue_of}
-use Rattle.osdp_orders.specs.Queues.{first_held}
-use Rattle.osdp_orders_laws.specs.Calls.{after_call}
-use Rattle.osdp_orders_laws.specs.InTime.{all_bus_calls}
-use Rattle.osdp_orders_laws.specs.OfTheBus.{begin_calls, bus_calls, first_calls, let_go_after, let_go_of, submit_calls}
-use Rattle.osdp_orders_laws.specs.Places.{OrdersIt}
+use Rattle.osdp_orders_laws.proofs.Common.{◌≡◌, sym, subst, inl, inr, refl, ℕ, Bool, true, false, List, [], ◌∷◌, Option, Some, None, if◌then◌else◌, Command, comset_of, BusConfig, BusFault, device_of, begin_refusal_at, leads_nowhere, bus_ticks, Call, Begin, Submit, Tick, orders, after_bus_calls, KeepsTime, HasFew, KeepsTurns, TurnsTake, Well, well_calls, Queue, PanelState, both, is_empty_in, polled_by, queue_of, first_held, after_call, all_bus_calls, begin_calls, bus_calls, first_calls, let_go_after, let_go_of, submit_calls, OrdersIt}
 use Rattle.osdp_orders_laws.proofs.Fitting.{AllFit, fit_along}
 use Rattle.osdp_orders_laws.proofs.Freeing.{Reached, reached_along}
 use Rattle.osdp_orders_laws.proofs.Keeping.{Inv, inv_after}

@@ -1,33 +1,17 @@
 -- The bound of an order that waits for POLLs is reached, by a line of two entries.
-use Rattle.std.proofs.Common.{◌≡◌, ◌∙◌, ap, sym, subst, ℕ, ◌+◌, ◌*◌, ◌≤◌, ◌<◌, ◌||◌, Bool, true, false, max, List, [], ◌∷◌, length, Some, None, refl, arith}
+use Rattle.osdp_orders_laws.proofs.Common.{◌≡◌, ◌∙◌, ap, sym, subst, ℕ, ◌+◌, ◌*◌, ◌≤◌, ◌<◌, ◌||◌, Bool, true, false, max, List, [], ◌∷◌, length, Some, None, refl, arith, Command, Id, State, Closed, Idle, is_idle, Entry, BusState, device_of, has_report, holder, new_bus, new_device, holds, is_entry_due, DoneBy, IsOwed, KeepsTime, exchange_of, HasFew, after_calls, IsAccepted, all_bus_calls, goes_out, AreWritten, waiting_orders}
 use Rattle.std.specs.List.{list_any}
 use Rattle.osdp_frame.specs.Items.{items, left_over}
 use Rattle.osdp_frame.specs.Held.{decided}
 use Rattle.osdp_msg.specs.CommandTable.{command_at, command_fault, command_of}
 use Rattle.osdp_msg.specs.ReplyTable.{reply_at, reply_fault, reply_of}
-use Rattle.osdp_msg.specs.declared.command.Command.{Command}
-use Rattle.osdp_msg.specs.declared.command.Command.TheVariants.{Id}
-use Rattle.osdp_controller.specs.declared.state.State.{State}
-use Rattle.osdp_controller.specs.declared.state.State.TheVariants.{Closed, Idle}
-use Rattle.osdp_controller.specs.States.{is_idle}
 use Rattle.osdp_time_laws.proofs.Duties.{until_of}
-use Rattle.osdp_bus.specs.declared.entry.Entry.{Entry}
-use Rattle.osdp_bus.specs.Buses.{BusState, device_of, has_report, holder, new_bus}
 use Rattle.osdp_bus.specs.Deadlines.{acts}
-use Rattle.osdp_bus.specs.Machine.{new_device}
 use Rattle.osdp_bus.specs.Remembering.{Remembered}
-use Rattle.osdp_bus.specs.Entries.{holds, is_entry_due}
 use Rattle.osdp_bus_laws.specs.Calls.{Begin, Call, NextReport, OnBytes, Submit, Tick, after_call}
-use Rattle.osdp_bus_time_laws.specs.Clock.{DoneBy, IsOwed, KeepsTime}
 use Rattle.osdp_bus_time_laws.specs.Instances.{ack_bytes, pd_id_bytes, short_line}
-use Rattle.osdp_bus_time_laws.specs.Laws.{exchange_of}
-use Rattle.osdp_bus_time_laws.specs.Turns.{HasFew}
 use Rattle.osdp_bus_time_laws.proofs.Acting.{device_in, either_acts, free_due, owed_from, reached_of}
 use Rattle.osdp_bus_time_laws.proofs.Instances.{short_config}
-use Rattle.osdp_orders_laws.specs.Calls.{after_calls}
-use Rattle.osdp_orders_laws.specs.InTime.{IsAccepted, all_bus_calls}
-use Rattle.osdp_orders_laws.specs.Pacing.{goes_out}
-use Rattle.osdp_orders_laws.specs.Places.{AreWritten, waiting_orders}
 use Rattle.osdp_orders_laws.specs.Instances.{OrderIsReached, before_it, first_gone, ordered, second_ack, with_it}
 use Rattle.osdp_orders_laws.proofs.Onward.{IsOrder}
 

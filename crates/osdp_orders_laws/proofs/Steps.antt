@@ -1,20 +1,7 @@
 -- One entry in one call: its device and its queue before and after.
 use Rattle.std.proofs.Common.{◌≡◌, ◌∙◌, ap, sym, subst, inl, inr, refl, ℕ, ◌≤◌, Bool, true, false, not, ◌&&◌, ◌||◌, List, [], ◌∷◌, ◌++◌, length, map, Option, Some, None, arith, append_assoc, append-nil}
-use Rattle.std.specs.Prelude.{◌⊎◌, if◌then◌else◌, drop, is_none, is_some, option_to_list}
-use Rattle.osdp_msg.specs.declared.command.Command.{Command}
-use Rattle.osdp_msg.specs.Kept.{command_kept}
-use Rattle.osdp_controller.specs.States.{is_closed}
-use Rattle.osdp_controller_laws.specs.Commands.{asked_in}
-use Rattle.osdp_controller_laws.specs.Laws.{exchange_in}
+use Rattle.osdp_orders_laws.proofs.Common.{◌⊎◌, if◌then◌else◌, drop, is_none, is_some, option_to_list, Command, command_kept, is_closed, asked_in, exchange_in, popped, Entry, entry_submits, both_false, Queue, after_hold, kept_as, is_polling, IsWritten}
 use Rattle.osdp_controller.proofs.Waiting.{map_push}
-use Rattle.osdp_ring.specs.Ring.{popped}
-use Rattle.osdp_bus.specs.declared.entry.Entry.{Entry}
-use Rattle.osdp_bus.specs.Machine.{entry_submits}
-use Rattle.osdp_bus_laws.proofs.Places.{both_false}
-use Rattle.osdp_orders.specs.declared.queue.Queue.{Queue}
-use Rattle.osdp_orders.specs.Queues.{after_hold, kept_as}
-use Rattle.osdp_orders_laws.specs.Pacing.{is_polling}
-use Rattle.osdp_orders_laws.specs.Places.{IsWritten}
 
 abbrev pub listed : Option Command → List Command
 listed o = option_to_list o

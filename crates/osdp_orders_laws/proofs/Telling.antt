@@ -1,17 +1,6 @@
 -- What waits is told.
-use Rattle.std.proofs.Common.{◌≡◌, ◌∙◌, ap, sym, refl, ℕ, ◌+◌, ◌-◌, ◌^◌, min, Bool, true, false, List, [], ◌∷◌, ◌++◌, length, map, Option, Some, None, Ok, length-append}
-use Rattle.std.specs.Prelude.{if◌then◌else◌, option_map, slice_get}
-use Rattle.std.specs.Option.{option_or}
+use Rattle.osdp_orders_laws.proofs.Common.{◌≡◌, ◌∙◌, ap, sym, refl, ℕ, ◌+◌, ◌-◌, ◌^◌, min, Bool, true, false, List, [], ◌∷◌, ◌++◌, length, map, Option, Some, None, Ok, length-append, if◌then◌else◌, option_map, slice_get, option_or, Command, command_kept, is_closed, Entry, withdrawal_of, Queue, PanelState, held_back, held_count, held_of, is_closed_in, or_held, queue_of, with_held, read_kept, TellAllThatWaits, held_in, in_controller, waiting_orders}
 use Rattle.std.proofs.lemmas.List.{length-map}
-use Rattle.osdp_msg.specs.declared.command.Command.{Command}
-use Rattle.osdp_msg.specs.Kept.{command_kept}
-use Rattle.osdp_controller.specs.States.{is_closed}
-use Rattle.osdp_bus.specs.declared.entry.Entry.{Entry}
-use Rattle.osdp_bus.specs.Machine.{withdrawal_of}
-use Rattle.osdp_orders.specs.declared.queue.Queue.{Queue}
-use Rattle.osdp_orders.specs.Orders.{PanelState, held_back, held_count, held_of, is_closed_in, or_held, queue_of, with_held}
-use Rattle.osdp_orders.specs.Queues.{read_kept}
-use Rattle.osdp_orders_laws.specs.Places.{TellAllThatWaits, held_in, in_controller, waiting_orders}
 
 held_length : (o : Option Queue) → held_count o ≡ length (held_in o)
 held_length None = refl

@@ -1,20 +1,5 @@
 -- The device of an entry over a tick.
-use Rattle.std.proofs.Common.{◌≡◌, ◌∙◌, ap, sym, subst, inl, inr, refl, ℕ, Bool, true, false, max, Some, None}
-use Rattle.std.specs.Prelude.{◌⊎◌, if◌then◌else◌, is_some, nat_eq}
-use Rattle.std.proofs.lemmas.Bool.{eqb-true, eqb-false}
-use Rattle.osdp_bus.specs.declared.entry.Entry.{Entry}
-use Rattle.osdp_bus.specs.Buses.{BusState, device_of, has_report, seen}
-use Rattle.osdp_bus.specs.Entries.{entry_ticks, holds}
-use Rattle.osdp_bus.specs.Ticking.{BusTicked, bus_ticks, stays, ticks_on, ticks_with}
-use Rattle.osdp_bus_laws.specs.Calls.{Tick}
-use Rattle.osdp_bus_laws.specs.Fairness.{Begins}
-use Rattle.osdp_bus_laws.specs.Turns.{asking, judged}
-use Rattle.osdp_bus_laws.proofs.Fairness.{begun_ticked}
-use Rattle.osdp_bus_laws.proofs.Places.{is_false}
-use Rattle.osdp_bus_laws.proofs.Sound.{SoundBus}
-use Rattle.osdp_bus_laws.proofs.Turning.{set_here, still_free}
-use Rattle.osdp_bus_time_laws.proofs.Places.{Outcome, one_device, tick_place}
-use Rattle.osdp_orders.specs.declared.queue.Queue.{Queue}
+use Rattle.osdp_orders_laws.proofs.Common.{◌≡◌, ◌∙◌, ap, sym, subst, inl, inr, refl, ℕ, Bool, true, false, max, Some, None, ◌⊎◌, if◌then◌else◌, is_some, nat_eq, eqb-true, eqb-false, Entry, BusState, device_of, has_report, seen, entry_ticks, holds, BusTicked, bus_ticks, stays, ticks_on, ticks_with, Tick, Begins, asking, judged, begun_ticked, is_false, SoundBus, set_here, still_free, Outcome, one_device, tick_place, Queue}
 use Rattle.osdp_orders_laws.proofs.Hearing.{hears_asking, hears_nothing, stills_hears}
 use Rattle.osdp_orders_laws.proofs.Polling.{Begun, begun, holder_ticks, none_asked}
 use Rattle.osdp_orders_laws.proofs.Steps.{Paced, Steps, Stills, asked, goes, same_stills, stills, waits}

@@ -1,30 +1,5 @@
 -- An entry over a call that is a list of calls of its bus: an exchange of it begins with the first of them, or none does.
-use Rattle.std.proofs.Common.{◌≡◌, ◌∙◌, ap, sym, subst, inl, inr, refl, ℕ, zero, ◌+◌, ◌≤◌, Bool, true, false, List, [], ◌∷◌, ◌++◌, Some, None, arith, append_assoc, append-nil}
-use Rattle.std.specs.Prelude.{◌⊎◌, nat_eq}
-use Rattle.std.proofs.lemmas.Bool.{eqb-true, eqb-false}
-use Rattle.osdp_msg.specs.declared.command.Command.{Command}
-use Rattle.osdp_controller.specs.declared.session.Session.{Session}
-use Rattle.osdp_controller.specs.Machine.{is_outstanding}
-use Rattle.osdp_controller_laws.specs.Commands.{asked_in, command_of}
-use Rattle.osdp_time_laws.specs.Orders.{is_under_way}
-use Rattle.osdp_time_laws.proofs.Orders.{lives}
-use Rattle.osdp_bus.specs.declared.entry.Entry.{Entry}
-use Rattle.osdp_bus.specs.Buses.{BusState, device_of}
-use Rattle.osdp_bus_laws.specs.Calls.{Call}
-use Rattle.osdp_bus_laws.specs.Calls.{after_call as after_bus_call, after_calls as after_bus_calls}
-use Rattle.osdp_bus_laws.specs.Exchanges.{IsOutstandingAt}
-use Rattle.osdp_bus_laws.specs.Fairness.{Begins}
-use Rattle.osdp_bus_laws.proofs.Calling.{sound_call}
-use Rattle.osdp_bus_laws.proofs.Exchanging.{has_one_exchange}
-use Rattle.osdp_bus_laws.proofs.Fairness.{stands_after}
-use Rattle.osdp_bus_time_laws.specs.Clock.{KeepsTime}
-use Rattle.osdp_bus_time_laws.specs.Laws.{IsUnderWay}
-use Rattle.osdp_bus_time_laws.specs.Laws.{GoesOutBy as BeginsBy}
-use Rattle.osdp_bus_time_laws.specs.Turns.{EndsBy, HasFew, KeepsTurns, NoneBegins, TurnsTake}
-use Rattle.osdp_bus_time_laws.proofs.Asking.{polls_else, takes_the_front}
-use Rattle.osdp_bus_time_laws.proofs.Devices.{Well, well_calls}
-use Rattle.osdp_bus_time_laws.proofs.Places.{one_device}
-use Rattle.osdp_bus_time_laws.proofs.Turning.{decide}
+use Rattle.osdp_orders_laws.proofs.Common.{◌≡◌, ◌∙◌, ap, sym, subst, inl, inr, refl, ℕ, zero, ◌+◌, ◌≤◌, Bool, true, false, List, [], ◌∷◌, ◌++◌, Some, None, arith, append_assoc, append-nil, ◌⊎◌, nat_eq, eqb-true, eqb-false, Command, Session, is_outstanding, asked_in, command_of, is_under_way, lives, Entry, BusState, device_of, Call, after_bus_call, after_bus_calls, IsOutstandingAt, Begins, sound_call, has_one_exchange, stands_after, KeepsTime, IsUnderWay, BeginsBy, EndsBy, HasFew, KeepsTurns, NoneBegins, TurnsTake, polls_else, takes_the_front, Well, well_calls, one_device, decide}
 use Rattle.osdp_orders_laws.proofs.Onward.{AreOrders, Keeps, SameSession, few_after, keeps_call, orders_end, orders_go, orders_lead, orders_moment, over_goes, time_after, turns_after}
 use Rattle.osdp_orders_laws.proofs.Steps.{asked, waits}
 

@@ -1,18 +1,5 @@
 -- Orders that wait for no POLL are those of their bus.
-use Rattle.std.proofs.Common.{◌≡◌, ◌∙◌, ap, refl, ℕ, zero, suc, ◌-◌, ◌^◌, min, Bool, true, false, List, [], ◌∷◌, ◌++◌, length, Option, Some, None, Result, Ok, Err, arith}
-use Rattle.std.specs.Prelude.{if◌then◌else◌, option_map, slice_get}
-use Rattle.osdp_msg.specs.declared.command.Command.{Command}
-use Rattle.osdp_bus.specs.declared.entry.Entry.{Entry}
-use Rattle.osdp_bus.specs.declared.fault.BusFault.{BusFault}
-use Rattle.osdp_bus.specs.Buses.{device_of, new_bus}
-use Rattle.osdp_bus.specs.Machine.{add_refusal, after_begin_at, begin_refusal_at, changed_unless, withdrawal_at}
-use Rattle.osdp_bus.specs.Ticking.{bus_ticks}
-use Rattle.osdp_bus_laws.specs.Calls.{Call, Add, Begin, Submit, Tick}
-use Rattle.osdp_orders.specs.declared.queue.Queue.{Queue}
-use Rattle.osdp_orders.specs.Orders.{OrdersState, PanelState, after_add, both, held_count, held_of, is_closed_in, new_orders, or_held, polled_by, queue_of, submit_refusal_in, with_held, with_new_queue}
-use Rattle.osdp_orders.specs.Queues.{new_queue}
-use Rattle.osdp_orders_laws.specs.Calls.{after_call, after_calls}
-use Rattle.osdp_orders_laws.specs.OfTheBus.{IsItsBus, WithoutTheSetting, begin_calls, bus_calls, let_go_after, let_go_of, own_calls, submit_calls}
+use Rattle.osdp_orders_laws.proofs.Common.{◌≡◌, ◌∙◌, ap, refl, ℕ, zero, suc, ◌-◌, ◌^◌, min, Bool, true, false, List, [], ◌∷◌, ◌++◌, length, Option, Some, None, Result, Ok, Err, arith, if◌then◌else◌, option_map, slice_get, Command, Entry, BusFault, device_of, new_bus, add_refusal, after_begin_at, begin_refusal_at, changed_unless, withdrawal_at, bus_ticks, Call, Add, Begin, Submit, Tick, Queue, OrdersState, PanelState, after_add, both, held_count, held_of, is_closed_in, new_orders, or_held, polled_by, queue_of, submit_refusal_in, with_held, with_new_queue, new_queue, after_call, after_calls, IsItsBus, WithoutTheSetting, begin_calls, bus_calls, let_go_after, let_go_of, own_calls, submit_calls}
 use Rattle.osdp_orders_laws.proofs.Keeping.{Same, same_call}
 
 record Off (x : PanelState) : Type 0 where

@@ -1,3 +1,4 @@
+pub mod Common
 mod Marking
 mod Moments
 pub mod Ordering

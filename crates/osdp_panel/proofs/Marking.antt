@@ -1,17 +1,5 @@
 -- What a panel hands on to its controllers after a tick changes nothing of what the bus tells.
-use Rattle.std.proofs.Common.{◌≡◌, ap, refl, ℕ, Bool, true, false, List, Option, Some, None}
-use Rattle.std.specs.Prelude.{if◌then◌else◌, slice_set}
-use Rattle.std.specs.Option.{option_map_or}
-use Rattle.osdp_msg.specs.declared.command.Command.{Command}
-use Rattle.osdp_bus.specs.declared.entry.Entry.{Entry}
-use Rattle.osdp_bus.specs.declared.fault.BusFault.{BusFault}
-use Rattle.osdp_bus.specs.Buses.{BusState, device_of}
-use Rattle.osdp_bus.specs.Machine.{entry_submits, order_refusal_at}
-use Rattle.osdp_orders.specs.declared.queue.Queue.{Queue}
-use Rattle.osdp_orders.specs.Orders.{PanelState, both, gone_to, is_empty_in, lets_go_after, lets_go_of, polled_by, queue_of}
-use Rattle.osdp_orders.specs.Queues.{first_held, goes, goes_first, goes_unless}
-use Rattle.osdp_panel.specs.Laws.{MarksBoth}
-use Rattle.osdp_panel.specs.Turns.{brought, ticked_in}
+use Rattle.osdp_panel.proofs.Common.{◌≡◌, ap, refl, ℕ, Bool, true, false, List, Option, Some, None, if◌then◌else◌, slice_set, option_map_or, Command, Entry, BusFault, BusState, device_of, entry_submits, order_refusal_at, Queue, PanelState, both, gone_to, is_empty_in, lets_go_after, lets_go_of, polled_by, queue_of, first_held, goes, goes_first, goes_unless, MarksBoth, brought, ticked_in}
 
 entry_keeps : (o : Option Entry) (entry : ℕ) (change : Entry → Entry) (b : BusState)
     → brought (option_map_or (λ d. record b { devices = record b.devices { entries = slice_set b.devices.entries entry (change d) } }) o b) ≡ brought b

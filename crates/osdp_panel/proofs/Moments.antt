@@ -1,20 +1,7 @@
 -- Runs that end by moments alone.
-use Rattle.std.proofs.Common.{◌≡◌, ◌∙◌, ap, ℕ, Bool, true, false, ◌||◌, not, max, [], Option, Some, None, refl, arith}
-use Rattle.std.specs.Prelude.{if◌then◌else◌, slice_set}
-use Rattle.std.specs.Option.{option_map_or}
-use Rattle.osdp_msg.specs.declared.command.Command.{Command}
-use Rattle.osdp_bus.specs.declared.fault.BusFault.{BusFault}
+use Rattle.osdp_panel.proofs.Common.{◌≡◌, ◌∙◌, ap, ℕ, Bool, true, false, ◌||◌, not, max, [], Option, Some, None, refl, arith, if◌then◌else◌, slice_set, option_map_or, Command, BusFault, Entry, BusState, device_of, has_report, holder, seen, after_next_report, entry_submits, order_refusal_at, BusTicked, is_due_at, is_held_and_due, next_due, stays, ticks_at, ticks_by, ticks_held, ticks_on, ticks_with, Queue, PanelState, both, gone_to, is_empty_in, lets_go_after, lets_go_of, polled_by, queue_of, first_held, goes, goes_first, goes_unless, EndsByMoments, after_panel_turn, ticked_in}
 use Rattle.osdp_controller.proofs.Choices.{either_way}
-use Rattle.osdp_bus.specs.declared.entry.Entry.{Entry}
-use Rattle.osdp_bus.specs.Buses.{BusState, device_of, has_report, holder, seen}
 use Rattle.osdp_bus.specs.Hearing.{ends_run, ends_silent}
-use Rattle.osdp_bus.specs.Machine.{after_next_report, entry_submits, order_refusal_at}
-use Rattle.osdp_bus.specs.Ticking.{BusTicked, is_due_at, is_held_and_due, next_due, stays, ticks_at, ticks_by, ticks_held, ticks_on, ticks_with}
-use Rattle.osdp_orders.specs.declared.queue.Queue.{Queue}
-use Rattle.osdp_orders.specs.Orders.{PanelState, both, gone_to, is_empty_in, lets_go_after, lets_go_of, polled_by, queue_of}
-use Rattle.osdp_orders.specs.Queues.{first_held, goes, goes_first, goes_unless}
-use Rattle.osdp_panel.specs.Laws.{EndsByMoments}
-use Rattle.osdp_panel.specs.Turns.{after_panel_turn, ticked_in}
 
 -- the bus before the tick of a turn without bytes
 abbrev before_tick : ℕ → BusState → BusState

@@ -1,16 +1,6 @@
 -- A panel whose orders wait for no POLL is its bus.
-use Rattle.std.proofs.Common.{◌≡◌, ◌∙◌, ap, refl, ℕ, zero, suc, Bool, true, false, [], Option, Some, None, Result, Ok, Err}
-use Rattle.std.specs.Prelude.{if◌then◌else◌, slice_get}
-use Rattle.std.specs.Option.{option_or}
-use Rattle.osdp_msg.specs.declared.command.Command.{Command}
-use Rattle.osdp_bus.specs.declared.fault.BusFault.{BusFault}
-use Rattle.osdp_bus.specs.Buses.{device_of}
-use Rattle.osdp_bus.specs.Machine.{after_begin_at, after_next_report, after_withdraw_at, begin_refusal_at, changed_unless, is_withdrawn_at, withdrawal_at}
-use Rattle.osdp_bus.specs.Ticking.{bus_ticks}
-use Rattle.osdp_orders.specs.declared.queue.Queue.{Queue}
-use Rattle.osdp_orders.specs.Orders.{OrdersState, PanelState, after_submit_in, after_withdraw_by, begins_in, both, held_of, is_closed_in, lets_go_after, lets_go_of, or_held, polled_by, queue_of, submit_refusal_in, withdrawal, without_first}
+use Rattle.osdp_panel.proofs.Common.{◌≡◌, ◌∙◌, ap, refl, ℕ, zero, suc, Bool, true, false, [], Option, Some, None, Result, Ok, Err, if◌then◌else◌, slice_get, option_or, Command, BusFault, device_of, after_begin_at, after_next_report, after_withdraw_at, begin_refusal_at, changed_unless, is_withdrawn_at, withdrawal_at, bus_ticks, Queue, OrdersState, PanelState, after_submit_in, after_withdraw_by, begins_in, both, held_of, is_closed_in, lets_go_after, lets_go_of, or_held, polled_by, queue_of, submit_refusal_in, withdrawal, without_first, ticked_in}
 use Rattle.osdp_panel.specs.Ordering.{IsItsBus}
-use Rattle.osdp_panel.specs.Turns.{ticked_in}
 
 nothing : (entry : ℕ) → ◌≡◌ {A = Option Queue} (slice_get [] entry) None
 nothing zero = refl

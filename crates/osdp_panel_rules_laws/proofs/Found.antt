@@ -1,23 +1,7 @@
 -- What each rule finds, and what the standard leaves open.
-use Rattle.std.proofs.Common.{◌≡◌, ◌≢◌, ◌<◌, ℕ, false, cond, eqb, Option, Some, None, refl, sym, subst, ap, ◌∙◌, arith}
-use Rattle.std.proofs.lemmas.Bool.{cond-false, cond-true, cond_both, eq-eqb, false_from_ne_true, leb-true, ne_eqb}
-use Rattle.std.specs.Prelude.{nat_le}
-use Rattle.osdp_frame.specs.Packet.{Packet, next_sequence}
-use Rattle.osdp_panel_rules.specs.Findings.{is_order, online_finding, sequel_of, wait_finding}
-use Rattle.osdp_panel_rules.specs.Judging.{after_judged, judged, last_judged, online_judged, reply_judged, sent_judged, unanswered_judged, wait_judged}
-use Rattle.osdp_panel_rules.specs.declared.aspect.Aspect.{Aspect}
+use Rattle.osdp_panel_rules_laws.proofs.Common.{◌≡◌, ◌≢◌, ◌<◌, ℕ, false, cond, eqb, Option, Some, None, refl, sym, subst, ap, ◌∙◌, arith, cond-false, cond-true, cond_both, eq-eqb, false_from_ne_true, leb-true, ne_eqb, nat_le, Packet, next_sequence, is_order, online_finding, sequel_of, wait_finding, after_judged, judged, last_judged, online_judged, reply_judged, sent_judged, unanswered_judged, wait_judged, Aspect, Known, Said, Silence, Noise, Astray, Busy, Refusal, Sequel, Again, Anew, Altered, Next, Out, same_packet, Nothing, Kept, Either, Broken, IsFine, fine_both, fine_true, fine_unbroken, packet_is, AnsweredBreaksNothing, CopyBreaksNothing, FindsAltered, FindsHaste, FindsLateness, FindsOutOfTurn, FindsReply, FindsUnanswered, FirstBreaksNothing, Follows, LooksAt, ZeroBreaksNothing}
 use Rattle.osdp_panel_rules.specs.declared.aspect.Aspect.TheVariants as rule
-use Rattle.osdp_panel_rules.specs.declared.known.Known.{Known}
-use Rattle.osdp_panel_rules.specs.declared.said.Said.{Said}
-use Rattle.osdp_panel_rules.specs.declared.said.Said.TheVariants.{Silence, Noise, Astray, Busy, Refusal}
-use Rattle.osdp_panel_rules.specs.declared.sequel.Sequel.{Sequel}
-use Rattle.osdp_panel_rules.specs.declared.sequel.Sequel.TheVariants.{Again, Anew, Altered, Next, Out}
-use Rattle.osdp_rules.specs.Packets.{same_packet}
-use Rattle.osdp_rules.specs.declared.finding.Finding.TheVariants.{Nothing, Kept, Either, Broken}
-use Rattle.osdp_rules_laws.proofs.Fine.{IsFine, fine_both, fine_true, fine_unbroken}
-use Rattle.osdp_rules.proofs.Comparing.{packet_is}
 use Rattle.osdp_panel_rules_laws.proofs.Suiting.{IsInOrder, again, judged_fine, last_fine, next_above_zero, next_differs, next_in_order, zero_in_order}
-use Rattle.osdp_panel_rules_laws.specs.Laws.{AnsweredBreaksNothing, CopyBreaksNothing, FindsAltered, FindsHaste, FindsLateness, FindsOutOfTurn, FindsReply, FindsUnanswered, FirstBreaksNothing, Follows, LooksAt, ZeroBreaksNothing}
 
 -- a packet to the device is judged by how it follows the last one
 at_last : (aspect : Aspect) (address : ℕ) (k : Known) (p q : Packet) (wait : ℕ) → Follows address k p q

@@ -1,25 +1,7 @@
 -- What the device knows of its answers.
-use Rattle.std.proofs.Common.{◌≡◌, ◌≢◌, ℕ, Bool, true, false, cond, eqb, not, ◌&&◌, ◌||◌, Option, Some, None, Result, Ok, Err, refl, sym, subst, ap, ◌∙◌}
-use Rattle.std.proofs.lemmas.Bool.{cond-false, cond-true, cond_both, eq-eqb, eqb-true, false≢true, false_from_ne_true}
-use Rattle.std.specs.Prelude.{drop, slice_index}
-use Rattle.osdp_controller.specs.Answers.{meaning_by_reading, meaning_by_reason, meaning_by_reply}
-use Rattle.osdp_frame.specs.Packet.{Packet}
-use Rattle.osdp_msg.specs.declared.fault.MsgFault.{MsgFault}
-use Rattle.osdp_msg.specs.declared.nak.NakReason.{NakReason}
-use Rattle.osdp_msg.specs.declared.nak.NakReason.TheVariants.{CheckCharacters, UnexpectedSequence}
-use Rattle.osdp_msg.specs.declared.reply.Reply.{Reply}
+use Rattle.osdp_panel_rules_laws.proofs.Common.{◌≡◌, ◌≢◌, ℕ, Bool, true, false, cond, eqb, not, ◌&&◌, ◌||◌, Option, Some, None, Result, Ok, Err, refl, sym, subst, ap, ◌∙◌, cond-false, cond-true, cond_both, eq-eqb, eqb-true, false≢true, false_from_ne_true, drop, slice_index, meaning_by_reading, meaning_by_reason, meaning_by_reply, Packet, MsgFault, NakReason, CheckCharacters, UnexpectedSequence, Reply, NakData, reply_of, after_sent, is_last, nothing_known, said_first, said_to, by_number, by_reading, by_reason, by_reply, is_answer, is_busy, says, Known, Said, Silence, Astray, Busy, Damage, Refusal, same_packet, is_packet, packet_is, Answers, IsAnswer, IsFrom, KnowsAnswers, KnowsBusyWithZero, KnowsCopies, KnowsNewPackets, KnowsNoOthers, KnowsWhatWasSaid, Puts}
 use Rattle.osdp_msg.specs.declared.reply.Reply.TheVariants as reply
-use Rattle.osdp_msg.specs.declared.reply_fields.Nak.{Nak as NakData}
-use Rattle.osdp_msg.specs.ReplyTable.{reply_of}
-use Rattle.osdp_panel_rules.specs.Known.{after_sent, is_last, nothing_known, said_first, said_to}
-use Rattle.osdp_panel_rules.specs.Saying.{by_number, by_reading, by_reason, by_reply, is_answer, is_busy, says}
-use Rattle.osdp_panel_rules.specs.declared.known.Known.{Known}
-use Rattle.osdp_panel_rules.specs.declared.said.Said.{Said}
-use Rattle.osdp_panel_rules.specs.declared.said.Said.TheVariants.{Silence, Astray, Busy, Damage, Refusal}
-use Rattle.osdp_rules.specs.Packets.{same_packet}
-use Rattle.osdp_rules.proofs.Comparing.{is_packet, packet_is}
 use Rattle.osdp_panel_rules_laws.proofs.Running.{answers, answers_last, none_some, same_some}
-use Rattle.osdp_panel_rules_laws.specs.Laws.{Answers, IsAnswer, IsFrom, KnowsAnswers, KnowsBusyWithZero, KnowsCopies, KnowsNewPackets, KnowsNoOthers, KnowsWhatWasSaid, Puts}
 
 own : (p r : Packet) → IsFrom p r → (r.reply && eqb r.address p.address && not r.block) ≡ true
 own p r from = three r.reply (eqb r.address p.address) (not r.block) from.replies (eq-eqb r.address p.address from.address) (ap not from.clear)

@@ -1,3 +1,4 @@
+pub mod Common
 pub mod Suiting
 pub mod Fitting
 pub mod Running

@@ -1,33 +1,11 @@
 -- Move after move, what the device knows fits our controller, and no rule is broken.
-use Rattle.std.proofs.Common.{◌≡◌, ◌≢◌, inl, inr, ℕ, Bool, true, false, cond, eqb, not, ◌&&◌, ◌||◌, List, [], ◌∷◌, Option, Some, None, Result, Ok, Err, refl, sym, subst, ap, ◌∙◌}
-use Rattle.std.proofs.lemmas.Bool.{cond-false, cond-true, eq-eqb, eqb-true, false≢true}
-use Rattle.std.specs.Prelude.{drop, slice_index}
-use Rattle.osdp_controller.specs.Answers.{meaning_by_reading, meaning_by_reason, meaning_by_reply, meaning_of}
-use Rattle.osdp_controller.specs.declared.config.ControllerConfig.{ControllerConfig}
+use Rattle.osdp_panel_rules_laws.proofs.Common.{◌≡◌, ◌≢◌, inl, inr, ℕ, Bool, true, false, cond, eqb, not, ◌&&◌, ◌||◌, List, [], ◌∷◌, Option, Some, None, Result, Ok, Err, refl, sym, subst, ap, ◌∙◌, cond-false, cond-true, eq-eqb, eqb-true, false≢true, drop, slice_index, meaning_by_reading, meaning_by_reason, meaning_by_reply, meaning_of, ControllerConfig, Session, State, Closed, Quiet, Idle, Waiting, Pausing, hears, is_from_reader, seen, Packet, MsgFault, NakReason, CheckCharacters, UnexpectedSequence, Reply, NakData, reply_of, after_noise, after_packet, after_said, after_sent, nothing_known, said_to, by_number, by_reading, by_reason, by_reply, is_answer, is_busy, says, Aspect, Known, AreFine, IsFine, never_broken, BreaksNoRule, IsAnswer, needs_clock}
 use Rattle.osdp_controller.specs.declared.fault.ControllerFault.{ControllerFault}
-use Rattle.osdp_controller.specs.declared.session.Session.{Session}
-use Rattle.osdp_controller.specs.declared.state.State.{State}
-use Rattle.osdp_controller.specs.declared.state.State.TheVariants.{Closed, Quiet, Idle, Waiting, Pausing}
-use Rattle.osdp_controller.specs.Hearing.{hears, is_from_reader}
 use Rattle.osdp_controller.specs.Machine.{Machine, after_begin, after_frame, after_retarget, after_submit, after_tick, begin_refusal, changed_unless, or_no_device, refused_unless_closed, retarget_refusal, submit_refusal}
-use Rattle.osdp_controller.specs.Sessions.{seen}
-use Rattle.osdp_frame.specs.Packet.{Packet}
-use Rattle.osdp_msg.specs.declared.fault.MsgFault.{MsgFault}
-use Rattle.osdp_msg.specs.declared.nak.NakReason.{NakReason}
-use Rattle.osdp_msg.specs.declared.nak.NakReason.TheVariants.{CheckCharacters, UnexpectedSequence}
-use Rattle.osdp_msg.specs.declared.reply.Reply.{Reply}
 use Rattle.osdp_msg.specs.declared.reply.Reply.TheVariants as reply
-use Rattle.osdp_msg.specs.declared.reply_fields.Nak.{Nak as NakData}
-use Rattle.osdp_msg.specs.ReplyTable.{reply_of}
-use Rattle.osdp_panel_rules.specs.Known.{after_noise, after_packet, after_said, after_sent, nothing_known, said_to}
-use Rattle.osdp_panel_rules.specs.Saying.{by_number, by_reading, by_reason, by_reply, is_answer, is_busy, says}
-use Rattle.osdp_panel_rules.specs.declared.aspect.Aspect.{Aspect}
-use Rattle.osdp_panel_rules.specs.declared.known.Known.{Known}
 use Rattle.osdp_panel_rules.specs.declared.said.Said.TheVariants as said
-use Rattle.osdp_rules_laws.proofs.Fine.{AreFine, IsFine, never_broken}
 use Rattle.osdp_panel_rules_laws.proofs.Fitting.{AreTaken, Fits, FitsIn, TickFits, frame, hear_fits, tick_fits}
 use Rattle.osdp_panel_rules_laws.proofs.Suiting.{Suits, suits_fine}
-use Rattle.osdp_panel_rules_laws.specs.Laws.{BreaksNoRule, IsAnswer, needs_clock}
 use Rattle.osdp_panel_rules_laws.specs.Runs.{AreAllowed, Begin, Forget, Hear, IsAllowed, Move, Noise, Restart, Retarget, Say, Submit, Tested, Tick, Withdraw, after_move, after_sending, findings, heard_at, new_tested, sending_shown, sent_at, shown}
 
 pub same_some : {A : Type 0} (x y : A) → Some x ≡ Some y → x ≡ y

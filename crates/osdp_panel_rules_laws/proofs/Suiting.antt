@@ -1,22 +1,6 @@
 -- Packets that break no rule: a copy, number 0, and the next number after an answer.
-use Rattle.std.proofs.Common.{◌≡◌, ◌≢◌, ◌⊎◌, inl, inr, ℕ, Bool, true, false, cond, eqb, Option, Some, None, refl, sym, subst, ◌∙◌, arith}
-use Rattle.std.proofs.lemmas.Bool.{cond-false, cond-true, cond_both, eq-eqb, eqb-true, false≢true}
-use Rattle.osdp_frame.specs.Packet.{Packet, next_sequence}
-use Rattle.osdp_panel_rules.specs.Findings.{is_order, sequel_of, taken_finding}
-use Rattle.osdp_panel_rules.specs.Judging.{after_judged, judged, last_judged, reply_judged, sent_judged, unanswered_judged}
-use Rattle.osdp_panel_rules.specs.Saying.{is_answer}
-use Rattle.osdp_panel_rules.specs.declared.aspect.Aspect.{Aspect}
+use Rattle.osdp_panel_rules_laws.proofs.Common.{◌≡◌, ◌≢◌, ◌⊎◌, inl, inr, ℕ, Bool, true, false, cond, eqb, Option, Some, None, refl, sym, subst, ◌∙◌, arith, cond-false, cond-true, cond_both, eq-eqb, eqb-true, false≢true, Packet, next_sequence, is_order, sequel_of, taken_finding, after_judged, judged, last_judged, reply_judged, sent_judged, unanswered_judged, is_answer, Aspect, Known, Said, Silence, Noise, Astray, Busy, Damage, Refusal, Sequel, Again, Anew, Altered, Next, Out, same_packet, Nothing, Kept, Either, IsFine, fine_both, fine_true, is_packet, needs_clock}
 use Rattle.osdp_panel_rules.specs.declared.aspect.Aspect.TheVariants as rule
-use Rattle.osdp_panel_rules.specs.declared.known.Known.{Known}
-use Rattle.osdp_panel_rules.specs.declared.said.Said.{Said}
-use Rattle.osdp_panel_rules.specs.declared.said.Said.TheVariants.{Silence, Noise, Astray, Busy, Damage, Refusal}
-use Rattle.osdp_panel_rules.specs.declared.sequel.Sequel.{Sequel}
-use Rattle.osdp_panel_rules.specs.declared.sequel.Sequel.TheVariants.{Again, Anew, Altered, Next, Out}
-use Rattle.osdp_rules.specs.Packets.{same_packet}
-use Rattle.osdp_rules.specs.declared.finding.Finding.TheVariants.{Nothing, Kept, Either}
-use Rattle.osdp_rules_laws.proofs.Fine.{IsFine, fine_both, fine_true}
-use Rattle.osdp_rules.proofs.Comparing.{is_packet}
-use Rattle.osdp_panel_rules_laws.specs.Laws.{needs_clock}
 
 -- a packet follows the last one in order
 abbrev pub Suits : Known → Packet → Type 0

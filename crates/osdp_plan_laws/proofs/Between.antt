@@ -1,18 +1,10 @@
 -- The figure of an order is the bound of its law, where orders wait for POLLs.
-use Rattle.std.specs.Prelude.{if◌then◌else◌}
-use Rattle.std.proofs.Common.{◌≡◌, ◌∙◌, ap, sym, subst, ℕ, ◌+◌, ◌*◌, arith}
-use Rattle.osdp_controller.specs.declared.config.ControllerConfig.{ControllerConfig}
-use Rattle.osdp_bus_laws.specs.Calls.{Submit}
-use Rattle.osdp_bus_time_laws.specs.Turns.{turns_of}
+use Rattle.osdp_plan_laws.proofs.Common.{if◌then◌else◌, ◌≡◌, ◌∙◌, ap, sym, subst, ℕ, ◌+◌, ◌*◌, arith, ControllerConfig, Submit, turns_of, line_order_time, turns_time, Plan, exchanges, order_between_time, order_wait, planned_time}
 use Rattle.osdp_orders.specs.Orders.{PanelState}
 use Rattle.osdp_orders_laws.specs.Calls.{after_call, after_calls, new_panel}
 use Rattle.osdp_orders_laws.specs.InTime.{AlwaysWritten, GoesOutBy, OrdersGoOut}
 use Rattle.osdp_orders_laws.proofs.Coming.{orders_go_out}
-use Rattle.osdp_time_laws.specs.Lines.{line_order_time, turns_time}
-use Rattle.osdp_plan.specs.declared.plan.Plan.{Plan}
-use Rattle.osdp_plan.specs.Figures.{exchanges, order_between_time, order_wait}
 use Rattle.osdp_plan_laws.specs.Between.{OrdersBetweenKeepToFigures}
-use Rattle.osdp_plan_laws.specs.Figures.{planned_time}
 use Rattle.osdp_plan_laws.proofs.Figures.{turns_are}
 
 -- arithmetic on moments alone

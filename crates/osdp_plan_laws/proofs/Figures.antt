@@ -1,29 +1,20 @@
 -- The figures of a plan are the bounds of the laws in time.
-use Rattle.std.specs.Prelude.{if◌then◌else◌, min}
-use Rattle.std.proofs.Common.{◌≡◌, ◌∙◌, ap, sym, subst, refl, ℕ, suc, ◌+◌, ◌-◌, ◌*◌, ◌≤◌, Bool, true, false, length, arith}
+use Rattle.osdp_plan_laws.proofs.Common.{if◌then◌else◌, min, ◌≡◌, ◌∙◌, ap, sym, subst, refl, ℕ, suc, ◌+◌, ◌-◌, ◌*◌, ◌≤◌, Bool, true, false, length, arith, BusState, turns_of, Well, ControllerConfig, card_time, line_order_time, line_silence_time, turns_time, Plan, answered_time, card_wait, exchanges, lost_wait, order_between_time, order_wait, orders_before, CardsAmongOrdersKeepToFigures, CardsKeepToFigures, OrdersKeepToFigures, SilenceKeepsToFigures, planned_time}
 use Rattle.std.proofs.lemmas.List.{length-replicate}
 use Rattle.std.proofs.Math.Nat.{mul-le-mul_left, mul-le-mul_right}
-use Rattle.osdp_bus.specs.Buses.{BusState}
 use Rattle.osdp_bus.specs.Settings.{controller_config}
 use Rattle.osdp_bus_laws.specs.Calls.{Submit, after_call}
 use Rattle.osdp_bus_time_laws.specs.Laws.{GoesOutBy, time_of}
 use Rattle.osdp_bus_time_laws.specs.Telling.{ToldBy, round_of}
-use Rattle.osdp_bus_time_laws.specs.Turns.{turns_of}
-use Rattle.osdp_bus_time_laws.proofs.Devices.{Well}
 use Rattle.osdp_bus_time_laws.proofs.InTime.{lines_add_up}
 use Rattle.osdp_bus_time_laws.proofs.Ordered.{orders_go_out}
 use Rattle.osdp_bus_time_laws.proofs.Silent.{silence_is_told}
 use Rattle.osdp_card_time_laws.specs.Cards.{KeepsServing, ReportedBy, to_offer_before}
 use Rattle.osdp_card_time_laws.proofs.Among.{cards_among_orders}
 use Rattle.osdp_card_time_laws.proofs.Figures.{cards_by_figures, reported_later}
-use Rattle.osdp_controller.specs.declared.config.ControllerConfig.{ControllerConfig}
-use Rattle.osdp_time_laws.specs.Lines.{card_time, line_order_time, line_silence_time, turns_time}
 use Rattle.osdp_plan.specs.declared.bounds.Others.{Others}
 use Rattle.osdp_plan.specs.declared.bounds.Others.TheVariants.{Answer, OneSilent, Hostile}
-use Rattle.osdp_plan.specs.declared.plan.Plan.{Plan}
-use Rattle.osdp_plan.specs.Figures.{answered_time, card_wait, exchanges, lost_wait, order_between_time, order_wait, orders_before}
 use Rattle.osdp_plan.specs.Plans.{IsPlan, config_of}
-use Rattle.osdp_plan_laws.specs.Figures.{CardsAmongOrdersKeepToFigures, CardsKeepToFigures, OrdersKeepToFigures, SilenceKeepsToFigures, planned_time}
 
 -- each reader has its exchange
 one_more : (n : ℕ) → 1 ≤ n → suc (n - 1) ≡ n

@@ -1,21 +1,6 @@
 -- The tests on addresses decide the premise on them.
-use Rattle.std.proofs.Common.{◌≡◌, ◌≢◌, ◌≤◌, ◌&&◌, ◌||◌, ◌⊎◌, ◌==◌, ℕ, not, Decides, List, length, Option, Some, None, refl, subst, ap, ◌∙◌, arith, inl, inr, ⊎_elim}
-use Rattle.std.proofs.lemmas.Bool.{cases_eq}
-use Rattle.std.proofs.lemmas.Bool.Decides.{Decides-and, Decides-eqb, Decides-like, Decides-not, Decides-or}
-use Rattle.osdp_frame.specs.Packet.{Packet}
-use Rattle.osdp_msg.specs.declared.command_fields.Communication.{Communication}
-use Rattle.osdp_controller.specs.Hearing.{comset_of}
-use Rattle.osdp_bus.specs.Buses.{device_of}
-use Rattle.osdp_bus.specs.Machine.{retarget_refusal_at, submit_refusal_at}
-use Rattle.osdp_bus.specs.declared.entry.Entry.{Entry}
-use Rattle.osdp_bus.specs.declared.fault.BusFault.{BusFault}
+use Rattle.osdp_premises.proofs.Common.{◌≡◌, ◌≢◌, ◌≤◌, ◌&&◌, ◌||◌, ◌⊎◌, ◌==◌, ℕ, not, Decides, List, length, Option, Some, None, refl, subst, ap, ◌∙◌, arith, inl, inr, ⊎_elim, cases_eq, Decides-and, Decides-eqb, Decides-like, Decides-not, Decides-or, Packet, Communication, comset_of, device_of, retarget_refusal_at, submit_refusal_at, Entry, BusFault, command_in, new_address, Sets, SetsReader, Somewhere, address_in, site_at, InUse, Station, ahead_of_device, IsAsked, IsFreeFor, IsNoOthers, IsOfOthers, IsSaid, IsThere, MayBeAt, PanelAddresses, PanelIsApart, unended_of, address_asked, are_other_addresses, differ, each_below, each_of, each_other, gives_no_others, if_there, is_apart_from, is_asked_to, is_entry_at, is_free_for, is_free_of_others, is_no_others, is_of_others, is_ours_at, is_sent_to, is_there_with, may_be_at, panel_addresses, panel_is_apart, sets, sets_reader, stands_at}
 use Rattle.osdp_bus_laws.specs.Calls as bus
-use Rattle.osdp_reader.specs.Table.{command_in, new_address}
-use Rattle.osdp_shared_line.specs.Addresses.{Sets, SetsReader, Somewhere, address_in}
-use Rattle.osdp_shared_line.specs.Line.{site_at}
-use Rattle.osdp_calls.specs.Lines.{InUse, Station, ahead_of_device}
-use Rattle.osdp_calls.specs.Premises.{IsAsked, IsFreeFor, IsNoOthers, IsOfOthers, IsSaid, IsThere, MayBeAt, PanelAddresses, PanelIsApart, unended_of}
-use Rattle.osdp_premises.specs.Deciding.{address_asked, are_other_addresses, differ, each_below, each_of, each_other, gives_no_others, if_there, is_apart_from, is_asked_to, is_entry_at, is_free_for, is_free_of_others, is_no_others, is_of_others, is_ours_at, is_sent_to, is_there_with, may_be_at, panel_addresses, panel_is_apart, sets, sets_reader, stands_at}
 use Rattle.osdp_premises.proofs.Deciding.{always, each_decides, every_decides, if_decides, other_decides, site_below, some_decides, there_decides}
 
 -- that number is there

@@ -1,21 +1,11 @@
 -- Tests of lists, of what may be there, and of packets.
-use Rattle.std.proofs.Common.{◌≡◌, ◌≢◌, ◌≤◌, ◌<◌, ◌&&◌, ◌||◌, ◌⊎◌, ◌==◌, ℕ, zero, suc, not, leb, Bool, true, false, Decides, All, List, [], ◌∷◌, length, Option, Some, None, refl, sym, subst, ap, arith, inl, inr, ⊎_elim}
+use Rattle.osdp_premises.proofs.Common.{◌≡◌, ◌≢◌, ◌≤◌, ◌<◌, ◌&&◌, ◌||◌, ◌⊎◌, ◌==◌, ℕ, zero, suc, not, leb, Bool, true, false, Decides, All, List, [], ◌∷◌, length, Option, Some, None, refl, sym, subst, ap, arith, inl, inr, ⊎_elim, slice_get, cases_eq, cases_lt, false≢true, le-leb, leb-true, Decides-and, Decides-below_and, Decides-by_and, Decides-eqb, Decides-like, Decides-or, Packet, Sum, Crc, Somewhere, site_at, Burst, AreInOrder, AreNotPast, are_in_order, are_not_past, each_below, each_of, each_other, if_there, is_check, is_packet, is_there_with, some_of}
 use Rattle.std.specs.Bool.{beq}
 use Rattle.std.specs.Cmp.{booleans_Decides}
-use Rattle.std.specs.Prelude.{slice_get}
 use Rattle.std.specs.Str.{bytes_eq}
-use Rattle.std.proofs.lemmas.Bool.{cases_eq, cases_lt, false≢true, le-leb, leb-true}
-use Rattle.std.proofs.lemmas.Bool.Decides.{Decides-and, Decides-below_and, Decides-by_and, Decides-eqb, Decides-like, Decides-or}
 use Rattle.std.proofs.lemmas.Slice.Eq.{bytes_eq-Decides}
-use Rattle.osdp_frame.specs.Packet.{Packet}
 use Rattle.osdp_frame.specs.declared.check_kind.CheckKind.{CheckKind}
-use Rattle.osdp_frame.specs.declared.check_kind.CheckKind.TheVariants.{Sum, Crc}
 use Rattle.osdp_frame.proofs.Spelled.{same_packet}
-use Rattle.osdp_shared_line.specs.Addresses.{Somewhere}
-use Rattle.osdp_shared_line.specs.Line.{site_at}
-use Rattle.osdp_calls.specs.Lines.{Burst}
-use Rattle.osdp_calls.specs.Premises.{AreInOrder, AreNotPast}
-use Rattle.osdp_premises.specs.Deciding.{are_in_order, are_not_past, each_below, each_of, each_other, if_there, is_check, is_packet, is_there_with, some_of}
 
 pub always : {P : Type 0} → P → Decides true P
 always p = (λ e. p, λ q. refl)

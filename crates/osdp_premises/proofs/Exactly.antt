@@ -1,16 +1,5 @@
 -- Each test holds exactly where its premise does, call by call.
-use Rattle.std.proofs.Common.{◌≡◌, ◌&&◌, ◌||◌, ◌⊎◌, ℕ, Decides, List, [], ◌∷◌, Option, Some, None}
-use Rattle.std.proofs.lemmas.Bool.{and_parts}
-use Rattle.std.proofs.lemmas.Bool.Decides.{Decides-eqb, Decides-or}
-use Rattle.osdp_msg.specs.declared.command.Command.{Command}
-use Rattle.osdp_device.specs.Telling.{items_of}
-use Rattle.osdp_reader.specs.declared.handler.Answer.{Answer}
-use Rattle.osdp_shared_line.specs.Line.{site_at}
-use Rattle.osdp_calls.specs.Calls.{Call, NewDevice, NewPanel, Next, OfPanel, Step, after_call, read_by, read_up_to}
-use Rattle.osdp_calls.specs.Lines.{InUse, Station, is_past_for_device, is_past_for_panel}
-use Rattle.osdp_calls.specs.Premises.{Addresses, InOrder, IsFreeFor, IsOfOthers, NextInOrder, QuietOpening}
-use Rattle.osdp_premises.specs.Deciding.{are_fair, are_in_order, has_addresses, if_there, is_fair, is_free_for, is_in_order, is_of_others, is_quiet, stands_at}
-use Rattle.osdp_premises.specs.Exactly.{FairCallsKeep, PremisesAreExact}
+use Rattle.osdp_premises.proofs.Common.{◌≡◌, ◌&&◌, ◌||◌, ◌⊎◌, ℕ, Decides, List, [], ◌∷◌, Option, Some, None, and_parts, Decides-eqb, Decides-or, Command, items_of, Answer, site_at, Call, NewDevice, NewPanel, Next, OfPanel, Step, after_call, read_by, read_up_to, InUse, Station, is_past_for_device, is_past_for_panel, Addresses, InOrder, IsFreeFor, IsOfOthers, NextInOrder, QuietOpening, are_fair, are_in_order, has_addresses, if_there, is_fair, is_free_for, is_in_order, is_of_others, is_quiet, stands_at, FairCallsKeep, PremisesAreExact}
 use Rattle.osdp_premises.proofs.Addresses.{apart_decides, free_decides, others_decides, panel_decides}
 use Rattle.osdp_premises.proofs.Deciding.{always, if_decides, past_decides, said_decides}
 

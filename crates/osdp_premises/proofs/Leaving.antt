@@ -1,13 +1,9 @@
 -- The tests of which calls leave an end as it is.
-use Rattle.std.proofs.Common.{◌≢◌, ◌==◌, ℕ, not, Decides}
-use Rattle.std.proofs.lemmas.Bool.Decides.{Decides-eqb, Decides-not}
+use Rattle.osdp_premises.proofs.Common.{◌≢◌, ◌==◌, ℕ, not, Decides, Decides-eqb, Decides-not, Call, NewDevice, NewPanel, OfPanel, SetHandler, WithdrawEvent, CanStand, KeepsPanel, LeavingIsExact, is_ordinary, keeps_device, keeps_handler, keeps_panel, leaves_commands}
 use Rattle.osdp_bus_laws.specs.Calls as bus
-use Rattle.osdp_calls.specs.Calls.{Call, NewDevice, NewPanel, OfPanel, SetHandler, WithdrawEvent}
-use Rattle.osdp_calls.specs.Ends.{CanStand, KeepsPanel}
 use Rattle.osdp_calls.specs.OneDevice.{KeepsHandler}
 use Rattle.osdp_calls.specs.Restarts.{KeepsDevice}
 use Rattle.osdp_calls.specs.Undisturbed.{IsOrdinaryOf, LeavesCommandsOf}
-use Rattle.osdp_premises.specs.Leaving.{LeavingIsExact, is_ordinary, keeps_device, keeps_handler, keeps_panel, leaves_commands}
 use Rattle.osdp_premises.proofs.Deciding.{always, never}
 
 another : (i k : ℕ) → Decides (not (i == k)) (i ≢ k)

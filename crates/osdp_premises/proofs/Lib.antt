@@ -1,3 +1,4 @@
+pub mod Common
 pub mod Deciding
 pub mod Addresses
 pub mod Exactly

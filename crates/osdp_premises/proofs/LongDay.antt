@@ -1,36 +1,16 @@
 -- The long day keeps the premises: by the tests of each call, and since its values are in their ranges.
-use Rattle.std.proofs.Common.{◌≡◌, ◌≢◌, ◌<◌, ◌≤◌, ℕ, zero, suc, true, IfSome, List, [], ◌∷◌, length, Option, Some, None, is_some, refl, sym, subst, ap, ◌∙◌, inr, arith}
-use Rattle.std.proofs.lemmas.Bool.{and_parts}
+use Rattle.osdp_premises.proofs.Common.{◌≡◌, ◌≢◌, ◌<◌, ◌≤◌, ℕ, zero, suc, true, IfSome, List, [], ◌∷◌, length, Option, Some, None, is_some, refl, sym, subst, ap, ◌∙◌, inr, arith, and_parts, Sum, Command, device_of, new_device, Entry, items_of, each_all, Each, hears, Answer, site_at, Call, NewDevice, NewPanel, Next, OfPanel, Step, after_call, after_calls, read_up_to, CanStand, InUse, Station, bus_with, AllKeep, InRange, IsSetUp, Keeps, NextInRange, PanelInRange, each_of, AllInRange, keeps_panel, LongDayKeeps, RestartHappens, RestartsHappen, calls, device_at, first_line, four, had_sessions, line_in_the_morning, long_day, spare_at, station_at, twice}
 use Rattle.std.specs.Prelude.{All, drop, slice_index, take}
 use Rattle.osdp_frame.specs.Held.{decided}
 use Rattle.osdp_frame.specs.Items.{items, left_over}
-use Rattle.osdp_frame.specs.declared.check_kind.CheckKind.TheVariants.{Sum}
 use Rattle.osdp_msg.specs.CommandTable.{command_at, command_fault, command_of}
 use Rattle.osdp_msg.specs.Limits.{AreRoom}
 use Rattle.osdp_msg.specs.ReplyFields.{CapabilityFits, KeypadFits, PdIdFits}
 use Rattle.osdp_msg.specs.ReplyTable.{ReplyFits, reply_at, reply_fault, reply_of}
-use Rattle.osdp_msg.specs.declared.command.Command.{Command}
-use Rattle.osdp_bus.specs.Buses.{device_of}
-use Rattle.osdp_bus.specs.Machine.{new_device}
 use Rattle.osdp_bus.specs.Settings.{IsBusConfig}
-use Rattle.osdp_bus.specs.declared.entry.Entry.{Entry}
 use Rattle.osdp_bus.proofs.Defaults.{bus_in_range}
-use Rattle.osdp_device.specs.Telling.{items_of}
 use Rattle.osdp_link_laws.specs.Link.{new_account}
-use Rattle.osdp_link_laws.proofs.Lines.{each_all}
-use Rattle.osdp_link_laws.proofs.Stages.{Each}
-use Rattle.osdp_reader.specs.Table.{hears}
-use Rattle.osdp_reader.specs.declared.handler.Answer.{Answer}
-use Rattle.osdp_shared_line.specs.Line.{site_at}
 use Rattle.osdp_reader_laws.specs.Storing.{StoresItsOwn}
-use Rattle.osdp_calls.specs.Calls.{Call, NewDevice, NewPanel, Next, OfPanel, Step, after_call, after_calls, read_up_to}
-use Rattle.osdp_calls.specs.Ends.{CanStand}
-use Rattle.osdp_calls.specs.Lines.{InUse, Station, bus_with}
-use Rattle.osdp_calls.specs.Premises.{AllKeep, InRange, IsSetUp, Keeps, NextInRange, PanelInRange}
-use Rattle.osdp_premises.specs.Deciding.{each_of}
-use Rattle.osdp_premises.specs.Exactly.{AllInRange}
-use Rattle.osdp_premises.specs.Leaving.{keeps_panel}
-use Rattle.osdp_premises.specs.LongDay.{LongDayKeeps, RestartHappens, RestartsHappen, calls, device_at, first_line, four, had_sessions, line_in_the_morning, long_day, spare_at, station_at, twice}
 use Rattle.osdp_premises.proofs.Exactly.{fair_keep}
 use Rattle.osdp_premises.proofs.Leaving.{leaving_exact}
 

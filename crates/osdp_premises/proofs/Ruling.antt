@@ -1,23 +1,9 @@
 -- The test of the rule for programs holds exactly where the rule does.
-use Rattle.std.proofs.Common.{◌≡◌, ◌≢◌, ◌&&◌, ◌==◌, ℕ, not, Bool, Decides, [], ◌∷◌, length, Option, Some, None, refl, subst, arith}
-use Rattle.std.proofs.lemmas.Bool.{and_parts}
-use Rattle.std.proofs.lemmas.Bool.Decides.{Decides-eqb, Decides-like, Decides-not}
-use Rattle.osdp_msg.specs.declared.command.Command.{Command}
-use Rattle.osdp_msg.specs.declared.command_fields.Communication.{Communication}
-use Rattle.osdp_controller.specs.Hearing.{comset_of}
-use Rattle.osdp_bus.specs.Buses.{BusState, device_of}
+use Rattle.osdp_premises.proofs.Common.{◌≡◌, ◌≢◌, ◌&&◌, ◌==◌, ℕ, not, Bool, Decides, [], ◌∷◌, length, Option, Some, None, refl, subst, arith, and_parts, Decides-eqb, Decides-like, Decides-not, Command, Communication, comset_of, BusState, device_of, retarget_refusal_at, submit_refusal_at, Entry, BusFault, Answer, site_at, NewDevice, NewPanel, OfPanel, after_call, Station, address_asked, if_there, is_in_order, is_quiet, is_there_with, stands_at}
 use Rattle.osdp_bus.specs.Entries.{address_of}
-use Rattle.osdp_bus.specs.Machine.{retarget_refusal_at, submit_refusal_at}
-use Rattle.osdp_bus.specs.declared.entry.Entry.{Entry}
-use Rattle.osdp_bus.specs.declared.fault.BusFault.{BusFault}
 use Rattle.osdp_bus_laws.specs.Calls as bus
-use Rattle.osdp_reader.specs.declared.handler.Answer.{Answer}
-use Rattle.osdp_shared_line.specs.Line.{site_at}
 use Rattle.osdp_shared_line.specs.Programs.{Note}
-use Rattle.osdp_calls.specs.Calls.{NewDevice, NewPanel, OfPanel, after_call}
-use Rattle.osdp_calls.specs.Lines.{Station}
 use Rattle.osdp_calls.specs.Programs.{IsKnown, PanelKeepsRule, notes_after}
-use Rattle.osdp_premises.specs.Deciding.{address_asked, if_there, is_in_order, is_quiet, is_there_with, stands_at}
 use Rattle.osdp_premises.specs.Ruling.{RuleIsExact, RuledCallsKeep, are_ruled, is_known, is_unknown_beside, keeps_rule, panel_keeps_rule, unless_refused}
 use Rattle.osdp_premises.proofs.Deciding.{always, below_decides, get_below, if_decides, other_decides, site_below, some_decides, there_decides}
 use Rattle.osdp_premises.proofs.Exactly.{exact}

@@ -1,21 +1,11 @@
 -- A machine at the address of our device breaks order alone, and what is promised with it.
-use Rattle.std.proofs.Common.{◌≡◌, ◌&&◌, Bool, true, false, List, [], ◌∷◌, refl, sym, ◌∙◌, arith}
-use Rattle.std.proofs.lemmas.Bool.{and_parts, false≢true}
-use Rattle.std.specs.Prelude.{take}
+use Rattle.osdp_premises.proofs.Common.{◌≡◌, ◌&&◌, Bool, true, false, List, [], ◌∷◌, refl, sym, ◌∙◌, arith, and_parts, false≢true, take, Command, Answer, OfPanel, Step, after_call, after_calls, InUse, AllKeep, has_addresses, is_in_order, is_quiet, AllInRange, answers, calls, first_line}
 use Rattle.osdp_frame.specs.Held.{decided}
 use Rattle.osdp_frame.specs.Items.{items, left_over}
 use Rattle.osdp_msg.specs.CommandTable.{command_at, command_fault, command_of}
 use Rattle.osdp_msg.specs.ReplyTable.{reply_at, reply_fault, reply_of}
-use Rattle.osdp_msg.specs.declared.command.Command.{Command}
 use Rattle.osdp_bus_laws.specs.Calls as bus
-use Rattle.osdp_reader.specs.declared.handler.Answer.{Answer}
-use Rattle.osdp_calls.specs.Calls.{OfPanel, Step, after_call, after_calls}
-use Rattle.osdp_calls.specs.Lines.{InUse}
-use Rattle.osdp_calls.specs.Premises.{AllKeep}
-use Rattle.osdp_premises.specs.Deciding.{has_addresses, is_in_order, is_quiet}
-use Rattle.osdp_premises.specs.Exactly.{AllInRange}
 use Rattle.osdp_premises.specs.SharedAddress.{AllKeepButOrder, SharedAddressBreaksOrder, shared_day}
-use Rattle.osdp_premises.specs.LongDay.{answers, calls, first_line}
 use Rattle.osdp_premises.proofs.Exactly.{exact}
 use Rattle.osdp_premises.proofs.LongDay.{all_range, is_set_up, keep_at}
 

@@ -1,13 +1,6 @@
 -- Order where others speak, too.
-use Rattle.std.proofs.Common.{ℕ, List, [], ◌∷◌, Option, Some, None, inl, inr}
-use Rattle.osdp_frame.specs.Packet.{Packet}
-use Rattle.osdp_device.specs.Telling.{items_of}
+use Rattle.osdp_premises.proofs.Common.{ℕ, List, [], ◌∷◌, Option, Some, None, inl, inr, Packet, items_of, Each, site_at, Call, Next, OfPanel, read_by, read_up_to, Burst, InUse, Station, AreInOrder, InOrder, IsOfOthers, NextInOrder}
 use Rattle.osdp_link_laws.proofs.Lines.{each_of}
-use Rattle.osdp_link_laws.proofs.Stages.{Each}
-use Rattle.osdp_shared_line.specs.Line.{site_at}
-use Rattle.osdp_calls.specs.Calls.{Call, Next, OfPanel, read_by, read_up_to}
-use Rattle.osdp_calls.specs.Lines.{Burst, InUse, Station}
-use Rattle.osdp_calls.specs.Premises.{AreInOrder, InOrder, IsOfOthers, NextInOrder}
 use Rattle.osdp_premises.specs.Strangers.{AllIsSaid, AreSaid, NextIsSaid, SparesOthers, read_in, read_next}
 
 module _ (Others : Packet → Type 0) (said : List Burst) where

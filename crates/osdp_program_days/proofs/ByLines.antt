@@ -1,27 +1,14 @@
 -- The day of programs by lines keeps the premises: by the tests of each call, and since its values are in their ranges.
-use Rattle.std.specs.Prelude.{drop, take}
-use Rattle.std.proofs.Common.{◌≡◌, ℕ, zero, suc, [], ◌∷◌, Some, refl, subst, arith}
+use Rattle.osdp_program_days.proofs.Common.{drop, take, ◌≡◌, ℕ, zero, suc, [], ◌∷◌, Some, refl, subst, arith, CapabilityFits, each_all, site_at, some_same, held_by, Station, AllFit, IsLineOf, asks, device_at, first_line, station_at, fair_keep, AllRanges, all_range, id_fits, is_set_up, key_fits, room_fits, twice_fits, owns, steps_of, ordered_on}
 use Rattle.osdp_frame.specs.Held.{decided}
 use Rattle.osdp_frame.specs.Items.{items, left_over}
 use Rattle.osdp_msg.specs.CommandTable.{command_at, command_fault, command_of}
-use Rattle.osdp_msg.specs.ReplyFields.{CapabilityFits}
 use Rattle.osdp_msg.specs.ReplyTable.{reply_at, reply_fault, reply_of}
 use Rattle.osdp_device.specs.Status.{new_status, status_after, status_answer}
 use Rattle.osdp_device.specs.declared.status.DeviceStatus.{DeviceStatus}
-use Rattle.osdp_link_laws.proofs.Lines.{each_all}
 use Rattle.osdp_line_calls.specs.ReaderSessions as device_sessions
-use Rattle.osdp_shared_line.specs.Line.{site_at}
-use Rattle.osdp_shared_line.proofs.Sites.{some_same}
-use Rattle.osdp_calls.specs.Ends.{held_by}
-use Rattle.osdp_calls.specs.Lines.{Station}
 use Rattle.osdp_calls_instance.specs.LinePrograms.{line_device, line_panel}
-use Rattle.osdp_calls_instance.specs.OwnCalls.{AllFit, IsLineOf}
-use Rattle.osdp_premises.specs.LongDay.{asks, device_at, first_line, station_at}
-use Rattle.osdp_premises.proofs.Exactly.{fair_keep}
-use Rattle.osdp_premises.proofs.LongDay.{AllRanges, all_range, id_fits, is_set_up, key_fits, room_fits, twice_fits}
 use Rattle.osdp_program_days.specs.ByLines.{DayByLinesKeeps, as_always, day_by_lines, programs}
-use Rattle.osdp_program_days.specs.Days.{owns, steps_of}
-use Rattle.osdp_program_days.specs.Happening.{ordered_on}
 use Rattle.osdp_program_days.proofs.Days.{same_calls}
 use Rattle.osdp_program_days.proofs.Fitting.{bytes_fit, nak_fits, one_byte, output_fits}
 

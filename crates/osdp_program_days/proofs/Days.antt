@@ -1,10 +1,6 @@
 -- The steps of a list of calls are the calls that the programs make.
-use Rattle.std.proofs.Common.{◌≡◌, ◌∙◌, ℕ, Bool, true, false, if◌then◌else◌, List, [], ◌∷◌, ◌++◌, refl, ap}
+use Rattle.osdp_program_days.proofs.Common.{◌≡◌, ◌∙◌, ℕ, Bool, true, false, if◌then◌else◌, List, [], ◌∷◌, ◌++◌, refl, ap, map, Call, Step, DeviceKind, PanelKind, Programs, after_own, all_calls, calls_by, Made, all_at, owns, reads, steps_of}
 use Rattle.std.proofs.lemmas.List.{map-append}
-use Rattle.std.specs.Prelude.{map}
-use Rattle.osdp_calls.specs.Calls.{Call, Step}
-use Rattle.osdp_calls_instance.specs.OwnCalls.{DeviceKind, PanelKind, Programs, after_own, all_calls, calls_by}
-use Rattle.osdp_program_days.specs.Days.{Made, all_at, owns, reads, steps_of}
 
 module _ {H : Type 0} where
   abbrev Same : List (Step H) → List (Call H) → Type 0

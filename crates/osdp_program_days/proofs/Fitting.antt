@@ -1,19 +1,14 @@
 -- The values of the day are in their ranges.
-use Rattle.std.proofs.Common.{◌≡◌, ◌<◌, ℕ, true, ◌&&◌, nat_le, nat_lt, List, [], ◌∷◌, length, arith}
+use Rattle.osdp_program_days.proofs.Common.{◌≡◌, ◌<◌, ℕ, true, ◌&&◌, nat_le, nat_lt, List, [], ◌∷◌, length, arith, CommandFits, NakFits, each_all, no_bytes, on}
 use Rattle.std.proofs.lemmas.Bool.{and_parts, leb-true, ltb-true}
 use Rattle.std.specs.List.{AllByRecursion}
 use Rattle.hex.specs.Hex.{IsBytes}
 use Rattle.osdp_msg.specs.CommandFields.{OutputFits}
-use Rattle.osdp_msg.specs.CommandTable.{CommandFits}
-use Rattle.osdp_msg.specs.ReplyFields.{NakFits}
 use Rattle.osdp_msg.specs.declared.command.Command.TheVariants.{Output}
 use Rattle.osdp_msg.specs.declared.nak.NakReason.TheVariants.{UnexpectedSequence}
 use Rattle.osdp_msg.proofs.Bytes.{IsBytes-each}
-use Rattle.osdp_link_laws.proofs.Lines.{each_all}
 use Rattle.osdp_line_calls.specs.Calls.{FitsALine}
 use Rattle.osdp_premises.specs.Deciding.{each_of}
-use Rattle.osdp_premises.proofs.LongDay.{no_bytes}
-use Rattle.osdp_program_days.specs.Happening.{on}
 
 pub output_fits : CommandFits (Output (on ∷ []))
 output_fits = (omega arith, omega arith, each_all OutputFits (on ∷ []) (record { output = omega arith; control = omega arith; timer = omega arith }, tt))

@@ -3,18 +3,11 @@ use Rattle.std.proofs.Common.{◌≡◌, ◌∙◌, ℕ, List, [], ◌∷◌, ma
 use Rattle.osdp_frame.specs.Held.{decided}
 use Rattle.osdp_frame.specs.Items.{items, left_over}
 use Rattle.osdp_msg.specs.CommandTable.{command_at, command_fault, command_of}
-use Rattle.osdp_msg.specs.ReplyFields.{CapabilityFits}
+use Rattle.osdp_program_days.proofs.Common.{CapabilityFits, new_program, program_after, program_answer, each_all, Call, NewDevice, NewPanel, Next, OfPanel, Pending, SetBusy, SetHandler, Silence, Step, SubmitEvent, Take, TickDevice, WithdrawEvent, c_device, c_panel, IsLineOf, id_fits, key_fits, twice_fits, owns, steps_of}
 use Rattle.osdp_msg.specs.ReplyTable.{reply_at, reply_fault, reply_of}
-use Rattle.osdp_device.specs.Program.{new_program, program_after, program_answer}
-use Rattle.osdp_link_laws.proofs.Lines.{each_all}
-use Rattle.osdp_calls.specs.Calls.{Call, NewDevice, NewPanel, Next, OfPanel, Pending, SetBusy, SetHandler, Silence, Step, SubmitEvent, Take, TickDevice, WithdrawEvent}
-use Rattle.osdp_calls_instance.specs.CPrograms.{c_device, c_panel}
-use Rattle.osdp_calls_instance.specs.OwnCalls.{IsLineOf}
 use Rattle.osdp_entry_numbers.specs.Day.{own_line}
 use Rattle.osdp_entry_numbers.specs.OwnOrder.{OwnStep, own_view}
 use Rattle.osdp_entry_numbers.proofs.Day.{AllFit, any_order, at_four, at_noon, keep_all}
-use Rattle.osdp_premises.proofs.LongDay.{id_fits, key_fits, twice_fits}
-use Rattle.osdp_program_days.specs.Days.{owns, steps_of}
 use Rattle.osdp_program_days.specs.InAnyOrder.{DayInAnyOrderKeeps, day_in_c, own_day, own_of, own_step, programs}
 use Rattle.osdp_program_days.proofs.Days.{same_calls}
 use Rattle.osdp_program_days.proofs.InC.{all_fit, there}

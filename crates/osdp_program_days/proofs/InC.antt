@@ -1,24 +1,11 @@
 -- The day of programs in C keeps the premises: by the tests of each call, and since its values are in their ranges.
-use Rattle.std.proofs.Common.{◌≡◌, ℕ, zero, suc, List, [], ◌∷◌, Option, Some, None, refl, subst, arith}
+use Rattle.osdp_program_days.proofs.Common.{◌≡◌, ℕ, zero, suc, List, [], ◌∷◌, Option, Some, None, refl, subst, arith, CapabilityFits, new_program, program_after, program_answer, each_all, site_at, some_same, held_by, Station, c_device, c_panel, AllFit, AtDevice, AtPanel, FitsAt, IsLineOf, OwnCall, Programs, after_own, first_line, station_at, fair_keep, AllRanges, all_range, id_fits, is_set_up, key_fits, room_fits, twice_fits, owns, steps_of}
 use Rattle.osdp_frame.specs.Held.{decided}
 use Rattle.osdp_frame.specs.Items.{items, left_over}
 use Rattle.osdp_msg.specs.CommandTable.{command_at, command_fault, command_of}
-use Rattle.osdp_msg.specs.ReplyFields.{CapabilityFits}
 use Rattle.osdp_msg.specs.ReplyTable.{reply_at, reply_fault, reply_of}
-use Rattle.osdp_device.specs.Program.{new_program, program_after, program_answer}
 use Rattle.osdp_device.specs.declared.program.ProgramAnswers.{ProgramAnswers}
-use Rattle.osdp_link_laws.proofs.Lines.{each_all}
-use Rattle.osdp_shared_line.specs.Line.{site_at}
-use Rattle.osdp_shared_line.proofs.Sites.{some_same}
 use Rattle.osdp_c_values.specs.declared.machine.ReaderMachine.{ReaderMachine}
-use Rattle.osdp_calls.specs.Ends.{held_by}
-use Rattle.osdp_calls.specs.Lines.{Station}
-use Rattle.osdp_calls_instance.specs.CPrograms.{c_device, c_panel}
-use Rattle.osdp_calls_instance.specs.OwnCalls.{AllFit, AtDevice, AtPanel, FitsAt, IsLineOf, OwnCall, Programs, after_own}
-use Rattle.osdp_premises.specs.LongDay.{first_line, station_at}
-use Rattle.osdp_premises.proofs.Exactly.{fair_keep}
-use Rattle.osdp_premises.proofs.LongDay.{AllRanges, all_range, id_fits, is_set_up, key_fits, room_fits, twice_fits}
-use Rattle.osdp_program_days.specs.Days.{owns, steps_of}
 use Rattle.osdp_program_days.specs.InC.{DayInCKeeps, day_in_c, device_at, programs}
 use Rattle.osdp_program_days.proofs.Days.{same_calls}
 use Rattle.osdp_program_days.proofs.Fitting.{nak_fits, output_fits}

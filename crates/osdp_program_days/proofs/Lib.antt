@@ -1,3 +1,4 @@
+pub mod Common
 mod Days
 mod Fitting
 mod InC

@@ -1,43 +1,24 @@
 -- What the calls have accepted that a run is, its account has as issued and as queued.
-use Rattle.std.proofs.Common.{◌≡◌, ◌≤◌, ◌-◌, ◌==◌, ℕ, zero, suc, Bool, true, false, cond, if◌then◌else◌, List, [], ◌∷◌, ◌++◌, length, map, Option, Some, None, refl, sym, subst, ap, ◌∙◌, append_assoc, inl, inr}
+use Rattle.osdp_programs_ledger.proofs.Common.{◌≡◌, ◌≤◌, ◌-◌, ◌==◌, ℕ, zero, suc, Bool, true, false, cond, if◌then◌else◌, List, [], ◌∷◌, ◌++◌, length, map, Option, Some, None, refl, sym, subst, ap, ◌∙◌, append_assoc, inl, inr, append-nil, drop, slice_get, Command, changed_unless, submit_refusal_at, BusConfig, each_append, Each, Answer, site_at, some_same, is_well, run, Given, LineState, ReaderSite, new_site, set_up, Call, OfPanel, Silence, Step, SubmitEvent, after_call, after_calls, GoByTheirOwn, Held, InUse, handing, nexts, reading, unless_done, AtDevice, AtPanel, IsLineOf, all_calls, calls_at, AreItsCalls, Begins, HandsBytes, HearsBurst, HearsRun, IsBusy, Queues, SimCall, Submits, all_hear, begin_calls, burst_calls, line_at_first, panel_step_calls, programs_at_first, schedule_calls, sim_device, sim_panel, step_calls, call_the_line, splits}
 use Rattle.std.proofs.lemmas.Bool.Decides.{eqb_tells}
-use Rattle.std.proofs.lemmas.List.{append-nil}
-use Rattle.std.specs.Prelude.{drop, slice_get}
 use Rattle.osdp_frame.specs.Receiving.{Received, after_silence, after_take, count_taken}
-use Rattle.osdp_msg.specs.declared.command.Command.{Command}
 use Rattle.osdp_msg.specs.declared.event.Event.{Event}
-use Rattle.osdp_bus.specs.Machine.{changed_unless, submit_refusal_at}
-use Rattle.osdp_bus.specs.declared.config.BusConfig.{BusConfig}
 use Rattle.osdp_bus.specs.declared.fault.BusFault.{BusFault}
 use Rattle.osdp_bus_laws.specs.Calls as bus
 use Rattle.osdp_device.specs.Hearing.{hears_bytes, reads_all, turns_left}
 use Rattle.osdp_link_laws.specs.Sessions.{unless_full}
-use Rattle.osdp_link_laws.proofs.Lines.{each_append}
-use Rattle.osdp_link_laws.proofs.Stages.{Each}
 use Rattle.osdp_reader.specs.Queue.{lacks_room}
 use Rattle.osdp_reader.specs.State.{ReaderState}
-use Rattle.osdp_reader.specs.declared.handler.Answer.{Answer}
-use Rattle.osdp_shared_line.specs.Line.{site_at}
-use Rattle.osdp_shared_line.proofs.Sites.{some_same}
 use Rattle.osdp_sim.specs.Line.{handed}
 use Rattle.osdp_sim.specs.Schedules.{HoldsAlong}
 use Rattle.osdp_sim.specs.declared.step.SimStep.{SimStep}
 use Rattle.osdp_sim.specs.declared.step.SimStep.TheVariants as step
-use Rattle.osdp_sim_bus.specs.Runs.{is_well, run}
-use Rattle.osdp_sim_bus.specs.State.{Given, LineState, ReaderSite, new_site, set_up}
 use Rattle.osdp_sim_bus.specs.Steps.{after_step, changes_site, fault_of, is_there, issued, site_issues, site_queues, site_queues_unless}
 use Rattle.osdp_sim_bus_laws.proofs.Idling.{IsIdle, idle_sites}
 use Rattle.osdp_sim_bus_laws.proofs.Places.{StaysAt, get_changed, other_changed, stays_all}
 use Rattle.osdp_sim_laws.proofs.Accepting.{IsNoOrder}
 use Rattle.osdp_sim_laws.proofs.Accounts.{report_leaves}
 use Rattle.osdp_calls.specs.Accepted.{accepted_by, all_accepted, all_queued, queued_at, queued_by}
-use Rattle.osdp_calls.specs.Calls.{Call, OfPanel, Silence, Step, SubmitEvent, after_call, after_calls}
-use Rattle.osdp_calls.specs.Ends.{GoByTheirOwn, Held}
-use Rattle.osdp_calls.specs.Lines.{InUse}
-use Rattle.osdp_calls_instance.specs.LinePrograms.{handing, nexts, reading, unless_done}
-use Rattle.osdp_calls_instance.specs.OwnCalls.{AtDevice, AtPanel, IsLineOf, all_calls, calls_at}
-use Rattle.osdp_calls_instance.specs.SimulatedBus.{AreItsCalls, Begins, HandsBytes, HearsBurst, HearsRun, IsBusy, Queues, SimCall, Submits, all_hear, begin_calls, burst_calls, line_at_first, panel_step_calls, programs_at_first, schedule_calls, sim_device, sim_panel, step_calls}
-use Rattle.osdp_calls_instance.proofs.OwnCalls.{call_the_line, splits}
 use Rattle.osdp_calls_instance.proofs.SimulatedBus.{Follows, Here, at_both, begins_so, fits_all, goes, step_follows, well_first, stations_are}
 use Rattle.osdp_calls_instance.proofs.SimulatedEnds.{sim_devices_are, sim_panels_are}
 use Rattle.osdp_calls_instance.proofs.SimulatedReaders.{calls_more}

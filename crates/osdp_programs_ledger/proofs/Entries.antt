@@ -1,17 +1,8 @@
 -- After any calls that keep the premises each station has its entry.
-use Rattle.std.proofs.Common.{◌≡◌, ℕ, List, ◌∷◌, Some, sym, subst, ap, ◌∙◌}
-use Rattle.osdp_msg.specs.declared.command.Command.{Command}
-use Rattle.osdp_bus.specs.Buses.{device_of}
-use Rattle.osdp_bus.specs.declared.entry.Entry.{Entry}
-use Rattle.osdp_link_laws.specs.Headline.{EachIsOnce, HoldsOnce}
+use Rattle.osdp_programs_ledger.proofs.Common.{◌≡◌, ℕ, List, ◌∷◌, Some, sym, subst, ap, ◌∙◌, Command, device_of, Entry, EachIsOnce, HoldsOnce, Answer, Net, RestartPanel, site_at, EachIsALink, moves_of, Step, after_calls, InUse, Station}
 use Rattle.osdp_link_laws.specs.Link.{Link}
-use Rattle.osdp_reader.specs.declared.handler.Answer.{Answer}
-use Rattle.osdp_shared_line.specs.Line.{Net, RestartPanel, site_at}
-use Rattle.osdp_shared_line.specs.Runs.{EachIsALink, moves_of}
 use Rattle.osdp_shared_line.specs.Views.{view}
 use Rattle.osdp_shared_line.proofs.Linking.{viewed}
-use Rattle.osdp_calls.specs.Calls.{Step, after_calls}
-use Rattle.osdp_calls.specs.Lines.{InUse, Station}
 use Rattle.osdp_calls.specs.Premises.{AllKeep, IsSetUp}
 use Rattle.osdp_calls.proofs.Holding.{comes, its_site}
 use Rattle.osdp_calls.proofs.Setting.{first_net, first_site, first_there}

@@ -1,3 +1,4 @@
+pub mod Common
 mod Accepted
 mod Entries
 pub mod Programs

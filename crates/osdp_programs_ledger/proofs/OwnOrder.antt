@@ -1,18 +1,5 @@
 -- What programs call is what the panel's own bus and our devices go by, whatever the numbers of its entries are.
-use Rattle.std.proofs.Common.{◌≡◌, ℕ, cond, List, [], ◌∷◌, map, Option, Some, None, refl, sym, subst, ap, ◌∙◌, inl, inr}
-use Rattle.osdp_msg.specs.declared.command.Command.{Command}
-use Rattle.osdp_bus.specs.Buses.{BusState, device_of}
-use Rattle.osdp_bus.specs.Machine.{new_device}
-use Rattle.osdp_bus.specs.declared.config.BusConfig.{BusConfig}
-use Rattle.osdp_bus.specs.declared.entry.Entry.{Entry}
-use Rattle.osdp_reader.specs.declared.handler.Answer.{Answer}
-use Rattle.osdp_shared_line.specs.Line.{site_at}
-use Rattle.osdp_shared_line.proofs.Sites.{some_same}
-use Rattle.osdp_calls.specs.Calls.{Call, NewDevice, NewPanel, Next, OfPanel, Pending, SetBusy, SetHandler, Silence, Step, SubmitEvent, Take, TickDevice, WithdrawEvent}
-use Rattle.osdp_calls.specs.Ends.{GoByTheirOwn, Held, device_after, device_after_all, held_by, is_of_device}
-use Rattle.osdp_calls.specs.Lines.{InUse, Station}
-use Rattle.osdp_calls_instance.specs.OwnCalls.{CallTheLine, DeviceKind, PanelKind, after_each, bus_after, bus_after_each}
-use Rattle.osdp_calls_instance.proofs.OwnCalls.{each_bus}
+use Rattle.osdp_programs_ledger.proofs.Common.{◌≡◌, ℕ, cond, List, [], ◌∷◌, map, Option, Some, None, refl, sym, subst, ap, ◌∙◌, inl, inr, Command, BusState, device_of, new_device, BusConfig, Entry, Answer, site_at, some_same, Call, NewDevice, NewPanel, Next, OfPanel, Pending, SetBusy, SetHandler, Silence, Step, SubmitEvent, Take, TickDevice, WithdrawEvent, GoByTheirOwn, Held, device_after, device_after_all, held_by, is_of_device, InUse, Station, CallTheLine, DeviceKind, PanelKind, after_each, bus_after, bus_after_each, each_bus}
 use Rattle.osdp_entry_numbers.specs.Including.{AnyCallsKeep, same_step}
 use Rattle.osdp_entry_numbers.specs.Numbers.{IsIdle}
 use Rattle.osdp_entry_numbers.specs.OwnOrder.{OwnLine, OwnStep, after_all_own, after_own, in_order, own_after, own_view, turned}

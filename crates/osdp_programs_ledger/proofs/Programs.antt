@@ -1,11 +1,6 @@
 -- The calls of programs are calls of a line in use, so what holds of these holds of them.
-use Rattle.std.proofs.Common.{◌≡◌, Some, subst}
-use Rattle.osdp_msg.specs.declared.command.Command.{Command}
-use Rattle.osdp_bus.specs.Buses.{device_of}
-use Rattle.osdp_reader.specs.declared.handler.Answer.{Answer}
+use Rattle.osdp_programs_ledger.proofs.Common.{◌≡◌, Some, subst, Command, device_of, Answer, CallTheLine, DeviceKind, PanelKind, LedgerHoldsOnce}
 use Rattle.osdp_calls.specs.Programs.{CallsRuleSuffices}
-use Rattle.osdp_calls_instance.specs.OwnCalls.{CallTheLine, DeviceKind, PanelKind}
-use Rattle.osdp_calls_ledger.specs.Promises.{LedgerHoldsOnce}
 use Rattle.osdp_programs_ledger.specs.Programs.{ProgramsHoldOnce, RuledProgramsHoldOnce}
 use Rattle.osdp_programs_ledger.proofs.Entries.{entry_of}
 

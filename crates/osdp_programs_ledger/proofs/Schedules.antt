@@ -1,22 +1,9 @@
 -- The run of a schedule is calls of a line in use, and its account tells what their ledger says.
-use Rattle.std.proofs.Common.{◌≡◌, ℕ, zero, suc, List, [], ◌∷◌, map, Some, sym, subst, ap, ◌∙◌}
-use Rattle.std.specs.Prelude.{slice_get}
-use Rattle.osdp_msg.specs.declared.command.Command.{Command}
-use Rattle.osdp_bus.specs.Buses.{device_of}
+use Rattle.osdp_programs_ledger.proofs.Common.{◌≡◌, ℕ, zero, suc, List, [], ◌∷◌, map, Some, sym, subst, ap, ◌∙◌, slice_get, Command, device_of, HoldsOnce, asked, Answer, site_at, EachIsALink, Given, GoByTheirOwn, InUse, RunIsCalls, line_at_first, new_station, runs_from_a_set_up, LedgerHoldsOnce}
 use Rattle.osdp_ledger.specs.History.{new_history, runs}
-use Rattle.osdp_link_laws.specs.Headline.{HoldsOnce, asked}
 use Rattle.osdp_link_ledger.proofs.Answered.{commands_acted, taken_in}
-use Rattle.osdp_reader.specs.declared.handler.Answer.{Answer}
-use Rattle.osdp_shared_line.specs.Line.{site_at}
-use Rattle.osdp_shared_line.specs.Runs.{EachIsALink}
-use Rattle.osdp_sim_bus.specs.State.{Given}
-use Rattle.osdp_calls.specs.Ends.{GoByTheirOwn}
-use Rattle.osdp_calls.specs.Lines.{InUse}
-use Rattle.osdp_calls_instance.specs.SimulatedBus.{RunIsCalls, line_at_first, new_station}
 use Rattle.osdp_calls_instance.specs.SimulatedReports.{RunTakesTheSame, RunTellsTheSame, Told}
-use Rattle.osdp_calls_instance.proofs.SimSetUp.{runs_from_a_set_up}
 use Rattle.osdp_calls_ledger.specs.Laws.{EachKeepsLedger}
-use Rattle.osdp_calls_ledger.specs.Promises.{LedgerHoldsOnce}
 use Rattle.osdp_calls_ledger.specs.Steps.{steps_from}
 use Rattle.osdp_programs_ledger.specs.Schedules.{RunsHoldOnce}
 use Rattle.osdp_programs_ledger.proofs.Accepted.{run_accepts}

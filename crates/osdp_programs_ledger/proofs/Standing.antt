@@ -1,22 +1,12 @@
 -- Where the settings of a run are in their ranges, its entries can be added to its bus.
-use Rattle.std.proofs.Common.{◌≡◌, ◌≤◌, ◌+◌, ℕ, suc, Bool, true, false, cond, List, [], ◌∷◌, ◌++◌, length, map, Some, None, refl, sym, subst, ap, arith, lt-ltb}
+use Rattle.osdp_programs_ledger.proofs.Common.{◌≡◌, ◌≤◌, ◌+◌, ℕ, suc, Bool, true, false, cond, List, [], ◌∷◌, ◌++◌, length, map, Some, None, refl, sym, subst, ap, arith, lt-ltb, length-append, new_bus, most_entries, new_device, BusConfig, Each, each_append, each_map, AreSettings, are_apart, is_at, is_reader_in_range, Given, address_of, bus_with, both, is_not, neither, not_equal}
 use Rattle.std.proofs.lemmas.Bool.{leb-true, lt-leb}
-use Rattle.std.proofs.lemmas.List.{length-append}
 use Rattle.std.specs.List.{list_all, list_any}
 use Rattle.std.specs.Prelude.{not, ◌==◌, ◌&&◌, ◌||◌, nat_le, nat_lt}
-use Rattle.osdp_bus.specs.Buses.{new_bus}
 use Rattle.osdp_bus.specs.Entries.{takes_up}
-use Rattle.osdp_bus.specs.Machine.{most_entries, new_device}
-use Rattle.osdp_bus.specs.declared.config.BusConfig.{BusConfig}
 use Rattle.osdp_bus.specs.declared.fault.BusFault.TheVariants.{AddressTaken, OutOfRange, TooMany}
-use Rattle.osdp_link_laws.proofs.Stages.{Each}
-use Rattle.osdp_link_laws.proofs.Lines.{each_append, each_map}
-use Rattle.osdp_sim_bus.specs.Runs.{AreSettings, are_apart, is_at, is_reader_in_range}
-use Rattle.osdp_sim_bus.specs.State.{Given, address_of}
-use Rattle.osdp_calls.specs.Lines.{bus_with}
 use Rattle.osdp_calls.specs.Sayings.{NoneRefused}
 use Rattle.osdp_calls.proofs.Sayings.{added}
-use Rattle.osdp_calls_instance.proofs.SimSetUp.{both, is_not, neither, not_equal}
 use Rattle.osdp_calls_instance.proofs.SimulatedLists.{other_number}
 
 no_refusal : (many low taken : Bool) → many ≡ false → low ≡ true → taken ≡ false

@@ -1,30 +1,16 @@
 -- The replies to commands that are acted on fit them, and are plain.
-use Rattle.std.proofs.Common.{◌≡◌, ◌⊎◌, subst, sym, refl, ℕ, Bool, true, false, not, ◌&&◌, eqb, cond, nat_le, List, Some, Result, Ok, inl, inr}
-use Rattle.osdp_frame.specs.Packet.{Packet}
+use Rattle.osdp_reader_laws.proofs.Common.{◌≡◌, ◌⊎◌, subst, sym, refl, ℕ, Bool, true, false, not, ◌&&◌, eqb, cond, nat_le, List, Some, Result, Ok, inl, inr, Packet, Command, Event, MsgFault, Reply, event_reply, ReaderConfig, Answer, Kind, Zero, Taken, event_for, released, done_reply, list_reply, local_reply, maker_reply, not_processed, own_reply, refusal_reply, reply_for, ReaderState, Outcome, answer_to, begun, command_in, event_or_answer, kind_of, outcome, taken}
 use Rattle.osdp_msg.specs.declared.command_fields.MakerMessage.{MakerMessage}
-use Rattle.osdp_msg.specs.declared.command.Command.{Command}
 use Rattle.osdp_msg.specs.declared.command.Command.TheVariants as command
 use Rattle.osdp_msg.specs.declared.command_fields.Communication.{Communication}
-use Rattle.osdp_msg.specs.declared.event.Event.{Event}
 use Rattle.osdp_msg.specs.declared.event.Event.TheVariants as event
-use Rattle.osdp_msg.specs.declared.fault.MsgFault.{MsgFault}
 use Rattle.osdp_msg.specs.declared.nak.NakReason.{NakReason}
 use Rattle.osdp_msg.specs.declared.nak.NakReason.TheVariants.{CommandLength}
-use Rattle.osdp_msg.specs.declared.reply.Reply.{Reply}
 use Rattle.osdp_msg.specs.declared.reply.Reply.TheVariants as reply
-use Rattle.osdp_msg.specs.Events.{event_reply}
 use Rattle.osdp_msg.specs.Fitting.{reply_fits}
 use Rattle.osdp_msg.specs.NakReasons.{reason_number}
-use Rattle.osdp_reader.specs.declared.config.ReaderConfig.{ReaderConfig}
-use Rattle.osdp_reader.specs.declared.handler.Answer.{Answer}
 use Rattle.osdp_reader.specs.declared.handler.Answer.TheVariants as answer
-use Rattle.osdp_reader.specs.declared.kind.Kind.{Kind}
-use Rattle.osdp_reader.specs.declared.kind.Kind.TheVariants.{Zero, Taken}
-use Rattle.osdp_reader.specs.Queue.{event_for, released}
-use Rattle.osdp_reader.specs.Replies.{done_reply, list_reply, local_reply, maker_reply, not_processed, own_reply, refusal_reply, reply_for}
-use Rattle.osdp_reader.specs.State.{ReaderState}
 use Rattle.osdp_reader.proofs.Answering.{OfReply, of_answer, of_event_or_answer}
-use Rattle.osdp_reader.specs.Table.{Outcome, answer_to, begun, command_in, event_or_answer, kind_of, outcome, taken}
 
 -- whether a reply is plain: neither BUSY nor NAK 1 or 4
 abbrev pub plainly : Reply → Bool

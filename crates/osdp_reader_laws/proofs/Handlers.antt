@@ -1,16 +1,5 @@
 -- Another handler changes what is answered anew by it, and nothing else.
-use Rattle.std.proofs.Common.{◌≡◌, ℕ, Bool, true, false, cond, eqb, Option, Some, None, Result, Ok, Err, refl}
-use Rattle.osdp_frame.specs.Packet.{Packet}
-use Rattle.osdp_msg.specs.declared.command.Command.{Command}
-use Rattle.osdp_msg.specs.declared.fault.MsgFault.{MsgFault}
-use Rattle.osdp_reader.specs.declared.handler.Answer.{Answer}
-use Rattle.osdp_reader.specs.declared.kind.Kind.{Kind}
-use Rattle.osdp_reader.specs.declared.kind.Kind.TheVariants.{Zero, Taken}
-use Rattle.osdp_reader.specs.Queue.{event_for, released}
-use Rattle.osdp_reader.specs.Replies.{reply_packet}
-use Rattle.osdp_reader.specs.State.{ReaderState, after_set_handler}
-use Rattle.osdp_reader.specs.Table.{Outcome, begun, command_in, event_or_answer, answer_to, moved, new_address, outcome, taken}
-use Rattle.osdp_reader_laws.specs.Laws.{DiffersByHandler}
+use Rattle.osdp_reader_laws.proofs.Common.{◌≡◌, ℕ, Bool, true, false, cond, eqb, Option, Some, None, Result, Ok, Err, refl, Packet, Command, MsgFault, Answer, Kind, Zero, Taken, event_for, released, reply_packet, ReaderState, after_set_handler, Outcome, begun, command_in, event_or_answer, answer_to, moved, new_address, outcome, taken, DiffersByHandler}
 use Rattle.osdp_reader_laws.proofs.Outcomes.{after_next, after_zero, at_address}
 
 module _ {H : Type 0} where

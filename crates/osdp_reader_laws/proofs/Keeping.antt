@@ -1,6 +1,5 @@
 -- A reply is stored after each number from 1 to 3.
-use Rattle.std.proofs.Common.{◌≡◌, ℕ, suc, Option, Some, None, refl, arith}
-use Rattle.osdp_reader_laws.specs.Laws.{KeepsReply}
+use Rattle.osdp_reader_laws.proofs.Common.{◌≡◌, ℕ, suc, Option, Some, None, refl, arith, KeepsReply}
 use Rattle.osdp_reader_laws.proofs.Outcomes.{IsKeptByEffects}
 
 pub none_is_some : (o : Option ℕ) (n : ℕ) → o ≡ None → o ≡ Some n → ⊥

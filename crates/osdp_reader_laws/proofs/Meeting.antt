@@ -1,12 +1,6 @@
 -- Which line of the table a packet meets.
-use Rattle.std.proofs.Common.{◌≡◌, ◌≢◌, ℕ, Bool, true, false, cond, eqb, Option, Some, None, refl, sym, ◌∙◌, inl, inr}
-use Rattle.std.proofs.lemmas.Bool.{false≢true}
+use Rattle.osdp_reader_laws.proofs.Common.{◌≡◌, ◌≢◌, ℕ, Bool, true, false, cond, eqb, Option, Some, None, refl, sym, ◌∙◌, inl, inr, false≢true, Packet, next_sequence, Kind, Silent, Secured, Zero, Repeat, Taken, Busy, Wrong, ReaderState, kind_by_number, kind_of, is_for_another}
 use Rattle.std.proofs.lemmas.Bool.Decides.{eqb_tells}
-use Rattle.osdp_frame.specs.Packet.{Packet, next_sequence}
-use Rattle.osdp_reader.specs.declared.kind.Kind.{Kind}
-use Rattle.osdp_reader.specs.declared.kind.Kind.TheVariants.{Silent, Secured, Zero, Repeat, Taken, Busy, Wrong}
-use Rattle.osdp_reader.specs.State.{ReaderState}
-use Rattle.osdp_reader.specs.Table.{kind_by_number, kind_of, is_for_another}
 
 zero_chain : (past block zero : Bool) (first by_number : Kind) → by_number ≢ Zero
     → cond past Silent (cond block Secured (cond zero first by_number)) ≡ Zero → zero ≡ true

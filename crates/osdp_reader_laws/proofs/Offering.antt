@@ -1,20 +1,7 @@
 -- What counts as offered is the front, told by the stored reply.
-use Rattle.std.proofs.Common.{◌≡◌, ℕ, Bool, true, false, cond, drop, take, List, [], ◌∷◌, ◌++◌, Option, Some, None, Result, Ok, Err, refl}
-use Rattle.std.specs.Prelude.{slice_get}
+use Rattle.osdp_reader_laws.proofs.Common.{◌≡◌, ℕ, Bool, true, false, cond, drop, take, List, [], ◌∷◌, ◌++◌, Option, Some, None, Result, Ok, Err, refl, slice_get, Packet, Command, Event, MsgFault, event_reply, Answer, Kind, TellsItsOffer, Queue, offering, released, reply_packet, ReaderState, after_lapse_event, after_submit, after_withdraw_event, begun, command_in, moved, new_address, outcome, taken, event_or_answer}
 use Rattle.std.specs.Option.{option_map}
-use Rattle.osdp_frame.specs.Packet.{Packet}
-use Rattle.osdp_msg.specs.declared.command.Command.{Command}
 use Rattle.osdp_msg.specs.declared.command.Command.TheVariants as command
-use Rattle.osdp_msg.specs.declared.event.Event.{Event}
-use Rattle.osdp_msg.specs.declared.fault.MsgFault.{MsgFault}
-use Rattle.osdp_msg.specs.Events.{event_reply}
-use Rattle.osdp_reader.specs.declared.handler.Answer.{Answer}
-use Rattle.osdp_reader.specs.declared.kind.Kind.{Kind}
-use Rattle.osdp_reader_laws.specs.Laws.{TellsItsOffer}
-use Rattle.osdp_reader.specs.Queue.{Queue, offering, released}
-use Rattle.osdp_reader.specs.Replies.{reply_packet}
-use Rattle.osdp_reader.specs.State.{ReaderState, after_lapse_event, after_submit, after_withdraw_event}
-use Rattle.osdp_reader.specs.Table.{begun, command_in, moved, new_address, outcome, taken, event_or_answer}
 use Rattle.osdp_reader_laws.proofs.Outcomes.{by_kind, by_move}
 
 pub front_stays : (events more : List Event) (front : Event) → slice_get events 0 ≡ Some front

@@ -1,18 +1,6 @@
 -- What holds of a reader after each packet, by the few things that a packet can do to it.
-use Rattle.std.proofs.Common.{◌≡◌, ◌≤◌, ℕ, Bool, true, false, cond, eqb, leb, Option, Some, None, Result, Ok, Err, refl, arith}
-use Rattle.std.proofs.lemmas.Bool.{leb-true}
-use Rattle.osdp_frame.specs.Packet.{Packet}
-use Rattle.osdp_msg.specs.declared.command.Command.{Command}
+use Rattle.osdp_reader_laws.proofs.Common.{◌≡◌, ◌≤◌, ℕ, Bool, true, false, cond, eqb, leb, Option, Some, None, Result, Ok, Err, refl, arith, leb-true, Packet, Command, MsgFault, Reply, Answer, Kind, Zero, Taken, event_for, offering, released, unoffered, refused, reply_packet, unread_reason, ReaderState, answer_to, begun, command_in, event_or_answer, moved, new_address, outcome, taken}
 use Rattle.osdp_msg.specs.declared.command.Command.TheVariants.{Comset}
-use Rattle.osdp_msg.specs.declared.fault.MsgFault.{MsgFault}
-use Rattle.osdp_msg.specs.declared.reply.Reply.{Reply}
-use Rattle.osdp_reader.specs.declared.handler.Answer.{Answer}
-use Rattle.osdp_reader.specs.declared.kind.Kind.{Kind}
-use Rattle.osdp_reader.specs.declared.kind.Kind.TheVariants.{Zero, Taken}
-use Rattle.osdp_reader.specs.Queue.{event_for, offering, released, unoffered}
-use Rattle.osdp_reader.specs.Replies.{refused, reply_packet, unread_reason}
-use Rattle.osdp_reader.specs.State.{ReaderState}
-use Rattle.osdp_reader.specs.Table.{answer_to, begun, command_in, event_or_answer, moved, new_address, outcome, taken}
 
 -- a COMSET that is accepted sets the address of a device
 address_of_device : (command : Command) (address : ℕ) → new_address command ≡ Some address → address ≤ 126

@@ -1,24 +1,12 @@
 -- Where each event is short enough for its part of the room, it has room where it has a place.
-use Rattle.std.proofs.Common.{◌≡◌, ◌∙◌, ap, ◌≤◌, ◌+◌, ◌-◌, ◌*◌, ◌&&◌, ltb, leb, ℕ, Bool, true, false, cond, List, [], ◌∷◌, ◌++◌, drop, take, length, refl, arith}
-use Rattle.std.specs.Prelude.{nat_lt}
+use Rattle.osdp_reader_laws.proofs.Common.{◌≡◌, ◌∙◌, ap, ◌≤◌, ◌+◌, ◌-◌, ◌*◌, ◌&&◌, ltb, leb, ℕ, Bool, true, false, cond, List, [], ◌∷◌, ◌++◌, drop, take, length, refl, arith, nat_lt, le-leb, ltb-true, Command, Event, Room, Reply, EventFits, event_reply, Answer, Queue, bytes_waiting, event_size, has_room, ReaderState, after_submit, new_reader, kind_of, Hear, LapseEvent, ReaderCall, SetBusy, SetHandler, SubmitEvent, WithdrawEvent, after_call, after_calls}
 use Rattle.std.specs.List.{All}
-use Rattle.std.proofs.lemmas.Bool.{le-leb, ltb-true}
 use Rattle.std.proofs.lemmas.List.Elements.{All-cons, All-head, All-nil, All-push, All-tail}
-use Rattle.osdp_msg.specs.declared.command.Command.{Command}
-use Rattle.osdp_msg.specs.declared.event.Event.{Event}
-use Rattle.osdp_msg.specs.declared.limits.Room.{Room}
-use Rattle.osdp_msg.specs.declared.reply.Reply.{Reply}
-use Rattle.osdp_msg.specs.Events.{EventFits, event_reply}
 use Rattle.osdp_msg.specs.Limits.{most_data}
 use Rattle.osdp_msg.specs.ReplyTable.{ReplyFits, reply_code, reply_counts_agree, reply_data, reply_fault, reply_length_allowed}
 use Rattle.osdp_msg.proofs.Replies.{replies}
 use Rattle.osdp_msg.proofs.Table.{bounded}
-use Rattle.osdp_reader.specs.declared.handler.Answer.{Answer}
-use Rattle.osdp_reader.specs.Queue.{Queue, bytes_waiting, event_size, has_room}
-use Rattle.osdp_reader.specs.State.{ReaderState, after_submit, new_reader}
-use Rattle.osdp_reader.specs.Table.{kind_of}
 use Rattle.osdp_reader_laws.specs.Places.{RefusesForItsPlace, SubmitsFitting}
-use Rattle.osdp_reader_laws.specs.Runs.{Hear, LapseEvent, ReaderCall, SetBusy, SetHandler, SubmitEvent, WithdrawEvent, after_call, after_calls}
 use Rattle.osdp_reader_laws.proofs.Outcomes.{IsKeptByEffects, outcome_keeps}
 use Rattle.osdp_reader_laws.proofs.QueuedOnce.{by_cond}
 

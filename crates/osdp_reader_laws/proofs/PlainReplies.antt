@@ -1,19 +1,7 @@
 -- The replies of commands that are acted on: never BUSY, NAK 1 or NAK 4.
-use Rattle.std.proofs.Common.{◌≡◌, ◌⊎◌, ℕ, true, Some, Result, Ok, Err, refl, sym, subst, inl, inr}
-use Rattle.std.proofs.lemmas.Bool.{false≢true}
-use Rattle.osdp_frame.specs.Packet.{Packet}
-use Rattle.osdp_msg.specs.declared.command.Command.{Command}
-use Rattle.osdp_msg.specs.declared.fault.MsgFault.{MsgFault}
+use Rattle.osdp_reader_laws.proofs.Common.{◌≡◌, ◌⊎◌, ℕ, true, Some, Result, Ok, Err, refl, sym, subst, inl, inr, false≢true, Packet, Command, MsgFault, Reply, Answer, Zero, Taken, IsPlain, event_for, released, refused, reply_packet, unread_reason, ReaderState, Outcome, answer_to, begun, command_in, kind_of, outcome, taken, event_or_answer}
 use Rattle.osdp_msg.specs.declared.fault.MsgFault.TheVariants.{UnknownCode}
-use Rattle.osdp_msg.specs.declared.reply.Reply.{Reply}
 use Rattle.osdp_msg.specs.declared.reply.Reply.TheVariants as reply
-use Rattle.osdp_reader.specs.declared.handler.Answer.{Answer}
-use Rattle.osdp_reader.specs.declared.kind.Kind.TheVariants.{Zero, Taken}
-use Rattle.osdp_reader_laws.specs.Laws.{IsPlain}
-use Rattle.osdp_reader.specs.Queue.{event_for, released}
-use Rattle.osdp_reader.specs.Replies.{refused, reply_packet, unread_reason}
-use Rattle.osdp_reader.specs.State.{ReaderState}
-use Rattle.osdp_reader.specs.Table.{Outcome, answer_to, begun, command_in, kind_of, outcome, taken, event_or_answer}
 use Rattle.osdp_reader_laws.proofs.FittingReplies.{answer_suits, event_or_answer_suits, plainly}
 use Rattle.osdp_reader_laws.proofs.Meeting.{zero_number}
 

@@ -1,11 +1,8 @@
 -- Lists of events with an event that they have once at most, and what becomes of it in a queue.
 use Rattle.std.proofs.Common.{◌≡◌, ◌≢◌, ◌||◌, ℕ, zero, suc, Bool, true, false, cond, List, [], ◌∷◌, ◌++◌, drop, take, Option, Some, None, refl, ap, sym, ◌∙◌, is_some, option_map, slice_get}
-use Rattle.osdp_msg.specs.declared.event.Event.{Event}
+use Rattle.osdp_reader_laws.proofs.Common.{Event, event_in, event_reply, Queue, in_doubt, HasNone}
 use Rattle.osdp_msg.specs.declared.event.Event.TheVariants as events
 use Rattle.osdp_msg.specs.declared.reply.Reply.TheVariants as reply
-use Rattle.osdp_msg.specs.Events.{event_in, event_reply}
-use Rattle.osdp_reader.specs.Queue.{Queue, in_doubt}
-use Rattle.osdp_reader_laws.specs.Runs.{HasNone}
 
 -- ---- an event and the reply that tells it
 

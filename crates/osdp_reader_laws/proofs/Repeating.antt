@@ -1,13 +1,5 @@
 -- The number that was taken, once more.
-use Rattle.std.proofs.Common.{◌≡◌, ◌≢◌, ◌∙◌, false, Some, None, refl, sym, subst, ap, inl, inr, rules}
-use Rattle.osdp_frame.specs.Packet.{Packet}
-use Rattle.osdp_msg.specs.declared.command.Command.{Command}
-use Rattle.osdp_reader.specs.declared.handler.Answer.{Answer}
-use Rattle.osdp_reader.specs.declared.kind.Kind.{Kind}
-use Rattle.osdp_reader.specs.declared.kind.Kind.TheVariants.{Repeat, Taken}
-use Rattle.osdp_reader_laws.specs.Laws.{AnswersTheSameAgain, AnswersTheSameStill, ComesTo, KeepsWhatItTook}
-use Rattle.osdp_reader.specs.State.{ReaderState, after_set_handler}
-use Rattle.osdp_reader.specs.Table.{hears, kind_of, outcome}
+use Rattle.osdp_reader_laws.proofs.Common.{◌≡◌, ◌≢◌, ◌∙◌, false, Some, None, refl, sym, subst, ap, inl, inr, rules, Packet, Command, Answer, Kind, Repeat, Taken, AnswersTheSameAgain, AnswersTheSameStill, ComesTo, KeepsWhatItTook, ReaderState, after_set_handler, hears, kind_of, outcome}
 
 module _ {H : Type 0} where
   is_repeat : (r : ReaderState H) (q : Packet) → ComesTo r q → q.block ≡ false → q.sequence ≢ 0

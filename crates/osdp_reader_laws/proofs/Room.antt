@@ -1,10 +1,5 @@
 -- No more events wait than there is room for, nor more bytes of them.
-use Rattle.std.proofs.Common.{◌≡◌, ◌≤◌, ◌+◌, ◌-◌, ◌&&◌, ltb, leb, ℕ, zero, suc, Bool, true, false, cond, List, [], ◌∷◌, ◌++◌, drop, take, length, length-append, length-drop, length-take, arith}
-use Rattle.std.proofs.lemmas.Bool.{leb-true, ltb-true}
-use Rattle.osdp_msg.specs.declared.event.Event.{Event}
-use Rattle.osdp_reader.specs.Queue.{Queue, bytes_waiting, event_size, has_room}
-use Rattle.osdp_reader.specs.State.{ReaderState, after_lapse_event, after_submit, after_withdraw_event}
-use Rattle.osdp_reader_laws.specs.Laws.{HasRoom}
+use Rattle.osdp_reader_laws.proofs.Common.{◌≡◌, ◌≤◌, ◌+◌, ◌-◌, ◌&&◌, ltb, leb, ℕ, zero, suc, Bool, true, false, cond, List, [], ◌∷◌, ◌++◌, drop, take, length, length-append, length-drop, length-take, arith, leb-true, ltb-true, Event, Queue, bytes_waiting, event_size, has_room, ReaderState, after_lapse_event, after_submit, after_withdraw_event, HasRoom}
 use Rattle.osdp_reader_laws.proofs.Outcomes.{IsKeptByEffects}
 
 -- ---- bytes of some of the events

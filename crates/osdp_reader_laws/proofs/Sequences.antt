@@ -1,14 +1,8 @@
 -- Answers to lists of commands.
-use Rattle.std.proofs.Common.{◌≡◌, ℕ, zero, suc, List, [], ◌∷◌, ◌++◌, take, Some, refl, ap, ◌∙◌}
-use Rattle.std.specs.Prelude.{slice_get}
-use Rattle.osdp_msg.specs.declared.command.Command.{Command}
+use Rattle.osdp_reader_laws.proofs.Common.{◌≡◌, ℕ, zero, suc, List, [], ◌∷◌, ◌++◌, take, Some, refl, ap, ◌∙◌, slice_get, Command, ReaderConfig, Answer, own_reply, answer_to, answered}
 use Rattle.osdp_msg.specs.declared.command.Command.TheVariants as command
 use Rattle.osdp_msg.specs.declared.reply.Reply.TheVariants as reply
-use Rattle.osdp_reader.specs.declared.config.ReaderConfig.{ReaderConfig}
-use Rattle.osdp_reader.specs.declared.handler.Answer.{Answer}
 use Rattle.osdp_reader_laws.specs.Answering.{answers, handler_after_commands}
-use Rattle.osdp_reader.specs.Replies.{own_reply}
-use Rattle.osdp_reader.specs.Table.{answer_to, answered}
 
 same_first : (c d : Command) (cs ds : List Command) → c ∷ cs ≡ d ∷ ds → c ≡ d
 same_first c d cs ds e = cc

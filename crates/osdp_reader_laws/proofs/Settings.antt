@@ -1,11 +1,5 @@
 -- What no packet changes.
-use Rattle.std.proofs.Common.{◌≡◌, refl}
-use Rattle.osdp_frame.specs.Packet.{Packet}
-use Rattle.osdp_msg.specs.declared.command.Command.{Command}
-use Rattle.osdp_reader.specs.declared.handler.Answer.{Answer}
-use Rattle.osdp_reader.specs.declared.kind.Kind.{Kind}
-use Rattle.osdp_reader.specs.State.{ReaderState}
-use Rattle.osdp_reader.specs.Table.{outcome}
+use Rattle.osdp_reader_laws.proofs.Common.{◌≡◌, refl, Packet, Command, Answer, Kind, ReaderState, outcome}
 use Rattle.osdp_reader_laws.proofs.Outcomes.{IsKeptByEffects, outcome_keeps}
 
 module _ {H : Type 0} where

@@ -1,15 +1,5 @@
 -- What is stored is a reply from the reader's own address, or from 127.
-use Rattle.std.proofs.Common.{◌≡◌, ◌⊎◌, ℕ, Option, Some, Result, Ok, Err, refl, rules}
-use Rattle.osdp_frame.specs.Packet.{Packet}
-use Rattle.osdp_msg.specs.declared.command.Command.{Command}
-use Rattle.osdp_msg.specs.declared.fault.MsgFault.{MsgFault}
-use Rattle.osdp_reader.specs.declared.handler.Answer.{Answer}
-use Rattle.osdp_reader.specs.declared.kind.Kind.{Kind}
-use Rattle.osdp_reader.specs.declared.kind.Kind.TheVariants.{Zero, Taken}
-use Rattle.osdp_reader.specs.Queue.{event_for, offering, released, unoffered}
-use Rattle.osdp_reader.specs.Replies.{reply_packet}
-use Rattle.osdp_reader.specs.State.{ReaderState}
-use Rattle.osdp_reader.specs.Table.{answer_to, begun, command_in, event_or_answer, kind_of, moved, new_address, outcome, taken}
+use Rattle.osdp_reader_laws.proofs.Common.{◌≡◌, ◌⊎◌, ℕ, Option, Some, Result, Ok, Err, refl, rules, Packet, Command, MsgFault, Answer, Kind, Zero, Taken, event_for, offering, released, unoffered, reply_packet, ReaderState, answer_to, begun, command_in, event_or_answer, kind_of, moved, new_address, outcome, taken}
 use Rattle.osdp_reader_laws.specs.Storing.{StoresItsOwn}
 use Rattle.osdp_reader_laws.proofs.Outcomes.{by_move}
 

@@ -1,21 +1,7 @@
 -- What a reader says of an event that it was given once: where it was said to a POLL, it is the front, and was ever offered.
 use Rattle.std.proofs.Common.{◌≡◌, ◌≢◌, ◌⊎◌, ℕ, Bool, true, false, cond, List, [], ◌∷◌, ◌++◌, drop, take, length, Option, Some, None, Result, Ok, Err, refl, ap, sym, subst, ◌∙◌, inl, inr, is_some, option_map, slice_get}
-use Rattle.osdp_frame.specs.Packet.{Packet}
-use Rattle.osdp_msg.specs.declared.command.Command.{Command}
+use Rattle.osdp_reader_laws.proofs.Common.{Packet, Command, Event, MsgFault, event_reply, Room, Answer, Kind, Zero, Taken, Queue, has_room, in_doubt, never_offered, offering, released, reply_packet, ReaderConfig, ReaderState, after_lapse_event, after_submit, after_withdraw_event, new_reader, Outcome, answer_to, begun, command_in, event_or_answer, kind_of, moved, new_address, outcome, taken, HasNone, Hear, IsTold, LapseEvent, ReaderCall, SetBusy, SetHandler, SubmitEvent, SubmitsNone, Tells, WithdrawEvent, after_call, after_calls}
 use Rattle.osdp_msg.specs.declared.command.Command.TheVariants as command
-use Rattle.osdp_msg.specs.declared.event.Event.{Event}
-use Rattle.osdp_msg.specs.declared.fault.MsgFault.{MsgFault}
-use Rattle.osdp_msg.specs.Events.{event_reply}
-use Rattle.osdp_msg.specs.declared.limits.Room.{Room}
-use Rattle.osdp_reader.specs.declared.handler.Answer.{Answer}
-use Rattle.osdp_reader.specs.declared.kind.Kind.{Kind}
-use Rattle.osdp_reader.specs.declared.kind.Kind.TheVariants.{Zero, Taken}
-use Rattle.osdp_reader.specs.Queue.{Queue, has_room, in_doubt, never_offered, offering, released}
-use Rattle.osdp_reader.specs.Replies.{reply_packet}
-use Rattle.osdp_reader.specs.declared.config.ReaderConfig.{ReaderConfig}
-use Rattle.osdp_reader.specs.State.{ReaderState, after_lapse_event, after_submit, after_withdraw_event, new_reader}
-use Rattle.osdp_reader.specs.Table.{Outcome, answer_to, begun, command_in, event_or_answer, kind_of, moved, new_address, outcome, taken}
-use Rattle.osdp_reader_laws.specs.Runs.{HasNone, Hear, IsTold, LapseEvent, ReaderCall, SetBusy, SetHandler, SubmitEvent, SubmitsNone, Tells, WithdrawEvent, after_call, after_calls}
 use Rattle.osdp_reader_laws.specs.Withdrawing.{KnowsItsOffer, WithdrawsOne}
 use Rattle.osdp_reader_laws.proofs.Outcomes.{IsKeptByEffects, after_next, after_zero, by_kind, by_move, outcome_keeps}
 use Rattle.osdp_reader_laws.proofs.Offering.{front_stays}

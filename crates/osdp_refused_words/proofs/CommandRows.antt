@@ -1,17 +1,9 @@
 -- Commands by their names.
-use Rattle.std.proofs.Common.{◌≡◌, ℕ, suc, ◌+◌, List, [], ◌∷◌, ◌++◌, codes, refl, subst, arith}
-use Rattle.std.proofs.lemmas.List.Elements.{All-from_recursion, recursion_from_All}
-use Rattle.osdp_words.specs.Word.{AllStandFor}
-use Rattle.osdp_msg.proofs.Bytes.{IsBytes-each}
-use Rattle.osdp_msg.proofs.RowTexts.{differ}
-use Rattle.osdp_msg.specs.CommandFields.{LedFits, OutputFits}
+use Rattle.osdp_refused_words.proofs.Common.{◌≡◌, ℕ, suc, ◌+◌, List, [], ◌∷◌, ◌++◌, codes, refl, subst, arith, All-from_recursion, recursion_from_All, AllStandFor, IsBytes-each, differ, LedFits, OutputFits, HasNoCommand, SaysCommand, SaysCommandOf, Fills, SaysRecords, GoesOn, StopsAt}
 use Rattle.osdp_msg.specs.CommandTable.{CommandFits}
 use Rattle.osdp_msg.specs.CommandText.{command_row, command_words}
 use Rattle.osdp_msg.specs.declared.command.Command.{Command}
 use Rattle.osdp_msg.specs.declared.command.Command.TheVariants.{Poll, Id, Cap, LocalStatus, InputStatus, OutputStatus, ReaderStatus, Output, Led, Buzzer, Text, Comset, Maker}
-use Rattle.osdp_refused_words.specs.Messages.{HasNoCommand, SaysCommand, SaysCommandOf}
-use Rattle.osdp_refused_words.specs.Slots.{Fills, SaysRecords}
-use Rattle.osdp_refused_words.specs.Stops.{GoesOn, StopsAt}
 use Rattle.osdp_refused_words.specs.declared.slot.Slot.TheVariants as slots
 use Rattle.osdp_refused_words.proofs.Filling.{some_word}
 use Rattle.osdp_refused_words.proofs.Parts.{byte, byte_fits, rate, vendor}

@@ -1,19 +1,9 @@
 -- Words for slots.
-use Rattle.std.proofs.Common.{◌≡◌, ℕ, zero, suc, ◌+◌, ◌<◌, ◌≤◌, List, [], ◌∷◌, length, drop, get_or, replicate, refl, sym, ap, subst, arith}
-use Rattle.std.specs.Fmt.{decimal}
-use Rattle.std.specs.List.{AllByRecursion}
-use Rattle.std.proofs.lemmas.List.{length-replicate}
-use Rattle.hex.specs.Hex.{IsBytes}
+use Rattle.osdp_refused_words.proofs.Common.{◌≡◌, ℕ, zero, suc, ◌+◌, ◌<◌, ◌≤◌, List, [], ◌∷◌, length, drop, get_or, replicate, refl, sym, ap, subst, arith, decimal, AllByRecursion, length-replicate, IsBytes, IsBytes-cons, IsBytes-nil, bytes, printed, Fills, IsSlot, SlotTakes, slot_word, GoesOn, StopsAt, Slot, Text, Number, Bytes, Output, Led, Capability}
 use Rattle.osdp_msg.specs.declared.capability.Capability.{Capability as CapabilityRecord}
 use Rattle.osdp_msg.specs.declared.leds.LedRecord.{LedRecord}
 use Rattle.osdp_msg.specs.declared.outputs.OutputRecord.{OutputRecord}
-use Rattle.osdp_msg.proofs.Bytes.{IsBytes-cons, IsBytes-nil}
 use Rattle.osdp_words.proofs.WordLaws.{stands_for_itself}
-use Rattle.osdp_words.specs.Word.{bytes, printed}
-use Rattle.osdp_refused_words.specs.Slots.{Fills, IsSlot, SlotTakes, slot_word}
-use Rattle.osdp_refused_words.specs.Stops.{GoesOn, StopsAt}
-use Rattle.osdp_refused_words.specs.declared.slot.Slot.{Slot}
-use Rattle.osdp_refused_words.specs.declared.slot.Slot.TheVariants.{Text, Number, Bytes, Output, Led, Capability}
 use Rattle.osdp_refused_words.proofs.Stopping.{SameFronts, after, ended, first_refused}
 
 -- ---- a word for each slot

@@ -1,3 +1,4 @@
+pub mod Common
 pub mod Stopping
 pub mod Filling
 mod Parts

@@ -1,7 +1,5 @@
 -- Slots that several messages have.
-use Rattle.std.proofs.Common.{ℕ, ◌<◌, ◌≤◌, arith}
-use Rattle.osdp_refused_words.specs.declared.slot.Slot.{Slot}
-use Rattle.osdp_refused_words.specs.declared.slot.Slot.TheVariants.{Number, Bytes}
+use Rattle.osdp_refused_words.proofs.Common.{ℕ, ◌<◌, ◌≤◌, arith, Slot, Number, Bytes}
 
 abbrev pub byte : Slot
 byte = Number 0 255

@@ -1,8 +1,6 @@
 -- The place of the first word that cannot stand where it is, by the words around it.
-use Rattle.std.proofs.Common.{◌≡◌, ℕ, ◌≤◌, List, [], ◌∷◌, ◌++◌, length, refl, sym, ap, subst, ◌∙◌, arith}
-use Rattle.std.proofs.lemmas.List.{append-nil, length-append, nil_from_length}
+use Rattle.osdp_refused_words.proofs.Common.{◌≡◌, ℕ, ◌≤◌, List, [], ◌∷◌, ◌++◌, length, refl, sym, ap, subst, ◌∙◌, arith, append-nil, length-append, nil_from_length, GoesOn, Stops}
 use Rattle.osdp_refused_words.specs.Laws.{OnePlace, StaysRefused, TellsMissingWords}
-use Rattle.osdp_refused_words.specs.Stops.{GoesOn, Stops}
 
 first_of : (x y : List ℕ) (xs ys : List (List ℕ)) → x ∷ xs ≡ y ∷ ys → x ≡ y
 first_of x y xs ys e = cc e

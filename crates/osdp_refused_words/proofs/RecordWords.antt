@@ -1,10 +1,5 @@
 -- Words of one sort, and at most so many.
-use Rattle.std.proofs.Common.{◌≡◌, ℕ, suc, ◌+◌, ◌-◌, ◌<◌, ◌≤◌, List, [], ◌∷◌, ◌++◌, length, map, sym, ap, subst, arith}
-use Rattle.std.specs.List.{AllByRecursion}
-use Rattle.osdp_words.specs.Word.{AllStandFor}
-use Rattle.osdp_refused_words.specs.Slots.{SaysRecords, SlotFits, SlotTakes, SlotValue, slot_word}
-use Rattle.osdp_refused_words.specs.Stops.{GoesOn, StopsAt}
-use Rattle.osdp_refused_words.specs.declared.slot.Slot.{Slot}
+use Rattle.osdp_refused_words.proofs.Common.{◌≡◌, ℕ, suc, ◌+◌, ◌-◌, ◌<◌, ◌≤◌, List, [], ◌∷◌, ◌++◌, length, map, sym, ap, subst, arith, AllByRecursion, AllStandFor, SaysRecords, SlotFits, SlotTakes, SlotValue, slot_word, GoesOn, StopsAt, Slot}
 use Rattle.osdp_refused_words.proofs.Stopping.{SameFronts, after, ended, first_refused}
 
 module _ (slot : Slot) where

@@ -1,23 +1,13 @@
 -- Replies by their names.
-use Rattle.std.proofs.Common.{◌≡◌, ℕ, suc, ◌+◌, ◌/◌, ◌<◌, ◌≤◌, List, [], ◌∷◌, ◌++◌, codes, length, refl, sym, subst, append_assoc, arith}
-use Rattle.std.specs.Fmt.{decimal}
-use Rattle.std.proofs.lemmas.List.Elements.{All-from_recursion, recursion_from_All}
-use Rattle.hex.specs.Hex.{IsBytes}
-use Rattle.osdp_words.specs.Word.{AllStandFor, number}
+use Rattle.osdp_refused_words.proofs.Common.{◌≡◌, ℕ, suc, ◌+◌, ◌/◌, ◌<◌, ◌≤◌, List, [], ◌∷◌, ◌++◌, codes, length, refl, sym, subst, append_assoc, arith, decimal, All-from_recursion, recursion_from_All, IsBytes, AllStandFor, number, differ, CapabilityFits, detail_words, raw_words, RawFits, HasNoReply, IsCountOf, SaysReply, SaysReplyOf, Fills, SaysRecords, GoesOn, StopsAt, Slot}
 use Rattle.osdp_msg.proofs.ReplyRows.{reason_back, reason_byte, reason_fits}
-use Rattle.osdp_msg.proofs.RowTexts.{differ}
 use Rattle.osdp_msg.specs.NakReasons.{ReasonFits, reason_number, reason_of}
 use Rattle.osdp_msg.specs.Raw.{RawCard}
-use Rattle.osdp_msg.specs.ReplyFields.{CapabilityFits, detail_words, raw_words, RawFits}
 use Rattle.osdp_msg.specs.ReplyTable.{ReplyFits}
 use Rattle.osdp_msg.specs.ReplyText.{reply_row, reply_words}
 use Rattle.osdp_msg.specs.declared.nak.NakReason.{NakReason}
 use Rattle.osdp_msg.specs.declared.reply.Reply.{Reply}
 use Rattle.osdp_msg.specs.declared.reply.Reply.TheVariants.{Ack, Nak, PdId, PdCap, LocalState, Inputs, Outputs, Readers, Raw, Formatted, Keypad, Com, Busy, MakerReply}
-use Rattle.osdp_refused_words.specs.Messages.{HasNoReply, IsCountOf, SaysReply, SaysReplyOf}
-use Rattle.osdp_refused_words.specs.Slots.{Fills, SaysRecords}
-use Rattle.osdp_refused_words.specs.Stops.{GoesOn, StopsAt}
-use Rattle.osdp_refused_words.specs.declared.slot.Slot.{Slot}
 use Rattle.osdp_refused_words.specs.declared.slot.Slot.TheVariants as slots
 use Rattle.osdp_refused_words.proofs.Filling.{some_word}
 use Rattle.osdp_refused_words.proofs.Parts.{byte, byte_fits, rate, vendor}

@@ -1,6 +1,5 @@
 -- The first word that cannot stand where it is: how it is found.
-use Rattle.std.proofs.Common.{◌≡◌, ℕ, suc, List, [], ◌∷◌, ◌++◌, refl, sym, ap, ◌∙◌, append_assoc}
-use Rattle.osdp_refused_words.specs.Stops.{GoesOn, Stops, StopsAt}
+use Rattle.osdp_refused_words.proofs.Common.{◌≡◌, ℕ, suc, List, [], ◌∷◌, ◌++◌, refl, sym, ap, ◌∙◌, append_assoc, GoesOn, Stops, StopsAt}
 
 -- texts that begin alike
 pub record SameFronts (Says Others : List (List ℕ) → Type 0) : Type 0 where

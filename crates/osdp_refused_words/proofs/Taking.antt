@@ -1,12 +1,7 @@
 -- Whether a word may stand in a slot.
-use Rattle.std.proofs.Common.{◌≡◌, ◌↔◌, ℕ, ◌≤◌, Bool, false, IsTrue, List, length, Option, Some, None, is_some, refl, sym, subst, arith}
+use Rattle.osdp_refused_words.proofs.Common.{◌≡◌, ◌↔◌, ℕ, ◌≤◌, Bool, false, IsTrue, List, length, Option, Some, None, is_some, refl, sym, subst, arith, IsBytes, StandsFor, Word, bytes, IsSlot, SlotTakes, Slot, Bytes}
 use Rattle.arrayvec.specs.ArrayVec.{ArrayVec, array_vec_len}
-use Rattle.hex.specs.Hex.{IsBytes}
 use Rattle.osdp_words.specs.Reading.{Reads}
-use Rattle.osdp_words.specs.Word.{StandsFor, Word, bytes}
-use Rattle.osdp_refused_words.specs.Slots.{IsSlot, SlotTakes}
-use Rattle.osdp_refused_words.specs.declared.slot.Slot.{Slot}
-use Rattle.osdp_refused_words.specs.declared.slot.Slot.TheVariants.{Bytes}
 
 pub same_slot : (s t : Slot) (given : List ℕ) (b : Bool) → s ≡ t → (IsTrue b ↔ SlotTakes t given) → (IsTrue b ↔ SlotTakes s given)
 same_slot s t given b e h = subst (λ (x : Slot). IsTrue b ↔ SlotTakes x given) (sym e) h

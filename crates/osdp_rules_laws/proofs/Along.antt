@@ -1,19 +1,5 @@
 -- Exchange after exchange with a reader of ours: no rule is broken.
-use Rattle.std.proofs.Common.{◌≡◌, ℕ, List, [], ◌∷◌, None, refl, subst, ◌∙◌}
-use Rattle.std.specs.Prelude.{IfSome}
-use Rattle.osdp_frame.specs.Packet.{Packet}
-use Rattle.osdp_msg.specs.ReplyTable.{ReplyFits}
-use Rattle.osdp_msg.specs.declared.command.Command.{Command}
-use Rattle.osdp_reader.specs.declared.handler.Answer.{Answer}
-use Rattle.osdp_reader.specs.State.{ReaderState}
-use Rattle.osdp_reader.specs.Table.{hears, kind_of}
-use Rattle.osdp_rules.specs.Judging.{judged, sent_judged}
-use Rattle.osdp_rules.specs.Known.{after_sent, known_after}
-use Rattle.osdp_rules.specs.declared.aspect.Aspect.{Aspect}
-use Rattle.osdp_rules.specs.declared.known.Known.{Known}
-use Rattle.osdp_rules.specs.declared.known.Known.TheVariants.{Gone, Unknown, Opened, Took}
-use Rattle.osdp_rules_laws.specs.Laws.{BreaksNoRule}
-use Rattle.osdp_rules_laws.specs.Runs.{AnswerIsLost, Comes, Exchange, Follows, IsStill, PacketIsLost, Way, findings, heard_by, heard_in, reader_after, reader_by}
+use Rattle.osdp_rules_laws.proofs.Common.{◌≡◌, ℕ, List, [], ◌∷◌, None, refl, subst, ◌∙◌, IfSome, Packet, ReplyFits, Command, Answer, ReaderState, hears, kind_of, judged, sent_judged, after_sent, known_after, Aspect, Known, Gone, Unknown, Opened, Took, BreaksNoRule, AnswerIsLost, Comes, Exchange, Follows, IsStill, PacketIsLost, Way, findings, heard_by, heard_in, reader_after, reader_by}
 use Rattle.osdp_rules_laws.proofs.Fine.{AreFine, IsFine, never_broken}
 use Rattle.osdp_rules_laws.proofs.Meeting.{met}
 use Rattle.osdp_rules_laws.proofs.Reading.{ReadsReplies}

@@ -1,42 +1,17 @@
 -- A reader of ours whose handler does what its CAP says breaks no rule about CAP.
-use Rattle.std.proofs.Common.{◌≡◌, ◌≢◌, ℕ, Bool, true, false, cond, eqb, not, ◌&&◌, nat_lt, List, [], ◌∷◌, length, Option, Some, None, Result, Ok, Err, refl, sym, subst, inl, inr, ap, ◌∙◌}
-use Rattle.std.proofs.lemmas.Bool.{cond_both, eq-eqb, eqb-true, false≢true}
-use Rattle.std.specs.Prelude.{IfSome}
-use Rattle.osdp_frame.specs.Packet.{Packet}
-use Rattle.osdp_msg.specs.ReplyTable.{ReplyFits}
+use Rattle.osdp_rules_laws.proofs.Common.{◌≡◌, ◌≢◌, ℕ, Bool, true, false, cond, eqb, not, ◌&&◌, nat_lt, List, [], ◌∷◌, length, Option, Some, None, Result, Ok, Err, refl, sym, subst, inl, inr, ap, ◌∙◌, cond_both, eq-eqb, eqb-true, false≢true, IfSome, Packet, ReplyFits, Command, Event, MsgFault, NakReason, CommandLength, RecordNotProcessed, SecurityBlock, UnexpectedSequence, UnknownCommand, Reply, ReaderConfig, Answer, Kind, Silent, Secured, Zero, Repeat, Taken, Busy, Wrong, event_for, released, refusal_reply, refused, reply_for, reply_packet, unread_reason, ReaderState, answer_to, begun, event_or_answer, hears, kind_of, outcome, taken, known_after, last_number, turn_of, asked, is_to, takes_nothing, told, Aspect, Nothing, Kept, Either, Broken, Known, Gone, Unknown, Opened, Took, AnswerIsLost, Comes, Exchange, Follows, PacketIsLost, Way, heard_by, heard_in, reader_after}
 use Rattle.osdp_msg.specs.Values.{NakValue}
 use Rattle.osdp_msg.specs.declared.capability.Capability.{Capability}
-use Rattle.osdp_msg.specs.declared.command.Command.{Command}
 use Rattle.osdp_msg.specs.declared.command.Command.TheVariants as command
-use Rattle.osdp_msg.specs.declared.event.Event.{Event}
-use Rattle.osdp_msg.specs.declared.fault.MsgFault.{MsgFault}
 use Rattle.osdp_msg.specs.declared.leds.LedRecord.{LedRecord}
-use Rattle.osdp_msg.specs.declared.nak.NakReason.{NakReason}
-use Rattle.osdp_msg.specs.declared.nak.NakReason.TheVariants.{CommandLength, RecordNotProcessed, SecurityBlock, UnexpectedSequence, UnknownCommand}
 use Rattle.osdp_msg.specs.declared.outputs.OutputRecord.{OutputRecord}
-use Rattle.osdp_msg.specs.declared.reply.Reply.{Reply}
 use Rattle.osdp_msg.specs.declared.reply.Reply.TheVariants as reply
-use Rattle.osdp_reader.specs.declared.config.ReaderConfig.{ReaderConfig}
-use Rattle.osdp_reader.specs.declared.handler.Answer.{Answer}
 use Rattle.osdp_reader.specs.declared.handler.Answer.TheVariants as answer
-use Rattle.osdp_reader.specs.declared.kind.Kind.{Kind}
-use Rattle.osdp_reader.specs.declared.kind.Kind.TheVariants.{Silent, Secured, Zero, Repeat, Taken, Busy, Wrong}
-use Rattle.osdp_reader.specs.Queue.{event_for, released}
-use Rattle.osdp_reader.specs.Replies.{refusal_reply, refused, reply_for, reply_packet, unread_reason}
-use Rattle.osdp_reader.specs.State.{ReaderState}
-use Rattle.osdp_reader.specs.Table.{answer_to, begun, event_or_answer, hears, kind_of, outcome, taken}
 use Rattle.osdp_rules.specs.Claiming.{agrees, are_leds, are_outputs, claim_finding, claim_heard, claim_judged, leds_finding, listed_finding, may_agree, outputs_finding, text_finding, text_room}
 use Rattle.osdp_rules.specs.Claims.{claims_after, claims_by, claims_of, claims_told, is_anew, is_new, no_claims}
-use Rattle.osdp_rules.specs.Known.{known_after, last_number, turn_of}
-use Rattle.osdp_rules.specs.Packets.{asked, is_to, takes_nothing, told}
-use Rattle.osdp_rules.specs.declared.aspect.Aspect.{Aspect}
 use Rattle.osdp_rules.specs.declared.aspect.Aspect.TheVariants as rule
 use Rattle.osdp_rules.specs.declared.claims.Claims.{Claims}
-use Rattle.osdp_rules.specs.declared.finding.Finding.TheVariants.{Nothing, Kept, Either, Broken}
-use Rattle.osdp_rules.specs.declared.known.Known.{Known}
-use Rattle.osdp_rules.specs.declared.known.Known.TheVariants.{Gone, Unknown, Opened, Took}
 use Rattle.osdp_rules_laws.specs.Claims.{BreaksNoClaim, KeepsClaims, ReadersAreOpen, RefusalIsNoLie, SaysStill, claim_findings}
-use Rattle.osdp_rules_laws.specs.Runs.{AnswerIsLost, Comes, Exchange, Follows, PacketIsLost, Way, heard_by, heard_in, reader_after}
 use Rattle.osdp_rules_laws.proofs.Along.{knows_still, one_known}
 use Rattle.osdp_rules_laws.proofs.Fine.{AreFine, IsFine, fine_both, fine_kept, fine_unbroken, never_broken}
 use Rattle.osdp_rules_laws.proofs.Meeting.{Met, MetNumber, again_last, met, unknown_above}

@@ -1,10 +1,7 @@
 -- Findings that break no rule, and what scenarios of such findings come to.
-use Rattle.std.proofs.Common.{◌≡◌, ◌≢◌, Bool, true, false, cond, List, [], ◌∷◌, refl, subst, sym}
-use Rattle.std.proofs.lemmas.Bool.{false≢true}
-use Rattle.osdp_rules.specs.Findings.{kept_if}
+use Rattle.osdp_rules_laws.proofs.Common.{◌≡◌, ◌≢◌, Bool, true, false, cond, List, [], ◌∷◌, refl, subst, sym, false≢true, kept_if, Broken}
 use Rattle.osdp_rules.specs.Verdicts.{verdict_after, verdict_along}
 use Rattle.osdp_rules.specs.declared.finding.Finding.{Finding}
-use Rattle.osdp_rules.specs.declared.finding.Finding.TheVariants.{Broken}
 use Rattle.osdp_rules.specs.declared.verdict.Verdict.{Verdict}
 use Rattle.osdp_rules.specs.declared.verdict.Verdict.TheVariants as verdict
 

@@ -1,21 +1,7 @@
 -- Another answer to a packet that comes again is found.
-use Rattle.std.proofs.Common.{◌≡◌, ℕ, true, false, cond, Some, refl, sym, ap, ◌∙◌}
-use Rattle.std.proofs.lemmas.Bool.{cond-false, cond-true, eq-eqb, false_from_ne_true, ne_eqb}
-use Rattle.osdp_frame.specs.Packet.{Packet}
-use Rattle.osdp_rules.specs.Findings.{again_finding, block_finding, quiet_finding}
-use Rattle.osdp_rules.specs.Judging.{answer_judged, sent_judged, turn_judged}
-use Rattle.osdp_rules.specs.Known.{last_number, turn_of}
-use Rattle.osdp_rules.specs.Packets.{has_reason, is_busy, is_to, same_packet}
-use Rattle.osdp_rules.specs.declared.aspect.Aspect.{Aspect}
+use Rattle.osdp_rules_laws.proofs.Common.{◌≡◌, ℕ, true, false, cond, Some, refl, sym, ap, ◌∙◌, cond-false, cond-true, eq-eqb, false_from_ne_true, ne_eqb, Packet, again_finding, block_finding, quiet_finding, answer_judged, sent_judged, turn_judged, last_number, turn_of, has_reason, is_busy, is_to, same_packet, Aspect, Nothing, Kept, Either, Broken, Known, Took, Turn, Again, FindsAnotherAnswer, is_packet, packet_is}
 use Rattle.osdp_rules.specs.declared.aspect.Aspect.TheVariants as rule
-use Rattle.osdp_rules.specs.declared.finding.Finding.TheVariants.{Nothing, Kept, Either, Broken}
-use Rattle.osdp_rules.specs.declared.known.Known.{Known}
-use Rattle.osdp_rules.specs.declared.known.Known.TheVariants.{Took}
-use Rattle.osdp_rules.specs.declared.known.Turn.{Turn}
-use Rattle.osdp_rules.specs.declared.known.Turn.TheVariants.{Again}
-use Rattle.osdp_rules_laws.specs.Laws.{FindsAnotherAnswer}
 use Rattle.osdp_rules_laws.proofs.Meeting.{again_last}
-use Rattle.osdp_rules.proofs.Comparing.{is_packet, packet_is}
 
 -- an answer to a packet without a block is judged by the turn of its number
 at_turn : (aspect : Aspect) (address : ℕ) (k : Known) (p a : Packet) (turn : Turn) → is_to address p ≡ true → p.block ≡ false

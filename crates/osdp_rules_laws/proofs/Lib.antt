@@ -1,3 +1,4 @@
+pub mod Common
 pub mod Fine
 pub mod Replies
 pub mod Reading

@@ -1,13 +1,5 @@
 -- Which line of the reader's table a packet meets, and what follows from that for somebody who tests it.
-use Rattle.std.proofs.Common.{◌≡◌, ◌⊎◌, ℕ, Bool, true, false, cond, eqb, not, ◌&&◌, ◌||◌, Option, Some, None, refl, inl, inr}
-use Rattle.osdp_frame.specs.Packet.{Packet, next_sequence}
-use Rattle.osdp_reader.specs.declared.kind.Kind.{Kind}
-use Rattle.osdp_reader.specs.declared.kind.Kind.TheVariants.{Silent, Secured, Zero, Repeat, Taken, Busy, Wrong}
-use Rattle.osdp_reader.specs.State.{ReaderState}
-use Rattle.osdp_reader.specs.Table.{kind_by_number, kind_of}
-use Rattle.osdp_rules.specs.Known.{turn_of}
-use Rattle.osdp_rules.specs.Packets.{is_to}
-use Rattle.osdp_rules.specs.declared.known.Turn.TheVariants.{New, Again, Out, NobodyKnows}
+use Rattle.osdp_rules_laws.proofs.Common.{◌≡◌, ◌⊎◌, ℕ, Bool, true, false, cond, eqb, not, ◌&&◌, ◌||◌, Option, Some, None, refl, inl, inr, Packet, next_sequence, Kind, Silent, Secured, Zero, Repeat, Taken, Busy, Wrong, ReaderState, kind_by_number, kind_of, turn_of, is_to, New, Again, Out, NobodyKnows}
 
 -- its number is the next after this one
 pub record IsNext (last number : ℕ) : Type 0 where

@@ -1,22 +1,6 @@
 -- What the standard leaves open breaks no rule.
-use Rattle.std.proofs.Common.{◌≡◌, ◌≢◌, ◌⊎◌, ℕ, true, false, cond, eqb, ◌||◌, Option, Some, Result, refl, sym, subst, inl, inr}
-use Rattle.std.proofs.lemmas.Bool.{and_left, eq-eqb, eqb-true, or_left, or_right}
-use Rattle.osdp_frame.specs.Packet.{Packet}
-use Rattle.osdp_msg.specs.declared.command.Command.{Command}
-use Rattle.osdp_msg.specs.declared.fault.MsgFault.{MsgFault}
-use Rattle.osdp_msg.specs.declared.fault.MsgFault.TheVariants.{UnknownCode, Length, Count}
-use Rattle.osdp_rules.specs.Findings.{again_finding, block_finding, code_finding, fit_read, kept_if, length_finding, new_finding, quiet_finding, refusal_finding, repeat_finding, taken_finding, turned_away, wrong_finding}
-use Rattle.osdp_rules.specs.Judging.{answer_judged, judged, sent_judged, turn_judged}
-use Rattle.osdp_rules.specs.Known.{last_number, turn_of}
-use Rattle.osdp_rules.specs.Packets.{asked, code_of, has_reason, is_busy, is_nak, is_to, same_packet}
-use Rattle.osdp_rules.specs.declared.aspect.Aspect.{Aspect}
+use Rattle.osdp_rules_laws.proofs.Common.{◌≡◌, ◌≢◌, ◌⊎◌, ℕ, true, false, cond, eqb, ◌||◌, Option, Some, Result, refl, sym, subst, inl, inr, and_left, eq-eqb, eqb-true, or_left, or_right, Packet, Command, MsgFault, UnknownCode, Length, Count, again_finding, block_finding, code_finding, fit_read, kept_if, length_finding, new_finding, quiet_finding, refusal_finding, repeat_finding, taken_finding, turned_away, wrong_finding, answer_judged, judged, sent_judged, turn_judged, last_number, turn_of, asked, code_of, has_reason, is_busy, is_nak, is_to, same_packet, Aspect, Nothing, Kept, Either, Broken, Known, Gone, Took, Turn, New, Again, Out, NobodyKnows, AnyRefusalIsOne, MayBeBusy}
 use Rattle.osdp_rules.specs.declared.aspect.Aspect.TheVariants as rule
-use Rattle.osdp_rules.specs.declared.finding.Finding.TheVariants.{Nothing, Kept, Either, Broken}
-use Rattle.osdp_rules.specs.declared.known.Known.{Known}
-use Rattle.osdp_rules.specs.declared.known.Known.TheVariants.{Gone, Took}
-use Rattle.osdp_rules.specs.declared.known.Turn.{Turn}
-use Rattle.osdp_rules.specs.declared.known.Turn.TheVariants.{New, Again, Out, NobodyKnows}
-use Rattle.osdp_rules_laws.specs.Laws.{AnyRefusalIsOne, MayBeBusy}
 use Rattle.osdp_rules_laws.proofs.Fine.{IsFine, fine_both, fine_false, fine_true, fine_unbroken}
 use Rattle.osdp_rules_laws.proofs.Reading.{busy_fits}
 use Rattle.osdp_rules_laws.proofs.Replies.{nak_fits}

@@ -1,24 +1,11 @@
 -- What the answers that a reader says anew show.
-use Rattle.std.proofs.Common.{◌≡◌, ℕ, suc, Bool, true, false, cond, eqb, not, nat_lt, Result, Ok, Err, refl, sym, subst}
-use Rattle.std.proofs.lemmas.Bool.{eq-eqb}
-use Rattle.osdp_frame.specs.Packet.{Packet}
-use Rattle.osdp_msg.specs.ReplyTable.{IsReply, ReplyFits, reply_code, reply_data, reply_of}
-use Rattle.osdp_msg.specs.declared.command.Command.{Command}
+use Rattle.osdp_rules_laws.proofs.Common.{◌≡◌, ℕ, suc, Bool, true, false, cond, eqb, not, nat_lt, Result, Ok, Err, refl, sym, subst, eq-eqb, Packet, IsReply, ReplyFits, reply_code, reply_data, reply_of, Command, MsgFault, UnknownCode, Length, Count, Reply, refused, reply_packet, unread_reason, address_finding, code_finding, fit_read, kept_if, length_finding, must_have, new_finding, number_finding, read_finding, refusal_finding, served_finding, taken_finding, turned_away, asked, code_of, has_reason, is_busy, same_check, told, Aspect, Nothing, Kept, Either, Broken, check_same}
 use Rattle.osdp_msg.specs.declared.command.Command.TheVariants as command
-use Rattle.osdp_msg.specs.declared.fault.MsgFault.{MsgFault}
-use Rattle.osdp_msg.specs.declared.fault.MsgFault.TheVariants.{UnknownCode, Length, Count}
-use Rattle.osdp_msg.specs.declared.reply.Reply.{Reply}
 use Rattle.osdp_msg.specs.declared.reply.Reply.TheVariants as reply
 use Rattle.osdp_msg_laws.specs.Laws.{FitsAPacket, ReadsTheTable}
-use Rattle.osdp_reader.specs.Replies.{refused, reply_packet, unread_reason}
-use Rattle.osdp_rules.specs.Findings.{address_finding, code_finding, fit_read, kept_if, length_finding, must_have, new_finding, number_finding, read_finding, refusal_finding, served_finding, taken_finding, turned_away}
-use Rattle.osdp_rules.specs.Packets.{asked, code_of, has_reason, is_busy, same_check, told}
-use Rattle.osdp_rules.specs.declared.aspect.Aspect.{Aspect}
 use Rattle.osdp_rules.specs.declared.aspect.Aspect.TheVariants as rule
-use Rattle.osdp_rules.specs.declared.finding.Finding.TheVariants.{Nothing, Kept, Either, Broken}
 use Rattle.osdp_rules_laws.proofs.Fine.{IsFine, fine_both, fine_false, fine_kept}
 use Rattle.osdp_rules_laws.proofs.Replies.{IsServed, Suits, is_plain, plain_says, unread_plain}
-use Rattle.osdp_rules.proofs.Comparing.{check_same}
 
 -- a reply is read from its code and data
 abbrev pub ReadsReplies : Type 0

@@ -1,33 +1,15 @@
 -- What a reader says anew keeps the rules, whatever its handler answers.
-use Rattle.std.proofs.Common.{◌≡◌, ℕ, Bool, true, false, cond, eqb, not, ◌&&◌, nat_le, List, Option, Some, None, Ok, refl}
-use Rattle.std.proofs.lemmas.Bool.{and_right, false≢true}
-use Rattle.std.specs.Prelude.{slice_get}
+use Rattle.osdp_rules_laws.proofs.Common.{◌≡◌, ℕ, Bool, true, false, cond, eqb, not, ◌&&◌, nat_le, List, Option, Some, None, Ok, refl, and_right, false≢true, slice_get, Packet, Command, Event, MsgFault, UnknownCode, NakReason, CommandLength, Reply, reply_code, ReaderConfig, Answer, event_for, done_reply, list_reply, local_reply, maker_reply, not_processed, own_reply, refusal_reply, refused, reply_for, reply_packet, unread_reason, answer_to, event_or_answer, fit_finding, must_have, has_reason, is_busy, takes_nothing}
 use Rattle.std.specs.Option.{option_map}
-use Rattle.osdp_frame.specs.Packet.{Packet}
-use Rattle.osdp_msg.specs.declared.command.Command.{Command}
 use Rattle.osdp_msg.specs.declared.command.Command.TheVariants as command
 use Rattle.osdp_msg.specs.declared.command_fields.Communication.{Communication}
 use Rattle.osdp_msg.specs.declared.command_fields.MakerMessage.{MakerMessage}
-use Rattle.osdp_msg.specs.declared.event.Event.{Event}
 use Rattle.osdp_msg.specs.declared.event.Event.TheVariants as event
-use Rattle.osdp_msg.specs.declared.fault.MsgFault.{MsgFault}
-use Rattle.osdp_msg.specs.declared.fault.MsgFault.TheVariants.{UnknownCode}
-use Rattle.osdp_msg.specs.declared.nak.NakReason.{NakReason}
-use Rattle.osdp_msg.specs.declared.nak.NakReason.TheVariants.{CommandLength}
-use Rattle.osdp_msg.specs.declared.reply.Reply.{Reply}
 use Rattle.osdp_msg.specs.declared.reply.Reply.TheVariants as reply
 use Rattle.osdp_msg.specs.Events.{event_reply}
 use Rattle.osdp_msg.specs.NakReasons.{reason_number}
-use Rattle.osdp_msg.specs.ReplyTable.{reply_code}
-use Rattle.osdp_reader.specs.declared.config.ReaderConfig.{ReaderConfig}
-use Rattle.osdp_reader.specs.declared.handler.Answer.{Answer}
 use Rattle.osdp_reader.specs.declared.handler.Answer.TheVariants as answer
-use Rattle.osdp_reader.specs.Queue.{event_for}
-use Rattle.osdp_reader.specs.Replies.{done_reply, list_reply, local_reply, maker_reply, not_processed, own_reply, refusal_reply, refused, reply_for, reply_packet, unread_reason}
-use Rattle.osdp_reader.specs.Table.{answer_to, event_or_answer}
 use Rattle.osdp_reader.proofs.Answering.{OfReply, of_answer, of_event_or_answer}
-use Rattle.osdp_rules.specs.Findings.{fit_finding, must_have}
-use Rattle.osdp_rules.specs.Packets.{has_reason, is_busy, takes_nothing}
 use Rattle.osdp_rules_laws.proofs.Fine.{IsFine}
 
 -- neither BUSY nor NAK 1 or 4

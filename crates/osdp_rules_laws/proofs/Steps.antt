@@ -1,38 +1,12 @@
 -- One exchange with a reader of ours: it breaks no rule, and what is known stays so.
-use Rattle.std.proofs.Common.{◌≡◌, ◌⊎◌, ℕ, true, false, cond, eqb, not, ◌&&◌, Option, Some, None, Result, Ok, Err, refl, sym, subst, inl, inr, ap, ◌∙◌}
-use Rattle.std.proofs.lemmas.Bool.{and_right, cond_both, eqb-true, false≢true}
-use Rattle.std.specs.Prelude.{IfSome}
-use Rattle.osdp_frame.specs.Packet.{Packet}
-use Rattle.osdp_msg.specs.ReplyTable.{ReplyFits}
-use Rattle.osdp_msg.specs.declared.command.Command.{Command}
+use Rattle.osdp_rules_laws.proofs.Common.{◌≡◌, ◌⊎◌, ℕ, true, false, cond, eqb, not, ◌&&◌, Option, Some, None, Result, Ok, Err, refl, sym, subst, inl, inr, ap, ◌∙◌, and_right, cond_both, eqb-true, false≢true, IfSome, Packet, ReplyFits, Command, MsgFault, SecurityBlock, UnexpectedSequence, Reply, Answer, Kind, Silent, Secured, Zero, Repeat, Taken, Busy, Wrong, event_for, released, refused, reply_packet, unread_reason, ReaderState, Outcome, answer_to, begun, command_in, event_or_answer, hears, kind_of, outcome, taken, again_finding, block_finding, new_finding, quiet_finding, repeat_finding, wrong_finding, answer_judged, sent_judged, turn_judged, after_answer, after_heard, after_sent, last_number, turn_of, asked, has_reason, is_busy, is_comset, is_to, same_packet, takes_nothing, Aspect, Nothing, Kept, Either, Broken, Known, Gone, Unknown, Opened, Took, Turn, New, Again, Out, NobodyKnows, is_packet}
 use Rattle.osdp_msg.specs.declared.command.Command.TheVariants as command
-use Rattle.osdp_msg.specs.declared.fault.MsgFault.{MsgFault}
-use Rattle.osdp_msg.specs.declared.nak.NakReason.TheVariants.{SecurityBlock, UnexpectedSequence}
-use Rattle.osdp_msg.specs.declared.reply.Reply.{Reply}
 use Rattle.osdp_msg.specs.declared.reply.Reply.TheVariants as reply
-use Rattle.osdp_reader.specs.declared.handler.Answer.{Answer}
-use Rattle.osdp_reader.specs.declared.kind.Kind.{Kind}
-use Rattle.osdp_reader.specs.declared.kind.Kind.TheVariants.{Silent, Secured, Zero, Repeat, Taken, Busy, Wrong}
-use Rattle.osdp_reader.specs.Queue.{event_for, released}
-use Rattle.osdp_reader.specs.Replies.{refused, reply_packet, unread_reason}
-use Rattle.osdp_reader.specs.State.{ReaderState}
-use Rattle.osdp_reader.specs.Table.{Outcome, answer_to, begun, command_in, event_or_answer, hears, kind_of, outcome, taken}
-use Rattle.osdp_rules.specs.Findings.{again_finding, block_finding, new_finding, quiet_finding, repeat_finding, wrong_finding}
-use Rattle.osdp_rules.specs.Judging.{answer_judged, sent_judged, turn_judged}
-use Rattle.osdp_rules.specs.Known.{after_answer, after_heard, after_sent, last_number, turn_of}
-use Rattle.osdp_rules.specs.Packets.{asked, has_reason, is_busy, is_comset, is_to, same_packet, takes_nothing}
-use Rattle.osdp_rules.specs.declared.aspect.Aspect.{Aspect}
 use Rattle.osdp_rules.specs.declared.aspect.Aspect.TheVariants as rule
-use Rattle.osdp_rules.specs.declared.finding.Finding.TheVariants.{Nothing, Kept, Either, Broken}
-use Rattle.osdp_rules.specs.declared.known.Known.{Known}
-use Rattle.osdp_rules.specs.declared.known.Known.TheVariants.{Gone, Unknown, Opened, Took}
-use Rattle.osdp_rules.specs.declared.known.Turn.{Turn}
-use Rattle.osdp_rules.specs.declared.known.Turn.TheVariants.{New, Again, Out, NobodyKnows}
 use Rattle.osdp_rules_laws.proofs.Fine.{IsFine, fine_both, fine_false, fine_true}
 use Rattle.osdp_rules_laws.proofs.Meeting.{Met, again_last, met, new_at_zero, new_next, out_further, unknown_above}
 use Rattle.osdp_rules_laws.proofs.Reading.{ReadsReplies, SuitsRead, fine_busy, fine_said, suits_plainly}
 use Rattle.osdp_rules_laws.proofs.Replies.{answer_served, answer_suits, plain_says, told_served, told_suits}
-use Rattle.osdp_rules.proofs.Comparing.{is_packet}
 
 quiet_fine : (aspect : Aspect) → IsFine (quiet_finding aspect false)
 quiet_fine rule.Quiet = tt

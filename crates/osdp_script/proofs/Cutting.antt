@@ -1,9 +1,5 @@
 -- The first line of bytes, and the lines after it.
-use Rattle.std.proofs.Common.{◌≡◌, ◌≢◌, ℕ, zero, suc, ◌+◌, ◌-◌, ◌<◌, ◌≤◌, List, [], ◌∷◌, ◌++◌, length, get_or, take, drop, inl, sym, ap, ◌∙◌, arith, take-append-drop}
-use Rattle.std.proofs.lemmas.List.{drop_more, length-drop, take_all}
-use Rattle.osdp_tool_streams.specs.Cut.{IsLine, ended_lines, last_line, line_feed, lines_of, unended_line}
-use Rattle.osdp_tool_streams.proofs.CutLemmas.{ended_after-feed, ended_after-line, unended_after-feed, unended_after-line}
-use Rattle.osdp_script.specs.Words.{BeginsWithLine}
+use Rattle.osdp_script.proofs.Common.{◌≡◌, ◌≢◌, ℕ, zero, suc, ◌+◌, ◌-◌, ◌<◌, ◌≤◌, List, [], ◌∷◌, ◌++◌, length, get_or, take, drop, inl, sym, ap, ◌∙◌, arith, take-append-drop, drop_more, length-drop, take_all, IsLine, ended_lines, last_line, line_feed, lines_of, unended_line, ended_after-feed, ended_after-line, unended_after-feed, unended_after-line, BeginsWithLine}
 
 -- a beginning without a line feed
 is_line : (bytes : List ℕ) (n : ℕ) → n ≤ length bytes → ((k : ℕ) → k < n → get_or bytes k 0 ≢ line_feed) → IsLine (take n bytes)

@@ -1,8 +1,6 @@
 -- Lines judged one after the other.
-use Rattle.std.proofs.Common.{ℕ, List, [], ◌∷◌, ◌++◌, refl, subst, ap, ◌∙◌, append_assoc}
+use Rattle.osdp_script.proofs.Common.{ℕ, List, [], ◌∷◌, ◌++◌, refl, subst, ap, ◌∙◌, append_assoc, AreRead, Plan}
 use Rattle.osdp_script.specs.Laws.{ReadInTurn, StaysBad}
-use Rattle.osdp_script.specs.Reading.{AreRead}
-use Rattle.osdp_script.specs.Script.{Plan}
 
 apart : (lines more : List (List ℕ)) (p r : Plan) → AreRead p (lines ++ more) r → (q : Plan) × AreRead p lines q × AreRead q more r
 apart [] more p r read = (p, refl, read)

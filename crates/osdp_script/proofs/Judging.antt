@@ -1,11 +1,5 @@
 -- One line, judged by what stands above it.
-use Rattle.std.proofs.Common.{◌≡◌, ℕ, List, length, Option, Some, None}
-use Rattle.osdp_words.specs.Reading.{ReadsWords}
-use Rattle.osdp_words.specs.Word.{words_in}
-use Rattle.osdp_script.specs.declared.script.ScriptLine.{ScriptLine}
-use Rattle.osdp_script.specs.Lines.{LineFits, line_words}
-use Rattle.osdp_script.specs.Reading.{SaysNothing}
-use Rattle.osdp_script.specs.Script.{Plan}
+use Rattle.osdp_script.proofs.Common.{◌≡◌, ℕ, List, length, Option, Some, None, ReadsWords, words_in, ScriptLine, LineFits, line_words, SaysNothing, Plan}
 
 -- what is read of the words of a text
 abbrev pub ReadsText : Plan → List ℕ → Option ScriptLine → Type 0

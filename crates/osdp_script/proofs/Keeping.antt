@@ -1,9 +1,6 @@
 -- Lines that are kept as steps and a row of bytes.
-use Rattle.std.proofs.Common.{◌≡◌, ◌==◌, ℕ, Bool, true, IsTrue, List, [], ◌∷◌, length, take, refl, arith}
-use Rattle.std.proofs.lemmas.Bool.Decides.{nat_tests}
-use Rattle.osdp_script.specs.declared.script.ScriptLine.{ScriptLine}
+use Rattle.osdp_script.proofs.Common.{◌≡◌, ◌==◌, ℕ, Bool, true, IsTrue, List, [], ◌∷◌, length, take, refl, arith, nat_tests, ScriptLine, line_of, lines_kept, own_size}
 use Rattle.osdp_script.specs.declared.step.ScriptStep.{ScriptStep}
-use Rattle.osdp_script.specs.Kept.{line_of, lines_kept, own_size}
 
 -- there is no line where there is no step
 pub no_lines : (steps : List ScriptStep) (row : List ℕ) (none : Bool) → none ≡ (length steps == 0)

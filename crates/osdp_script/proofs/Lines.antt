@@ -1,9 +1,5 @@
 -- Lines, read one after the other.
-use Rattle.std.proofs.Common.{◌≡◌, ℕ, ◌+◌, ◌<◌, ◌≤◌, List, [], ◌∷◌, ◌++◌, length, refl, sym, ap, subst, ◌∙◌, arith, append_assoc}
-use Rattle.std.proofs.lemmas.List.{length-append}
-use Rattle.osdp_tool_streams.specs.Cut.{lines_of}
-use Rattle.osdp_script.specs.Reading.{AreRead, IsRead}
-use Rattle.osdp_script.specs.Script.{Plan, no_plan}
+use Rattle.osdp_script.proofs.Common.{◌≡◌, ℕ, ◌+◌, ◌<◌, ◌≤◌, List, [], ◌∷◌, ◌++◌, length, refl, sym, ap, subst, ◌∙◌, arith, append_assoc, length-append, lines_of, AreRead, IsRead, Plan, no_plan}
 
 -- the lines above the rest are read, and are so many
 pub record HasRead (bytes rest : List ℕ) (count : ℕ) (p : Plan) : Type 0 where

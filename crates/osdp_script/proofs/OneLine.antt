@@ -1,24 +1,9 @@
 -- Words are those of one line at most.
-use Rattle.std.proofs.Common.{◌≡◌, ◌<◌, ◌≤◌, ◌^◌, ℕ, Bool, true, false, List, [], ◌∷◌, get_or, codes, refl, sym, ap, subst, ◌∙◌, arith}
-use Rattle.osdp_frame.specs.Check.{check_name}
-use Rattle.osdp_frame.specs.declared.check_kind.CheckKind.{CheckKind}
-use Rattle.osdp_frame.specs.declared.check_kind.CheckKind.TheVariants.{Crc, Sum}
-use Rattle.osdp_msg.specs.declared.command.Command.{Command}
-use Rattle.osdp_msg.specs.declared.event.Event.{Event}
-use Rattle.osdp_msg.specs.CommandText.{command_words}
-use Rattle.osdp_msg.specs.Events.{EventFits, event_reply, event_words}
-use Rattle.osdp_msg.proofs.RowTexts.{differ}
+use Rattle.osdp_script.proofs.Common.{◌≡◌, ◌<◌, ◌≤◌, ◌^◌, ℕ, Bool, true, false, List, [], ◌∷◌, get_or, codes, refl, sym, ap, subst, ◌∙◌, arith, check_name, CheckKind, Crc, Sum, Command, Event, command_words, EventFits, event_reply, event_words, differ, Move, Deliver, Drop, Repeat, Damage, Issue, Queue, Busy, Wait, ToReader, ToController, Reopen, AllStandFor, Word, number, plain, ScriptLine, Check, Reader, Step, Clean, IsHappening, IsOrder, IsReader, IsSetting, LineFits, MoveFits, line_fields, line_name, line_words, move_words, switch_word}
 use Rattle.osdp_msg_laws.proofs.CommandTexts.{command_texts}
 use Rattle.osdp_msg_laws.proofs.EventReplies.{same_event}
 use Rattle.osdp_msg_laws.proofs.OneMeaning.{numbers_then, states_one}
 use Rattle.osdp_msg_laws.proofs.ReplyTexts.{reply_texts}
-use Rattle.osdp_sim.specs.declared.step.Move.{Move}
-use Rattle.osdp_sim.specs.declared.step.Move.TheVariants.{Deliver, Drop, Repeat, Damage}
-use Rattle.osdp_sim.specs.declared.step.SimStep.TheVariants.{Issue, Queue, Busy, Wait, ToReader, ToController, Reopen}
-use Rattle.osdp_words.specs.Word.{AllStandFor, Word, number, plain}
-use Rattle.osdp_script.specs.declared.script.ScriptLine.{ScriptLine}
-use Rattle.osdp_script.specs.declared.script.ScriptLine.TheVariants.{Check, Reader, Step, Clean}
-use Rattle.osdp_script.specs.Lines.{IsHappening, IsOrder, IsReader, IsSetting, LineFits, MoveFits, line_fields, line_name, line_words, move_words, switch_word}
 use Rattle.osdp_script.proofs.Rows.{BusyRow, CheckRow, CleanRow, IssueRow, QueueRow, ReaderRow, ReopenRow, Row, RowFits, RowValue, ToControllerRow, ToReaderRow, WaitRow, row_line, row_name, row_only, row_words}
 
 -- ---- fields

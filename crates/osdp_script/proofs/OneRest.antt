@@ -1,8 +1,5 @@
 -- What stands after the first line.
-use Rattle.std.proofs.Common.{◌≡◌, ◌∙◌, inl, inr, ℕ, List, ◌∷◌, ◌++◌, length, sym, ap, arith}
-use Rattle.std.proofs.lemmas.List.{append_cancel_left, length-append}
-use Rattle.osdp_script.specs.Words.{BeginsWithLine}
-use Rattle.osdp_tool_streams.specs.Cut.{line_feed}
+use Rattle.osdp_script.proofs.Common.{◌≡◌, ◌∙◌, inl, inr, ℕ, List, ◌∷◌, ◌++◌, length, sym, ap, arith, append_cancel_left, length-append, BeginsWithLine, line_feed}
 
 -- a line that ends is shorter than what it stands in
 longer : (line rest : List ℕ) → line ≡ line ++ line_feed ∷ rest → ⊥

@@ -1,15 +1,6 @@
 -- Lines say one thing at most.
-use Rattle.std.proofs.Common.{◌≡◌, ℕ, suc, ◌+◌, List, [], ◌∷◌, ◌++◌, length, inl, inr, refl, sym, ap, subst, ◌∙◌}
+use Rattle.osdp_script.proofs.Common.{◌≡◌, ℕ, suc, ◌+◌, List, [], ◌∷◌, ◌++◌, length, inl, inr, refl, sym, ap, subst, ◌∙◌, both_ways, Crc, lines_of, Script, ScriptLine, AreRead, IsBad, IsBadLine, IsFirstBad, IsRead, IsScriptOf, IsTold, Plan, no_plan, with_line, characters, is_passed_over, words_in}
 use Rattle.std.specs.Option.{unwrap_or}
-use Rattle.std.proofs.lemmas.Bool.{both_ways}
-use Rattle.osdp_frame.specs.declared.check_kind.CheckKind.TheVariants.{Crc}
-use Rattle.osdp_tool_streams.specs.Cut.{lines_of}
-use Rattle.osdp_script.specs.declared.script.Script.{Script}
-use Rattle.osdp_script.specs.declared.script.ScriptLine.{ScriptLine}
-use Rattle.osdp_script.specs.Reading.{AreRead, IsBad, IsBadLine, IsFirstBad, IsRead, IsScriptOf, IsTold}
-use Rattle.osdp_script.specs.Script.{Plan, no_plan, with_line}
-use Rattle.osdp_script.specs.Words.{characters, is_passed_over}
-use Rattle.osdp_words.specs.Word.{words_in}
 use Rattle.osdp_script.proofs.InTurn.{read_in_turn}
 use Rattle.osdp_script.specs.Meaning.{HasOneMeaning, SaySame}
 use Rattle.osdp_script.proofs.OneLine.{one_line}

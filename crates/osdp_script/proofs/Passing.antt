@@ -1,6 +1,5 @@
 -- Whether characters are passed over, found from their front.
-use Rattle.std.proofs.Common.{◌≡◌, ℕ, ◌+◌, ◌<◌, ◌≤◌, true, false, List, [], ◌∷◌, length, get_or, drop, eqb, cond, refl, ap, ◌∙◌}
-use Rattle.std.proofs.lemmas.List.{drop_all, drop_more}
+use Rattle.osdp_script.proofs.Common.{◌≡◌, ℕ, ◌+◌, ◌<◌, ◌≤◌, true, false, List, [], ◌∷◌, length, get_or, drop, eqb, cond, refl, ap, ◌∙◌, drop_all, drop_more}
 use Rattle.osdp_script.specs.Words.{is_passed_over}
 
 -- a space in front

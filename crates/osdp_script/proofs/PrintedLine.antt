@@ -1,29 +1,12 @@
 -- A line as it is printed says what it was printed of.
-use Rattle.std.proofs.Common.{◌≡◌, ◌≢◌, ◌<◌, ◌≤◌, ◌^◌, lit<, ℕ, zero, suc, Bool, true, false, not, cond, eqb, List, [], ◌∷◌, codes, filter, length, map, inr, refl, sym, ap, subst, ◌∙◌, arith}
-use Rattle.std.specs.List.{AllByRecursion}
+use Rattle.osdp_script.proofs.Common.{◌≡◌, ◌≢◌, ◌<◌, ◌≤◌, ◌^◌, lit<, ℕ, zero, suc, Bool, true, false, not, cond, eqb, List, [], ◌∷◌, codes, filter, length, map, inr, refl, sym, ap, subst, ◌∙◌, arith, AllByRecursion, ne_eqb, check_name, CheckKind, Crc, Sum, command_words, event_words, Move, Deliver, Drop, Repeat, Damage, Issue, Queue, Busy, Wait, ToReader, ToController, Reopen, IsLine, AllStandFor, Word, bytes, plain, printed, text_of, words_in, ScriptLine, Check, Reader, Step, Clean, LineFits, MoveFits, line_fields, line_name, line_words, move_words, switch_word, IsInPlace, IsRead, Says, Plan, with_line}
 use Rattle.std.specs.Str.{IsAscii}
-use Rattle.std.proofs.lemmas.Bool.{ne_eqb}
 use Rattle.std.proofs.lemmas.Str.{IsUtf8-from_ascii}
-use Rattle.osdp_frame.specs.Check.{check_name}
-use Rattle.osdp_frame.specs.declared.check_kind.CheckKind.{CheckKind}
-use Rattle.osdp_frame.specs.declared.check_kind.CheckKind.TheVariants.{Crc, Sum}
-use Rattle.osdp_msg.specs.CommandText.{command_words}
-use Rattle.osdp_msg.specs.Events.{event_words}
 use Rattle.osdp_msg_laws.proofs.PlainCommands.{plain_commands}
 use Rattle.osdp_msg_laws.proofs.PlainReplies.{plain_events}
 use Rattle.osdp_msg_laws.proofs.PlainWords.{bytes_plain}
 use Rattle.osdp_msg_laws.proofs.PrintedWords.{ArePrintedWords, IsPrintedWord, IsTextCharacter, name_printed, number_printed, plain_words_printed, printed_stand, text_shown, words_held}
-use Rattle.osdp_sim.specs.declared.step.Move.{Move}
-use Rattle.osdp_sim.specs.declared.step.Move.TheVariants.{Deliver, Drop, Repeat, Damage}
-use Rattle.osdp_sim.specs.declared.step.SimStep.TheVariants.{Issue, Queue, Busy, Wait, ToReader, ToController, Reopen}
-use Rattle.osdp_tool_streams.specs.Cut.{IsLine}
-use Rattle.osdp_words.specs.Word.{AllStandFor, Word, bytes, plain, printed, text_of, words_in}
 use Rattle.osdp_words.proofs.TextLaws.{parts_at_spaces}
-use Rattle.osdp_script.specs.declared.script.ScriptLine.{ScriptLine}
-use Rattle.osdp_script.specs.declared.script.ScriptLine.TheVariants.{Check, Reader, Step, Clean}
-use Rattle.osdp_script.specs.Lines.{LineFits, MoveFits, line_fields, line_name, line_words, move_words, switch_word}
-use Rattle.osdp_script.specs.Reading.{IsInPlace, IsRead, Says}
-use Rattle.osdp_script.specs.Script.{Plan, with_line}
 use Rattle.osdp_script.specs.Words.{characters, is_passed_over}
 
 -- ---- words

@@ -1,18 +1,6 @@
 -- A script that was read is read back from its text.
 use Rattle.std.proofs.Common.{◌≡◌, ◌≢◌, ◌≤◌, ℕ, List, [], ◌∷◌, ◌++◌, length, map, inl, inr, Option, Some, refl, sym, ap, subst, ◌∙◌, append_assoc, append-nil, length-append, arith}
-use Rattle.std.specs.List.{All, AllByRecursion, flat_map}
-use Rattle.std.proofs.lemmas.List.{map-append}
-use Rattle.std.proofs.lemmas.List.Elements.{All-append, All-cons, All-head, All-nil, All-tail}
-use Rattle.osdp_frame.specs.declared.check_kind.CheckKind.{CheckKind}
-use Rattle.osdp_tool_streams.specs.Cut.{IsLine, ended_lines, last_line, line_feed, lines_of}
-use Rattle.osdp_tool_streams.proofs.CutLemmas.{ended_lines-cut}
-use Rattle.osdp_script.specs.declared.script.Script.{Script}
-use Rattle.osdp_script.specs.declared.script.ScriptLine.{ScriptLine}
-use Rattle.osdp_script.specs.declared.script.ScriptLine.TheVariants.{Check, Reader, Step, Clean}
-use Rattle.osdp_script.specs.Lines.{IsSetting, LineFits, StepFits}
-use Rattle.osdp_script.specs.Reading.{AreRead, IsFree, IsInPlace, IsRead, IsScriptOf}
-use Rattle.osdp_script.specs.Script.{Plan, no_plan, with_line}
-use Rattle.osdp_script.specs.Settings.{AreApart, AreReaders}
+use Rattle.osdp_script.proofs.Common.{All, AllByRecursion, flat_map, map-append, All-append, All-cons, All-head, All-nil, All-tail, CheckKind, IsLine, ended_lines, last_line, line_feed, lines_of, ended_lines-cut, Script, ScriptLine, Check, Reader, Step, Clean, IsSetting, LineFits, StepFits, AreRead, IsFree, IsInPlace, IsRead, IsScriptOf, Plan, no_plan, with_line, AreApart, AreReaders}
 use Rattle.osdp_script.proofs.InTurn.{read_in_turn}
 use Rattle.osdp_script.proofs.Settings.{readers_named}
 use Rattle.osdp_script.specs.Printed.{ReadsBack, line_text, reader_line, script_lines, script_text}

@@ -1,17 +1,5 @@
 -- The lines of a script by their names: what is read after a name is what the line is made of.
-use Rattle.std.proofs.Common.{◌≡◌, ℕ, Bool, List, ◌∷◌, Option, codes, refl}
-use Rattle.std.specs.Prelude.{option_map}
-use Rattle.osdp_frame.specs.declared.check_kind.CheckKind.{CheckKind}
-use Rattle.osdp_msg.specs.declared.command.Command.{Command}
-use Rattle.osdp_msg.specs.declared.event.Event.{Event}
-use Rattle.osdp_msg.proofs.RowTexts.{IsRow, differ, row_read}
-use Rattle.osdp_sim.specs.declared.step.Move.{Move}
-use Rattle.osdp_sim.specs.declared.step.SimStep.TheVariants.{Issue, Queue, Busy, Wait, ToReader, ToController, Reopen}
-use Rattle.osdp_words.specs.Reading.{ReadsWords}
-use Rattle.osdp_words.specs.Word.{Word}
-use Rattle.osdp_script.specs.declared.script.ScriptLine.{ScriptLine}
-use Rattle.osdp_script.specs.declared.script.ScriptLine.TheVariants.{Check, Reader, Step, Clean}
-use Rattle.osdp_script.specs.Lines.{LineFits, line_fields, line_name, line_words}
+use Rattle.osdp_script.proofs.Common.{◌≡◌, ℕ, Bool, List, ◌∷◌, Option, codes, refl, option_map, CheckKind, Command, Event, IsRow, differ, row_read, Move, Issue, Queue, Busy, Wait, ToReader, ToController, Reopen, ReadsWords, Word, ScriptLine, Check, Reader, Step, Clean, LineFits, line_fields, line_name, line_words}
 
 -- a row for each name of a line
 pub data Row : Type 0 where

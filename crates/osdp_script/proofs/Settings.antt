@@ -1,14 +1,6 @@
 -- The readers that lines name, one after the other.
 use Rattle.std.proofs.Common.{◌≢◌, ◌≤◌, ℕ, List, [], ◌∷◌, ◌++◌, length, inl, inr, sym, subst, arith, length-append}
-use Rattle.std.specs.List.{All}
-use Rattle.std.proofs.lemmas.List.Elements.{All-append, All-cons, All-head, All-nil, All-tail}
-use Rattle.osdp_tool_streams.specs.Cut.{lines_of}
-use Rattle.osdp_script.specs.declared.script.ScriptLine.{ScriptLine}
-use Rattle.osdp_script.specs.declared.script.ScriptLine.TheVariants.{Reader}
-use Rattle.osdp_script.specs.Lines.{IsSetting, LineFits}
-use Rattle.osdp_script.specs.Reading.{AreRead, IsFree, IsInPlace, IsRead}
-use Rattle.osdp_script.specs.Script.{Plan, no_plan, with_line}
-use Rattle.osdp_script.specs.Settings.{AreApart, AreReaders, HasReaders}
+use Rattle.osdp_script.proofs.Common.{All, All-append, All-cons, All-head, All-nil, All-tail, lines_of, ScriptLine, Reader, IsSetting, LineFits, AreRead, IsFree, IsInPlace, IsRead, Plan, no_plan, with_line, AreApart, AreReaders, HasReaders}
 
 -- what holds of the readers so far, of which there may be none
 record Named (readers : List (ℕ × ℕ)) : Type 0 where

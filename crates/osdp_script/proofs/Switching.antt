@@ -1,10 +1,7 @@
 -- The last record that switches an output counts.
-use Rattle.std.proofs.Common.{◌≡◌, ◌==◌, ◌||◌, ℕ, suc, ◌<◌, Bool, true, false, List, [], ◌∷◌, ◌++◌, length, get_or, set, nat_le, arith, refl, sym, subst, ap, ◌∙◌}
+use Rattle.osdp_script.proofs.Common.{◌≡◌, ◌==◌, ◌||◌, ℕ, suc, ◌<◌, Bool, true, false, List, [], ◌∷◌, ◌++◌, length, get_or, set, nat_le, arith, refl, sym, subst, ap, ◌∙◌, nat_tests, get_or-set_same, get_or-set_other, length-set, outputs_after, switched, switches_off, switches_on}
 use Rattle.std.specs.Prelude.{All}
-use Rattle.std.proofs.lemmas.Bool.Decides.{nat_tests}
-use Rattle.std.proofs.lemmas.List.{get_or-set_same, get_or-set_other, length-set}
 use Rattle.osdp_msg.specs.declared.outputs.OutputRecord.{OutputRecord}
-use Rattle.osdp_script.specs.Outputs.{outputs_after, switched, switches_off, switches_on}
 use Rattle.osdp_script.specs.OutputLaws.{LastCounts, LeavesAlone, TurnsOff, TurnsOn}
 
 length-switched : (outputs : List ℕ) (r : OutputRecord) → length (switched outputs r) ≡ length outputs

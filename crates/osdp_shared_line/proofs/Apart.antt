@@ -1,14 +1,5 @@
 -- Names and lines: what is kept of every site and of the line, so that nobody else hears what a site says.
-use Rattle.std.proofs.Common.{◌≡◌, ◌≢◌, ◌⊎◌, ◌<◌, ℕ, zero, suc, List, [], ◌∷◌, ◌++◌, Some, refl, sym, subst, ap, ◌∙◌, inl, inr}
-use Rattle.osdp_frame.specs.Packet.{Packet}
-use Rattle.osdp_msg.specs.CommandTable.{CommandFits}
-use Rattle.osdp_msg.specs.declared.command.Command.{Command}
-use Rattle.osdp_controller.specs.declared.state.State.TheVariants.{Closed}
-use Rattle.osdp_link_laws.specs.Link.{lost_at}
-use Rattle.osdp_link_laws.proofs.Lines.{each_append, each_map}
-use Rattle.osdp_link_laws.proofs.Stages.{Each}
-use Rattle.osdp_shared_line.specs.Addresses.{AreApart, IsAsked, IsNameOf, IsSaid, IsThere, MayComeTo, Sets, SetsReader, Somewhere, unended}
-use Rattle.osdp_shared_line.specs.Line.{Net, Site, address_of, changed, site_at, tagged}
+use Rattle.osdp_shared_line.proofs.Common.{◌≡◌, ◌≢◌, ◌⊎◌, ◌<◌, ℕ, zero, suc, List, [], ◌∷◌, ◌++◌, Some, refl, sym, subst, ap, ◌∙◌, inl, inr, Packet, CommandFits, Command, Closed, lost_at, each_append, each_map, Each, AreApart, IsAsked, IsNameOf, IsSaid, IsThere, MayComeTo, Sets, SetsReader, Somewhere, unended, Net, Site, address_of, changed, site_at, tagged}
 use Rattle.osdp_shared_line.proofs.Controllers.{AreLeft}
 use Rattle.osdp_shared_line.proofs.Lists.{each_kept, somewhere_rest}
 use Rattle.osdp_shared_line.proofs.Readers.{StoresOwn}

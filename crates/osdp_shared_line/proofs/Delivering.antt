@@ -1,24 +1,9 @@
 -- What is said and read keeps all sites apart.
-use Rattle.std.proofs.Common.{◌≡◌, ◌≢◌, ◌⊎◌, ◌<◌, ℕ, suc, Bool, true, false, cond, List, [], ◌∷◌, ◌++◌, Option, Some, None, IfSome, refl, sym, subst, ap, ◌∙◌, inl, inr, append_assoc, arith}
-use Rattle.std.proofs.lemmas.Bool.Decides.{eqb_tells}
-use Rattle.std.proofs.lemmas.List.{append-nil}
-use Rattle.std.specs.Prelude.{◌==◌, map, option_to_list}
-use Rattle.osdp_frame.specs.Packet.{Packet}
-use Rattle.osdp_msg.specs.CommandTable.{CommandFits}
-use Rattle.osdp_msg.specs.declared.command.Command.{Command}
+use Rattle.osdp_shared_line.proofs.Common.{◌≡◌, ◌≢◌, ◌⊎◌, ◌<◌, ℕ, suc, Bool, true, false, cond, List, [], ◌∷◌, ◌++◌, Option, Some, None, IfSome, refl, sym, subst, ap, ◌∙◌, inl, inr, append_assoc, arith, eqb_tells, append-nil, ◌==◌, map, option_to_list, Packet, CommandFits, Command, seen, ticks_in, Answer, Delivered, Delivery, Lost, Repeated, ReadsWhatIsAsked, each_append, each_map, each_rest, Each, IsAsked, IsNameOf, IsSaid, IsThere, MayComeTo, Sets, SetsReader, Somewhere, asked_in, unended, Net, Site, address_of, changed, first_gets, gets, is_told, left_by, link_of, site_at, tagged}
 use Rattle.osdp_controller.specs.Hearing as controller
-use Rattle.osdp_controller.specs.Sessions.{seen}
-use Rattle.osdp_controller.specs.Ticking.{ticks_in}
 use Rattle.osdp_reader.specs.Table as reader
-use Rattle.osdp_reader.specs.declared.handler.Answer.{Answer}
 use Rattle.osdp_link_laws.specs.Link as link
-use Rattle.osdp_link_laws.specs.Link.{Delivered, Delivery, Lost, Repeated}
-use Rattle.osdp_link_laws.specs.Peers.{ReadsWhatIsAsked}
-use Rattle.osdp_link_laws.proofs.Lines.{each_append, each_map, each_rest}
-use Rattle.osdp_link_laws.proofs.Stages.{Each}
-use Rattle.osdp_shared_line.specs.Addresses.{IsAsked, IsNameOf, IsSaid, IsThere, MayComeTo, Sets, SetsReader, Somewhere, asked_in, unended}
 use Rattle.osdp_shared_line.specs.Line as line
-use Rattle.osdp_shared_line.specs.Line.{Net, Site, address_of, changed, first_gets, gets, is_told, left_by, link_of, site_at, tagged}
 use Rattle.osdp_shared_line.proofs.Apart.{Apart, IsAfter, IsAway, IsClosed, IsKept, IsOwnComset, IsToClosed, IsToDevice, NamesGo, Ordered, all_left, each_any, each_tagged, one_changes, ordered_more, others_ordered, own_ordered, reader_address, with_panel}
 use Rattle.osdp_shared_line.proofs.Changing.{Nothing, One, Quietly, fewer, quietly, same}
 use Rattle.osdp_shared_line.proofs.Controllers.{AreLeft, IsSent, hears_well, ticks_well}

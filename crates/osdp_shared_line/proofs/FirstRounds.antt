@@ -1,16 +1,6 @@
 -- From the first sessions on rounds ask that a reader isn't busy, and that they fit.
-use Rattle.std.proofs.Common.{◌≡◌, ◌++◌, ℕ, false, All, Option, Some, None, refl, sym, subst, ap}
-use Rattle.osdp_msg.specs.declared.command.Command.{Command}
-use Rattle.osdp_reader.specs.Table.{new_address}
-use Rattle.osdp_reader.specs.declared.handler.Answer.{Answer}
-use Rattle.osdp_link_laws.specs.Link.{Account}
-use Rattle.osdp_link_laws.specs.Progress.{NoComset, SetsNoAddress}
-use Rattle.osdp_link_laws.proofs.Lines.{each_all, each_map, each_of}
-use Rattle.osdp_shared_line.specs.Addresses.{IsSetUp, asked_in}
+use Rattle.osdp_shared_line.proofs.Common.{◌≡◌, ◌++◌, ℕ, false, All, Option, Some, None, refl, sym, subst, ap, Command, new_address, Answer, Account, NoComset, SetsNoAddress, each_all, each_map, each_of, IsSetUp, asked_in, Net, Site, site_at, IsEmpty, IsReady, own}
 use Rattle.osdp_shared_line.specs.FirstRounds.{FirstRoundsAreExact}
-use Rattle.osdp_shared_line.specs.Line.{Net, Site, site_at}
-use Rattle.osdp_shared_line.specs.Progress.{IsEmpty, IsReady}
-use Rattle.osdp_shared_line.specs.Views.{own}
 use Rattle.osdp_shared_line.proofs.Changing.{set_is}
 
 -- what is no COMSET at all is none to a device's address

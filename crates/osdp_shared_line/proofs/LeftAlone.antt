@@ -1,8 +1,6 @@
 -- Which moves leave the ends of a site as they are, by each move.
-use Rattle.std.proofs.Common.{ℕ, refl, subst, ap}
+use Rattle.osdp_shared_line.proofs.Common.{ℕ, refl, subst, ap, NetMove, RestartPanel, RestartReader, SetHandler, Withdraw, WithdrawEvent, IsOrdinaryOf, KeepsDeviceOf, KeepsReaderOf}
 use Rattle.osdp_shared_line.specs.Leaving.{LeavingIsExact, RestartsNoPanel, RestartsNoReader, SetsNoHandler, TakesNothingBack}
-use Rattle.osdp_shared_line.specs.Line.{NetMove, RestartPanel, RestartReader, SetHandler, Withdraw, WithdrawEvent}
-use Rattle.osdp_shared_line.specs.Restarts.{IsOrdinaryOf, KeepsDeviceOf, KeepsReaderOf}
 
 module _ {H : Type 0} (k : ℕ) where
   no_restart : (move : NetMove H) → KeepsReaderOf k move → RestartsNoReader k move

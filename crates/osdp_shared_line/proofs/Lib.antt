@@ -1,3 +1,4 @@
+pub mod Common
 pub mod Sites
 pub mod Hearing
 pub mod Moving

@@ -1,22 +1,7 @@
 -- Each site is its link after every list of moves, so each law of a link is one of each site.
-use Rattle.std.proofs.Common.{◌≡◌, ℕ, cond, eqb, List, [], ◌∷◌, ◌++◌, Option, Some, None, IfSome, refl, sym, subst, ap, ◌∙◌, inl, inr}
-use Rattle.std.proofs.lemmas.Bool.Decides.{eqb_tells}
-use Rattle.std.specs.Prelude.{option_map, option_to_list}
-use Rattle.osdp_frame.specs.Packet.{Packet}
-use Rattle.osdp_msg.specs.declared.command.Command.{Command}
-use Rattle.osdp_controller.specs.Hearing.{comset_of}
-use Rattle.osdp_reader.specs.declared.handler.Answer.{Answer}
-use Rattle.osdp_link_laws.specs.Headline.{MoveFits, MovesFit, SaysWhatFitsIf}
+use Rattle.osdp_shared_line.proofs.Common.{◌≡◌, ℕ, cond, eqb, List, [], ◌∷◌, ◌++◌, Option, Some, None, IfSome, refl, sym, subst, ap, ◌∙◌, inl, inr, eqb_tells, option_map, option_to_list, Packet, Command, comset_of, Answer, MoveFits, MovesFit, SaysWhatFitsIf, Delivered, Delivery, Link, Lost, Move, Repeated, after_move, ReadsWhatIsAsked, IsNoRefusal, RefusesNoNumber, told_by, both, NetMoveFits, NetMovesFit, in_front, LoseToPanel, LoseToReader, Net, NetMove, Queue, Reopen, RestartPanel, RestartReader, Retarget, SetBusy, SetHandler, Site, Submit, Tick, ToPanel, ToReader, Withdraw, WithdrawEvent, address_of, after_net, is_comset_refused, is_retarget_refused, run, site_at, EachIsALink, EachRefusesNoNumber, IsItsLink, moves_at, moves_of, IsMoved, OpensQuietly, front_to_panel, move_of, one_if, own, own_front, own_place, view}
 use Rattle.osdp_link_laws.specs.Link as link
-use Rattle.osdp_link_laws.specs.Link.{Delivered, Delivery, Link, Lost, Move, Repeated, after_move}
-use Rattle.osdp_link_laws.specs.Peers.{ReadsWhatIsAsked}
-use Rattle.osdp_link_laws.specs.Refusals.{IsNoRefusal, RefusesNoNumber, told_by}
-use Rattle.osdp_link_laws.proofs.Lines.{both}
-use Rattle.osdp_shared_line.specs.Addresses.{NetMoveFits, NetMovesFit, in_front}
-use Rattle.osdp_shared_line.specs.Line.{LoseToPanel, LoseToReader, Net, NetMove, Queue, Reopen, RestartPanel, RestartReader, Retarget, SetBusy, SetHandler, Site, Submit, Tick, ToPanel, ToReader, Withdraw, WithdrawEvent, address_of, after_net, is_comset_refused, is_retarget_refused, run, site_at}
-use Rattle.osdp_shared_line.specs.Runs.{EachIsALink, EachRefusesNoNumber, IsItsLink, moves_at, moves_of}
 use Rattle.osdp_shared_line.specs.Views as views
-use Rattle.osdp_shared_line.specs.Views.{IsMoved, OpensQuietly, front_to_panel, move_of, one_if, own, own_front, own_place, view}
 use Rattle.osdp_shared_line.proofs.Apart.{Apart}
 use Rattle.osdp_shared_line.proofs.Moving.{each_is_its_own}
 use Rattle.osdp_shared_line.proofs.Running.{apart_after, apart_first, by_own}

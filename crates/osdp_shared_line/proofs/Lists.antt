@@ -1,9 +1,5 @@
 -- One of a list.
-use Rattle.std.proofs.Common.{List, [], ◌∷◌, ◌++◌, ◌⊎◌, inl, inr}
-use Rattle.osdp_link_laws.proofs.Stages.{Each}
-use Rattle.osdp_link_laws.specs.Link.{lost_at}
-use Rattle.std.proofs.Common.{ℕ, zero, suc}
-use Rattle.osdp_shared_line.specs.Addresses.{Somewhere}
+use Rattle.osdp_shared_line.proofs.Common.{List, [], ◌∷◌, ◌++◌, ◌⊎◌, inl, inr, Each, lost_at, ℕ, zero, suc, Somewhere}
 
 module _ {A : Type 0} (P : A → Type 0) where
   pub somewhere_front : (xs ys : List A) → Somewhere P xs → Somewhere P (xs ++ ys)

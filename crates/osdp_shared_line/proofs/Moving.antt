@@ -1,31 +1,11 @@
 -- Each move of all is a move of one site's link, or none, where nobody else hears what is in front.
 use Rattle.std.proofs.Common.{◌≡◌, ◌≢◌, ◌<◌, ◌+◌, ℕ, zero, suc, Bool, true, false, cond, ◌==◌, List, [], ◌∷◌, ◌++◌, Option, Some, None, refl, sym, subst, ap, ◌∙◌, inl, inr, arith}
-use Rattle.std.proofs.lemmas.Bool.Decides.{eqb_tells}
-use Rattle.std.proofs.lemmas.List.{append-nil}
-use Rattle.std.specs.Prelude.{option_map, option_to_list}
-use Rattle.osdp_msg.specs.declared.limits.Room.{Room}
-use Rattle.osdp_frame.specs.Packet.{Packet}
-use Rattle.osdp_msg.specs.declared.command.Command.{Command}
-use Rattle.osdp_msg.specs.declared.event.Event.{Event}
+use Rattle.osdp_shared_line.proofs.Common.{eqb_tells, append-nil, option_map, option_to_list, Room, Packet, Command, Event, comset_of, seen, ticks_in, ControllerConfig, ControllerFault, Closed, Answer, lacks_room, Delivered, Delivery, Link, Lost, Move, Repeated, after_move, lost_at, each_map, each_of, is_false, is_true, Each, LoseToPanel, LoseToReader, Net, Queue, Reopen, RestartPanel, RestartReader, Retarget, SetBusy, SetHandler, Site, Submit, Tick, ToPanel, ToReader, Withdraw, WithdrawEvent, address_of, after_net, calls, changed, gets, is_comset_refused, is_retarget_refused, is_told, link_of, left_by, restarts, site_at, tagged, EachMoveIsItsOwn, IsMoved, IsQuiet, front_to_panel, move_of, one_if, own, own_front, own_place, view}
 use Rattle.osdp_controller.specs.Hearing as controller
-use Rattle.osdp_controller.specs.Hearing.{comset_of}
 use Rattle.osdp_controller.specs.Machine as controllers
-use Rattle.osdp_controller.specs.Sessions.{seen}
-use Rattle.osdp_controller.specs.Ticking.{ticks_in}
-use Rattle.osdp_controller.specs.declared.config.ControllerConfig.{ControllerConfig}
-use Rattle.osdp_controller.specs.declared.fault.ControllerFault.{ControllerFault}
-use Rattle.osdp_controller.specs.declared.state.State.TheVariants.{Closed}
-use Rattle.osdp_reader.specs.declared.handler.Answer.{Answer}
-use Rattle.osdp_reader.specs.Queue.{lacks_room}
 use Rattle.osdp_link_laws.specs.Link as link
-use Rattle.osdp_link_laws.specs.Link.{Delivered, Delivery, Link, Lost, Move, Repeated, after_move, lost_at}
-use Rattle.osdp_link_laws.proofs.Lines.{each_map, each_of}
-use Rattle.osdp_link_laws.proofs.Numbers.{is_false, is_true}
-use Rattle.osdp_link_laws.proofs.Stages.{Each}
 use Rattle.osdp_shared_line.specs.Line as line
-use Rattle.osdp_shared_line.specs.Line.{LoseToPanel, LoseToReader, Net, Queue, Reopen, RestartPanel, RestartReader, Retarget, SetBusy, SetHandler, Site, Submit, Tick, ToPanel, ToReader, Withdraw, WithdrawEvent, address_of, after_net, calls, changed, gets, is_comset_refused, is_retarget_refused, is_told, link_of, left_by, restarts, site_at, tagged}
 use Rattle.osdp_shared_line.specs.Views as views
-use Rattle.osdp_shared_line.specs.Views.{EachMoveIsItsOwn, IsMoved, IsQuiet, front_to_panel, move_of, one_if, own, own_front, own_place, view}
 use Rattle.osdp_shared_line.proofs.Hearing.{closed_hears, first_other, first_own, silent}
 use Rattle.osdp_shared_line.proofs.Sites.{at_changed, at_map, at_other, lost_own, own_append, own_first, own_lost, own_mine, own_none, own_others, own_rest, some_same}
 

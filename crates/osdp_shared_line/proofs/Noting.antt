@@ -1,22 +1,6 @@
 -- A program that keeps to its rule gives no address where another device may come.
-use Rattle.std.proofs.Common.{◌≡◌, ◌≢◌, ◌⊎◌, ℕ, Bool, true, false, cond, List, [], ◌∷◌, Option, Some, None, refl, sym, subst, ap, ◌∙◌, inl, inr}
-use Rattle.std.proofs.lemmas.Bool.Decides.{eqb_tells}
-use Rattle.std.specs.Prelude.{◌||◌, is_some}
-use Rattle.osdp_frame.specs.Packet.{Packet}
-use Rattle.osdp_msg.specs.declared.command.Command.{Command}
-use Rattle.osdp_msg.specs.declared.command_fields.Communication.{Communication}
-use Rattle.osdp_controller.specs.Comsets.{has_comset}
-use Rattle.osdp_controller.specs.Hearing.{comset_of}
-use Rattle.osdp_controller.specs.declared.exchange.Exchange.{Exchange}
-use Rattle.osdp_controller.specs.declared.exchange.Exchange.TheVariants.{Opening, Polling, Asking}
-use Rattle.osdp_controller.specs.declared.state.State.{State}
-use Rattle.osdp_controller.specs.declared.state.State.TheVariants.{Closed, Quiet, Idle, Waiting, Pausing}
-use Rattle.osdp_reader.specs.declared.handler.Answer.{Answer}
-use Rattle.osdp_link_laws.proofs.Stages.{Each}
-use Rattle.osdp_shared_line.specs.Addresses.{IsAsked, IsNameOf, IsSaid, IsThere, MayComeTo, NetMoveFits, Sets, SetsReader, Somewhere, asked_by, asked_in, unended}
+use Rattle.osdp_shared_line.proofs.Common.{◌≡◌, ◌≢◌, ◌⊎◌, ℕ, Bool, true, false, cond, List, [], ◌∷◌, Option, Some, None, refl, sym, subst, ap, ◌∙◌, inl, inr, eqb_tells, ◌||◌, is_some, Packet, Command, Communication, has_comset, comset_of, Exchange, Opening, Polling, Asking, State, Closed, Quiet, Idle, Waiting, Pausing, Answer, Each, IsAsked, IsNameOf, IsSaid, IsThere, MayComeTo, NetMoveFits, Sets, SetsReader, Somewhere, asked_by, asked_in, unended, Net, NetMove, RestartPanel, RestartReader, Retarget, Site, Submit, address_of, changed, restarts, site_at, IsKnown, KeepsRule, Note, RestFits, all_addresses, also_at, note_after, noted_at, notes_after, two_addresses}
 use Rattle.osdp_shared_line.specs.Line as line
-use Rattle.osdp_shared_line.specs.Line.{Net, NetMove, RestartPanel, RestartReader, Retarget, Site, Submit, address_of, changed, restarts, site_at}
-use Rattle.osdp_shared_line.specs.Programs.{IsKnown, KeepsRule, Note, RestFits, all_addresses, also_at, note_after, noted_at, notes_after, two_addresses}
 use Rattle.osdp_shared_line.proofs.Apart.{IsOwnComset, all_left, reader_address}
 use Rattle.osdp_shared_line.proofs.Readers.{IsForAll, IsFrom}
 use Rattle.osdp_shared_line.proofs.Changing.{IsRead, Nothing, each_left, fewer, set_is}

@@ -1,29 +1,6 @@
 -- While a session that was begun hasn't opened, its controller asks for the opening ID alone.
-use Rattle.std.proofs.Common.{◌≡◌, ◌⊎◌, ◌+◌, ℕ, true, leb, ltb, eqb, List, Option, Some, None, refl, sym, subst, ap, ◌∙◌, inl, inr, arith}
-use Rattle.std.specs.Prelude.{◌&&◌, not, option_to_list}
-use Rattle.osdp_frame.specs.Packet.{Packet}
-use Rattle.osdp_msg.specs.declared.command.Command.{Command}
-use Rattle.osdp_msg.specs.declared.reply.Reply.{Reply}
-use Rattle.osdp_msg.specs.declared.reply_fields.PdId.{PdId}
-use Rattle.osdp_controller.specs.Answers.{meaning_of as said_by}
-use Rattle.osdp_controller.specs.Hearing.{Heard, answered, answered_unread, hears, hears_busy, hears_in, ignores, is_numbered, loses, opening_answered, pausing_hears, pd_id_of, waiting_hears}
-use Rattle.osdp_controller.specs.Sessions.{frame_of, later, seen}
-use Rattle.osdp_controller.specs.Ticking.{Ticked, begins, gives_up, sends_frame, stays, ticks_in, tries_again}
-use Rattle.osdp_controller.specs.declared.exchange.Exchange.{Exchange}
-use Rattle.osdp_controller.specs.declared.exchange.Exchange.TheVariants.{Opening, Polling, Asking}
-use Rattle.osdp_controller.specs.declared.exchange.Outstanding.{Outstanding}
-use Rattle.osdp_controller.specs.declared.meaning.ReplyMeaning.{ReplyMeaning}
-use Rattle.osdp_controller.specs.declared.meaning.ReplyMeaning.TheVariants.{NotTaken, Damaged, NumberRefused, Plain, Unreadable}
+use Rattle.osdp_shared_line.proofs.Common.{◌≡◌, ◌⊎◌, ◌+◌, ℕ, true, leb, ltb, eqb, List, Option, Some, None, refl, sym, subst, ap, ◌∙◌, inl, inr, arith, ◌&&◌, not, option_to_list, Packet, Command, Reply, PdId, said_by, Heard, answered, answered_unread, hears, hears_busy, hears_in, ignores, is_numbered, loses, opening_answered, pausing_hears, pd_id_of, waiting_hears, frame_of, later, seen, Ticked, begins, gives_up, sends_frame, stays, ticks_in, tries_again, Exchange, Opening, Polling, Asking, Outstanding, ReplyMeaning, NotTaken, Damaged, NumberRefused, Plain, Unreadable, Session, State, Closed, Quiet, Idle, Waiting, Pausing, command_in, ReadsWhatIsAsked, both, Each, SetsReader, address_in, is_opened}
 use Rattle.osdp_controller.specs.declared.report.LostCause.TheVariants as causes
-use Rattle.osdp_controller.specs.declared.session.Session.{Session}
-use Rattle.osdp_controller.specs.declared.state.State.{State}
-use Rattle.osdp_controller.specs.declared.state.State.TheVariants.{Closed, Quiet, Idle, Waiting, Pausing}
-use Rattle.osdp_reader.specs.Table.{command_in}
-use Rattle.osdp_link_laws.specs.Peers.{ReadsWhatIsAsked}
-use Rattle.osdp_link_laws.proofs.Lines.{both}
-use Rattle.osdp_link_laws.proofs.Stages.{Each}
-use Rattle.osdp_shared_line.specs.Addresses.{SetsReader, address_in}
-use Rattle.osdp_shared_line.specs.Programs.{is_opened}
 
 abbrev pub IsOpeningIn : Exchange → Type 0
 IsOpeningIn Opening = Unit {0}

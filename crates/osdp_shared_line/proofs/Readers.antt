@@ -1,17 +1,9 @@
 -- Where a reader goes when it hears a packet, and from where it answers.
-use Rattle.std.proofs.Common.{◌≡◌, ◌⊎◌, ℕ, Bool, cond, Option, Some, None, IfSome, Result, Ok, Err, refl, sym, subst, ap, ◌∙◌, inl, inr}
-use Rattle.std.proofs.lemmas.Bool.Decides.{eqb_tells}
-use Rattle.osdp_frame.specs.Packet.{Packet}
-use Rattle.osdp_msg.specs.declared.command.Command.{Command}
+use Rattle.osdp_shared_line.proofs.Common.{◌≡◌, ◌⊎◌, ℕ, Bool, cond, Option, Some, None, IfSome, Result, Ok, Err, refl, sym, subst, ap, ◌∙◌, inl, inr, eqb_tells, Packet, Command, event_for, offering, released, unoffered, ReaderState, Answer, Kind, SetsReader, address_in}
 use Rattle.osdp_msg.specs.declared.fault.MsgFault.{MsgFault}
-use Rattle.osdp_reader.specs.Queue.{event_for, offering, released, unoffered}
 use Rattle.osdp_reader.specs.Replies.{reply_packet}
-use Rattle.osdp_reader.specs.State.{ReaderState}
 use Rattle.osdp_reader.specs.Table.{Outcome, answer_to, begun, command_in, event_or_answer, hears, kind_of, moved, new_address, outcome, taken}
-use Rattle.osdp_reader.specs.declared.handler.Answer.{Answer}
-use Rattle.osdp_reader.specs.declared.kind.Kind.{Kind}
 use Rattle.osdp_reader.specs.declared.kind.Kind.TheVariants as kind
-use Rattle.osdp_shared_line.specs.Addresses.{SetsReader, address_in}
 
 -- the address that is all devices', and no address at all
 abbrev pub IsForAll : ℕ → Type 0

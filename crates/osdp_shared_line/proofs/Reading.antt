@@ -1,22 +1,8 @@
 -- Over a round of one site every reader reads, and only that site's own reader answers.
-use Rattle.std.proofs.Common.{◌≡◌, ◌≢◌, ◌⊎◌, ◌<◌, ◌≤◌, ◌+◌, ℕ, zero, suc, true, false, cond, eqb, List, [], ◌∷◌, ◌++◌, Option, Some, None, IfSome, refl, sym, subst, ap, ◌∙◌, inl, inr, arith}
-use Rattle.std.proofs.lemmas.Bool.Decides.{eqb_tells, leb_tells}
-use Rattle.std.proofs.lemmas.List.{append-nil}
-use Rattle.std.specs.Prelude.{option_to_list}
-use Rattle.osdp_frame.specs.Packet.{Packet}
-use Rattle.osdp_msg.specs.declared.command.Command.{Command}
+use Rattle.osdp_shared_line.proofs.Common.{◌≡◌, ◌≢◌, ◌⊎◌, ◌<◌, ◌≤◌, ◌+◌, ℕ, zero, suc, true, false, cond, eqb, List, [], ◌∷◌, ◌++◌, Option, Some, None, IfSome, refl, sym, subst, ap, ◌∙◌, inl, inr, arith, eqb_tells, leb_tells, append-nil, option_to_list, Packet, Command, Answer, SaysWhatFitsIf, Delivered, Link, after_move, ReadsWhatIsAsked, Each, IsThere, NetMovesFit, in_front, Net, NetMove, Site, ToReader, address_of, after_net, changed, left_by, link_of, run, site_at, tagged, all_read, IsMoved, own, own_front, view}
 use Rattle.osdp_reader.specs.Table as reader
-use Rattle.osdp_reader.specs.declared.handler.Answer.{Answer}
-use Rattle.osdp_link_laws.specs.Headline.{SaysWhatFitsIf}
 use Rattle.osdp_link_laws.specs.Link as link
-use Rattle.osdp_link_laws.specs.Link.{Delivered, Link, after_move}
-use Rattle.osdp_link_laws.specs.Peers.{ReadsWhatIsAsked}
-use Rattle.osdp_link_laws.proofs.Stages.{Each}
-use Rattle.osdp_shared_line.specs.Addresses.{IsThere, NetMovesFit, in_front}
 use Rattle.osdp_shared_line.specs.Line as line
-use Rattle.osdp_shared_line.specs.Line.{Net, NetMove, Site, ToReader, address_of, after_net, changed, left_by, link_of, run, site_at, tagged}
-use Rattle.osdp_shared_line.specs.Progress.{all_read}
-use Rattle.osdp_shared_line.specs.Views.{IsMoved, own, own_front, view}
 use Rattle.osdp_shared_line.proofs.Apart.{Apart, IsAway, IsKept, IsToDevice, reader_address}
 use Rattle.osdp_shared_line.proofs.Hearing.{silent}
 use Rattle.osdp_shared_line.proofs.Moving.{each_is_its_own, one_is, one_not}

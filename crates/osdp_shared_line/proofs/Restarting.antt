@@ -1,21 +1,7 @@
 -- What holds of each move of all holds of each move of a link that these come to; and a site whose reader never restarts refuses no number.
-use Rattle.std.proofs.Common.{◌≡◌, ℕ, cond, eqb, List, [], ◌∷◌, Option, Some, None, sym, subst, inl, inr}
-use Rattle.std.proofs.lemmas.Bool.Decides.{eqb_tells}
-use Rattle.std.specs.Prelude.{option_map, option_to_list}
-use Rattle.osdp_frame.specs.Packet.{Packet}
-use Rattle.osdp_msg.specs.declared.command.Command.{Command}
-use Rattle.osdp_controller.specs.Hearing.{comset_of}
-use Rattle.osdp_reader.specs.declared.handler.Answer.{Answer}
+use Rattle.osdp_shared_line.proofs.Common.{◌≡◌, ℕ, cond, eqb, List, [], ◌∷◌, Option, Some, None, sym, subst, inl, inr, eqb_tells, option_map, option_to_list, Packet, Command, comset_of, Answer, Delivered, Delivery, Lost, Move, Repeated, KeepsReader, RefusesNoNumberWithoutRestart, both, each_all, each_append, each_map, each_of, Each, LoseToPanel, LoseToReader, Net, NetMove, Queue, Reopen, RestartPanel, RestartReader, Retarget, SetBusy, SetHandler, Site, Submit, Tick, ToPanel, ToReader, Withdraw, WithdrawEvent, address_of, after_net, is_comset_refused, is_retarget_refused, site_at, EachRefusesNoneWithoutRestart, KeepsReaderOf, EachIsALink, moves_at, moves_of, front_to_panel, move_of, one_if, own_front, own_place, view}
 use Rattle.osdp_link_laws.specs.Link as link
-use Rattle.osdp_link_laws.specs.Link.{Delivered, Delivery, Lost, Move, Repeated}
-use Rattle.osdp_link_laws.specs.Refusals.{KeepsReader, RefusesNoNumberWithoutRestart}
-use Rattle.osdp_link_laws.proofs.Lines.{both, each_all, each_append, each_map, each_of}
-use Rattle.osdp_link_laws.proofs.Stages.{Each}
-use Rattle.osdp_shared_line.specs.Line.{LoseToPanel, LoseToReader, Net, NetMove, Queue, Reopen, RestartPanel, RestartReader, Retarget, SetBusy, SetHandler, Site, Submit, Tick, ToPanel, ToReader, Withdraw, WithdrawEvent, address_of, after_net, is_comset_refused, is_retarget_refused, site_at}
-use Rattle.osdp_shared_line.specs.Restarts.{EachRefusesNoneWithoutRestart, KeepsReaderOf}
-use Rattle.osdp_shared_line.specs.Runs.{EachIsALink, moves_at, moves_of}
 use Rattle.osdp_shared_line.specs.Views as views
-use Rattle.osdp_shared_line.specs.Views.{front_to_panel, move_of, one_if, own_front, own_place, view}
 
 -- ---- which moves of a link the moves of all come to
 

@@ -1,26 +1,10 @@
 -- Rounds that lose nothing are for each site its own rounds.
-use Rattle.std.proofs.Common.{◌≡◌, ◌≢◌, ◌⊎◌, ◌<◌, ℕ, zero, suc, true, false, cond, eqb, List, [], ◌∷◌, ◌++◌, length, Option, Some, None, IfSome, refl, sym, subst, ap, ◌∙◌, inl, inr, arith}
-use Rattle.std.proofs.lemmas.Bool.Decides.{eqb_tells}
+use Rattle.osdp_shared_line.proofs.Common.{◌≡◌, ◌≢◌, ◌⊎◌, ◌<◌, ℕ, zero, suc, true, false, cond, eqb, List, [], ◌∷◌, ◌++◌, length, Option, Some, None, IfSome, refl, sym, subst, ap, ◌∙◌, inl, inr, arith, eqb_tells, Packet, Command, seen, Closed, Answer, MovesFit, SaysWhatFitsIf, Delivered, Link, after_move, ReadsWhatIsAsked, AreDue, AreLate, ComeOn, ComesThrough, ComesThroughInTime, IsClear, SetsNoAddress, round, rounds, each_of, NetMovesFit, unended, Net, NetMove, Site, Tick, ToPanel, address_of, after_net, changed, first_gets, gets, is_told, run, site_at, tagged, AreRounds, EachComesThrough, EachComesThroughInTime, IsEmpty, RoundsAreItsOwn, all_read, moments_of, net_round, net_rounds, IsItsLink, moves_of, IsMoved, front_to_panel, one_if, own, own_reply, other_reply, view, is_false, is_true}
 use Rattle.std.specs.Prelude.{Bool, map, option_to_list}
-use Rattle.osdp_frame.specs.Packet.{Packet}
-use Rattle.osdp_msg.specs.declared.command.Command.{Command}
-use Rattle.osdp_controller.specs.Sessions.{seen}
 use Rattle.osdp_controller.specs.Ticking as ticking
-use Rattle.osdp_controller.specs.declared.state.State.TheVariants.{Closed}
-use Rattle.osdp_reader.specs.declared.handler.Answer.{Answer}
-use Rattle.osdp_link_laws.specs.Headline.{MovesFit, SaysWhatFitsIf}
 use Rattle.osdp_link_laws.specs.Link as link
-use Rattle.osdp_link_laws.specs.Link.{Delivered, Link, after_move}
-use Rattle.osdp_link_laws.specs.Peers.{ReadsWhatIsAsked}
-use Rattle.osdp_link_laws.specs.Progress.{AreDue, AreLate, ComeOn, ComesThrough, ComesThroughInTime, IsClear, SetsNoAddress, round, rounds}
-use Rattle.osdp_link_laws.proofs.Lines.{each_of}
-use Rattle.osdp_shared_line.specs.Addresses.{NetMovesFit, unended}
 use Rattle.osdp_shared_line.specs.Line as line
-use Rattle.osdp_shared_line.specs.Line.{Net, NetMove, Site, Tick, ToPanel, address_of, after_net, changed, first_gets, gets, is_told, run, site_at, tagged}
-use Rattle.osdp_shared_line.specs.Progress.{AreRounds, EachComesThrough, EachComesThroughInTime, IsEmpty, RoundsAreItsOwn, all_read, moments_of, net_round, net_rounds}
-use Rattle.osdp_shared_line.specs.Runs.{IsItsLink, moves_of}
 use Rattle.osdp_shared_line.specs.Views as views
-use Rattle.osdp_shared_line.specs.Views.{IsMoved, front_to_panel, one_if, own, own_reply, other_reply, view}
 use Rattle.osdp_shared_line.proofs.Apart.{Apart, reader_address}
 use Rattle.osdp_shared_line.proofs.Controllers.{ticks_well}
 use Rattle.osdp_shared_line.proofs.Delivering.{gets_one}
@@ -32,7 +16,6 @@ use Rattle.osdp_shared_line.proofs.Sites.{changed_from, map_from, some_same}
 use Rattle.osdp_shared_line.proofs.Still.{IsStill, round_still}
 use Rattle.osdp_shared_line.proofs.Storing.{from_there, keeps_own}
 use Rattle.osdp_shared_line.proofs.Readers.{IsNoAddress, StoresFrom}
-use Rattle.osdp_link_laws.proofs.Numbers.{is_false, is_true}
 
 pub at_length : {A : Type 0} (m : ℕ) (u : A) (ss : List A) → site_at m ss ≡ Some u → m < length ss
 at_length m u [] is = absurd cc

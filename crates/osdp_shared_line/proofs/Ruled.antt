@@ -1,23 +1,9 @@
 -- What a program notes holds after what the panel reads, and so after every list of moves.
-use Rattle.std.proofs.Common.{◌≡◌, ℕ, Bool, true, false, cond, eqb, List, [], ◌∷◌, ◌++◌, Option, Some, refl, sym, subst, ap, ◌∙◌, inl, inr, append_assoc, arith}
-use Rattle.std.proofs.lemmas.Bool.Decides.{eqb_tells}
-use Rattle.std.specs.Prelude.{◌&&◌}
-use Rattle.osdp_frame.specs.Packet.{Packet}
-use Rattle.osdp_msg.specs.declared.command.Command.{Command}
+use Rattle.osdp_shared_line.proofs.Common.{◌≡◌, ℕ, Bool, true, false, cond, eqb, List, [], ◌∷◌, ◌++◌, Option, Some, refl, sym, subst, ap, ◌∙◌, inl, inr, append_assoc, arith, eqb_tells, ◌&&◌, Packet, Command, Answer, lacks_room, Delivered, Delivery, Lost, Repeated, lost_at, ReadsWhatIsAsked, NoComset, each_of, Each, IsAsked, IsSetUp, IsSaid, IsThere, MayComeTo, NetMovesFit, Sets, Somewhere, asked_in, unended, LoseToPanel, LoseToReader, Net, NetMove, Queue, Reopen, RestartPanel, RestartReader, Retarget, SetBusy, SetHandler, Site, Submit, Tick, ToPanel, ToReader, Withdraw, WithdrawEvent, address_of, after_net, calls, first_gets, gets, site_at, IsKnown, KeepRule, KeepsRule, Note, RestFits, RuleSuffices, all_addresses, is_opened, no_notes, note_after, noted_opened, noted_panel, notes_after}
 use Rattle.osdp_controller.specs.Hearing as controller
 use Rattle.osdp_controller.specs.declared.report.Report.{Report as ReportTold}
-use Rattle.osdp_reader.specs.declared.handler.Answer.{Answer}
-use Rattle.osdp_reader.specs.Queue.{lacks_room}
 use Rattle.osdp_link_laws.specs.Link as link
-use Rattle.osdp_link_laws.specs.Link.{Delivered, Delivery, Lost, Repeated, lost_at}
-use Rattle.osdp_link_laws.specs.Peers.{ReadsWhatIsAsked}
-use Rattle.osdp_link_laws.specs.Progress.{NoComset}
-use Rattle.osdp_link_laws.proofs.Lines.{each_of}
-use Rattle.osdp_link_laws.proofs.Stages.{Each}
-use Rattle.osdp_shared_line.specs.Addresses.{IsAsked, IsSetUp, IsSaid, IsThere, MayComeTo, NetMovesFit, Sets, Somewhere, asked_in, unended}
 use Rattle.osdp_shared_line.specs.Line as line
-use Rattle.osdp_shared_line.specs.Line.{LoseToPanel, LoseToReader, Net, NetMove, Queue, Reopen, RestartPanel, RestartReader, Retarget, SetBusy, SetHandler, Site, Submit, Tick, ToPanel, ToReader, Withdraw, WithdrawEvent, address_of, after_net, calls, first_gets, gets, site_at}
-use Rattle.osdp_shared_line.specs.Programs.{IsKnown, KeepRule, KeepsRule, Note, RestFits, RuleSuffices, all_addresses, is_opened, no_notes, note_after, noted_opened, noted_panel, notes_after}
 use Rattle.osdp_shared_line.proofs.Apart.{Apart, IsToClosed, IsOwnComset, all_left, reader_address}
 use Rattle.osdp_shared_line.proofs.Changing.{Nothing, One, left_withdrawn}
 use Rattle.osdp_shared_line.proofs.Controllers.{AreLeft, hears_well}

@@ -1,26 +1,9 @@
 -- What a program notes holds after each move.
-use Rattle.std.proofs.Common.{◌≡◌, ◌≢◌, ◌⊎◌, ℕ, Bool, true, false, cond, List, [], ◌∷◌, ◌++◌, Option, Some, None, refl, sym, subst, ap, ◌∙◌, inl, inr, append_assoc}
-use Rattle.std.specs.Prelude.{◌&&◌, ◌||◌, ◌==◌, is_some, not}
-use Rattle.osdp_frame.specs.Packet.{Packet}
-use Rattle.osdp_msg.specs.declared.command.Command.{Command}
-use Rattle.osdp_controller.specs.Comsets.{has_comset}
-use Rattle.osdp_controller.specs.Hearing.{comset_of}
+use Rattle.osdp_shared_line.proofs.Common.{◌≡◌, ◌≢◌, ◌⊎◌, ℕ, Bool, true, false, cond, List, [], ◌∷◌, ◌++◌, Option, Some, None, refl, sym, subst, ap, ◌∙◌, inl, inr, append_assoc, ◌&&◌, ◌||◌, ◌==◌, is_some, not, Packet, Command, has_comset, comset_of, ControllerFault, State, Closed, Quiet, Idle, Waiting, Pausing, Event, Answer, Delivered, Delivery, Link, Lost, Repeated, lost_at, each_map, each_of, is_false, is_true, IsAsked, IsSaid, IsThere, MayComeTo, Sets, Somewhere, asked_in, unended, LoseToPanel, LoseToReader, Net, NetMove, Queue, Reopen, RestartPanel, RestartReader, Retarget, SetBusy, SetHandler, Site, Submit, Tick, ToPanel, ToReader, Withdraw, WithdrawEvent, address_of, after_net, calls, changed, first_gets, gets, is_command_accepted, is_comset_refused, is_retarget_accepted, is_retarget_refused, is_taken_beside, is_told, left_by, link_of, restarts, site_at, tagged, IsKnown, KeepsRule, Note, also_at, note_after, notes_after, two_addresses, IsQuiet}
 use Rattle.osdp_controller.specs.Machine as controllers
-use Rattle.osdp_controller.specs.declared.fault.ControllerFault.{ControllerFault}
-use Rattle.osdp_controller.specs.declared.state.State.{State}
-use Rattle.osdp_controller.specs.declared.state.State.TheVariants.{Closed, Quiet, Idle, Waiting, Pausing}
 use Rattle.osdp_controller.specs.States.{is_closed}
-use Rattle.osdp_msg.specs.declared.event.Event.{Event}
-use Rattle.osdp_reader.specs.declared.handler.Answer.{Answer}
 use Rattle.osdp_link_laws.specs.Link as link
-use Rattle.osdp_link_laws.specs.Link.{Delivered, Delivery, Link, Lost, Repeated, lost_at}
-use Rattle.osdp_link_laws.proofs.Lines.{each_map, each_of}
-use Rattle.osdp_link_laws.proofs.Numbers.{is_false, is_true}
-use Rattle.osdp_shared_line.specs.Addresses.{IsAsked, IsSaid, IsThere, MayComeTo, Sets, Somewhere, asked_in, unended}
 use Rattle.osdp_shared_line.specs.Line as line
-use Rattle.osdp_shared_line.specs.Line.{LoseToPanel, LoseToReader, Net, NetMove, Queue, Reopen, RestartPanel, RestartReader, Retarget, SetBusy, SetHandler, Site, Submit, Tick, ToPanel, ToReader, Withdraw, WithdrawEvent, address_of, after_net, calls, changed, first_gets, gets, is_command_accepted, is_comset_refused, is_retarget_accepted, is_retarget_refused, is_taken_beside, is_told, left_by, link_of, restarts, site_at, tagged}
-use Rattle.osdp_shared_line.specs.Programs.{IsKnown, KeepsRule, Note, also_at, note_after, notes_after, two_addresses}
-use Rattle.osdp_shared_line.specs.Views.{IsQuiet}
 use Rattle.osdp_shared_line.proofs.Apart.{all_left}
 use Rattle.osdp_shared_line.proofs.Changing.{Nothing, both_take, or_false, was_closed}
 use Rattle.osdp_shared_line.proofs.Lists.{somewhere_front, somewhere_split}

@@ -1,22 +1,7 @@
 -- From the beginning over each list of moves: nobody else hears what a site says, and each site is its link.
-use Rattle.std.proofs.Common.{◌≡◌, ◌≢◌, ◌⊎◌, ◌+◌, ℕ, zero, suc, true, List, [], ◌∷◌, ◌++◌, Option, Some, None, IfSome, refl, sym, subst, ap, ◌∙◌, inl, inr, arith}
-use Rattle.osdp_msg.specs.declared.limits.Room.{Room}
-use Rattle.osdp_frame.specs.Packet.{Packet}
-use Rattle.osdp_msg.specs.CommandTable.{CommandFits}
-use Rattle.osdp_msg.specs.declared.command.Command.{Command}
-use Rattle.osdp_controller.specs.declared.config.ControllerConfig.{ControllerConfig}
-use Rattle.osdp_reader.specs.declared.handler.Answer.{Answer}
-use Rattle.osdp_reader.specs.Queue.{lacks_room}
-use Rattle.osdp_link_laws.specs.Headline.{MaySubmit}
+use Rattle.osdp_shared_line.proofs.Common.{◌≡◌, ◌≢◌, ◌⊎◌, ◌+◌, ℕ, zero, suc, true, List, [], ◌∷◌, ◌++◌, Option, Some, None, IfSome, refl, sym, subst, ap, ◌∙◌, inl, inr, arith, Room, Packet, CommandFits, Command, ControllerConfig, Answer, lacks_room, MaySubmit, ReadsWhatIsAsked, NoComset, each_all, each_map, each_of, Each, IsAsked, IsInOrder, IsNameOf, IsSaid, IsSetUp, IsThere, MayComeTo, NetMoveFits, NetMovesFit, NobodyElseHears, NoTwoAreTogether, Sets, Somewhere, asked_in, LoseToPanel, LoseToReader, Net, NetMove, Queue, Reopen, RestartPanel, RestartReader, Retarget, SetBusy, SetHandler, Site, Submit, Tick, ToPanel, ToReader, Withdraw, WithdrawEvent, address_of, after_net, restarts, run, site_at, HeardByOwn}
 use Rattle.osdp_link_laws.specs.Link as link
-use Rattle.osdp_link_laws.specs.Peers.{ReadsWhatIsAsked}
-use Rattle.osdp_link_laws.specs.Progress.{NoComset}
-use Rattle.osdp_link_laws.proofs.Lines.{each_all, each_map, each_of}
-use Rattle.osdp_link_laws.proofs.Stages.{Each}
-use Rattle.osdp_shared_line.specs.Addresses.{IsAsked, IsInOrder, IsNameOf, IsSaid, IsSetUp, IsThere, MayComeTo, NetMoveFits, NetMovesFit, NobodyElseHears, NoTwoAreTogether, Sets, Somewhere, asked_in}
 use Rattle.osdp_shared_line.specs.Line as line
-use Rattle.osdp_shared_line.specs.Line.{LoseToPanel, LoseToReader, Net, NetMove, Queue, Reopen, RestartPanel, RestartReader, Retarget, SetBusy, SetHandler, Site, Submit, Tick, ToPanel, ToReader, Withdraw, WithdrawEvent, address_of, after_net, restarts, run, site_at}
-use Rattle.osdp_shared_line.specs.Views.{HeardByOwn}
 use Rattle.osdp_shared_line.proofs.Readers.{IsForAll, IsFrom}
 use Rattle.osdp_shared_line.proofs.Apart.{Apart, IsAfter, IsAway, IsClosed, IsKept, IsOwnComset, IsToClosed, IsToDevice, Ordered, each_any, reader_address, with_panel}
 use Rattle.osdp_shared_line.proofs.Changing.{busying, handling, losing, queueing, quiet_change, reopening, restarting, retargeting, set_is, submitting, withdrawing, withdrawing_event}

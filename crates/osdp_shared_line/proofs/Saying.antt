@@ -1,25 +1,8 @@
 -- What a program notes holds after what is said and read, and so after every list of moves.
-use Rattle.std.proofs.Common.{◌≡◌, ◌≢◌, ◌⊎◌, ◌<◌, ℕ, true, List, [], ◌∷◌, ◌++◌, Option, Some, None, IfSome, refl, sym, subst, ap, ◌∙◌, inl, inr, arith}
-use Rattle.std.proofs.lemmas.Bool.Decides.{eqb_tells}
-use Rattle.std.proofs.lemmas.List.{append-nil}
-use Rattle.std.specs.Prelude.{option_to_list}
-use Rattle.osdp_msg.specs.declared.limits.Room.{Room}
-use Rattle.osdp_frame.specs.Packet.{Packet}
-use Rattle.osdp_msg.specs.declared.command.Command.{Command}
-use Rattle.osdp_controller.specs.Sessions.{seen}
-use Rattle.osdp_controller.specs.Ticking.{ticks_in}
-use Rattle.osdp_controller.specs.declared.config.ControllerConfig.{ControllerConfig}
+use Rattle.osdp_shared_line.proofs.Common.{◌≡◌, ◌≢◌, ◌⊎◌, ◌<◌, ℕ, true, List, [], ◌∷◌, ◌++◌, Option, Some, None, IfSome, refl, sym, subst, ap, ◌∙◌, inl, inr, arith, eqb_tells, append-nil, option_to_list, Room, Packet, Command, seen, ticks_in, ControllerConfig, Answer, Delivered, Delivery, Link, Lost, Repeated, lost_at, ReadsWhatIsAsked, each_append, each_map, Each, IsAsked, IsSaid, IsThere, MayComeTo, Sets, SetsReader, Somewhere, unended, LoseToPanel, LoseToReader, Net, NetMove, Queue, Reopen, RestartPanel, RestartReader, Retarget, SetBusy, SetHandler, Site, Submit, Tick, ToPanel, ToReader, Withdraw, WithdrawEvent, address_of, after_net, calls, changed, first_gets, gets, is_comset_refused, is_retarget_refused, is_taken_beside, is_told, left_by, link_of, restarts, site_at, tagged, IsKnown, KeepsRule, Note, also_at, notes_after}
 use Rattle.osdp_reader.specs.Table as reader
-use Rattle.osdp_reader.specs.declared.handler.Answer.{Answer}
 use Rattle.osdp_link_laws.specs.Link as link
-use Rattle.osdp_link_laws.specs.Link.{Delivered, Delivery, Link, Lost, Repeated, lost_at}
-use Rattle.osdp_link_laws.specs.Peers.{ReadsWhatIsAsked}
-use Rattle.osdp_link_laws.proofs.Lines.{each_append, each_map}
-use Rattle.osdp_link_laws.proofs.Stages.{Each}
-use Rattle.osdp_shared_line.specs.Addresses.{IsAsked, IsSaid, IsThere, MayComeTo, Sets, SetsReader, Somewhere, unended}
 use Rattle.osdp_shared_line.specs.Line as line
-use Rattle.osdp_shared_line.specs.Line.{LoseToPanel, LoseToReader, Net, NetMove, Queue, Reopen, RestartPanel, RestartReader, Retarget, SetBusy, SetHandler, Site, Submit, Tick, ToPanel, ToReader, Withdraw, WithdrawEvent, address_of, after_net, calls, changed, first_gets, gets, is_comset_refused, is_retarget_refused, is_taken_beside, is_told, left_by, link_of, restarts, site_at, tagged}
-use Rattle.osdp_shared_line.specs.Programs.{IsKnown, KeepsRule, Note, also_at, notes_after}
 use Rattle.osdp_shared_line.proofs.Apart.{Apart, IsAway, IsKept, IsOwnComset, IsToDevice, all_left, each_any, each_tagged, reader_address}
 use Rattle.osdp_shared_line.proofs.Changing.{One}
 use Rattle.osdp_shared_line.proofs.Controllers.{IsSent, TicksWell, ticks_well}

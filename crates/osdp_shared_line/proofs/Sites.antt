@@ -1,13 +1,5 @@
 -- Sites by their places, and what is one's own on the line.
-use Rattle.std.proofs.Common.{◌≡◌, ◌≢◌, ◌⊎◌, ℕ, zero, suc, Bool, true, false, cond, List, [], ◌∷◌, ◌++◌, Option, Some, None, refl, sym, subst, ap, ◌∙◌, inl, inr}
-use Rattle.std.proofs.lemmas.Bool.Decides.{eqb_tells}
-use Rattle.std.specs.Prelude.{◌==◌, map, option_map}
-use Rattle.osdp_frame.specs.Packet.{Packet}
-use Rattle.osdp_link_laws.specs.Link.{lost_at}
-use Rattle.osdp_link_laws.proofs.Numbers.{is_false, is_true}
-use Rattle.osdp_link_laws.proofs.Stages.{Each}
-use Rattle.osdp_shared_line.specs.Line.{changed, site_at, tagged}
-use Rattle.osdp_shared_line.specs.Views.{own, own_place}
+use Rattle.osdp_shared_line.proofs.Common.{◌≡◌, ◌≢◌, ◌⊎◌, ℕ, zero, suc, Bool, true, false, cond, List, [], ◌∷◌, ◌++◌, Option, Some, None, refl, sym, subst, ap, ◌∙◌, inl, inr, eqb_tells, ◌==◌, map, option_map, Packet, lost_at, is_false, is_true, Each, changed, site_at, tagged, own, own_place}
 
 pub some_same : {A : Type 0} (x y : A) → Some x ≡ Some y → x ≡ y
 some_same x y same = cc

@@ -1,20 +1,7 @@
 -- A link in which no COMSET is under way: both ends stay where they are over a round.
-use Rattle.std.proofs.Common.{◌≡◌, ℕ, List, [], ◌∷◌, ◌++◌, refl, sym, subst, ap, ◌∙◌, inl, inr, append_assoc}
-use Rattle.std.specs.Prelude.{option_to_list}
-use Rattle.osdp_frame.specs.Packet.{Packet}
-use Rattle.osdp_msg.specs.CommandTable.{CommandFits}
-use Rattle.osdp_msg.specs.declared.command.Command.{Command}
+use Rattle.osdp_shared_line.proofs.Common.{◌≡◌, ℕ, List, [], ◌∷◌, ◌++◌, refl, sym, subst, ap, ◌∙◌, inl, inr, append_assoc, option_to_list, Packet, CommandFits, Command, seen, ticks, Answer, Delivered, Link, ReadsWhatIsAsked, SetsNoAddress, round, each_front, each_map, each_rest, Each, Sets, SetsReader, Somewhere, asked_in}
 use Rattle.osdp_controller.specs.Hearing as controller
-use Rattle.osdp_controller.specs.Sessions.{seen}
-use Rattle.osdp_controller.specs.Ticking.{ticks}
-use Rattle.osdp_reader.specs.declared.handler.Answer.{Answer}
 use Rattle.osdp_link_laws.specs.Link as link
-use Rattle.osdp_link_laws.specs.Link.{Delivered, Link}
-use Rattle.osdp_link_laws.specs.Peers.{ReadsWhatIsAsked}
-use Rattle.osdp_link_laws.specs.Progress.{SetsNoAddress, round}
-use Rattle.osdp_link_laws.proofs.Lines.{each_front, each_map, each_rest}
-use Rattle.osdp_link_laws.proofs.Stages.{Each}
-use Rattle.osdp_shared_line.specs.Addresses.{Sets, SetsReader, Somewhere, asked_in}
 use Rattle.osdp_shared_line.proofs.Controllers.{IsSent, hears_well, ticks_well}
 use Rattle.osdp_shared_line.proofs.Readers.{IsNoAddress, StoresFrom, reads_well}
 

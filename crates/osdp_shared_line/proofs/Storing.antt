@@ -1,24 +1,8 @@
 -- A reader that stores nothing but what it said from where it is goes on so: whatever it hears is to its own address.
-use Rattle.std.proofs.Common.{◌≡◌, ◌<◌, ℕ, Bool, true, false, eqb, List, [], ◌∷◌, Option, Some, None, IfSome, sym, subst, ◌∙◌, inl, inr}
-use Rattle.std.proofs.lemmas.Bool.Decides.{eqb_tells}
-use Rattle.std.specs.Prelude.{option_map, option_to_list}
-use Rattle.osdp_frame.specs.Packet.{Packet}
-use Rattle.osdp_msg.specs.declared.command.Command.{Command}
-use Rattle.osdp_msg.specs.declared.event.Event.{Event}
-use Rattle.osdp_controller.specs.Hearing.{comset_of}
+use Rattle.osdp_shared_line.proofs.Common.{◌≡◌, ◌<◌, ℕ, Bool, true, false, eqb, List, [], ◌∷◌, Option, Some, None, IfSome, sym, subst, ◌∙◌, inl, inr, eqb_tells, option_map, option_to_list, Packet, Command, Event, comset_of, ControllerFault, Answer, lacks_room, Delivered, Delivery, Link, Lost, Move, Repeated, after_move, ReadsWhatIsAsked, both, Each, NetMovesFit, LoseToPanel, LoseToReader, Net, NetMove, Queue, Reopen, RestartPanel, RestartReader, Retarget, SetBusy, SetHandler, Site, Submit, Tick, ToPanel, ToReader, Withdraw, WithdrawEvent, address_of, after_net, is_comset_refused, is_retarget_refused, run, site_at, front_to_panel, move_of, one_if, own, own_front, own_place, view}
 use Rattle.osdp_controller.specs.Machine as controllers
-use Rattle.osdp_controller.specs.declared.fault.ControllerFault.{ControllerFault}
-use Rattle.osdp_reader.specs.declared.handler.Answer.{Answer}
-use Rattle.osdp_reader.specs.Queue.{lacks_room}
 use Rattle.osdp_link_laws.specs.Link as link
-use Rattle.osdp_link_laws.specs.Link.{Delivered, Delivery, Link, Lost, Move, Repeated, after_move}
-use Rattle.osdp_link_laws.specs.Peers.{ReadsWhatIsAsked}
-use Rattle.osdp_link_laws.proofs.Lines.{both}
-use Rattle.osdp_link_laws.proofs.Stages.{Each}
-use Rattle.osdp_shared_line.specs.Addresses.{NetMovesFit}
-use Rattle.osdp_shared_line.specs.Line.{LoseToPanel, LoseToReader, Net, NetMove, Queue, Reopen, RestartPanel, RestartReader, Retarget, SetBusy, SetHandler, Site, Submit, Tick, ToPanel, ToReader, Withdraw, WithdrawEvent, address_of, after_net, is_comset_refused, is_retarget_refused, run, site_at}
 use Rattle.osdp_shared_line.specs.Views as views
-use Rattle.osdp_shared_line.specs.Views.{front_to_panel, move_of, one_if, own, own_front, own_place, view}
 use Rattle.osdp_shared_line.proofs.Apart.{Apart, IsToDevice}
 use Rattle.osdp_shared_line.proofs.Hearing.{silent}
 use Rattle.osdp_shared_line.proofs.Linking.{quietly}

@@ -4,22 +4,12 @@ use Rattle.std.specs.Prelude.{All, slice_index}
 use Rattle.osdp_msg.specs.CommandTable.{command_at, command_fault, command_of}
 use Rattle.osdp_msg.specs.ReplyFields.{CapabilityFits, PdIdFits}
 use Rattle.osdp_msg.specs.ReplyTable.{reply_at, reply_fault, reply_of}
-use Rattle.osdp_msg.specs.declared.command.Command.{Command}
+use Rattle.osdp_shared_line.proofs.Common.{Command, Answer, Begins, MaySubmit, SaysWhatFitsIf, Delivery, NoComset, SetsNoAddress, each_all, Each, IsSetUp, NetMoveFits, NetMovesFit, in_front, Net, NetMove, Site, ToReader, address_of, after_net, run, site_at, AreRounds, IsEmpty, IsReady, StoresFromThere, net_rounds, view}
 use Rattle.osdp_msg.specs.declared.command.Command.TheVariants.{Cap}
 use Rattle.osdp_msg.proofs.ReplyRows.{pd_id_fits}
 use Rattle.osdp_controller_laws.specs.Calls.{IsInRange}
-use Rattle.osdp_reader.specs.declared.handler.Answer.{Answer}
 use Rattle.osdp_reader_laws.specs.Storing.{StoresItsOwn}
-use Rattle.osdp_link_laws.specs.Headline.{Begins, MaySubmit, SaysWhatFitsIf}
-use Rattle.osdp_link_laws.specs.Link.{Delivery}
-use Rattle.osdp_link_laws.specs.Progress.{NoComset, SetsNoAddress}
-use Rattle.osdp_link_laws.proofs.Lines.{each_all}
-use Rattle.osdp_link_laws.proofs.Stages.{Each}
-use Rattle.osdp_shared_line.specs.Addresses.{IsSetUp, NetMoveFits, NetMovesFit, in_front}
-use Rattle.osdp_shared_line.specs.Line.{Net, NetMove, Site, ToReader, address_of, after_net, run, site_at}
-use Rattle.osdp_shared_line.specs.Progress.{AreRounds, IsEmpty, IsReady, StoresFromThere, net_rounds}
 use Rattle.osdp_shared_line.specs.TwoStations.{HasRounds, TwoStationsHaveRounds, device_at, ordered, orders, station_at, turns, two_stations}
-use Rattle.osdp_shared_line.specs.Views.{view}
 use Rattle.osdp_shared_line.proofs.Sites.{some_same}
 
 bytes_of : (bs : List ℕ) → Each (λ b. b < 256) bs → (i : ℕ) → slice_index bs i < 256

@@ -1,24 +1,14 @@
 -- Bursts on the line: each is the packet that it spells.
-use Rattle.std.proofs.Common.{◌≡◌, ◌↔◌, ◌⊎◌, ◌≤◌, ◌-◌, ℕ, true, false, not, ◌==◌, min, if◌then◌else◌, arith, List, [], ◌∷◌, length, take, Option, Some, None, inl, inr, refl, sym, ap, ◌∙◌}
-use Rattle.std.proofs.lemmas.List.{take_all}
-use Rattle.std.specs.Prelude.{is_some, option_map}
-use Rattle.arrayvec.specs.ArrayVec.{ArrayVec}
-use Rattle.osdp_frame.specs.Held.{after_gap, after_push, by_itself, decided, new_run}
+use Rattle.osdp_sim.proofs.Common.{◌≡◌, ◌↔◌, ◌⊎◌, ◌≤◌, ◌-◌, ℕ, true, false, not, ◌==◌, min, if◌then◌else◌, arith, List, [], ◌∷◌, length, take, Option, Some, None, inl, inr, refl, sym, ap, ◌∙◌, take_all, is_some, option_map, ArrayVec, after_gap, after_push, by_itself, decided, new_run, Packet, largest, Spells, spelling, bytes_of, handed, has_packet, sent, damage_fault, Move, Drop, Damage}
 use Rattle.osdp_frame.specs.Items.{items, packets_in, reading, whole_packets}
-use Rattle.osdp_frame.specs.Packet.{Packet, largest}
 use Rattle.osdp_frame.specs.Reading.{RunItem, PacketItem, SkippedItem, RefusedItem, IsFirst}
 use Rattle.osdp_frame.specs.Shown.{item_of}
-use Rattle.osdp_frame.specs.Spelling.{Spells, spelling}
 use Rattle.osdp_frame.specs.declared.fault.FrameFault.{FrameFault}
 use Rattle.osdp_frame.specs.declared.item.Item.{Item}
 use Rattle.osdp_frame.specs.declared.item.Item.TheVariants as shown
 use Rattle.osdp_controller.specs.Lent.{IsWritten}
 use Rattle.osdp_reader.specs.Spelled.{IsSpelled}
-use Rattle.osdp_sim.specs.Line.{bytes_of, handed, has_packet, sent}
-use Rattle.osdp_sim.specs.Steps.{damage_fault}
 use Rattle.osdp_sim.specs.declared.fault.Cause.TheVariants.{HoldsPacket}
-use Rattle.osdp_sim.specs.declared.step.Move.{Move}
-use Rattle.osdp_sim.specs.declared.step.Move.TheVariants.{Drop, Damage}
 
 -- what spells a packet has it first
 pub spelled_first : (p : Packet) (bytes : List ℕ) → Spells p bytes

@@ -1,10 +1,7 @@
 -- Messages that are kept as a row of bytes.
 use Rattle.std.proofs.Common.{◌≡◌, ◌+◌, ◌≤◌, ◌&&◌, ℕ, suc, Bool, true, false, leb, List, [], ◌∷◌, ◌++◌, length, take, drop, refl, ap, ◌∙◌, arith, length-append}
-use Rattle.std.specs.Prelude.{zip}
-use Rattle.std.proofs.Math.Seq.{take-length}
+use Rattle.osdp_sim.proofs.Common.{zip, take-length, drop-append-le, length-drop, take-append-le, parts, total}
 use Rattle.std.proofs.lemmas.Bool.{leb-true}
-use Rattle.std.proofs.lemmas.List.{drop-append-le, length-drop, take-append-le}
-use Rattle.osdp_sim.specs.Kept.{parts, total}
 
 -- ---- one more
 

@@ -1,3 +1,4 @@
+pub mod Common
 pub mod Bursts
 pub mod Keeping
 pub mod Schedules

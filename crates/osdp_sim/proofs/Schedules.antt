@@ -1,9 +1,6 @@
 -- Schedules, step by step.
-use Rattle.std.proofs.Common.{◌≡◌, ◌<◌, ◌+◌, ◌-◌, add-one, get_or, suc, ℕ, Bool, true, ◌&&◌, List, [], ◌∷◌, ◌++◌, length, drop, Option, Some, None, is_none, refl, sym, subst, ap, ◌∙◌}
-use Rattle.std.proofs.Math.Seq.{drop-cons}
-use Rattle.std.proofs.lemmas.List.{append_assoc, length-append}
+use Rattle.osdp_sim.proofs.Common.{◌≡◌, ◌<◌, ◌+◌, ◌-◌, add-one, get_or, suc, ℕ, Bool, true, ◌&&◌, List, [], ◌∷◌, ◌++◌, length, drop, Option, Some, None, is_none, refl, sym, subst, ap, ◌∙◌, drop-cons, append_assoc, length-append, SimStep}
 use Rattle.osdp_sim.specs.declared.fault.Cause.{Cause}
-use Rattle.osdp_sim.specs.declared.step.SimStep.{SimStep}
 use Rattle.osdp_sim.specs.Schedules.{HoldsAlong, is_well, run}
 
 -- the step at a place, and those after it

@@ -1,24 +1,14 @@
 -- What is on the line is sent by an end, whatever step comes.
-use Rattle.std.proofs.Common.{ℕ, Bool, true, false, ◌==◌, if◌then◌else◌, All, List, [], ◌∷◌, Option, Some, None, IfSome}
+use Rattle.osdp_sim.proofs.Common.{ℕ, Bool, true, false, ◌==◌, if◌then◌else◌, All, List, [], ◌∷◌, Option, Some, None, IfSome, packets_in, IsPacket, Packet, Spells, spelling, ticks, Move, Deliver, Drop, Repeat, Damage, SimStep, IsSent, handed, left, sent, AreSent, SimState, SaysFit, StepFits, after_step, controller_hears, issued, moment_after, queued, reader_hears}
 use Rattle.std.proofs.lemmas.List.Elements.{All-append, All-cons, All-nil, All-tail}
-use Rattle.osdp_frame.specs.Items.{packets_in}
-use Rattle.osdp_frame.specs.Packet.{IsPacket, Packet}
-use Rattle.osdp_frame.specs.Spelling.{Spells, spelling}
 use Rattle.osdp_msg.specs.declared.command.Command.{Command}
 use Rattle.osdp_msg.specs.declared.event.Event.{Event}
 use Rattle.osdp_controller.specs.Machine as controllers
-use Rattle.osdp_controller.specs.Ticking.{ticks}
 use Rattle.osdp_controller.specs.declared.fault.ControllerFault.{ControllerFault}
 use Rattle.osdp_reader.specs.declared.handler.Answer.{Answer}
 use Rattle.osdp_reader.specs.Table as reader
 use Rattle.osdp_reader.specs.Queue.{lacks_room}
-use Rattle.osdp_sim.specs.declared.step.Move.{Move}
-use Rattle.osdp_sim.specs.declared.step.Move.TheVariants.{Deliver, Drop, Repeat, Damage}
-use Rattle.osdp_sim.specs.declared.step.SimStep.{SimStep}
 use Rattle.osdp_sim.specs.declared.step.SimStep.TheVariants.{Issue, Queue, Busy, Wait, ToReader, ToController, Reopen}
-use Rattle.osdp_sim.specs.Line.{IsSent, handed, left, sent}
-use Rattle.osdp_sim.specs.State.{AreSent, SimState}
-use Rattle.osdp_sim.specs.Steps.{SaysFit, StepFits, after_step, controller_hears, issued, moment_after, queued, reader_hears}
 
 -- each packet has a spelling
 abbrev pub HasSpelling : Type 0

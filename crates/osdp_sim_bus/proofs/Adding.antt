@@ -1,13 +1,6 @@
 -- Devices are added to a bus, one for each reader.
-use Rattle.std.proofs.Common.{◌≡◌, List, [], ◌∷◌, ◌++◌, length, map, Some, refl, sym, subst, ap, ◌∙◌}
-use Rattle.std.specs.Prelude.{slice_get, slice_set}
-use Rattle.std.specs.Option.{option_map_or}
-use Rattle.std.proofs.lemmas.List.{append_assoc}
-use Rattle.osdp_bus.specs.Buses.{BusState}
-use Rattle.osdp_bus.specs.Machine.{after_add, after_begin_at, entry_begins, new_device}
+use Rattle.osdp_sim_bus.proofs.Common.{◌≡◌, List, [], ◌∷◌, ◌++◌, length, map, Some, refl, sym, subst, ap, ◌∙◌, slice_get, slice_set, option_map_or, append_assoc, BusState, after_add, after_begin_at, entry_begins, new_device, Entry, Given, address_of, begun_device, bus_with}
 use Rattle.osdp_bus.specs.declared.config.BusConfig.{BusConfig}
-use Rattle.osdp_bus.specs.declared.entry.Entry.{Entry}
-use Rattle.osdp_sim_bus.specs.State.{Given, address_of, begun_device, bus_with}
 
 -- the last one
 pub last_there : {X : Type 0} (xs : List X) (x : X) → slice_get (xs ++ x ∷ []) (length xs) ≡ Some x

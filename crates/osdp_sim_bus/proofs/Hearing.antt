@@ -1,17 +1,7 @@
 -- The readers hear a packet one after the other.
-use Rattle.std.proofs.Common.{◌≡◌, ℕ, ◌+◌, ◌<◌, ◌≤◌, arith, All, List, [], ◌∷◌, ◌++◌, length, map, take, drop, get_or, set, sym, subst, ap, ◌∙◌}
-use Rattle.std.proofs.lemmas.List.{append-nil, append_assoc, drop-set-lt, drop_more, length-set, map-append, take_more, take_more_set}
-use Rattle.std.proofs.lemmas.List.Elements.{All-push}
+use Rattle.osdp_sim_bus.proofs.Common.{◌≡◌, ℕ, ◌+◌, ◌<◌, ◌≤◌, arith, All, List, [], ◌∷◌, ◌++◌, length, map, take, drop, get_or, set, sym, subst, ap, ◌∙◌, append-nil, append_assoc, drop-set-lt, drop_more, length-set, map-append, take_more, take_more_set, All-push, flat_map, Packet, Command, Answer, SaysFit, site_of, sites_of, ReaderSite, site_hears, site_says}
 use Rattle.std.proofs.lemmas.Grind.{drop_more_same, flat_map-append}
-use Rattle.std.specs.List.{flat_map}
-use Rattle.osdp_frame.specs.Packet.{Packet}
-use Rattle.osdp_msg.specs.declared.command.Command.{Command}
-use Rattle.osdp_reader.specs.declared.handler.Answer.{Answer}
-use Rattle.osdp_sim.specs.Steps.{SaysFit}
 use Rattle.osdp_sim_bus.specs.declared.site.ReaderSite as declared
-use Rattle.osdp_sim_bus.specs.Room.{site_of, sites_of}
-use Rattle.osdp_sim_bus.specs.State.{ReaderSite}
-use Rattle.osdp_sim_bus.specs.Steps.{site_hears, site_says}
 
 -- what is left of two lists begins with the same
 pub same_there : {X : Type 0} (xs ys : List X) (i : ℕ) (d : X) → i < length xs → i < length ys → drop i xs ≡ drop i ys → get_or xs i d ≡ get_or ys i d

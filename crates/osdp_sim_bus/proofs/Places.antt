@@ -1,14 +1,6 @@
 -- A reader by its place.
-use Rattle.std.proofs.Common.{◌≡◌, ℕ, ◌<◌, ◌-◌, ◌&&◌, nat_le, Bool, true, false, arith, List, length, get_or, Some, refl, sym, ap, ◌∙◌}
-use Rattle.std.specs.Prelude.{option_map, slice_get, slice_set}
-use Rattle.std.specs.Option.{option_map_or}
-use Rattle.std.proofs.lemmas.Bool.{leb-true}
-use Rattle.std.proofs.lemmas.List.{length-map, map-set}
-use Rattle.std.proofs.lemmas.Option.{slice_get-get_or, slice_get-map}
+use Rattle.osdp_sim_bus.proofs.Common.{◌≡◌, ℕ, ◌<◌, ◌-◌, ◌&&◌, nat_le, Bool, true, false, arith, List, length, get_or, Some, refl, sym, ap, ◌∙◌, option_map, slice_get, slice_set, option_map_or, leb-true, length-map, map-set, slice_get-get_or, slice_get-map, site_of, sites_of, ReaderSite, changed_site}
 use Rattle.osdp_sim_bus.specs.declared.site.ReaderSite as declared
-use Rattle.osdp_sim_bus.specs.Room.{site_of, sites_of}
-use Rattle.osdp_sim_bus.specs.State.{ReaderSite}
-use Rattle.osdp_sim_bus.specs.Steps.{changed_site}
 
 -- the one at a place is changed
 pub changed_there : {H : Type 0} (change : ReaderSite H → ReaderSite H) (sites : List (declared.ReaderSite H)) (place : ℕ) (default next : declared.ReaderSite H)

@@ -1,23 +1,5 @@
 -- What a step is to one reader.
-use Rattle.std.proofs.Common.{◌≡◌, ◌≢◌, ℕ, zero, suc, ◌-◌, nat_le, Bool, true, false, arith, if◌then◌else◌, List, [], ◌∷◌, length, Option, Some, None, refl, ap, ◌∙◌}
-use Rattle.std.specs.Prelude.{option_map, slice_get, slice_set}
-use Rattle.std.specs.Option.{option_map_or}
-use Rattle.std.proofs.lemmas.Bool.{leb-true}
-use Rattle.std.proofs.lemmas.List.{length-map}
-use Rattle.std.proofs.lemmas.Option.{slice_get-map}
-use Rattle.osdp_frame.specs.Items.{packets_in}
-use Rattle.osdp_frame.specs.Packet.{Packet}
-use Rattle.osdp_msg.specs.declared.command.Command.{Command}
-use Rattle.osdp_reader.specs.declared.handler.Answer.{Answer}
-use Rattle.osdp_bus.specs.Machine.{submit_refusal_at}
-use Rattle.osdp_bus.specs.declared.fault.BusFault.{BusFault}
-use Rattle.osdp_sim.specs.Line.{handed, left}
-use Rattle.osdp_sim.specs.declared.step.SimStep.{SimStep}
-use Rattle.osdp_sim.specs.declared.step.SimStep.TheVariants.{Issue, Queue, Busy, Wait, ToReader, ToController, Reopen}
-use Rattle.osdp_sim_bus.specs.Laws.{HasAnAccountEach, LeavesTheOthers, ReachesEach, site_hears_each}
-use Rattle.osdp_sim_bus.specs.Runs.{run}
-use Rattle.osdp_sim_bus.specs.State.{LineState, ReaderSite, new_site, set_up}
-use Rattle.osdp_sim_bus.specs.Steps.{after_step, all_hear, all_hear_each, is_there, issued, site_begins, site_hears, site_is_busy, site_issues, site_queues}
+use Rattle.osdp_sim_bus.proofs.Common.{◌≡◌, ◌≢◌, ℕ, zero, suc, ◌-◌, nat_le, Bool, true, false, arith, if◌then◌else◌, List, [], ◌∷◌, length, Option, Some, None, refl, ap, ◌∙◌, option_map, slice_get, slice_set, option_map_or, leb-true, length-map, slice_get-map, packets_in, Packet, Command, Answer, submit_refusal_at, BusFault, handed, left, SimStep, Issue, Queue, Busy, Wait, ToReader, ToController, Reopen, HasAnAccountEach, LeavesTheOthers, ReachesEach, site_hears_each, run, LineState, ReaderSite, new_site, set_up, after_step, all_hear, all_hear_each, is_there, issued, site_begins, site_hears, site_is_busy, site_issues, site_queues}
 use Rattle.osdp_sim_bus.proofs.Counts.{same_many}
 use Rattle.osdp_sim_bus.proofs.Places.{both}
 

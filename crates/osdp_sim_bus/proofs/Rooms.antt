@@ -1,12 +1,9 @@
 -- The accounts of readers, as the code keeps them, and their room for events.
-use Rattle.std.proofs.Common.{◌≡◌, ◌+◌, ◌*◌, ℕ, List, map, ap, ◌∙◌}
+use Rattle.osdp_sim_bus.proofs.Common.{◌≡◌, ◌+◌, ◌*◌, ℕ, List, map, ap, ◌∙◌, room_for, sites_of, ReaderSite}
 use Rattle.osdp_msg.specs.Limits.{most_data}
 use Rattle.osdp_msg.specs.declared.limits.Room.{Room}
 use Rattle.osdp_sim.specs.Account.{Account}
-use Rattle.osdp_sim.specs.State.{room_for}
 use Rattle.osdp_sim_bus.specs.declared.site.ReaderSite as declared
-use Rattle.osdp_sim_bus.specs.Room.{sites_of}
-use Rattle.osdp_sim_bus.specs.State.{ReaderSite}
 
 abbrev pub accounts_of : {H : Type 0} → List (declared.ReaderSite H) → List Account
 accounts_of {H} sites = map (λ (site : ReaderSite H). site.account) (sites_of sites)

@@ -1,24 +1,9 @@
 -- What is on the line is sent by an end, whatever step comes.
-use Rattle.std.proofs.Common.{ℕ, ◌-◌, Bool, true, false, if◌then◌else◌, All, List, [], ◌∷◌, map, Option, Some, None, sym, subst}
-use Rattle.std.proofs.lemmas.List.Elements.{All-append, All-cons, All-head, All-nil, All-tail}
+use Rattle.osdp_sim_bus.proofs.Common.{ℕ, ◌-◌, Bool, true, false, if◌then◌else◌, All, List, [], ◌∷◌, map, Option, Some, None, sym, subst, All-append, All-cons, All-head, All-nil, All-tail, flat_map, packets_in, Packet, Command, Report, Answer, after_next_report, submit_refusal_at, BusFault, IsSent, handed, left, sent, SaysFit, moment_after, SimStep, Issue, Queue, Busy, Wait, ToReader, ToController, Reopen, AreSent, LineState, ReaderSite, StepFits, after_step, all_hear, all_hear_each, hears_run, is_there, issued, report_told, site_hears, site_says, waited}
 use Rattle.std.proofs.lemmas.List.Concat.{flat_map-cons}
-use Rattle.std.specs.List.{flat_map}
-use Rattle.osdp_frame.specs.Items.{packets_in}
-use Rattle.osdp_frame.specs.Packet.{Packet}
-use Rattle.osdp_msg.specs.declared.command.Command.{Command}
-use Rattle.osdp_controller.specs.declared.report.Report.{Report}
-use Rattle.osdp_reader.specs.declared.handler.Answer.{Answer}
 use Rattle.osdp_reader.specs.Table as reader
-use Rattle.osdp_bus.specs.Machine.{after_next_report, submit_refusal_at}
 use Rattle.osdp_bus.specs.Ticking.{bus_ticks}
-use Rattle.osdp_bus.specs.declared.fault.BusFault.{BusFault}
-use Rattle.osdp_sim.specs.Line.{IsSent, handed, left, sent}
-use Rattle.osdp_sim.specs.Steps.{SaysFit, moment_after}
-use Rattle.osdp_sim.specs.declared.step.SimStep.{SimStep}
-use Rattle.osdp_sim.specs.declared.step.SimStep.TheVariants.{Issue, Queue, Busy, Wait, ToReader, ToController, Reopen}
 use Rattle.osdp_sim.proofs.Sent.{HasSpelling, all_sent, left_sent}
-use Rattle.osdp_sim_bus.specs.State.{AreSent, LineState, ReaderSite}
-use Rattle.osdp_sim_bus.specs.Steps.{StepFits, after_step, all_hear, all_hear_each, hears_run, is_there, issued, report_told, site_hears, site_says, waited}
 
 module _ {H : Type 0} (answer_of : H → Command → Answer) (after : H → Command → H) where
   abbrev pub SayFit : List Packet → ReaderSite H → Type 0

@@ -1,25 +1,5 @@
 -- Every report is told in the step in which it arises.
-use Rattle.std.proofs.Common.{◌≡◌, ℕ, ◌-◌, Bool, true, false, if◌then◌else◌, List, [], ◌∷◌, Option, Some, None, is_some, refl, ap}
-use Rattle.std.specs.Prelude.{slice_set}
-use Rattle.std.specs.Option.{option_map_or}
-use Rattle.osdp_frame.specs.Packet.{Packet}
-use Rattle.osdp_msg.specs.declared.command.Command.{Command}
-use Rattle.osdp_controller.specs.declared.report.Report.{Report}
-use Rattle.osdp_reader.specs.declared.handler.Answer.{Answer}
-use Rattle.osdp_bus.specs.Buses.{BusState, device_of, seen}
-use Rattle.osdp_bus.specs.Machine.{after_next_report, entry_begins, entry_submits, submit_refusal_at}
-use Rattle.osdp_bus.specs.declared.entry.Entry.{Entry}
-use Rattle.osdp_bus.specs.declared.fault.BusFault.{BusFault}
-use Rattle.std.specs.Prelude.{max}
-use Rattle.osdp_frame.specs.Items.{packets_in}
-use Rattle.osdp_sim.specs.Line.{handed, left}
-use Rattle.osdp_sim.specs.Steps.{moment_after}
-use Rattle.osdp_sim.specs.declared.step.SimStep.{SimStep}
-use Rattle.osdp_sim.specs.declared.step.SimStep.TheVariants.{Issue, Queue, Busy, Wait, ToReader, ToController, Reopen}
-use Rattle.osdp_sim_bus.specs.Laws.{TellsAtOnce}
-use Rattle.osdp_sim_bus.specs.Runs.{run}
-use Rattle.osdp_sim_bus.specs.State.{LineState, set_up}
-use Rattle.osdp_sim_bus.specs.Steps.{after_step, all_hear, all_hear_each, hears_run, is_there, issued, report_told, waited}
+use Rattle.osdp_sim_bus.proofs.Common.{◌≡◌, ℕ, ◌-◌, Bool, true, false, if◌then◌else◌, List, [], ◌∷◌, Option, Some, None, is_some, refl, ap, slice_set, option_map_or, Packet, Command, Report, Answer, BusState, device_of, seen, after_next_report, entry_begins, entry_submits, submit_refusal_at, Entry, BusFault, max, packets_in, handed, left, moment_after, SimStep, Issue, Queue, Busy, Wait, ToReader, ToController, Reopen, TellsAtOnce, run, LineState, set_up, after_step, all_hear, all_hear_each, hears_run, is_there, issued, report_told, waited}
 
 module _ {H : Type 0} (answer_of : H → Command → Answer) (after : H → Command → H) where
   abbrev pub IsTold : LineState H → Type 0

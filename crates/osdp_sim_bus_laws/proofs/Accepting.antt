@@ -1,39 +1,13 @@
 -- Which orders are accepted for each of several readers: by the room that there is.
-use Rattle.std.proofs.Common.{◌≡◌, ◌≤◌, ◌+◌, ◌-◌, ℕ, zero, suc, arith, Bool, true, false, ◌==◌, if◌then◌else◌, List, [], ◌∷◌, ◌++◌, Option, Some, None, inl, inr, refl, sym, subst, ap, ◌∙◌}
-use Rattle.std.proofs.lemmas.Bool.{eq-eqb}
-use Rattle.std.proofs.lemmas.Option.{slice_get-map}
-use Rattle.std.specs.Prelude.{option_map, slice_get, slice_set}
-use Rattle.std.specs.Option.{option_map_or}
-use Rattle.osdp_msg.specs.declared.command.Command.{Command}
-use Rattle.osdp_msg.specs.declared.event.Event.{Event}
+use Rattle.osdp_sim_bus_laws.proofs.Common.{◌≡◌, ◌≤◌, ◌+◌, ◌-◌, ℕ, zero, suc, arith, Bool, true, false, ◌==◌, if◌then◌else◌, List, [], ◌∷◌, ◌++◌, Option, Some, None, inl, inr, refl, sym, subst, ap, ◌∙◌, eq-eqb, slice_get-map, option_map, slice_get, slice_set, option_map_or, Command, Event, CommandFits, comset_of, ControllerFault, lacks_room, Answer, after_submit_at, bus_fault, entry_submits, is_comset_refused, submit_refusal_at, submit_refusal_of, BusConfig, Entry, BusFault, IsAmong, each_of, Each, Account, SimStep, Issue, Queue, Given, LineState, ReaderSite, begun_device, new_site, set_up, StepFits, after_step, changed_site, is_there, issued, site_issues, site_queues, site_queues_unless, Accepts, IsNoOrder, accepted, counts, none_accepted, one_accepted, one_less, one_refused, submit_is, OrderFits, ShortCommands, ShortEvents, commands_stay_short, events_stay_short, no_room_for_command, no_room_for_event, one_more_command, one_more_event, orders_fit, same_events, AcceptsFor, EachAccepts, IsNoComset}
 use Rattle.osdp_msg.specs.declared.limits.Room.{Room}
-use Rattle.osdp_msg.specs.CommandTable.{CommandFits}
 use Rattle.osdp_msg.specs.Events.{EventFits}
-use Rattle.osdp_controller.specs.Hearing.{comset_of}
 use Rattle.osdp_controller.specs.Machine as controllers
-use Rattle.osdp_controller.specs.declared.fault.ControllerFault.{ControllerFault}
 use Rattle.osdp_controller.specs.declared.fault.ControllerFault.TheVariants.{Full}
-use Rattle.osdp_reader.specs.Queue.{lacks_room}
-use Rattle.osdp_reader.specs.declared.handler.Answer.{Answer}
 use Rattle.osdp_bus.specs.Buses.{device_of}
-use Rattle.osdp_bus.specs.Machine.{after_submit_at, bus_fault, entry_submits, is_comset_refused, submit_refusal_at, submit_refusal_of}
-use Rattle.osdp_bus.specs.declared.config.BusConfig.{BusConfig}
-use Rattle.osdp_bus.specs.declared.entry.Entry.{Entry}
-use Rattle.osdp_bus.specs.declared.fault.BusFault.{BusFault}
 use Rattle.osdp_bus.specs.declared.fault.BusFault.TheVariants.{AddressTaken}
-use Rattle.osdp_link_laws.specs.Sessions.{IsAmong}
-use Rattle.osdp_link_laws.proofs.Lines.{each_of}
-use Rattle.osdp_link_laws.proofs.Stages.{Each}
-use Rattle.osdp_sim.specs.Account.{Account}
-use Rattle.osdp_sim.specs.declared.step.SimStep.{SimStep}
-use Rattle.osdp_sim.specs.declared.step.SimStep.TheVariants.{Issue, Queue}
 use Rattle.osdp_sim_bus.specs.Runs.{FitAlong, run, steps_done}
-use Rattle.osdp_sim_bus.specs.State.{Given, LineState, ReaderSite, begun_device, new_site, set_up}
-use Rattle.osdp_sim_bus.specs.Steps.{StepFits, after_step, changed_site, is_there, issued, site_issues, site_queues, site_queues_unless}
 use Rattle.osdp_sim_laws.specs.Accepted.{but_poll, commands_for, events_for}
-use Rattle.osdp_sim_laws.proofs.Accepting.{Accepts, IsNoOrder, accepted, counts, none_accepted, one_accepted, one_less, one_refused, submit_is}
-use Rattle.osdp_sim_laws.proofs.Room.{OrderFits, ShortCommands, ShortEvents, commands_stay_short, events_stay_short, no_room_for_command, no_room_for_event, one_more_command, one_more_event, orders_fit, same_events}
-use Rattle.osdp_sim_bus_laws.specs.Accepted.{AcceptsFor, EachAccepts, IsNoComset}
 use Rattle.osdp_sim_bus_laws.proofs.Places.{StaysAt, get_changed, get_set, other_changed, stays_all, stays_changed}
 use Rattle.osdp_sim_bus_laws.proofs.Rows.{answers, told_by}
 use Rattle.osdp_sim_bus_laws.proofs.Waiting.{Keeps}

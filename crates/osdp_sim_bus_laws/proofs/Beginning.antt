@@ -1,29 +1,10 @@
 -- The line on which the first sessions of a bus's readers begin, as sites: it is set up, and the simulation begins as these.
-use Rattle.std.proofs.Common.{◌≡◌, ◌≢◌, ◌<◌, ◌&&◌, ◌||◌, not, ℕ, zero, suc, Bool, true, false, All, List, [], ◌∷◌, length, map, Some, None, refl, sym, subst, ap, ◌∙◌, arith}
-use Rattle.std.proofs.lemmas.Bool.{leb-true}
-use Rattle.std.specs.Prelude.{nat_le, slice_get}
-use Rattle.std.specs.List.{list_all, list_any}
-use Rattle.osdp_reader.specs.State.{new_reader}
-use Rattle.osdp_bus.specs.Machine.{most_entries}
+use Rattle.osdp_sim_bus_laws.proofs.Common.{◌≡◌, ◌≢◌, ◌<◌, ◌&&◌, ◌||◌, not, ℕ, zero, suc, Bool, true, false, All, List, [], ◌∷◌, length, map, Some, None, refl, sym, subst, ap, ◌∙◌, arith, leb-true, nat_le, slice_get, list_all, list_any, new_reader, most_entries, BusConfig, Begins, new_account, Each, is_true, Net, site_at, IsSetUp, view, device_of, NothingIsKept, AreSettings, are_apart, is_at, is_reader_in_range, Given, address_of, begun_device, new_site, set_up, begins, tells_nothing, FollowsSites, SitesOf}
 use Rattle.osdp_bus.specs.Settings.{controller_config}
-use Rattle.osdp_bus.specs.declared.config.BusConfig.{BusConfig}
-use Rattle.osdp_link_laws.specs.Headline.{Begins}
-use Rattle.osdp_link_laws.specs.Link.{new_account}
 use Rattle.osdp_link_laws.specs.Progress.{NoComset}
-use Rattle.osdp_link_laws.proofs.Stages.{Each}
-use Rattle.osdp_link_laws.proofs.Numbers.{is_true}
 use Rattle.osdp_shared_line.specs.Line as line
-use Rattle.osdp_shared_line.specs.Line.{Net, site_at}
 use Rattle.osdp_reader_laws.specs.Storing.{StoresItsOwn}
-use Rattle.osdp_shared_line.specs.Addresses.{IsSetUp}
-use Rattle.osdp_shared_line.specs.Views.{view}
-use Rattle.osdp_bus_links.specs.Links.{device_of}
-use Rattle.osdp_bus_links.specs.Premises.{NothingIsKept}
 use Rattle.osdp_sim.specs.State.{room_for}
-use Rattle.osdp_sim_bus.specs.Runs.{AreSettings, are_apart, is_at, is_reader_in_range}
-use Rattle.osdp_sim_bus.specs.State.{Given, address_of, begun_device, new_site, set_up}
-use Rattle.osdp_sim_laws.proofs.Holding.{begins, tells_nothing}
-use Rattle.osdp_sim_bus_laws.specs.Moves.{FollowsSites, SitesOf}
 
 -- ---- tests of lists
 

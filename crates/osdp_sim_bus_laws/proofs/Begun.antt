@@ -1,33 +1,8 @@
 -- How many sessions the account of each reader has, and how long its lists were where each of them began.
-use Rattle.std.proofs.Common.{◌≡◌, ◌+◌, ◌-◌, ℕ, zero, suc, arith, Bool, true, false, ◌==◌, if◌then◌else◌, List, [], ◌∷◌, length, Option, Some, None, refl, sym, subst, ap, ◌∙◌}
-use Rattle.std.proofs.lemmas.Bool.{eq-eqb}
-use Rattle.std.proofs.lemmas.List.{length-append}
-use Rattle.std.proofs.lemmas.Option.{slice_get-map}
-use Rattle.std.specs.Prelude.{option_map, slice_get}
-use Rattle.osdp_frame.specs.Items.{packets_in}
-use Rattle.osdp_frame.specs.Packet.{Packet}
-use Rattle.osdp_msg.specs.declared.command.Command.{Command}
-use Rattle.osdp_msg.specs.declared.event.Event.{Event}
-use Rattle.osdp_controller.specs.declared.report.Report.{Report}
-use Rattle.osdp_reader.specs.declared.handler.Answer.{Answer}
-use Rattle.osdp_reader.specs.Queue.{lacks_room}
-use Rattle.osdp_bus.specs.Machine.{after_next_report, submit_refusal_at}
-use Rattle.osdp_bus.specs.declared.config.BusConfig.{BusConfig}
-use Rattle.osdp_bus.specs.declared.fault.BusFault.{BusFault}
-use Rattle.osdp_sim.specs.Account.{Account, lengths_of}
-use Rattle.osdp_sim.specs.Line.{handed, left}
-use Rattle.osdp_sim.specs.Steps.{moment_after}
-use Rattle.osdp_sim.specs.declared.step.SimStep.{SimStep}
-use Rattle.osdp_sim.proofs.Schedules.{holds_on}
-use Rattle.osdp_sim.specs.declared.step.SimStep.TheVariants.{Busy, Issue, Queue, Reopen, ToController, ToReader, Wait}
+use Rattle.osdp_sim_bus_laws.proofs.Common.{◌≡◌, ◌+◌, ◌-◌, ℕ, zero, suc, arith, Bool, true, false, ◌==◌, if◌then◌else◌, List, [], ◌∷◌, length, Option, Some, None, refl, sym, subst, ap, ◌∙◌, eq-eqb, length-append, slice_get-map, option_map, slice_get, packets_in, Packet, Command, Event, Report, Answer, lacks_room, after_next_report, submit_refusal_at, BusConfig, BusFault, Account, lengths_of, handed, left, moment_after, SimStep, holds_on, Busy, Issue, Queue, Reopen, ToController, ToReader, Wait, Given, LineState, ReaderSite, accounts, new_site, set_up, StepFits, after_step, all_hear, all_hear_each, changed_site, hears_run, is_there, issued, reopened, report_told, site_begins, site_hears, site_is_busy, site_is_told, site_issues, site_queues, site_queues_unless, waited, reopens_in, counts, AcceptsFor}
 use Rattle.osdp_sim_bus.specs.Runs.{FitAlong, run, steps_done}
-use Rattle.osdp_sim_bus.specs.State.{Given, LineState, ReaderSite, accounts, new_site, set_up}
-use Rattle.osdp_sim_bus.specs.Steps.{StepFits, after_step, all_hear, all_hear_each, changed_site, hears_run, is_there, issued, reopened, report_told, site_begins, site_hears, site_is_busy, site_is_told, site_issues, site_queues, site_queues_unless, waited}
-use Rattle.osdp_sim_laws.specs.Accounts.{reopens_in}
 use Rattle.osdp_sim_laws.specs.Begun.{AreBegun}
-use Rattle.osdp_sim_laws.proofs.Accepting.{counts}
 use Rattle.osdp_sim_laws.proofs.Begun.{Grows, are_begun, begun_by, grows_by_command, grows_by_event, grows_by_report, grows_by_session, grows_on, has_grown, stays}
-use Rattle.osdp_sim_bus_laws.specs.Accepted.{AcceptsFor}
 use Rattle.osdp_sim_bus_laws.specs.Begun.{CameTo, EachBeginsByReopens}
 use Rattle.osdp_sim_bus_laws.proofs.Accepting.{all_accepted}
 use Rattle.osdp_sim_bus_laws.proofs.Idling.{there_is}

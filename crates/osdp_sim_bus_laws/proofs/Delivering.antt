@@ -1,38 +1,15 @@
 -- What the line does with a burst, where the packets of several sites go over it in bytes.
-use Rattle.std.proofs.Common.{◌≡◌, ℕ, suc, max, List, [], ◌∷◌, ◌++◌, length, map, All, Option, Some, None, IfSome, refl, sym, subst, ap, ◌∙◌}
-use Rattle.std.proofs.lemmas.List.{append-nil, map-append}
-use Rattle.std.specs.List.{flat_map}
-use Rattle.std.specs.Prelude.{option_to_list}
+use Rattle.osdp_sim_bus_laws.proofs.Common.{◌≡◌, ℕ, suc, max, List, [], ◌∷◌, ◌++◌, length, map, All, Option, Some, None, IfSome, refl, sym, subst, ap, ◌∙◌, append-nil, map-append, flat_map, option_to_list, packets_in, reading, IsPacket, Packet, spelling, Command, ReaderState, Answer, BusState, after_next_report, SaysWhatFitsIf, Delivered, Delivery, Lost, Repeated, IsPlainlySaid, each_all, each_append, each_map, Each, Net, ToPanel, first_gets, run, tagged, HearsAsAMove, IsBusOf, IsNoRefusalOf, TellsEach, device_of, packets_on, handed, left, SaysFit, damage_fault, LineState, ReaderSite, DamageIsBytes, all_hear, all_hear_each, hears_run, takes_report, FollowsSites, SitesOf, SpellsBytes, each_reads, moment_of}
 use Rattle.osdp_frame.specs.Bytes.{AreBytes}
-use Rattle.osdp_frame.specs.Items.{packets_in, reading}
-use Rattle.osdp_frame.specs.Packet.{IsPacket, Packet}
-use Rattle.osdp_frame.specs.Spelling.{spelling}
-use Rattle.osdp_msg.specs.declared.command.Command.{Command}
 use Rattle.osdp_reader.specs.Table as reader
-use Rattle.osdp_reader.specs.State.{ReaderState}
-use Rattle.osdp_reader.specs.declared.handler.Answer.{Answer}
-use Rattle.osdp_bus.specs.Buses.{BusState}
-use Rattle.osdp_bus.specs.Machine.{after_next_report}
-use Rattle.osdp_link_laws.specs.Headline.{SaysWhatFitsIf}
-use Rattle.osdp_link_laws.specs.Link.{Delivered, Delivery, Lost, Repeated}
-use Rattle.osdp_link_laws.specs.Peers.{IsPlainlySaid}
-use Rattle.osdp_link_laws.proofs.Lines.{each_all, each_append, each_map}
-use Rattle.osdp_link_laws.proofs.Stages.{Each}
 use Rattle.osdp_shared_line.specs.Line as line
-use Rattle.osdp_shared_line.specs.Line.{Net, ToPanel, first_gets, run, tagged}
-use Rattle.osdp_bus_links.specs.Links.{HearsAsAMove, IsBusOf, IsNoRefusalOf, TellsEach, device_of, packets_on}
 use Rattle.osdp_bus_links.proofs.Telling.{told_nothing}
-use Rattle.osdp_sim.specs.Line.{handed, left}
-use Rattle.osdp_sim.specs.Steps.{SaysFit, damage_fault}
 use Rattle.osdp_sim.specs.declared.step.Move as way
 use Rattle.osdp_sim.specs.declared.step.Move.TheVariants.{Deliver, Drop, Repeat, Damage}
 use Rattle.osdp_sim.proofs.Bursts.{no_packets}
-use Rattle.osdp_sim_bus.specs.State.{LineState, ReaderSite}
 use Rattle.osdp_sim_bus.specs.Steps as steps
-use Rattle.osdp_sim_bus.specs.Steps.{DamageIsBytes, all_hear, all_hear_each, hears_run, takes_report}
 use Rattle.osdp_sim_laws.specs.Moves.{delivery}
 use Rattle.osdp_sim_laws.specs.OneLink.{ReadsPackets}
-use Rattle.osdp_sim_bus_laws.specs.Moves.{FollowsSites, SitesOf, SpellsBytes, each_reads, moment_of}
 use Rattle.osdp_sim_bus_laws.proofs.Following.{Comes, reported}
 use Rattle.osdp_sim_bus_laws.proofs.Reading.{AllRead, all_read, hearing, none_read, read_by, reads_scheduled, said_from}
 use Rattle.osdp_sim_bus_laws.proofs.Sites.{all_heard, all_said, both_on, none_heard, same_count}

@@ -1,37 +1,12 @@
 -- What the steps of a schedule are to the sites whose controllers a bus has: calls, moments and sessions.
-use Rattle.std.proofs.Common.{◌≡◌, ◌-◌, ◌||◌, ℕ, zero, suc, max, not, Bool, true, false, if◌then◌else◌, List, [], ◌∷◌, ◌++◌, map, Option, Some, None, IfSome, refl, sym, subst, ap, ◌∙◌, arith, append_assoc}
-use Rattle.std.proofs.lemmas.List.{map-append}
-use Rattle.std.specs.Prelude.{is_some, option_to_list}
-use Rattle.osdp_frame.specs.Packet.{IsPacket, Packet}
-use Rattle.osdp_frame.specs.Spelling.{spelling}
-use Rattle.osdp_msg.specs.CommandTable.{CommandFits}
-use Rattle.osdp_msg.specs.declared.command.Command.{Command}
-use Rattle.osdp_msg.specs.declared.event.Event.{Event}
-use Rattle.osdp_controller.specs.declared.report.Report.{Report}
+use Rattle.osdp_sim_bus_laws.proofs.Common.{◌≡◌, ◌-◌, ◌||◌, ℕ, zero, suc, max, not, Bool, true, false, if◌then◌else◌, List, [], ◌∷◌, ◌++◌, map, Option, Some, None, IfSome, refl, sym, subst, ap, ◌∙◌, arith, append_assoc, map-append, is_some, option_to_list, IsPacket, Packet, spelling, CommandFits, Command, Event, Report, ReaderState, Answer, lacks_room, after_next_report, submit_refusal_at, bus_ticks, BusFault, Each, ControllerFault, IsBusOf, IsNoRefusalOf, IsSubmitted, SubmitsAsAMove, TellsEach, TicksAsAMove, device_of, one_ticks, packets_on, tick_moves, who_ticks, AllOthersFit, IsScheduled, OthersFit, sent, LineState, ReaderSite, changes_site, is_there, issued, site_is_busy, site_issues, site_queues, site_queues_unless, takes_report, waited, where_there, ended_commands, tells_issued, tells_queued, comset_of, FollowsSites, IsSiteOf, SitesOf, for_reader}
 use Rattle.osdp_reader.specs.State as readers
-use Rattle.osdp_reader.specs.State.{ReaderState}
-use Rattle.osdp_reader.specs.declared.handler.Answer.{Answer}
-use Rattle.osdp_reader.specs.Queue.{lacks_room}
-use Rattle.osdp_bus.specs.Machine.{after_next_report, submit_refusal_at}
-use Rattle.osdp_bus.specs.Ticking.{bus_ticks}
-use Rattle.osdp_bus.specs.declared.fault.BusFault.{BusFault}
-use Rattle.osdp_link_laws.proofs.Stages.{Each}
 use Rattle.osdp_controller.specs.Machine as controllers
-use Rattle.osdp_controller.specs.declared.fault.ControllerFault.{ControllerFault}
 use Rattle.osdp_link_laws.specs.Link as link
 use Rattle.osdp_shared_line.specs.Line as line
 use Rattle.osdp_shared_line.specs.Line.{Net, NetMove, Queue, Reopen, SetBusy, Submit, Tick, changed, is_command_accepted, is_comset_refused, run, site_at, submits}
-use Rattle.osdp_bus_links.specs.Links.{IsBusOf, IsNoRefusalOf, IsSubmitted, SubmitsAsAMove, TellsEach, TicksAsAMove, device_of, one_ticks, packets_on, tick_moves, who_ticks}
-use Rattle.osdp_bus_links.specs.Premises.{AllOthersFit, IsScheduled, OthersFit}
-use Rattle.osdp_sim.specs.Line.{sent}
-use Rattle.osdp_sim_bus.specs.State.{LineState, ReaderSite}
 use Rattle.osdp_sim_bus.specs.Steps as steps
-use Rattle.osdp_sim_bus.specs.Steps.{changes_site, is_there, issued, site_is_busy, site_issues, site_queues, site_queues_unless, takes_report, waited, where_there}
-use Rattle.osdp_link_laws.specs.Sessions.{ended_commands}
-use Rattle.osdp_sim_laws.proofs.Accounts.{tells_issued, tells_queued}
 use Rattle.osdp_sim_laws.proofs.Carrying.{packets_after, sent_after}
-use Rattle.osdp_controller.specs.Hearing.{comset_of}
-use Rattle.osdp_sim_bus_laws.specs.Moves.{FollowsSites, IsSiteOf, SitesOf, for_reader}
 use Rattle.osdp_sim_bus_laws.proofs.Sites.{all_coming, all_told, none_changes, none_told, one_changes, told_from, told_sites}
 
 module _ {H : Type 0} where

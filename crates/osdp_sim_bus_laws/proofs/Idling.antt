@@ -1,27 +1,6 @@
 -- What a step leaves of the orders for one of several readers, where it is none of them.
-use Rattle.std.proofs.Common.{◌≡◌, ◌-◌, ◌&&◌, ℕ, zero, suc, arith, Bool, true, false, if◌then◌else◌, List, [], ◌∷◌, length, Option, Some, None, refl, ◌∙◌}
-use Rattle.std.proofs.lemmas.Bool.{le-leb}
-use Rattle.std.specs.Prelude.{nat_le, slice_get}
-use Rattle.osdp_frame.specs.Items.{packets_in}
-use Rattle.osdp_frame.specs.Packet.{Packet}
-use Rattle.osdp_msg.specs.declared.command.Command.{Command}
-use Rattle.osdp_msg.specs.declared.event.Event.{Event}
-use Rattle.osdp_controller.specs.declared.report.Report.{Report}
+use Rattle.osdp_sim_bus_laws.proofs.Common.{◌≡◌, ◌-◌, ◌&&◌, ℕ, zero, suc, arith, Bool, true, false, if◌then◌else◌, List, [], ◌∷◌, length, Option, Some, None, refl, ◌∙◌, le-leb, nat_le, slice_get, packets_in, Packet, Command, Event, Report, Answer, lacks_room, after_next_report, submit_refusal_at, Entry, BusFault, handed, left, moment_after, SimStep, Issue, Queue, Busy, Wait, ToReader, ToController, Reopen, LineState, ReaderSite, after_step, all_hear, all_hear_each, changed_site, hears_run, is_there, issued, reopened, report_told, site_begins, site_hears, site_is_busy, site_is_told, site_issues, site_queues, site_queues_unless, waited, IsNoOrder, outcome_few, report_leaves, FewEvents, fewer_events, same_events}
 use Rattle.osdp_reader.specs.Table as reader
-use Rattle.osdp_reader.specs.declared.handler.Answer.{Answer}
-use Rattle.osdp_reader.specs.Queue.{lacks_room}
-use Rattle.osdp_bus.specs.Machine.{after_next_report, submit_refusal_at}
-use Rattle.osdp_bus.specs.declared.entry.Entry.{Entry}
-use Rattle.osdp_bus.specs.declared.fault.BusFault.{BusFault}
-use Rattle.osdp_sim.specs.Line.{handed, left}
-use Rattle.osdp_sim.specs.Steps.{moment_after}
-use Rattle.osdp_sim.specs.declared.step.SimStep.{SimStep}
-use Rattle.osdp_sim.specs.declared.step.SimStep.TheVariants.{Issue, Queue, Busy, Wait, ToReader, ToController, Reopen}
-use Rattle.osdp_sim_bus.specs.State.{LineState, ReaderSite}
-use Rattle.osdp_sim_bus.specs.Steps.{after_step, all_hear, all_hear_each, changed_site, hears_run, is_there, issued, reopened, report_told, site_begins, site_hears, site_is_busy, site_is_told, site_issues, site_queues, site_queues_unless, waited}
-use Rattle.osdp_sim_laws.proofs.Accepting.{IsNoOrder, outcome_few}
-use Rattle.osdp_sim_laws.proofs.Accounts.{report_leaves}
-use Rattle.osdp_sim_laws.proofs.Room.{FewEvents, fewer_events, same_events}
 use Rattle.osdp_sim_bus_laws.proofs.Places.{StaysAt, other_changed, stays_all, stays_changed, stays_each, stays_then, within}
 use Rattle.osdp_sim_bus_laws.proofs.Waiting.{Keeps, keeps_all, keeps_begin, keeps_hears, keeps_other, keeps_tick}
 

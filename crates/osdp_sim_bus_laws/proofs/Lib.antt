@@ -1,3 +1,4 @@
+pub mod Common
 pub mod Reading
 pub mod Sites
 pub mod Following

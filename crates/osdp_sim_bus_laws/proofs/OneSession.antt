@@ -1,16 +1,6 @@
 -- Each reader's account has an end for each session that is over, and is that of one session where no step begins it again.
-use Rattle.std.proofs.Common.{◌≡◌, ◌+◌, suc, List, length, sym, ap, ◌∙◌, arith}
-use Rattle.osdp_msg.specs.declared.command.Command.{Command}
-use Rattle.osdp_reader.specs.declared.handler.Answer.{Answer}
-use Rattle.osdp_bus.specs.declared.config.BusConfig.{BusConfig}
-use Rattle.osdp_sim.specs.Account.{Account}
-use Rattle.osdp_sim.specs.declared.step.SimStep.{SimStep}
+use Rattle.osdp_sim_bus_laws.proofs.Common.{◌≡◌, ◌+◌, suc, List, length, sym, ap, ◌∙◌, arith, Command, Answer, BusConfig, Account, SimStep, steps_done, Given, ReaderSite, set_up, EndOnce, reopens_in, HasSessions, of_one, AccountsAreOnce, AccountsEndOnce, IsOneSession, IsRun, OfEach}
 use Rattle.osdp_sim_bus.specs.Runs as simulation
-use Rattle.osdp_sim_bus.specs.Runs.{steps_done}
-use Rattle.osdp_sim_bus.specs.State.{Given, ReaderSite, set_up}
-use Rattle.osdp_sim_laws.specs.Accounts.{EndOnce, reopens_in}
-use Rattle.osdp_sim_laws.proofs.Holding.{HasSessions, of_one}
-use Rattle.osdp_sim_bus_laws.specs.Accounts.{AccountsAreOnce, AccountsEndOnce, IsOneSession, IsRun, OfEach}
 use Rattle.osdp_sim_bus_laws.proofs.Begun.{sessions_counted}
 use Rattle.osdp_sim_bus_laws.proofs.Places.{unmapped}
 use Rattle.osdp_sim_bus_laws.proofs.Rows.{answers, told_by}

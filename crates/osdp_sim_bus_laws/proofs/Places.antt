@@ -1,8 +1,5 @@
 -- One place of a list, where another item takes the place of one.
-use Rattle.std.proofs.Common.{◌≡◌, ◌<◌, ℕ, zero, suc, List, [], ◌∷◌, length, map, Option, Some, None, refl, sym, subst, ap, ◌∙◌, arith}
-use Rattle.std.proofs.lemmas.Option.{slice_get-map}
-use Rattle.std.specs.Prelude.{option_map, slice_get, slice_set}
-use Rattle.std.specs.Option.{option_map_or}
+use Rattle.osdp_sim_bus_laws.proofs.Common.{◌≡◌, ◌<◌, ℕ, zero, suc, List, [], ◌∷◌, length, map, Option, Some, None, refl, sym, subst, ap, ◌∙◌, arith, slice_get-map, option_map, slice_get, slice_set, option_map_or}
 
 pub get_set : {A : Type 0} (k : ℕ) (x y : A) (xs : List A) → slice_get xs k ≡ Some x → slice_get (slice_set xs k y) k ≡ Some y
 get_set k x y [] at = absurd cc

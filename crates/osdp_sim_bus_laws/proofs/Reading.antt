@@ -1,21 +1,10 @@
 -- All readers read what comes next for each of them, one after the other: where it is the same for all, each hears it, and what they say goes to
 -- the panel in their order.
-use Rattle.std.proofs.Common.{◌≡◌, ℕ, zero, suc, List, [], ◌∷◌, ◌++◌, length, map, Option, Some, None, refl, sym, subst, ap, ◌∙◌, append_assoc}
-use Rattle.std.proofs.lemmas.List.{append-nil}
-use Rattle.std.specs.Prelude.{option_to_list}
-use Rattle.osdp_frame.specs.Packet.{Packet}
-use Rattle.osdp_msg.specs.declared.command.Command.{Command}
+use Rattle.osdp_sim_bus_laws.proofs.Common.{◌≡◌, ℕ, zero, suc, List, [], ◌∷◌, ◌++◌, length, map, Option, Some, None, refl, sym, subst, ap, ◌∙◌, append_assoc, append-nil, option_to_list, Packet, Command, Answer, SaysWhatFitsIf, Delivered, Delivery, Lost, Repeated, Each, in_front, AllOthersFit, IsScheduled, each_reads}
 use Rattle.osdp_reader.specs.Table as reader
-use Rattle.osdp_reader.specs.declared.handler.Answer.{Answer}
-use Rattle.osdp_link_laws.specs.Headline.{SaysWhatFitsIf}
 use Rattle.osdp_link_laws.specs.Link as link
-use Rattle.osdp_link_laws.specs.Link.{Delivered, Delivery, Lost, Repeated}
-use Rattle.osdp_link_laws.proofs.Stages.{Each}
-use Rattle.osdp_shared_line.specs.Addresses.{in_front}
 use Rattle.osdp_shared_line.specs.Line.{Net, Site, ToReader, after_net, changed, left_by, link_of, reads_at, run, site_at, tagged, to_reader}
 use Rattle.osdp_shared_line.proofs.Sites.{some_same}
-use Rattle.osdp_bus_links.specs.Premises.{AllOthersFit, IsScheduled}
-use Rattle.osdp_sim_bus_laws.specs.Moves.{each_reads}
 
 -- ---- one in the middle
 

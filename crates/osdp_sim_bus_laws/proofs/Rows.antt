@@ -1,40 +1,17 @@
 -- Each reader's account is that of sessions of its link.
-use Rattle.std.proofs.Common.{◌≡◌, ◌+◌, ◌-◌, ◌≤◌, ℕ, zero, suc, List, ◌∷◌, length, map, take, Some, Ok, Err, sym, subst, ap, ◌∙◌, arith}
-use Rattle.std.proofs.lemmas.Option.{slice_get-map}
-use Rattle.std.specs.Prelude.{slice_get, option_map}
-use Rattle.osdp_msg.specs.declared.command.Command.{Command}
-use Rattle.osdp_controller.specs.States.{is_closed}
+use Rattle.osdp_sim_bus_laws.proofs.Common.{◌≡◌, ◌+◌, ◌-◌, ◌≤◌, ℕ, zero, suc, List, ◌∷◌, length, map, take, Some, Ok, Err, sym, subst, ap, ◌∙◌, arith, slice_get-map, slice_get, option_map, Command, is_closed, Answer, BusConfig, EachIsOnce, HoldsOnce, AreUndisturbed, IsOrdinary, OrdinaryIsUndisturbed, each_all, each_of, steady_handler, steady_ordinary, IsSetUp, Net, NetMove, run, view, IsScheduled, are_steady, Account, SimStep, AreSettings, FitAlong, Stops, is_well, lists_of_all, steps_done, Given, LineState, ReaderSite, accounts, set_up, IsNoRefusal, HasSessions, last_one, BusAnswer, IsAnswer, IsRun, OfEach, WasSetUp, accounts_in, AreItsMoves, IsSiteOf, SchedulesAreMoves, moves_of}
 use Rattle.osdp_reader.specs.declared.config.ReaderConfig.{ReaderConfig}
-use Rattle.osdp_reader.specs.declared.handler.Answer.{Answer}
-use Rattle.osdp_bus.specs.declared.config.BusConfig.{BusConfig}
 use Rattle.osdp_link_laws.specs.Link as link
-use Rattle.osdp_link_laws.specs.Headline.{EachIsOnce, HoldsOnce}
-use Rattle.osdp_link_laws.specs.Ordinary.{AreUndisturbed, IsOrdinary, OrdinaryIsUndisturbed}
-use Rattle.osdp_link_laws.proofs.Lines.{each_all, each_of}
-use Rattle.osdp_link_laws.proofs.OrdinaryRuns.{steady_handler, steady_ordinary}
 use Rattle.osdp_link_ledger.specs.Accounts.{LedgerTellsAccounts}
 use Rattle.osdp_link_ledger.specs.Answers.{ActsHaveAnswersOfOneHandler}
 use Rattle.osdp_link_ledger.proofs.Answered.{HaveAnswers, sessions_have_answers}
-use Rattle.osdp_shared_line.specs.Addresses.{IsSetUp}
 use Rattle.osdp_shared_line.specs.Line as line
-use Rattle.osdp_shared_line.specs.Line.{Net, NetMove, run}
 use Rattle.osdp_shared_line.specs.Runs.{EachIsALink}
 use Rattle.osdp_shared_line.specs.Runs as runs
-use Rattle.osdp_shared_line.specs.Views.{view}
-use Rattle.osdp_bus_links.specs.Premises.{IsScheduled}
 use Rattle.osdp_bus_links.proofs.Keeping.{moves_usual}
-use Rattle.osdp_bus_links.proofs.Names.{are_steady}
-use Rattle.osdp_sim.specs.Account.{Account}
 use Rattle.osdp_sim.specs.declared.fault.Cause.{Cause}
-use Rattle.osdp_sim.specs.declared.step.SimStep.{SimStep}
 use Rattle.osdp_sim_bus.specs.Laws.{HasAnAccountEach}
 use Rattle.osdp_sim_bus.specs.Runs as simulation
-use Rattle.osdp_sim_bus.specs.Runs.{AreSettings, FitAlong, Stops, is_well, lists_of_all, steps_done}
-use Rattle.osdp_sim_bus.specs.State.{Given, LineState, ReaderSite, accounts, set_up}
-use Rattle.osdp_sim_laws.specs.Accounts.{IsNoRefusal}
-use Rattle.osdp_sim_laws.proofs.Holding.{HasSessions, last_one}
-use Rattle.osdp_sim_bus_laws.specs.Accounts.{BusAnswer, IsAnswer, IsRun, OfEach, WasSetUp, accounts_in}
-use Rattle.osdp_sim_bus_laws.specs.Moves.{AreItsMoves, IsSiteOf, SchedulesAreMoves, moves_of}
 use Rattle.osdp_sim_bus_laws.proofs.Beginning.{first_net, first_site, follows_first, has_site, is_set_up, nothing_is_kept}
 use Rattle.osdp_sim_bus_laws.proofs.Sites.{counts_alike, get_site}
 

@@ -1,31 +1,11 @@
 -- Each schedule is a list of moves of the sites: what each step asks of them is known of sites after any moves.
-use Rattle.std.proofs.Common.{◌≡◌, ℕ, true, List, [], ◌∷◌, ◌++◌, All, Some, refl, sym, subst, ap, ◌∙◌, append_assoc}
-use Rattle.osdp_frame.specs.Packet.{Packet}
-use Rattle.osdp_msg.specs.declared.command.Command.{Command}
-use Rattle.osdp_reader.specs.declared.handler.Answer.{Answer}
+use Rattle.osdp_sim_bus_laws.proofs.Common.{◌≡◌, ℕ, true, List, [], ◌∷◌, ◌++◌, All, Some, refl, sym, subst, ap, ◌∙◌, append_assoc, Packet, Command, Answer, IsPlainlySaid, AreUndisturbed, IsOrdinary, OrdinaryIsUndisturbed, LastOneLasts, LastsOrLeaves, each_all, each_append, each_of, steady_ordinary, Each, IsSetUp, NobodyElseHears, Net, NetMove, Site, run, site_at, EachMoveIsItsOwn, own, AllOthersFit, BusSuffices, IsScheduled, NothingIsKept, are_steady, SimStep, FitAlong, LineState, after_step, fault_of, first_well, FollowsSites, IsKnown, SchedulesAreMoves, StepsAreMoves, moves_for, moves_of}
 use Rattle.osdp_link_laws.specs.Link as link
-use Rattle.osdp_link_laws.specs.Peers.{IsPlainlySaid}
-use Rattle.osdp_link_laws.specs.Ordinary.{AreUndisturbed, IsOrdinary, OrdinaryIsUndisturbed}
 use Rattle.osdp_link_laws.specs.Refusals.{SaysAllPlainly}
-use Rattle.osdp_link_laws.specs.Sessions.{LastOneLasts, LastsOrLeaves}
-use Rattle.osdp_link_laws.proofs.Lines.{each_all, each_append, each_of}
-use Rattle.osdp_link_laws.proofs.OrdinaryRuns.{steady_ordinary}
-use Rattle.osdp_link_laws.proofs.Stages.{Each}
-use Rattle.osdp_shared_line.specs.Addresses.{IsSetUp, NobodyElseHears}
-use Rattle.osdp_shared_line.specs.Line.{Net, NetMove, Site, run, site_at}
-use Rattle.osdp_shared_line.specs.Views.{EachMoveIsItsOwn, own}
-use Rattle.osdp_bus_links.specs.Premises.{AllOthersFit, BusSuffices, IsScheduled, NothingIsKept}
 use Rattle.osdp_bus_links.proofs.Linked.{AreLinked, IsLinked, OfALink}
-use Rattle.osdp_bus_links.proofs.Names.{are_steady}
 use Rattle.osdp_bus_links.proofs.Sited.{IsSited, all_sited, each_own}
 use Rattle.osdp_bus_links.proofs.Sufficing.{all_linked, others_more}
-use Rattle.osdp_sim.specs.declared.step.SimStep.{SimStep}
 use Rattle.osdp_sim_bus.specs.Runs as simulation
-use Rattle.osdp_sim_bus.specs.Runs.{FitAlong}
-use Rattle.osdp_sim_bus.specs.State.{LineState}
-use Rattle.osdp_sim_bus.specs.Steps.{after_step, fault_of}
-use Rattle.osdp_sim.proofs.Schedules.{first_well}
-use Rattle.osdp_sim_bus_laws.specs.Moves.{FollowsSites, IsKnown, SchedulesAreMoves, StepsAreMoves, moves_for, moves_of}
 use Rattle.osdp_shared_line.proofs.Rounds.{net_more}
 
 module _ {H : Type 0} (answer_of : H → Command → Answer) (after : H → Command → H) where

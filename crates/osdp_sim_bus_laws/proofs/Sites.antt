@@ -1,37 +1,14 @@
 -- The readers of a simulated line and the sites whose readers they are, place by place.
-use Rattle.std.proofs.Common.{◌≡◌, ◌<◌, ◌+◌, ℕ, zero, suc, Bool, true, false, cond, List, [], ◌∷◌, ◌++◌, length, map, Option, Some, None, refl, sym, subst, ap, ◌∙◌, arith}
-use Rattle.std.proofs.lemmas.List.{map-append}
+use Rattle.osdp_sim_bus_laws.proofs.Common.{◌≡◌, ◌<◌, ◌+◌, ℕ, zero, suc, Bool, true, false, cond, List, [], ◌∷◌, ◌++◌, length, map, Option, Some, None, refl, sym, subst, ap, ◌∙◌, arith, map-append, option_map_or, flat_map, Packet, spelling, Command, is_closed, Report, ReaderState, Answer, Delivered, is_false, is_true, Each, changed, site_at, tagged, IsNoRefusalOf, IsTold, TellsFrom, packets_on, report_for, with_report, sent, ReaderSite, changed_site, site_hears, site_is_told, site_says, ended_commands, IsOf, IsSiteOf, SitesOf, count, causes_of, report_leaves, tells_report, tells_taken}
 use Rattle.std.specs.Prelude.{slice_get, slice_set, option_to_list, ◌==◌}
-use Rattle.std.specs.Option.{option_map_or}
-use Rattle.std.specs.List.{flat_map}
-use Rattle.osdp_frame.specs.Packet.{Packet}
-use Rattle.osdp_frame.specs.Spelling.{spelling}
-use Rattle.osdp_msg.specs.declared.command.Command.{Command}
-use Rattle.osdp_controller.specs.States.{is_closed}
-use Rattle.osdp_controller.specs.declared.report.Report.{Report}
 use Rattle.osdp_reader.specs.Table as reader
-use Rattle.osdp_reader.specs.State.{ReaderState}
-use Rattle.osdp_reader.specs.declared.handler.Answer.{Answer}
 use Rattle.osdp_link_laws.specs.Link as link
-use Rattle.osdp_link_laws.specs.Link.{Delivered}
 use Rattle.osdp_link_laws.specs.Refusals as refusals
-use Rattle.osdp_link_laws.proofs.Numbers.{is_false, is_true}
-use Rattle.osdp_link_laws.proofs.Stages.{Each}
 use Rattle.osdp_link_laws.specs.Ends as ends
 use Rattle.osdp_shared_line.specs.Line as line
-use Rattle.osdp_shared_line.specs.Line.{changed, site_at, tagged}
-use Rattle.osdp_bus_links.specs.Links.{IsNoRefusalOf, IsTold, TellsFrom, packets_on, report_for}
-use Rattle.osdp_sim.specs.Account.{with_report}
-use Rattle.osdp_sim.specs.Line.{sent}
-use Rattle.osdp_sim_bus.specs.State.{ReaderSite}
-use Rattle.osdp_sim_bus.specs.Steps.{changed_site, site_hears, site_is_told, site_says}
-use Rattle.osdp_link_laws.specs.Sessions.{ended_commands}
 use Rattle.osdp_link_laws.proofs.Growing.{taken_takes, told_issues}
-use Rattle.osdp_sim_laws.specs.Accounts.{IsOf}
-use Rattle.osdp_sim_bus_laws.specs.Moves.{IsSiteOf, SitesOf, count}
 use Rattle.osdp_sim_bus_laws.proofs.Reading.{hearing, said_from}
 use Rattle.osdp_sim_laws.proofs.Ends.{ends_after}
-use Rattle.osdp_sim_laws.proofs.Accounts.{causes_of, report_leaves, tells_report, tells_taken}
 
 -- ---- reports and ends
 

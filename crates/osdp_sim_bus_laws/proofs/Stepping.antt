@@ -1,44 +1,17 @@
 -- Each step of a schedule is a list of moves of the sites.
-use Rattle.std.proofs.Common.{◌≡◌, ◌≢◌, ◌-◌, ◌&&◌, ◌==◌, not, ℕ, zero, suc, Bool, true, false, if◌then◌else◌, List, [], ◌∷◌, ◌++◌, length, map, Option, Some, None, refl, sym, subst, ap, ◌∙◌, arith, append_assoc}
-use Rattle.std.proofs.lemmas.Bool.{ne_eqb}
-use Rattle.std.proofs.lemmas.List.{length-append}
-use Rattle.std.specs.Prelude.{slice_get}
+use Rattle.osdp_sim_bus_laws.proofs.Common.{◌≡◌, ◌≢◌, ◌-◌, ◌&&◌, ◌==◌, not, ℕ, zero, suc, Bool, true, false, if◌then◌else◌, List, [], ◌∷◌, ◌++◌, length, map, Option, Some, None, refl, sym, subst, ap, ◌∙◌, arith, append_assoc, ne_eqb, length-append, slice_get, packets_in, Packet, spelling, Command, is_closed, ControllerFault, Answer, begin_refusal_of, begin_refusal_at, bus_fault, Entry, IsPlainlySaid, LastsOrLeaves, Leaves, ended_commands, ended_in, each_all, each_of, Each, IsQuiet, view, IsBusOf, device_of, packets_on, IsScheduled, lengths_of, handed, SaysFit, moment_after, SimStep, LineState, ReaderSite, StepFits, after_step, fault_of, is_quiet, is_there, reopened, site_begins, tells_session, FollowsSites, IsKnown, IsSiteOf, OneBus, StepsAreMoves, count, moment_of, moves_for}
 use Rattle.std.specs.Option.{option_map, option_map_or}
-use Rattle.osdp_frame.specs.Items.{packets_in}
-use Rattle.osdp_frame.specs.Packet.{Packet}
-use Rattle.osdp_frame.specs.Spelling.{spelling}
-use Rattle.osdp_msg.specs.declared.command.Command.{Command}
 use Rattle.osdp_controller.specs.Machine as controllers
-use Rattle.osdp_controller.specs.States.{is_closed}
 use Rattle.osdp_controller_laws.proofs.Closed.{may_begin}
-use Rattle.osdp_controller.specs.declared.fault.ControllerFault.{ControllerFault}
 use Rattle.osdp_controller.specs.declared.state.State.{State}
 use Rattle.osdp_controller.specs.declared.state.State.TheVariants.{Closed}
-use Rattle.osdp_reader.specs.declared.handler.Answer.{Answer}
-use Rattle.osdp_bus.specs.Machine.{begin_refusal_of, begin_refusal_at, bus_fault}
-use Rattle.osdp_bus.specs.declared.entry.Entry.{Entry}
-use Rattle.osdp_link_laws.specs.Peers.{IsPlainlySaid}
 use Rattle.osdp_link_laws.specs.Link as link
-use Rattle.osdp_link_laws.specs.Sessions.{LastsOrLeaves, Leaves, ended_commands, ended_in}
-use Rattle.osdp_link_laws.proofs.Lines.{each_all, each_of}
-use Rattle.osdp_link_laws.proofs.Stages.{Each}
 use Rattle.osdp_shared_line.specs.Line as line
 use Rattle.osdp_shared_line.specs.Line.{Net, Reopen, changed, site_at}
-use Rattle.osdp_shared_line.specs.Views.{IsQuiet, view}
-use Rattle.osdp_bus_links.specs.Links.{IsBusOf, device_of, packets_on}
-use Rattle.osdp_bus_links.specs.Premises.{IsScheduled}
 use Rattle.osdp_bus_links.proofs.Devices.{get_device, get_none}
-use Rattle.osdp_sim.specs.Account.{lengths_of}
 use Rattle.osdp_sim.specs.declared.fault.Cause.TheVariants.{NotQuiet}
-use Rattle.osdp_sim.specs.Line.{handed}
-use Rattle.osdp_sim.specs.Steps.{SaysFit, moment_after}
-use Rattle.osdp_sim.specs.declared.step.SimStep.{SimStep}
 use Rattle.osdp_sim.specs.declared.step.SimStep.TheVariants as step
-use Rattle.osdp_sim_bus.specs.State.{LineState, ReaderSite}
 use Rattle.osdp_sim_bus.specs.Steps as steps
-use Rattle.osdp_sim_bus.specs.Steps.{StepFits, after_step, fault_of, is_quiet, is_there, reopened, site_begins}
-use Rattle.osdp_sim_laws.proofs.Accounts.{tells_session}
-use Rattle.osdp_sim_bus_laws.specs.Moves.{FollowsSites, IsKnown, IsSiteOf, OneBus, StepsAreMoves, count, moment_of, moves_for}
 use Rattle.osdp_sim_bus_laws.proofs.Delivering.{to_bus, to_readers}
 use Rattle.osdp_sim_bus_laws.proofs.Following.{Comes, issuing, nothing, queueing, same_coming, setting, unsaid, waiting}
 use Rattle.osdp_sim_bus_laws.proofs.Sites.{one_changes}

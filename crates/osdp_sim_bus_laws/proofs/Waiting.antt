@@ -1,20 +1,12 @@
 -- What the calls of a bus leave of the commands that wait for each of its devices: none more wait.
-use Rattle.std.proofs.Common.{◌≡◌, ℕ, max, ◌||◌, true, false, List, [], ◌∷◌, ◌++◌, Option, Some, None, refl, arith}
+use Rattle.osdp_sim_bus_laws.proofs.Common.{◌≡◌, ℕ, max, ◌||◌, true, false, List, [], ◌∷◌, ◌++◌, Option, Some, None, refl, arith, option_map_or, items, Packet, Command, Entry, after_begin_at, after_submit_at, changes_entry, entry_begins, entry_submits, hears_run, FewCommands, fewer_commands, same_commands, tick_few}
 use Rattle.std.specs.Prelude.{not, slice_get, slice_set}
-use Rattle.std.specs.Option.{option_map_or}
-use Rattle.osdp_frame.specs.Items.{items}
-use Rattle.osdp_frame.specs.Packet.{Packet}
 use Rattle.osdp_frame.specs.Reading.{RunItem, PacketItem, SkippedItem, RefusedItem}
-use Rattle.osdp_msg.specs.declared.command.Command.{Command}
 use Rattle.osdp_controller.proofs.Choices.{either_way}
-use Rattle.osdp_bus.specs.declared.entry.Entry.{Entry}
 use Rattle.osdp_bus.specs.Buses.{BusState, Devices, device_of, has_report, holder, is_silent, seen}
 use Rattle.osdp_bus.specs.Entries.{entry_hears, entry_ticks, first_from, is_at}
 use Rattle.osdp_bus.specs.Hearing.{after_bytes, ends_run, ends_silent, hears_at, hears_item, hears_items, hears_with}
-use Rattle.osdp_bus.specs.Machine.{after_begin_at, after_submit_at, changes_entry, entry_begins, entry_submits}
 use Rattle.osdp_bus.specs.Ticking.{BusTicked, bus_ticks, is_due_at, is_held_and_due, next_due, stays, ticks_at, ticks_by, ticks_held, ticks_on, ticks_with}
-use Rattle.osdp_sim_bus.specs.Steps.{hears_run}
-use Rattle.osdp_sim_laws.proofs.Room.{FewCommands, fewer_commands, same_commands, tick_few}
 use Rattle.osdp_sim_bus_laws.proofs.Places.{StaysAt, set_other, stays_all, stays_set, stays_then}
 
 -- no more commands wait, with no more bytes, and there is room for as many

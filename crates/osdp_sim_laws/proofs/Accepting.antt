@@ -1,41 +1,13 @@
 -- Which orders are accepted: by the room that there is.
-use Rattle.std.proofs.Common.{◌≡◌, ◌⊎◌, ◌≤◌, ◌+◌, ◌-◌, ℕ, zero, suc, arith, Bool, true, false, ◌==◌, if◌then◌else◌, eqb, List, [], ◌∷◌, ◌++◌, length, take, Option, Some, None, Result, Ok, Err, inl, inr, refl, sym, subst, ap, ◌∙◌, append_assoc}
-use Rattle.std.proofs.lemmas.Bool.Decides.{eqb_tells}
-use Rattle.std.proofs.lemmas.List.{append-nil, length-append, take_all}
-use Rattle.osdp_frame.specs.Items.{packets_in}
-use Rattle.osdp_frame.specs.Packet.{Packet}
-use Rattle.osdp_msg.specs.declared.command.Command.{Command}
+use Rattle.osdp_sim_laws.proofs.Common.{◌≡◌, ◌⊎◌, ◌≤◌, ◌+◌, ◌-◌, ℕ, zero, suc, arith, Bool, true, false, ◌==◌, if◌then◌else◌, eqb, List, [], ◌∷◌, ◌++◌, length, take, Option, Some, None, Result, Ok, Err, inl, inr, refl, sym, subst, ap, ◌∙◌, append_assoc, eqb_tells, append-nil, length-append, take_all, packets_in, Packet, Command, Event, Machine, ticks, ControllerFault, Full, EventQueue, lacks_room, Answer, Kind, IsBeginning, IsAmong, both, Each, Account, handed, left, FitAlong, Stops, run, SimState, set_up, StepFits, after_step, controller_hears, moment_after, reader_hears, SimConfig, Cause, SimStep, Issue, Queue, Busy, Wait, ToReader, ToController, Reopen, AcceptsByRoom, IsAccepted, IsAcceptedByRoom, but_poll, commands_of, events_of, account_in}
 use Rattle.osdp_msg.specs.declared.command.Command.TheVariants as command
-use Rattle.osdp_msg.specs.declared.event.Event.{Event}
 use Rattle.osdp_msg.specs.declared.fault.MsgFault.{MsgFault}
 use Rattle.osdp_controller.specs.Hearing as controller
 use Rattle.osdp_controller.specs.Machine as controllers
-use Rattle.osdp_controller.specs.Machine.{Machine}
-use Rattle.osdp_controller.specs.Ticking.{ticks}
-use Rattle.osdp_controller.specs.declared.fault.ControllerFault.{ControllerFault}
-use Rattle.osdp_controller.specs.declared.fault.ControllerFault.TheVariants.{Full}
-use Rattle.osdp_reader.specs.Queue.{Queue as EventQueue, lacks_room}
 use Rattle.osdp_reader.specs.State.{ReaderState}
 use Rattle.osdp_reader.specs.Table as reader
-use Rattle.osdp_reader.specs.declared.handler.Answer.{Answer}
-use Rattle.osdp_reader.specs.declared.kind.Kind.{Kind}
 use Rattle.osdp_reader.specs.declared.kind.Kind.TheVariants as kind
-use Rattle.osdp_link_laws.specs.Headline.{IsBeginning}
-use Rattle.osdp_link_laws.specs.Sessions.{IsAmong}
-use Rattle.osdp_link_laws.proofs.Lines.{both}
-use Rattle.osdp_link_laws.proofs.Stages.{Each}
-use Rattle.osdp_sim.specs.Account.{Account}
-use Rattle.osdp_sim.specs.Line.{handed, left}
-use Rattle.osdp_sim.specs.Runs.{FitAlong, Stops, run}
-use Rattle.osdp_sim.specs.State.{SimState, set_up}
 use Rattle.osdp_sim.specs.Steps as steps
-use Rattle.osdp_sim.specs.Steps.{StepFits, after_step, controller_hears, moment_after, reader_hears}
-use Rattle.osdp_sim.specs.declared.config.SimConfig.{SimConfig}
-use Rattle.osdp_sim.specs.declared.fault.Cause.{Cause}
-use Rattle.osdp_sim.specs.declared.step.SimStep.{SimStep}
-use Rattle.osdp_sim.specs.declared.step.SimStep.TheVariants.{Issue, Queue, Busy, Wait, ToReader, ToController, Reopen}
-use Rattle.osdp_sim_laws.specs.Accepted.{AcceptsByRoom, IsAccepted, IsAcceptedByRoom, but_poll, commands_of, events_of}
-use Rattle.osdp_sim_laws.specs.Accounts.{account_in}
 use Rattle.osdp_sim_laws.proofs.Accounts.{report_leaves}
 use Rattle.osdp_sim_laws.proofs.Room.{FewCommands, FewEvents, OrderFits, ShortCommands, ShortEvents, commands_stay_short, dropped, events_stay_short, fewer_commands, fewer_events, no_room_for_command, no_room_for_event, one_more_command, one_more_event, orders_fit, same_commands, same_events, tick_few}
 

@@ -1,19 +1,7 @@
 -- What `run_session` answers after a line that was cleared and rounds that lose nothing.
-use Rattle.std.proofs.Common.{◌≡◌, ◌≤◌, ◌+◌, ◌++◌, ℕ, suc, All, List, [], ◌∷◌, length, Ok, refl, sym, subst, ap, ◌∙◌, arith}
-use Rattle.std.proofs.lemmas.List.{append-nil, length-append}
+use Rattle.osdp_sim_laws.proofs.Common.{◌≡◌, ◌≤◌, ◌+◌, ◌++◌, ℕ, suc, All, List, [], ◌∷◌, length, Ok, refl, sym, subst, ap, ◌∙◌, arith, append-nil, length-append, Command, ReaderConfig, Answer, with_answers, SetsNoAddress, each_append, each_of, Account, lists_of, rounds, SimStep, AnswersHoldOnce, IsInSession, IsOnce, reopens_in, AnswerRecovers, IsDone, Recovers, clear, done}
 use Rattle.std.specs.Prelude.{◌-◌, min}
-use Rattle.osdp_msg.specs.declared.command.Command.{Command}
 use Rattle.osdp_reader.specs.Table.{answer_to}
-use Rattle.osdp_reader.specs.declared.config.ReaderConfig.{ReaderConfig}
-use Rattle.osdp_reader.specs.declared.handler.Answer.{Answer}
-use Rattle.osdp_link_laws.specs.OneHandler.{with_answers}
-use Rattle.osdp_link_laws.specs.Progress.{SetsNoAddress}
-use Rattle.osdp_link_laws.proofs.Lines.{each_append, each_of}
-use Rattle.osdp_sim.specs.Account.{Account, lists_of}
-use Rattle.osdp_sim.specs.Rounds.{rounds}
-use Rattle.osdp_sim.specs.declared.step.SimStep.{SimStep}
-use Rattle.osdp_sim_laws.specs.Accounts.{AnswersHoldOnce, IsInSession, IsOnce, reopens_in}
-use Rattle.osdp_sim_laws.specs.Progress.{AnswerRecovers, IsDone, Recovers, clear, done}
 use Rattle.osdp_sim_laws.proofs.Begun.{none_reopen}
 use Rattle.osdp_sim_laws.proofs.Clearing.{losses_within}
 use Rattle.osdp_sim_laws.proofs.Coming.{rounds_within}

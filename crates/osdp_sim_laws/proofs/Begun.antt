@@ -1,35 +1,10 @@
 -- How many sessions an account has, and how long its lists were where each of them began.
-use Rattle.std.proofs.Common.{◌≡◌, ◌+◌, ◌==◌, if◌then◌else◌, ℕ, arith, Bool, true, false, List, [], ◌∷◌, ◌++◌, length, Option, Some, None, refl, sym, subst, ap, ◌∙◌, append_assoc}
-use Rattle.std.proofs.lemmas.List.{append-nil, length-append}
-use Rattle.std.proofs.lemmas.Bool.{eq-eqb}
-use Rattle.std.specs.Prelude.{slice_get}
-use Rattle.osdp_frame.specs.Items.{packets_in}
-use Rattle.osdp_frame.specs.Packet.{Packet}
-use Rattle.osdp_msg.specs.declared.command.Command.{Command}
-use Rattle.osdp_msg.specs.declared.event.Event.{Event}
+use Rattle.osdp_sim_laws.proofs.Common.{◌≡◌, ◌+◌, ◌==◌, if◌then◌else◌, ℕ, arith, Bool, true, false, List, [], ◌∷◌, ◌++◌, length, Option, Some, None, refl, sym, subst, ap, ◌∙◌, append_assoc, append-nil, length-append, eq-eqb, slice_get, packets_in, Packet, Command, Event, ticks, ControllerFault, Report, Answer, lacks_room, IsBeginning, Each, Account, lengths_of, with_issued, with_queued, with_report, with_session, handed, left, FitAlong, run, steps_done, SimState, set_up, StepFits, after_step, controller_hears, moment_after, reader_hears, SimConfig, SimStep, Busy, Issue, Queue, Reopen, ToController, ToReader, Wait, holds_on, runs_on, IsAcceptedByRoom, IsInSession, no_lengths, reopens, reopens_in}
 use Rattle.osdp_controller.specs.Hearing as controller
 use Rattle.osdp_controller.specs.Machine as controllers
-use Rattle.osdp_controller.specs.Ticking.{ticks}
-use Rattle.osdp_controller.specs.declared.fault.ControllerFault.{ControllerFault}
-use Rattle.osdp_controller.specs.declared.report.Report.{Report}
-use Rattle.osdp_reader.specs.declared.handler.Answer.{Answer}
-use Rattle.osdp_reader.specs.Queue.{lacks_room}
-use Rattle.osdp_link_laws.specs.Headline.{IsBeginning}
-use Rattle.osdp_link_laws.proofs.Stages.{Each}
-use Rattle.osdp_sim.specs.Account.{Account, lengths_of, with_issued, with_queued, with_report, with_session}
-use Rattle.osdp_sim.specs.Line.{handed, left}
-use Rattle.osdp_sim.specs.Runs.{FitAlong, run, steps_done}
 use Rattle.osdp_sim.specs.Schedules as schedules
-use Rattle.osdp_sim.specs.State.{SimState, set_up}
 use Rattle.osdp_sim.specs.Steps as steps
-use Rattle.osdp_sim.specs.Steps.{StepFits, after_step, controller_hears, moment_after, reader_hears}
 use Rattle.osdp_sim.specs.declared.account.Lengths.{Lengths}
-use Rattle.osdp_sim.specs.declared.config.SimConfig.{SimConfig}
-use Rattle.osdp_sim.specs.declared.step.SimStep.{SimStep}
-use Rattle.osdp_sim.specs.declared.step.SimStep.TheVariants.{Busy, Issue, Queue, Reopen, ToController, ToReader, Wait}
-use Rattle.osdp_sim.proofs.Schedules.{holds_on, runs_on}
-use Rattle.osdp_sim_laws.specs.Accepted.{IsAcceptedByRoom}
-use Rattle.osdp_sim_laws.specs.Accounts.{IsInSession, no_lengths, reopens, reopens_in}
 use Rattle.osdp_sim_laws.specs.Begun.{AreBegun, BeginsAfter, BeginsByReopens, CameTo}
 use Rattle.osdp_sim_laws.proofs.Accepting.{from_set_up}
 use Rattle.osdp_sim_laws.proofs.Accounts.{report_leaves}

@@ -1,33 +1,11 @@
 -- What a step of a schedule does, where a link's packets go over the line in bytes: the calls and the moments.
-use Rattle.std.proofs.Common.{◌≡◌, ℕ, Bool, true, false, not, ◌&&◌, ◌==◌, if◌then◌else◌, List, [], ◌∷◌, ◌++◌, length, arith, Option, Some, None, IfSome, refl, sym, subst, ap, ◌∙◌}
-use Rattle.std.proofs.lemmas.Bool.{ne_eqb}
-use Rattle.std.proofs.lemmas.List.{append-nil, map-append}
-use Rattle.std.specs.Prelude.{map, option_to_list}
-use Rattle.osdp_frame.specs.Packet.{IsPacket, Packet}
-use Rattle.osdp_frame.specs.Spelling.{spelling}
-use Rattle.osdp_msg.specs.declared.command.Command.{Command}
-use Rattle.osdp_msg.specs.declared.event.Event.{Event}
+use Rattle.osdp_sim_laws.proofs.Common.{◌≡◌, ℕ, Bool, true, false, not, ◌&&◌, ◌==◌, if◌then◌else◌, List, [], ◌∷◌, ◌++◌, length, arith, Option, Some, None, IfSome, refl, sym, subst, ap, ◌∙◌, ne_eqb, append-nil, map-append, map, option_to_list, IsPacket, Packet, spelling, Command, Event, is_closed, may_begin, Ticked, Report, ControllerFault, State, Link, each_append, Each, Account, sent, SimState, NotQuiet, IsNoRefusal, IsOf, in_bytes}
 use Rattle.osdp_controller.specs.Machine as controllers
-use Rattle.osdp_controller.specs.States.{is_closed}
-use Rattle.osdp_controller_laws.proofs.Closed.{may_begin}
-use Rattle.osdp_controller.specs.Ticking.{Ticked}
-use Rattle.osdp_controller.specs.declared.report.Report.{Report}
-use Rattle.osdp_controller.specs.declared.fault.ControllerFault.{ControllerFault}
-use Rattle.osdp_controller.specs.declared.state.State.{State}
 use Rattle.osdp_reader.specs.State as readers
 use Rattle.osdp_link_laws.specs.Link as link
-use Rattle.osdp_link_laws.specs.Link.{Link}
 use Rattle.osdp_link_laws.specs.Refusals as refusals
 use Rattle.osdp_link_laws.specs.Sessions as sessions
-use Rattle.osdp_link_laws.proofs.Lines.{each_append}
-use Rattle.osdp_link_laws.proofs.Stages.{Each}
-use Rattle.osdp_sim.specs.Account.{Account}
-use Rattle.osdp_sim.specs.Line.{sent}
-use Rattle.osdp_sim.specs.State.{SimState}
 use Rattle.osdp_sim.specs.Steps as steps
-use Rattle.osdp_sim.specs.declared.fault.Cause.TheVariants.{NotQuiet}
-use Rattle.osdp_sim_laws.specs.Accounts.{IsNoRefusal, IsOf}
-use Rattle.osdp_sim_laws.specs.Moves.{in_bytes}
 use Rattle.osdp_sim_laws.proofs.Accounts.{causes_of, report_leaves, tells_issued, tells_queued, tells_report, tells_session}
 
 sent_is : (o : Option Packet) → map spelling (option_to_list o) ≡ sent o

@@ -1,52 +1,18 @@
 -- Schedules without losses, over bytes: which commands are settled and which events are reported.
-use Rattle.std.proofs.Common.{◌≡◌, ◌≤◌, ◌<◌, ◌+◌, ◌-◌, ◌*◌, ℕ, zero, suc, arith, Bool, true, false, ◌==◌, if◌then◌else◌, All, List, [], ◌∷◌, ◌++◌, length, take, drop, Option, Some, None, Ok, Err, inl, inr, refl, sym, subst, ap, ◌∙◌}
-use Rattle.std.proofs.lemmas.List.{append-nil, length-append, length-take}
-use Rattle.osdp_msg.specs.Limits.{most_data}
-use Rattle.osdp_msg.specs.declared.command.Command.{Command}
-use Rattle.osdp_msg.specs.declared.event.Event.{Event}
+use Rattle.osdp_sim_laws.proofs.Common.{◌≡◌, ◌≤◌, ◌<◌, ◌+◌, ◌-◌, ◌*◌, ℕ, zero, suc, arith, Bool, true, false, ◌==◌, if◌then◌else◌, All, List, [], ◌∷◌, ◌++◌, length, take, drop, Option, Some, None, Ok, Err, inl, inr, refl, sym, subst, ap, ◌∙◌, append-nil, length-append, length-take, most_data, Command, Event, is_closed, ControllerFault, Full, longest_wait, bytes_waiting, lacks_room, Answer, Delivered, Link, with_answers, SetsNoAddress, all_submitted, each_all, each_append, each_front, each_of, Each, count, Account, lists_of, clean_rounds, rounds, AreSettings, FitAlong, Stops, is_well, run, first_fault, SimState, room_for, set_up, StepFits, after_step, fault_of, moment_after, SimConfig, Cause, HoldsPacket, NoMemory, NotQuiet, OutOfRange, SimStep, Issue, Queue, commands_of, events_of, IsInSession, IsOf, clock_after, first_link, in_bytes, moves_of, OneLink, IsRun, holds_on, runs_on, well_on}
 use Rattle.osdp_controller.specs.Machine as controllers
-use Rattle.osdp_controller.specs.States.{is_closed}
-use Rattle.osdp_controller.specs.declared.fault.ControllerFault.{ControllerFault}
-use Rattle.osdp_controller.specs.declared.fault.ControllerFault.TheVariants.{Full}
-use Rattle.osdp_controller_laws.specs.Calls.{longest_wait}
-use Rattle.osdp_reader.specs.Queue.{bytes_waiting, lacks_room}
-use Rattle.osdp_reader.specs.declared.handler.Answer.{Answer}
 use Rattle.osdp_link_laws.specs.Clean as clean
 use Rattle.osdp_link_laws.specs.Link as link
-use Rattle.osdp_link_laws.specs.Link.{Delivered, Link}
-use Rattle.osdp_link_laws.specs.OneHandler.{with_answers}
 use Rattle.osdp_link_laws.specs.Progress as progress
-use Rattle.osdp_link_laws.specs.Progress.{SetsNoAddress}
-use Rattle.osdp_link_laws.specs.Sessions.{all_submitted}
 use Rattle.osdp_link_laws.specs.Headline as headline
-use Rattle.osdp_link_laws.proofs.Lines.{each_all, each_append, each_front, each_of}
-use Rattle.osdp_link_laws.proofs.Stages.{Each}
-use Rattle.osdp_link_laws.specs.Ends.{count}
-use Rattle.osdp_sim.specs.Account.{Account, lists_of}
-use Rattle.osdp_sim.specs.Rounds.{clean as clean_rounds, rounds}
-use Rattle.osdp_sim.specs.Runs.{AreSettings, FitAlong, Stops, is_well, run}
-use Rattle.osdp_sim.specs.Schedules.{first_fault}
-use Rattle.osdp_sim.specs.State.{SimState, room_for, set_up}
 use Rattle.osdp_sim.specs.Steps as steps
-use Rattle.osdp_sim.specs.Steps.{StepFits, after_step, fault_of, moment_after}
-use Rattle.osdp_sim.specs.declared.config.SimConfig.{SimConfig}
-use Rattle.osdp_sim.specs.declared.fault.Cause.{Cause}
-use Rattle.osdp_sim.specs.declared.fault.Cause.TheVariants.{HoldsPacket, NoMemory, NotQuiet, OutOfRange}
-use Rattle.osdp_sim.specs.declared.step.SimStep.{SimStep}
-use Rattle.osdp_sim.specs.declared.step.SimStep.TheVariants.{Issue, Queue}
-use Rattle.osdp_sim_laws.specs.Accepted.{commands_of, events_of}
-use Rattle.osdp_sim_laws.specs.Accounts.{IsInSession, IsOf}
 use Rattle.osdp_sim_laws.specs.Clean.{GoesInTurn, IsInTurn, IsOrder}
-use Rattle.osdp_sim_laws.specs.Moves.{clock_after, first_link, in_bytes, moves_of}
-use Rattle.osdp_sim_laws.specs.OneLink.{OneLink}
-use Rattle.osdp_sim_laws.specs.Progress.{IsRun}
 use Rattle.osdp_sim_laws.proofs.Accepting.{Accepts, among_few, accepts_commands, accepts_events, each_order_fits, none_commands, none_events, submit_is}
 use Rattle.osdp_sim_laws.proofs.Accounts.{none_earlier}
 use Rattle.osdp_sim_laws.proofs.Coming.{count_of, moments_of, one_session, round_in_time, rounds_are, rounds_within, steps_in_time}
 use Rattle.osdp_sim_laws.proofs.Ends.{HaveEnded, run_ended}
 use Rattle.osdp_sim_laws.proofs.Holding.{begins, goes_from_first, no_account}
 use Rattle.osdp_sim_laws.proofs.Moments.{LinkInTime, clock_on, last_moment}
-use Rattle.osdp_sim.proofs.Schedules.{holds_on, runs_on, well_on}
 use Rattle.osdp_sim_laws.proofs.Room.{OrderFits, ShortCommands, ShortEvents, place_for_command, place_for_event}
 use Rattle.osdp_sim_laws.proofs.Schedules.{Follows, goes_from, goes_on, run_both, schedule_follows}
 

@@ -1,44 +1,12 @@
 -- Rounds that lose nothing, over bytes.
-use Rattle.std.proofs.Common.{◌≡◌, ◌≤◌, ◌<◌, ◌+◌, ℕ, zero, suc, Bool, true, false, ◌==◌, if◌then◌else◌, arith, List, [], ◌∷◌, ◌++◌, length, All, inl, inr, refl, sym, subst, ap, ◌∙◌, append_assoc}
-use Rattle.std.specs.Prelude.{map}
-use Rattle.osdp_frame.specs.Packet.{Packet}
-use Rattle.osdp_frame.specs.Spelling.{spelling}
-use Rattle.osdp_msg.specs.declared.command.Command.{Command}
-use Rattle.osdp_controller.specs.declared.state.State.TheVariants.{Closed}
-use Rattle.osdp_controller.specs.States.{is_closed}
-use Rattle.osdp_controller_laws.specs.Calls.{IsInRange, StaysInRange}
-use Rattle.osdp_controller_laws.specs.Runs.{Begin}
-use Rattle.osdp_controller.specs.Machine.{new_machine}
-use Rattle.osdp_reader.specs.declared.handler.Answer.{Answer}
-use Rattle.osdp_reader.specs.Queue.{lacks_room}
+use Rattle.osdp_sim_laws.proofs.Common.{◌≡◌, ◌≤◌, ◌<◌, ◌+◌, ℕ, zero, suc, Bool, true, false, ◌==◌, if◌then◌else◌, arith, List, [], ◌∷◌, ◌++◌, length, All, inl, inr, refl, sym, subst, ap, ◌∙◌, append_assoc, map, Packet, spelling, Command, Closed, is_closed, IsInRange, StaysInRange, Begin, new_machine, Answer, lacks_room, Delivered, Link, SetsNoAddress, all_submitted, each_all, each_append, each_front, each_of, moves_so, begins_so, set_no_other, steady_ordinary, Each, count, Account, rounds, FitAlong, is_well, run, SimState, room_for, set_up, StepFits, after_step, fault_of, moment_after, SimConfig, SimStep, Issue, Queue, Busy, Wait, ToReader, ToController, Reopen, IsInSession, IsOf, clock_after, step_clock, delivery, first_link, in_bytes, move_of, moves_of, OneLink, ComesOn, ComesThrough, IsClear, IsRun, Recovers, clear, holds_on, runs_on, well_on}
 use Rattle.osdp_link_laws.specs.Headline as headline
 use Rattle.osdp_link_laws.specs.Link as link
-use Rattle.osdp_link_laws.specs.Link.{Delivered, Link}
 use Rattle.osdp_link_laws.specs.Progress as progress
-use Rattle.osdp_link_laws.specs.Progress.{SetsNoAddress}
 use Rattle.osdp_link_laws.specs.Addresses.{StayWhereTheyAre}
-use Rattle.osdp_link_laws.specs.Sessions.{all_submitted}
-use Rattle.osdp_link_laws.proofs.Lines.{each_all, each_append, each_front, each_of}
-use Rattle.osdp_link_laws.proofs.Ordinary.{moves_so}
-use Rattle.osdp_link_laws.proofs.OrdinaryRuns.{begins_so, set_no_other, steady_ordinary}
-use Rattle.osdp_link_laws.proofs.Stages.{Each}
-use Rattle.osdp_link_laws.specs.Ends.{count}
-use Rattle.osdp_sim.specs.Account.{Account}
-use Rattle.osdp_sim.specs.Rounds.{rounds}
-use Rattle.osdp_sim.specs.Runs.{FitAlong, is_well, run}
-use Rattle.osdp_sim.specs.State.{SimState, room_for, set_up}
-use Rattle.osdp_sim.specs.Steps.{StepFits, after_step, fault_of, moment_after}
-use Rattle.osdp_sim.specs.declared.config.SimConfig.{SimConfig}
-use Rattle.osdp_sim.specs.declared.step.SimStep.{SimStep}
-use Rattle.osdp_sim.specs.declared.step.SimStep.TheVariants.{Issue, Queue, Busy, Wait, ToReader, ToController, Reopen}
-use Rattle.osdp_sim_laws.specs.Accounts.{IsInSession, IsOf}
-use Rattle.osdp_sim_laws.specs.Moves.{clock_after, step_clock, delivery, first_link, in_bytes, move_of, moves_of}
-use Rattle.osdp_sim_laws.specs.OneLink.{OneLink}
-use Rattle.osdp_sim_laws.specs.Progress.{ComesOn, ComesThrough, IsClear, IsRun, Recovers, clear}
 use Rattle.osdp_sim_laws.proofs.Clearing.{AtMost, Cleared, clears, losses_within, steps_few}
 use Rattle.osdp_sim_laws.proofs.Accounts.{none_earlier, some_begun}
 use Rattle.osdp_sim_laws.proofs.Begun.{none_reopen, sessions_counted}
-use Rattle.osdp_sim.proofs.Schedules.{holds_on, runs_on, well_on}
 use Rattle.osdp_sim_laws.proofs.Ends.{HaveEnded, run_ended}
 use Rattle.osdp_sim_laws.proofs.Holding.{begins, goes_from_first, no_account}
 use Rattle.osdp_sim_laws.proofs.Moments.{LinkInTime, begins_in_time, clock_on, controller_in_time, last_moment, queues_in_time, reader_in_time, submits_in_time, tick_in_time}

@@ -1,29 +1,11 @@
 -- What the line does with a burst, where a link's packets go over it in bytes.
-use Rattle.std.proofs.Common.{◌≡◌, ℕ, List, [], ◌∷◌, ◌++◌, None, IfSome, refl, sym, subst, ap, ◌∙◌}
-use Rattle.std.proofs.lemmas.List.{append-nil}
-use Rattle.std.specs.Prelude.{map, option_to_list}
-use Rattle.osdp_frame.specs.Packet.{IsPacket, Packet}
-use Rattle.osdp_frame.specs.Items.{packets_in, reading}
-use Rattle.osdp_frame.specs.Spelling.{spelling}
-use Rattle.osdp_msg.specs.declared.command.Command.{Command}
+use Rattle.osdp_sim_laws.proofs.Common.{◌≡◌, ℕ, List, [], ◌∷◌, ◌++◌, None, IfSome, refl, sym, subst, ap, ◌∙◌, append-nil, map, option_to_list, IsPacket, Packet, packets_in, reading, spelling, Command, Answer, SaysWhatFitsIf, Link, told_by_front, Each, Account, handed, left, SimState, SaysFit, controller_hears, damage_fault, reader_hears, ReadsPackets, IsOf, delivery, in_bytes}
 use Rattle.osdp_controller.specs.Hearing as controller
-use Rattle.osdp_reader.specs.declared.handler.Answer.{Answer}
 use Rattle.osdp_reader.specs.Table as reader
-use Rattle.osdp_link_laws.specs.Headline.{SaysWhatFitsIf}
 use Rattle.osdp_link_laws.specs.Link as link
-use Rattle.osdp_link_laws.specs.Link.{Link}
-use Rattle.osdp_link_laws.specs.Refusals.{told_by_front}
-use Rattle.osdp_link_laws.proofs.Stages.{Each}
-use Rattle.osdp_sim.specs.Account.{Account}
-use Rattle.osdp_sim.specs.Line.{handed, left}
 use Rattle.osdp_sim.proofs.Bursts.{no_packets}
-use Rattle.osdp_sim.specs.State.{SimState}
-use Rattle.osdp_sim.specs.Steps.{SaysFit, controller_hears, damage_fault, reader_hears}
 use Rattle.osdp_sim.specs.declared.step.Move as way
 use Rattle.osdp_sim.specs.declared.step.Move.TheVariants.{Deliver, Drop, Repeat, Damage}
-use Rattle.osdp_sim_laws.specs.OneLink.{ReadsPackets}
-use Rattle.osdp_sim_laws.specs.Accounts.{IsOf}
-use Rattle.osdp_sim_laws.specs.Moves.{delivery, in_bytes}
 use Rattle.osdp_sim_laws.proofs.Accounts.{causes_of, report_leaves, tells_report, tells_taken}
 use Rattle.osdp_sim_laws.proofs.Carrying.{ArePackets, IsCarried, nothing, packets_after, sent_after}
 

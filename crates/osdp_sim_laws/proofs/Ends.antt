@@ -1,36 +1,10 @@
 -- Each session that has ended has one end.
-use Rattle.std.proofs.Common.{◌≡◌, ◌+◌, Bool, true, false, not, ◌&&◌, ◌||◌, ◌==◌, if◌then◌else◌, arith, List, [], ◌∷◌, length, Option, Some, None, refl, ap, ◌∙◌}
-use Rattle.std.proofs.lemmas.List.{length-append}
-use Rattle.osdp_frame.specs.Items.{packets_in}
-use Rattle.osdp_frame.specs.Packet.{Packet}
-use Rattle.osdp_msg.specs.declared.command.Command.{Command}
-use Rattle.osdp_msg.specs.declared.event.Event.{Event}
-use Rattle.osdp_controller.specs.Hearing.{hears}
+use Rattle.osdp_sim_laws.proofs.Common.{◌≡◌, ◌+◌, Bool, true, false, not, ◌&&◌, ◌||◌, ◌==◌, if◌then◌else◌, arith, List, [], ◌∷◌, length, Option, Some, None, refl, ap, ◌∙◌, length-append, packets_in, Packet, Command, Event, hears, seen, is_closed, ticks, ControllerFault, Report, State, silent_frame, silent_tick, HandlerAnswer, lacks_room, count, first_well, Account, lengths_of, with_report, handed, is_well, run, SimState, after_step, controller_hears, fault_of, moment_after, reader_hears, NotQuiet, SimStep, Issue, Queue, Busy, Wait, ToReader, ToController, Reopen, EndsAreTold}
 use Rattle.osdp_controller.specs.Machine as controllers
-use Rattle.osdp_controller.specs.Sessions.{seen}
-use Rattle.osdp_controller.specs.States.{is_closed}
-use Rattle.osdp_controller.specs.Ticking.{ticks}
-use Rattle.osdp_controller.specs.declared.fault.ControllerFault.{ControllerFault}
-use Rattle.osdp_controller.specs.declared.report.Report.{Report}
 use Rattle.osdp_controller.specs.declared.report.Report.TheVariants as report
-use Rattle.osdp_controller.specs.declared.state.State.{State}
 use Rattle.osdp_controller_laws.specs.Commands.{tells_end}
-use Rattle.osdp_controller_laws.proofs.Closed.{silent_frame, silent_tick}
-use Rattle.osdp_reader.specs.declared.handler.Answer.{Answer as HandlerAnswer}
-use Rattle.osdp_reader.specs.Queue.{lacks_room}
-use Rattle.osdp_link_laws.specs.Ends.{count}
-use Rattle.osdp_sim.proofs.Schedules.{first_well}
-use Rattle.osdp_sim.specs.Account.{Account, lengths_of, with_report}
-use Rattle.osdp_sim.specs.Line.{handed}
-use Rattle.osdp_sim.specs.Runs.{is_well, run}
-use Rattle.osdp_sim.specs.State.{SimState}
 use Rattle.osdp_sim.specs.Steps as steps
-use Rattle.osdp_sim.specs.Steps.{after_step, controller_hears, fault_of, moment_after, reader_hears}
 use Rattle.osdp_sim.specs.declared.account.End.TheVariants as ending
-use Rattle.osdp_sim.specs.declared.fault.Cause.TheVariants.{NotQuiet}
-use Rattle.osdp_sim.specs.declared.step.SimStep.{SimStep}
-use Rattle.osdp_sim.specs.declared.step.SimStep.TheVariants.{Issue, Queue, Busy, Wait, ToReader, ToController, Reopen}
-use Rattle.osdp_sim_laws.specs.OneLink.{EndsAreTold}
 
 ends_of_report : (r : Option Report) (a : Account) → length (with_report r a).ends ≡ length a.ends + count (tells_end r)
 ends_of_report None a = omega arith

@@ -1,32 +1,11 @@
 -- What holds of each schedule.
-use Rattle.std.proofs.Common.{◌≡◌, ◌<◌, ℕ, Bool, true, false, arith, List, [], ◌∷◌, ◌++◌, length, refl, sym, subst, ap, ◌∙◌, Result, Ok, Err, ◌≤◌, ◌-◌, zero, suc, take, inl, inr, ◌+◌, ◌⊎◌}
-use Rattle.osdp_msg.specs.declared.command.Command.{Command}
-use Rattle.osdp_controller.specs.States.{is_closed}
-use Rattle.osdp_reader.specs.declared.config.ReaderConfig.{ReaderConfig}
-use Rattle.osdp_reader.specs.declared.handler.Answer.{Answer}
+use Rattle.osdp_sim_laws.proofs.Common.{◌≡◌, ◌<◌, ℕ, Bool, true, false, arith, List, [], ◌∷◌, ◌++◌, length, refl, sym, subst, ap, ◌∙◌, Result, Ok, Err, ◌≤◌, ◌-◌, zero, suc, take, inl, inr, ◌+◌, ◌⊎◌, Command, is_closed, ReaderConfig, Answer, Begins, IsBeginning, with_answers, AreUndisturbed, IsUndisturbed, each_all, each_of, moves_so, begins_so, keep_reader, steady_handler, steady_ordinary, count, Account, empty_account, lists_of, with_session, FitAlong, Stops, run, steps_done, set_up, Cause, SimConfig, SimStep, AnswersEndOnce, AnswersHoldOnce, EndOnce, IsAnswer, IsNoRefusal, IsOf, IsOnce, WasSetUp, account_in, reopens_in, OneLink, IsRun, ScheduleIsMoves, first_link, moves_of}
 use Rattle.osdp_link_laws.specs.Headline as link_once
-use Rattle.osdp_link_laws.specs.Headline.{Begins, IsBeginning}
 use Rattle.osdp_link_laws.specs.Link as link
-use Rattle.osdp_link_laws.specs.OneHandler.{with_answers}
-use Rattle.osdp_link_laws.specs.Ordinary.{AreUndisturbed, IsUndisturbed}
 use Rattle.osdp_link_laws.specs.Refusals as refusals
-use Rattle.osdp_link_laws.proofs.Lines.{each_all, each_of}
-use Rattle.osdp_link_laws.proofs.Ordinary.{moves_so}
-use Rattle.osdp_link_laws.proofs.OrdinaryRuns.{begins_so, keep_reader, steady_handler, steady_ordinary}
-use Rattle.osdp_link_laws.specs.Ends.{count}
 use Rattle.osdp_link_ledger.proofs.Answered.{HaveAnswers, sessions_have_answers}
-use Rattle.osdp_sim.specs.Account.{Account, empty_account, lists_of, with_session}
-use Rattle.osdp_sim.specs.Runs.{FitAlong, Stops, run, steps_done}
-use Rattle.osdp_sim.specs.State.{set_up}
 use Rattle.osdp_sim.specs.declared.account.Account as declared
-use Rattle.osdp_sim.specs.declared.fault.Cause.{Cause}
 use Rattle.osdp_sim.specs.declared.fault.Fault.{Fault}
-use Rattle.osdp_sim.specs.declared.config.SimConfig.{SimConfig}
-use Rattle.osdp_sim.specs.declared.step.SimStep.{SimStep}
-use Rattle.osdp_sim_laws.specs.Accounts.{AnswersEndOnce, AnswersHoldOnce, EndOnce, IsAnswer, IsNoRefusal, IsOf, IsOnce, WasSetUp, account_in, reopens_in}
-use Rattle.osdp_sim_laws.specs.OneLink.{OneLink}
-use Rattle.osdp_sim_laws.specs.Progress.{IsRun}
-use Rattle.osdp_sim_laws.specs.Moves.{ScheduleIsMoves, first_link, moves_of}
 use Rattle.osdp_sim_laws.proofs.Accounts.{none_earlier}
 use Rattle.osdp_sim_laws.proofs.Ends.{run_ended}
 use Rattle.osdp_sim_laws.proofs.Schedules.{GoesFrom, schedule_follows}

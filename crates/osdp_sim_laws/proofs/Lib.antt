@@ -1,3 +1,4 @@
+pub mod Common
 pub mod Accepting
 pub mod Accounts
 pub mod Begun

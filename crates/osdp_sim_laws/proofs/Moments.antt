@@ -1,22 +1,9 @@
 -- No moment lies before the clock, and the waits stay as they are.
-use Rattle.std.proofs.Common.{◌≤◌, ◌-◌, ◌^◌, ℕ, Bool, true, false, arith, List, [], ◌∷◌, max, Option, Some, None}
-use Rattle.osdp_frame.specs.Packet.{Packet}
-use Rattle.osdp_msg.specs.declared.command.Command.{Command}
-use Rattle.osdp_msg.specs.declared.event.Event.{Event}
-use Rattle.osdp_controller.specs.Hearing.{Heard, hears}
-use Rattle.osdp_controller.specs.Sessions.{seen}
-use Rattle.osdp_controller.specs.Ticking.{Ticked, ticks_in}
+use Rattle.osdp_sim_laws.proofs.Common.{◌≤◌, ◌-◌, ◌^◌, ℕ, Bool, true, false, arith, List, [], ◌∷◌, max, Option, Some, None, Packet, Command, Event, Heard, hears, seen, Ticked, ticks_in, ControllerFault, Report, Session, State, longest_wait, HandlerAnswer, moment_after}
 use Rattle.osdp_controller.specs.declared.config.ControllerConfig.{ControllerConfig}
-use Rattle.osdp_controller.specs.declared.fault.ControllerFault.{ControllerFault}
-use Rattle.osdp_controller.specs.declared.report.Report.{Report}
-use Rattle.osdp_controller.specs.declared.session.Session.{Session}
-use Rattle.osdp_controller.specs.declared.state.State.{State}
-use Rattle.osdp_controller_laws.specs.Calls.{longest_wait}
 use Rattle.osdp_controller_laws.proofs.Kept.{HoldsOfKept, frame_keeps, tick_keeps}
-use Rattle.osdp_reader.specs.declared.handler.Answer.{Answer as HandlerAnswer}
 use Rattle.osdp_link_laws.specs.Link as link
 use Rattle.osdp_link_laws.specs.Link.{Delivered, Delivery, Link, Lost, Move, Queue as QueueEvent, Reopen, Repeated, SetBusy, Submit, Tick, ToController, ToReader, after_move}
-use Rattle.osdp_sim.specs.Steps.{moment_after}
 
 -- the last moment that there is
 abbrev pub last_moment : ℕ

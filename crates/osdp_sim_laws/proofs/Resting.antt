@@ -1,36 +1,9 @@
 -- Between the clearing of a line and the rounds after it, and between these rounds.
-use Rattle.std.proofs.Common.{◌≡◌, ◌⊎◌, ◌≤◌, ◌+◌, ℕ, zero, suc, true, arith, List, [], ◌∷◌, ◌++◌, length, All, inl, inr, refl, sym, subst, ap, ◌∙◌, append_assoc}
-use Rattle.std.specs.Prelude.{map, min}
-use Rattle.osdp_frame.specs.Spelling.{spelling}
-use Rattle.osdp_msg.specs.declared.command.Command.{Command}
-use Rattle.osdp_controller.specs.Machine.{is_due, new_machine}
-use Rattle.osdp_controller.specs.Sessions.{seen}
-use Rattle.osdp_controller.specs.declared.state.State.{State}
-use Rattle.osdp_controller.specs.declared.state.State.TheVariants.{Closed, Idle}
-use Rattle.osdp_controller_laws.specs.Calls.{ComesDue, IsInRange, StaysInRange, longest_wait}
-use Rattle.osdp_controller_laws.specs.Runs.{Begin}
-use Rattle.osdp_reader.specs.declared.handler.Answer.{Answer}
-use Rattle.osdp_link_laws.specs.Headline.{Begins, MovesFit}
+use Rattle.osdp_sim_laws.proofs.Common.{◌≡◌, ◌⊎◌, ◌≤◌, ◌+◌, ℕ, zero, suc, true, arith, List, [], ◌∷◌, ◌++◌, length, All, inl, inr, refl, sym, subst, ap, ◌∙◌, append_assoc, map, min, spelling, Command, is_due, new_machine, seen, State, Closed, Idle, ComesDue, IsInRange, StaysInRange, longest_wait, Begin, Answer, Begins, MovesFit, Link, Move, each_append, each_of, moves_so, begins_so, steady_ordinary, Each, holds_on, well_on, round, rounds, run, SimState, room_for, set_up, StepFits, after_step, fault_of, moment_after, SimConfig, SimStep, IsInSession, clock_after, first_link, moves_of, OneLink, IsClear, IsRun, clear}
 use Rattle.osdp_link_laws.specs.Link as link
-use Rattle.osdp_link_laws.specs.Link.{Link, Move}
 use Rattle.osdp_link_laws.specs.Progress as progress
 use Rattle.osdp_link_laws.proofs.Due.{closed_rests}
 use Rattle.osdp_link_laws.proofs.InTime.{late_due, rounds_closed, run_range}
-use Rattle.osdp_link_laws.proofs.Lines.{each_append, each_of}
-use Rattle.osdp_link_laws.proofs.Ordinary.{moves_so}
-use Rattle.osdp_link_laws.proofs.OrdinaryRuns.{begins_so, steady_ordinary}
-use Rattle.osdp_link_laws.proofs.Stages.{Each}
-use Rattle.osdp_sim.proofs.Schedules.{holds_on, well_on}
-use Rattle.osdp_sim.specs.Rounds.{round, rounds}
-use Rattle.osdp_sim.specs.Runs.{run}
-use Rattle.osdp_sim.specs.State.{SimState, room_for, set_up}
-use Rattle.osdp_sim.specs.Steps.{StepFits, after_step, fault_of, moment_after}
-use Rattle.osdp_sim.specs.declared.config.SimConfig.{SimConfig}
-use Rattle.osdp_sim.specs.declared.step.SimStep.{SimStep}
-use Rattle.osdp_sim_laws.specs.Accounts.{IsInSession}
-use Rattle.osdp_sim_laws.specs.Moves.{clock_after, first_link, moves_of}
-use Rattle.osdp_sim_laws.specs.OneLink.{OneLink}
-use Rattle.osdp_sim_laws.specs.Progress.{IsClear, IsRun, clear}
 use Rattle.osdp_sim_laws.specs.Resting.{BringsOneMore, ClearsTheLine, EachRoundBringsOneMore, EachRoundRests}
 use Rattle.osdp_sim_laws.proofs.Accounts.{some_begun}
 use Rattle.osdp_sim_laws.proofs.Coming.{are_late, as_long, clear_link, in_two, is_cleared, moments_of, moves_on, not_over, one_session, rounds_are, rounds_within, steps_in_time}

@@ -1,36 +1,17 @@
 -- Room for what waits, however long each message is.
-use Rattle.std.proofs.Common.{◌≡◌, ◌<◌, ◌≤◌, ◌+◌, ◌-◌, ◌*◌, ◌&&◌, ℕ, arith, Bool, true, false, ltb, leb, if◌then◌else◌, List, [], ◌∷◌, ◌++◌, length, drop, inl, inr, refl, sym, ap, ◌∙◌}
+use Rattle.osdp_sim_laws.proofs.Common.{◌≡◌, ◌<◌, ◌≤◌, ◌+◌, ◌-◌, ◌*◌, ◌&&◌, ℕ, arith, Bool, true, false, ltb, leb, if◌then◌else◌, List, [], ◌∷◌, ◌++◌, length, drop, inl, inr, refl, sym, ap, ◌∙◌, le-leb, lt-ltb, ltb-true, leb_tells, length-append, next_sequence, most_data, Command, Event, Reply, Machine, Ticked, begins, gives_up, sends_frame, stays, ticks_in, tries_again, Session, State, Closed, Quiet, Idle, Waiting, Pausing, EventQueue, both, Each, HoldsAlong, SimStep, Issue, Queue}
 use Rattle.std.specs.Option.{option_map_or}
-use Rattle.std.proofs.lemmas.Bool.{le-leb, lt-ltb, ltb-true}
-use Rattle.std.proofs.lemmas.Bool.Decides.{leb_tells}
-use Rattle.std.proofs.lemmas.List.{length-append}
 use Rattle.std.specs.Prelude.{not}
-use Rattle.osdp_frame.specs.Packet.{next_sequence}
 use Rattle.osdp_msg.specs.CommandTable.{CommandFits, command_code, command_counts_agree, command_data, command_fault, command_length_allowed}
 use Rattle.osdp_msg.specs.Events.{EventFits, event_reply}
-use Rattle.osdp_msg.specs.Limits.{most_data}
 use Rattle.osdp_msg.specs.ReplyTable.{ReplyFits, reply_code, reply_counts_agree, reply_data, reply_fault, reply_length_allowed}
-use Rattle.osdp_msg.specs.declared.command.Command.{Command}
-use Rattle.osdp_msg.specs.declared.event.Event.{Event}
-use Rattle.osdp_msg.specs.declared.reply.Reply.{Reply}
 use Rattle.osdp_msg.proofs.Commands.{commands}
 use Rattle.osdp_msg.proofs.Replies.{replies}
 use Rattle.osdp_msg.proofs.Table.{bounded}
 use Rattle.osdp_controller.specs.Held.{on_its_way}
 use Rattle.osdp_controller.specs.Machine as controllers
-use Rattle.osdp_controller.specs.Machine.{Machine}
-use Rattle.osdp_controller.specs.Ticking.{Ticked, begins, gives_up, sends_frame, stays, ticks_in, tries_again}
 use Rattle.osdp_controller.specs.declared.exchange.Exchange.TheVariants.{Opening, Polling}
-use Rattle.osdp_controller.specs.declared.session.Session.{Session}
-use Rattle.osdp_controller.specs.declared.state.State.{State}
-use Rattle.osdp_controller.specs.declared.state.State.TheVariants.{Closed, Quiet, Idle, Waiting, Pausing}
 use Rattle.osdp_reader.specs.Queue as reader
-use Rattle.osdp_reader.specs.Queue.{Queue as EventQueue}
-use Rattle.osdp_link_laws.proofs.Lines.{both}
-use Rattle.osdp_link_laws.proofs.Stages.{Each}
-use Rattle.osdp_sim.specs.Schedules.{HoldsAlong}
-use Rattle.osdp_sim.specs.declared.step.SimStep.{SimStep}
-use Rattle.osdp_sim.specs.declared.step.SimStep.TheVariants.{Issue, Queue}
 
 -- ---- how long a message is
 

@@ -1,37 +1,11 @@
 -- A schedule over a line of bytes is a list of moves of the link over its packets.
-use Rattle.std.proofs.Common.{◌≡◌, ℕ, Bool, true, false, not, ◌&&◌, ◌==◌, if◌then◌else◌, List, [], ◌∷◌, ◌++◌, Some, None, refl, sym, subst, ap, ◌∙◌, append_assoc}
-use Rattle.std.specs.Prelude.{option_to_list}
-use Rattle.osdp_msg.specs.declared.command.Command.{Command}
+use Rattle.osdp_sim_laws.proofs.Common.{◌≡◌, ℕ, Bool, true, false, not, ◌&&◌, ◌==◌, if◌then◌else◌, List, [], ◌∷◌, ◌++◌, Some, None, refl, sym, subst, ap, ◌∙◌, append_assoc, option_to_list, Command, ticks, State, Closed, Answer, lacks_room, MovesFit, Link, after_move, IsSteady, reports, told_by, all_queued, all_submitted, queued, submitted, each_append, each_front, each_rest, Each, Account, FitAlong, is_well, run, SimState, StepFits, after_step, fault_of, Cause, NotQuiet, SimStep, Issue, Queue, Busy, Wait, ToReader, ToController, Reopen, IsOf, ReadsPackets, clock_after, step_clock, in_bytes, move_of, moves_of, first_well}
 use Rattle.osdp_controller.specs.Machine as controllers
-use Rattle.osdp_controller.specs.Ticking.{ticks}
-use Rattle.osdp_controller.specs.declared.state.State.{State}
-use Rattle.osdp_controller.specs.declared.state.State.TheVariants.{Closed}
-use Rattle.osdp_reader.specs.declared.handler.Answer.{Answer}
-use Rattle.osdp_reader.specs.Queue.{lacks_room}
-use Rattle.osdp_link_laws.specs.Headline.{MovesFit}
 use Rattle.osdp_link_laws.specs.Link as link
-use Rattle.osdp_link_laws.specs.Link.{Link, after_move}
-use Rattle.osdp_link_laws.specs.Ordinary.{IsSteady}
 use Rattle.osdp_link_laws.specs.Refusals as refusals
-use Rattle.osdp_link_laws.specs.Refusals.{reports, told_by}
-use Rattle.osdp_link_laws.specs.Sessions.{all_queued, all_submitted, queued, submitted}
-use Rattle.osdp_link_laws.proofs.Lines.{each_append, each_front, each_rest}
-use Rattle.osdp_link_laws.proofs.Stages.{Each}
-use Rattle.osdp_sim.specs.Account.{Account}
-use Rattle.osdp_sim.specs.Runs.{FitAlong, is_well, run}
-use Rattle.osdp_sim.specs.State.{SimState}
 use Rattle.osdp_sim.specs.Steps as steps
-use Rattle.osdp_sim.specs.Steps.{StepFits, after_step, fault_of}
-use Rattle.osdp_sim.specs.declared.fault.Cause.{Cause}
-use Rattle.osdp_sim.specs.declared.fault.Cause.TheVariants.{NotQuiet}
-use Rattle.osdp_sim.specs.declared.step.SimStep.{SimStep}
-use Rattle.osdp_sim.specs.declared.step.SimStep.TheVariants.{Issue, Queue, Busy, Wait, ToReader, ToController, Reopen}
-use Rattle.osdp_sim_laws.specs.Accounts.{IsOf}
-use Rattle.osdp_sim_laws.specs.OneLink.{ReadsPackets}
-use Rattle.osdp_sim_laws.specs.Moves.{clock_after, step_clock, in_bytes, move_of, moves_of}
 use Rattle.osdp_sim_laws.proofs.Carrying.{ArePackets, IsCarried, is_quiet, issuing, nothing, queueing, reopening, setting_busy, ticking}
 use Rattle.osdp_sim_laws.proofs.Delivering.{says_what_fits, to_controller, to_reader}
-use Rattle.osdp_sim.proofs.Schedules.{first_well}
 
 module _ {H : Type 0} (answer_of : H → Command → Answer) (after : H → Command → H) where
   -- the simulation is carried on by these moves

@@ -1,3 +1,4 @@
+pub mod Common
 mod Telling
 mod SeveralQueued
 mod OneReader

@@ -1,32 +1,15 @@
 -- The run over a line with one reader.
-use Rattle.std.proofs.Common.{◌≡◌, ◌==◌, ℕ, Bool, true, false, if◌then◌else◌, List, [], ◌∷◌, ◌++◌, subst}
-use Rattle.osdp_msg.specs.declared.command.Command.{Command}
-use Rattle.osdp_reader.specs.declared.handler.Answer.{Answer}
-use Rattle.osdp_ledger.specs.Laws.{TellsInTurn}
-use Rattle.osdp_link_laws.specs.Headline.{HoldsOnce}
+use Rattle.osdp_sim_ledger.proofs.Common.{◌≡◌, ◌==◌, ℕ, Bool, true, false, if◌then◌else◌, List, [], ◌∷◌, ◌++◌, subst, Command, Answer, TellsInTurn, HoldsOnce, Move, IsOrdinary, IsSteady, all_queued, all_submitted, each_all, each_append, steady_handler, steady_ordinary, Each, LedgerTellsAccounts, ActsHaveAnswersOfOneHandler, OrdinaryMovesEndTold, SimStep, Busy, Issue, Queue, Reopen, holds_on, well_on, TellsByLedger}
 use Rattle.osdp_link_laws.specs.Link as link
-use Rattle.osdp_link_laws.specs.Link.{Move}
-use Rattle.osdp_link_laws.specs.Ordinary.{IsOrdinary, IsSteady}
-use Rattle.osdp_link_laws.specs.Sessions.{all_queued, all_submitted}
-use Rattle.osdp_link_laws.proofs.Lines.{each_all, each_append}
-use Rattle.osdp_link_laws.proofs.OrdinaryRuns.{steady_handler, steady_ordinary}
-use Rattle.osdp_link_laws.proofs.Stages.{Each}
-use Rattle.osdp_link_ledger.specs.Accounts.{LedgerTellsAccounts}
-use Rattle.osdp_link_ledger.specs.Answers.{ActsHaveAnswersOfOneHandler}
 use Rattle.osdp_link_ledger.specs.Laws.{HoldsByLedger, LinkKeepsLedger}
-use Rattle.osdp_link_ledger.specs.Ordinary.{OrdinaryMovesEndTold}
 use Rattle.osdp_sim.specs.Runs.{FitAlong, is_well, run, steps_done}
 use Rattle.osdp_sim.specs.State.{set_up}
 use Rattle.osdp_sim.specs.Steps.{StepFits, after_step, fault_of}
 use Rattle.osdp_sim.specs.declared.config.SimConfig.{SimConfig}
-use Rattle.osdp_sim.specs.declared.step.SimStep.{SimStep}
-use Rattle.osdp_sim.specs.declared.step.SimStep.TheVariants.{Busy, Issue, Queue, Reopen}
-use Rattle.osdp_sim.proofs.Schedules.{holds_on, well_on}
 use Rattle.osdp_sim_laws.specs.Moves.{ScheduleIsMoves, first_link, move_of, moves_of, step_clock}
 use Rattle.osdp_sim_laws.specs.Progress.{IsRun}
 use Rattle.osdp_sim_laws.proofs.Holding.{answers}
 use Rattle.osdp_sim_ledger.specs.OneReader.{KeepsLedger, RunKeepsLedger, steps_of_run}
-use Rattle.osdp_sim_ledger.specs.Telling.{TellsByLedger}
 use Rattle.osdp_sim_ledger.proofs.Telling.{tells_once}
 
 module _ {H : Type 0} where

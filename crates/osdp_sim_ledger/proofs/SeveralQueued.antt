@@ -1,43 +1,21 @@
 -- The events that the account of each of several readers has as queued are those that the moves of its link queue.
-use Rattle.std.proofs.Common.{◌≡◌, ◌-◌, ◌==◌, ℕ, zero, suc, Bool, true, false, cond, if◌then◌else◌, List, [], ◌∷◌, ◌++◌, length, Option, Some, None, refl, sym, subst, ap, ◌∙◌, append_assoc, inl, inr}
+use Rattle.osdp_sim_ledger.proofs.Common.{◌≡◌, ◌-◌, ◌==◌, ℕ, zero, suc, Bool, true, false, cond, if◌then◌else◌, List, [], ◌∷◌, ◌++◌, length, Option, Some, None, refl, sym, subst, ap, ◌∙◌, append_assoc, inl, inr, slice_get, Command, Event, Answer, Delivery, Link, Move, queued, unless_full, both, Each, IsSetUp, Net, NetMove, Site, is_comset_refused, run, site_at, one_if, view, NothingIsKept, GivesNone, LinkGivesNone, at_site, counted, in_net, in_net_more, net_none, moment_after, SimStep, Busy, Issue, Queue, Reopen, ToController, ToReader, Wait, holds_on, runs_on, well_on, FitAlong, is_well, LineState, ReaderSite, StepFits, after_step, changes_site, fault_of, is_there, issued, site_issues, site_queues, site_queues_unless, FollowsSites, IsSiteOf, SchedulesAreMoves, SitesOf, each_reads, moves_for, moves_of, delivery}
 use Rattle.std.proofs.lemmas.Bool.Decides.{eqb_tells}
 use Rattle.std.proofs.lemmas.List.{append-nil}
-use Rattle.std.specs.Prelude.{slice_get}
-use Rattle.osdp_msg.specs.declared.command.Command.{Command}
-use Rattle.osdp_msg.specs.declared.event.Event.{Event}
 use Rattle.osdp_controller.specs.Hearing.{comset_of}
 use Rattle.osdp_reader.specs.Queue.{lacks_room}
 use Rattle.osdp_reader.specs.State.{ReaderState}
-use Rattle.osdp_reader.specs.declared.handler.Answer.{Answer}
 use Rattle.osdp_bus.specs.Machine.{submit_refusal_at}
 use Rattle.osdp_bus.specs.declared.fault.BusFault.{BusFault}
 use Rattle.osdp_bus_links.specs.Links.{one_ticks, who_ticks}
 use Rattle.osdp_link_laws.specs.Link as link
-use Rattle.osdp_link_laws.specs.Link.{Delivery, Link, Move}
-use Rattle.osdp_link_laws.specs.Sessions.{queued, unless_full}
-use Rattle.osdp_link_laws.proofs.Lines.{both}
-use Rattle.osdp_link_laws.proofs.Stages.{Each}
-use Rattle.osdp_shared_line.specs.Addresses.{IsSetUp}
 use Rattle.osdp_shared_line.specs.Line as line
-use Rattle.osdp_shared_line.specs.Line.{Net, NetMove, Site, is_comset_refused, run, site_at}
-use Rattle.osdp_shared_line.specs.Views.{one_if, view}
-use Rattle.osdp_bus_links.specs.Premises.{NothingIsKept}
-use Rattle.osdp_calls.proofs.Counting.{GivesNone, LinkGivesNone, at_site, counted, in_net, in_net_more, net_none}
-use Rattle.osdp_sim.specs.Steps.{moment_after}
-use Rattle.osdp_sim.specs.declared.step.SimStep.{SimStep}
-use Rattle.osdp_sim.specs.declared.step.SimStep.TheVariants.{Busy, Issue, Queue, Reopen, ToController, ToReader, Wait}
-use Rattle.osdp_sim.proofs.Schedules.{holds_on, runs_on, well_on}
 use Rattle.osdp_sim_bus.specs.Runs as simulation
-use Rattle.osdp_sim_bus.specs.Runs.{FitAlong, is_well}
-use Rattle.osdp_sim_bus.specs.State.{LineState, ReaderSite}
-use Rattle.osdp_sim_bus.specs.Steps.{StepFits, after_step, changes_site, fault_of, is_there, issued, site_issues, site_queues, site_queues_unless}
-use Rattle.osdp_sim_bus_laws.specs.Moves.{FollowsSites, IsSiteOf, SchedulesAreMoves, SitesOf, each_reads, moves_for, moves_of}
 use Rattle.osdp_sim_bus_laws.proofs.Idling.{IsIdle, idle_sites, where_sites}
 use Rattle.osdp_sim_bus_laws.proofs.Places.{StaysAt, get_changed, other_changed, stays_all, stays_changed}
 use Rattle.osdp_sim_bus_laws.proofs.Scheduling.{moves_more}
 use Rattle.osdp_sim_laws.proofs.Accepting.{IsNoOrder}
 use Rattle.osdp_sim_laws.proofs.Accounts.{report_leaves}
-use Rattle.osdp_sim_laws.specs.Moves.{delivery}
 
 module _ {H : Type 0} where
   -- the site of a reader

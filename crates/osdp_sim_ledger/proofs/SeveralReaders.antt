@@ -1,44 +1,21 @@
 -- The run over a bus, for each of its readers.
-use Rattle.std.proofs.Common.{◌≡◌, ◌++◌, ℕ, true, List, [], ◌∷◌, Some, refl, subst, sym, ap, ◌∙◌}
+use Rattle.osdp_sim_ledger.proofs.Common.{◌≡◌, ◌++◌, ℕ, true, List, [], ◌∷◌, Some, refl, subst, sym, ap, ◌∙◌, option_map, slice_get, Command, Answer, IsScheduled, TellsInTurn, EachIsOnce, HoldsOnce, Link, IsOrdinary, CommandsHavePlaces, all_queued, all_submitted, ended_commands, queued, each_all, each_of, steady_handler, steady_ordinary, ActsHaveAnswersOfOneHandler, OrdinaryMovesEndTold, NobodyElseHears, run, EachMoveIsItsOwn, view, all_heard, in_link, Account, SimStep, holds_on, well_on, StepFits, after_step, fault_of, SchedulesAreMoves, moves_of, TellsByLedger}
 use Rattle.std.proofs.lemmas.Option.{slice_get-map}
-use Rattle.std.specs.Prelude.{option_map, slice_get}
-use Rattle.osdp_msg.specs.declared.command.Command.{Command}
-use Rattle.osdp_reader.specs.declared.handler.Answer.{Answer}
 use Rattle.osdp_bus.specs.declared.config.BusConfig.{BusConfig}
-use Rattle.osdp_bus_links.specs.Premises.{IsScheduled}
 use Rattle.osdp_bus_links.proofs.Keeping.{moves_usual}
 use Rattle.osdp_bus_links.proofs.Names.{are_steady}
-use Rattle.osdp_ledger.specs.Laws.{TellsInTurn}
 use Rattle.osdp_line_ledger.specs.Laws.{EachKeepsLedger}
-use Rattle.osdp_link_laws.specs.Headline.{EachIsOnce, HoldsOnce}
-use Rattle.osdp_link_laws.specs.Link.{Link}
-use Rattle.osdp_link_laws.specs.Ordinary.{IsOrdinary}
-use Rattle.osdp_link_laws.specs.Sessions.{CommandsHavePlaces, all_queued, all_submitted, ended_commands, queued}
-use Rattle.osdp_link_laws.proofs.Lines.{each_all, each_of}
-use Rattle.osdp_link_laws.proofs.OrdinaryRuns.{steady_handler, steady_ordinary}
-use Rattle.osdp_link_ledger.specs.Answers.{ActsHaveAnswersOfOneHandler}
-use Rattle.osdp_link_ledger.specs.Ordinary.{OrdinaryMovesEndTold}
-use Rattle.osdp_shared_line.specs.Addresses.{NobodyElseHears}
-use Rattle.osdp_shared_line.specs.Line.{run}
 use Rattle.osdp_shared_line.specs.Runs as runs
 use Rattle.osdp_shared_line.specs.Runs.{EachIsALink}
-use Rattle.osdp_shared_line.specs.Views.{EachMoveIsItsOwn, view}
 use Rattle.osdp_shared_line.proofs.Linking.{viewed}
-use Rattle.osdp_calls.proofs.Counting.{all_heard, in_link}
 use Rattle.osdp_calls.proofs.Holding.{events_counted}
-use Rattle.osdp_sim.specs.Account.{Account}
-use Rattle.osdp_sim.specs.declared.step.SimStep.{SimStep}
 use Rattle.osdp_sim_bus.specs.Runs as simulation
-use Rattle.osdp_sim.proofs.Schedules.{holds_on, well_on}
 use Rattle.osdp_sim_bus.specs.Runs.{FitAlong, is_well, steps_done}
 use Rattle.osdp_sim_bus.specs.State.{Given, new_site, set_up}
-use Rattle.osdp_sim_bus.specs.Steps.{StepFits, after_step, fault_of}
-use Rattle.osdp_sim_bus_laws.specs.Moves.{SchedulesAreMoves, moves_of}
 use Rattle.osdp_sim_bus_laws.proofs.Beginning.{follows_first, has_site, is_set_up, nothing_is_kept}
 use Rattle.osdp_sim_bus_laws.proofs.Rows.{account_at, answers, told_by}
 use Rattle.osdp_sim_bus_laws.specs.Accounts.{IsRun}
 use Rattle.osdp_sim_ledger.specs.SeveralReaders.{BusRunKeepsLedgers, first_net, first_site, steps_of_reader}
-use Rattle.osdp_sim_ledger.specs.Telling.{TellsByLedger}
 use Rattle.osdp_sim_ledger.proofs.SeveralQueued.{all_queue, site_of}
 use Rattle.osdp_sim_ledger.proofs.Telling.{tells_once}
 

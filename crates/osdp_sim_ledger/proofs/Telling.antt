@@ -1,21 +1,11 @@
 -- What the accounts of a link and its ledger say, the account of a run says too.
-use Rattle.std.proofs.Common.{◌≡◌, List, ◌∷◌, map, sym, ap, ◌∙◌}
-use Rattle.osdp_msg.specs.declared.command.Command.{Command}
-use Rattle.osdp_msg.specs.declared.event.Event.{Event}
+use Rattle.osdp_sim_ledger.proofs.Common.{◌≡◌, List, ◌∷◌, map, sym, ap, ◌∙◌, Command, Event, EventsHold, OrdersHold, TellsInTurn, Answer, EachIsOnce, asked, Link, TellsAccounts, HasAnswersOf, Account, TellsByLedger}
 use Rattle.osdp_ledger.specs.History.{AreAllowed, new_history, runs}
-use Rattle.osdp_ledger.specs.Laws.{EventsHold, OrdersHold, TellsInTurn}
 use Rattle.osdp_ledger.specs.Ledger.{Step}
 use Rattle.osdp_ledger.specs.Plain.{AllTold}
 use Rattle.osdp_reader.specs.declared.config.ReaderConfig.{ReaderConfig}
-use Rattle.osdp_reader.specs.declared.handler.Answer.{Answer}
-use Rattle.osdp_link_laws.specs.Headline.{EachIsOnce, asked}
-use Rattle.osdp_link_laws.specs.Link.{Link}
-use Rattle.osdp_link_ledger.specs.Accounts.{TellsAccounts}
-use Rattle.osdp_link_ledger.specs.Answers.{HasAnswersOf}
 use Rattle.osdp_link_ledger.proofs.Answered.{commands_acted, taken_in}
-use Rattle.osdp_sim.specs.Account.{Account}
 use Rattle.osdp_sim_laws.specs.Accounts.{IsOf}
-use Rattle.osdp_sim_ledger.specs.Telling.{TellsByLedger}
 
 -- ---- the account of a run
 

@@ -1,16 +1,6 @@
 -- When sessions are due.
-use Rattle.std.proofs.Common.{◌≡◌, ◌∙◌, ap, sym, subst, inl, inr, ℕ, zero, suc, ◌<◌, Bool, true, false, ◌||◌, List, [], ◌∷◌, length, Option, Some, None, refl, arith}
-use Rattle.std.specs.Prelude.{◌⊎◌, ◌≢◌, if◌then◌else◌, min, nat_le, slice_get, slice_set}
-use Rattle.std.specs.List.{All, list_any}
-use Rattle.std.proofs.lemmas.Bool.{leb-false, leb-true}
-use Rattle.std.proofs.lemmas.Option.{slice_get_within}
-use Rattle.std.specs.Option.{option_map_or}
-use Rattle.osdp_controller.specs.declared.report.Report.{Report}
+use Rattle.osdp_site.proofs.Common.{◌≡◌, ◌∙◌, ap, sym, subst, inl, inr, ℕ, zero, suc, ◌<◌, Bool, true, false, ◌||◌, List, [], ◌∷◌, length, Option, Some, None, refl, arith, ◌⊎◌, ◌≢◌, if◌then◌else◌, min, nat_le, slice_get, slice_set, All, list_any, leb-false, leb-true, slice_get_within, option_map_or, Report, Acted, acts_at, begins_anew, begins_due, submits, submitted, IsFirstBegin, NoEnd, NoneIsDue, WaitsForThePause, heeds_all, is_end, PlaceState, after_pause, due_of, heeds, is_due, is_online, is_reached, Both, SiteState, acts_first, earlier, earliest_from, place_of, put_back}
 use Rattle.osdp_controller.specs.declared.report.Report.TheVariants as report
-use Rattle.osdp_site.specs.Acting.{Acted, acts_at, begins_anew, begins_due, submits, submitted}
-use Rattle.osdp_site.specs.Laws.{IsFirstBegin, NoEnd, NoneIsDue, WaitsForThePause, heeds_all, is_end}
-use Rattle.osdp_site.specs.Places.{PlaceState, after_pause, due_of, heeds, is_due, is_online, is_reached}
-use Rattle.osdp_site.specs.Sites.{Both, SiteState, acts_first, earlier, earliest_from, place_of, put_back}
 
 -- ---- after the end of a session
 

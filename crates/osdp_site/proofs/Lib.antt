@@ -1,3 +1,4 @@
+pub mod Common
 pub mod Wanting
 pub mod Submitting
 pub mod States

@@ -1,12 +1,8 @@
 -- Which reports make a device online or offline.
-use Rattle.std.proofs.Common.{◌≡◌, ◌∙◌, ap, ℕ, suc, arith, true, false, List, [], ◌∷◌, ◌++◌, refl}
-use Rattle.std.specs.List.{All}
-use Rattle.osdp_controller.specs.declared.report.Report.{Report}
+use Rattle.osdp_site.proofs.Common.{◌≡◌, ◌∙◌, ap, ℕ, suc, arith, true, false, List, [], ◌∷◌, ◌++◌, refl, All, Report, NoEnd, NoOpening, OnlineBetween, heeds_all, is_end, is_opening, PlaceState, goes_offline, goes_online, heeds, is_online}
 use Rattle.osdp_controller.specs.declared.report.Report.TheVariants as report
 use Rattle.osdp_site.specs.declared.place.Presence.{Presence}
 use Rattle.osdp_site.specs.declared.place.Presence.TheVariants.{Online, Offline}
-use Rattle.osdp_site.specs.Laws.{NoEnd, NoOpening, OnlineBetween, heeds_all, is_end, is_opening}
-use Rattle.osdp_site.specs.Places.{PlaceState, goes_offline, goes_online, heeds, is_online}
 
 cut : (pause : ℕ) (before after : List (Report × ℕ)) (p : PlaceState) → heeds_all pause (before ++ after) p ≡ heeds_all pause after (heeds_all pause before p)
 cut pause [] after p = refl

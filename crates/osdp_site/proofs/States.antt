@@ -1,18 +1,7 @@
 -- All that is wanted are states, whatever is called.
-use Rattle.std.proofs.Common.{◌≡◌, ap, sym, subst, ℕ, zero, suc, arith, Bool, true, false, List, [], ◌∷◌, take, drop, Option, Some, None, refl}
-use Rattle.std.specs.Prelude.{Result, Ok, Err, if◌then◌else◌, is_ok, remove}
-use Rattle.std.specs.List.{All}
-use Rattle.std.proofs.lemmas.List.Elements.{All-append, All-drop, All-take}
-use Rattle.osdp_msg.specs.declared.command.Command.{Command}
-use Rattle.osdp_orders.specs.Orders.{PanelState}
-use Rattle.osdp_controller.specs.declared.report.Report.{Report}
+use Rattle.osdp_site.proofs.Common.{◌≡◌, ap, sym, subst, ℕ, zero, suc, arith, Bool, true, false, List, [], ◌∷◌, take, drop, Option, Some, None, refl, Result, Ok, Err, if◌then◌else◌, is_ok, remove, All, All-append, All-drop, All-take, Command, PanelState, Report, SiteFault, Acted, acts_at, begins_anew, begins_due, Acts, Heeds, IsState, Move, Wants, after_move, after_moves, PlaceState, after_wants_of, changed_unless, heeds, is_due, room_refusal, wants_over, wants_refusal_of, without, first_about, subject_of}
 use Rattle.osdp_controller.specs.declared.report.Report.TheVariants as report
-use Rattle.osdp_site.specs.declared.fault.SiteFault.{SiteFault}
 use Rattle.osdp_site.specs.declared.subject.Subject.{Subject}
-use Rattle.osdp_site.specs.Acting.{Acted, acts_at, begins_anew, begins_due}
-use Rattle.osdp_site.specs.Laws.{Acts, Heeds, IsState, Move, Wants, after_move, after_moves}
-use Rattle.osdp_site.specs.Places.{PlaceState, after_wants_of, changed_unless, heeds, is_due, room_refusal, wants_over, wants_refusal_of, without}
-use Rattle.osdp_site.specs.States.{first_about, subject_of}
 use Rattle.osdp_site.proofs.Submitting.{wanted_refreshed}
 
 -- nothing but states

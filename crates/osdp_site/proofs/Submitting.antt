@@ -1,15 +1,7 @@
 -- What is submitted where an entry acts, and what is left.
-use Rattle.std.proofs.Common.{◌≡◌, ◌∙◌, ap, sym, subst, ℕ, zero, suc, ◌+◌, ◌≤◌, Bool, true, false, ◌&&◌, List, [], ◌∷◌, ◌++◌, length, take, drop, Option, Some, None, refl, arith}
-use Rattle.std.specs.Prelude.{if◌then◌else◌, nat_le}
+use Rattle.osdp_site.proofs.Common.{◌≡◌, ◌∙◌, ap, sym, subst, ℕ, zero, suc, ◌+◌, ◌≤◌, Bool, true, false, ◌&&◌, List, [], ◌∷◌, ◌++◌, length, take, drop, Option, Some, None, refl, arith, if◌then◌else◌, nat_le, leb-true, Command, PanelState, after_submit, submit_refusal, Acted, Submitted, submits, submitted, unless_refused, IsTaken, StopsAt, SubmittedOnce, Takes, refreshed, refreshed_over, sent, sent_over, PlaceState, due_of, is_online, is_refreshed, opens}
 use Rattle.std.proofs.lemmas.List.{take-append-drop}
-use Rattle.std.proofs.lemmas.Bool.{leb-true}
-use Rattle.osdp_msg.specs.declared.command.Command.{Command}
-use Rattle.osdp_orders.specs.Orders.{PanelState}
-use Rattle.osdp_orders.specs.Orders.{after_submit, submit_refusal}
 use Rattle.osdp_bus.specs.declared.fault.BusFault.{BusFault}
-use Rattle.osdp_site.specs.Acting.{Acted, Submitted, submits, submitted, unless_refused}
-use Rattle.osdp_site.specs.Laws.{IsTaken, StopsAt, SubmittedOnce, Takes, refreshed, refreshed_over, sent, sent_over}
-use Rattle.osdp_site.specs.Places.{PlaceState, due_of, is_online, is_refreshed, opens}
 
 drop_nothing : (n : ℕ) → ◌≡◌ {A = List Command} (drop n []) []
 drop_nothing zero = refl

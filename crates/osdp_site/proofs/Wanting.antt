@@ -1,12 +1,6 @@
 -- A state that an entry is asked for: where it is refused, the entry is put back as it was.
-use Rattle.std.proofs.Common.{◌≡◌, ◌∙◌, ap, sym, ℕ, zero, suc, List, [], ◌∷◌, Option, Some, None, refl}
-use Rattle.std.specs.Prelude.{slice_get, slice_set}
-use Rattle.std.specs.Option.{option_map_or}
-use Rattle.osdp_msg.specs.declared.command.Command.{Command}
-use Rattle.osdp_site.specs.declared.fault.SiteFault.{SiteFault}
+use Rattle.osdp_site.proofs.Common.{◌≡◌, ◌∙◌, ap, sym, ℕ, zero, suc, List, [], ◌∷◌, Option, Some, None, refl, slice_get, slice_set, option_map_or, Command, SiteFault, PlaceState, after_wants, changed_unless, wants_refusal, SiteState, place_of, wants_at, wants_refusal_at}
 use Rattle.osdp_site.specs.declared.fault.SiteFault.TheVariants.{NoEntry}
-use Rattle.osdp_site.specs.Places.{PlaceState, after_wants, changed_unless, wants_refusal}
-use Rattle.osdp_site.specs.Sites.{SiteState, place_of, wants_at, wants_refusal_at}
 
 put_back : {X : Type 0} (xs : List X) (i : ℕ) (x : X) → slice_get xs i ≡ Some x → slice_set xs i x ≡ xs
 put_back [] i x at = absurd cc

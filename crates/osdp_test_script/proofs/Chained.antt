@@ -1,7 +1,6 @@
 -- What is printed after what was printed before.
-use Rattle.std.proofs.Common.{◌≡◌, List, ◌++◌, ℕ, ap, ◌∙◌, append_assoc}
+use Rattle.osdp_test_script.proofs.Common.{◌≡◌, List, ◌++◌, ℕ, ap, ◌∙◌, append_assoc, Called, Comes, after_text, counts_line, ends, settled}
 use Rattle.osdp_test_script.specs.declared.run.ScriptRun.{ScriptRun}
-use Rattle.osdp_test_script.specs.Runs.{Called, Comes, after_text, counts_line, ends, settled}
 
 pub chained : (t0 t1 t2 : List ℕ) (first : Called) (next : ScriptRun) (second : Called) → t1 ≡ t0 ++ first.text → Comes t1 t2 next second
     → Comes t0 t2 next (after_text first.text second)

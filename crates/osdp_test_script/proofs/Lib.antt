@@ -1,3 +1,4 @@
+pub mod Common
 mod Chained
 mod LineRows
 mod Names

@@ -1,30 +1,16 @@
 -- Lines by their names: which word of them cannot stand where it is.
-use Rattle.std.proofs.Common.{◌≡◌, ℕ, suc, ◌+◌, List, [], ◌∷◌, ◌++◌, codes, Some, None, refl, subst, ◌∙◌, arith}
-use Rattle.std.specs.Borrow.{Bor}
-use Rattle.osdp_frame.specs.Check.{check_name}
-use Rattle.osdp_frame.specs.declared.check_kind.CheckKind.{CheckKind}
+use Rattle.osdp_test_script.proofs.Common.{◌≡◌, ℕ, suc, ◌+◌, List, [], ◌∷◌, ◌++◌, codes, Some, None, refl, subst, ◌∙◌, arith, Bor, check_name, CheckKind, differ, GoesOn, StopsAt, AllStandFor, plain, awaited_name, CallFits, PermitFits, TermFits, call_name, call_words, permit_text, term_words, HasNoLine, SaysLine, SaysLineOf, SaysTerm, Awaited, Silence, Term, ScriptCall, Device, Check, May, Send, Repeat, Reopen, Lose, Damage, Wait, Expect, ReadsLine, Keep, Counts, Heard, Ready}
 use Rattle.osdp_frame.specs.declared.check_kind.CheckKind.TheVariants.{Crc}
-use Rattle.osdp_msg.proofs.RowTexts.{differ}
 use Rattle.osdp_refused_words.proofs.Stopping.{after, ended, first_refused, same_texts, stops_alike, stops_alike_there}
 use Rattle.osdp_refused_words.proofs.Filling.{some_word}
 use Rattle.osdp_refused_words.specs.Messages.{SaysCommand, SaysReply}
 use Rattle.osdp_refused_words.specs.Slots.{Fills}
-use Rattle.osdp_refused_words.specs.Stops.{GoesOn, StopsAt}
 use Rattle.osdp_refused_words.specs.declared.slot.Slot.{Slot}
 use Rattle.osdp_refused_words.specs.declared.slot.Slot.TheVariants.{Text, Number, Bytes}
 use Rattle.osdp_words.specs.Reading.{Reads}
-use Rattle.osdp_words.specs.Word.{AllStandFor, plain}
-use Rattle.osdp_test_script.specs.Awaited.{awaited_name}
-use Rattle.osdp_test_script.specs.Calls.{CallFits, PermitFits, TermFits, call_name, call_words, permit_text, term_words}
-use Rattle.osdp_test_script.specs.Lines.{HasNoLine, SaysLine, SaysLineOf, SaysTerm}
-use Rattle.osdp_test_script.specs.declared.awaited.Awaited.{Awaited}
-use Rattle.osdp_test_script.specs.declared.awaited.Awaited.TheVariants.{Silence}
 use Rattle.osdp_test_script.specs.declared.call.Permit.{Permit}
 use Rattle.osdp_test_script.specs.declared.call.Permit.TheVariants.{Led}
-use Rattle.osdp_test_script.specs.declared.call.Term.{Term}
 use Rattle.osdp_test_script.specs.declared.call.Term.TheVariants.{Open, Within, FromUser}
-use Rattle.osdp_test_script.specs.declared.call.ScriptCall.{ScriptCall}
-use Rattle.osdp_test_script.specs.declared.call.ScriptCall.TheVariants.{Device, Check, May, Send, Repeat, Reopen, Lose, Damage, Wait, Expect, Reads as ReadsLine, Keep, Counts, Heard, Ready}
 
 -- the words after a name, of a line with this name
 abbrev To : List ℕ → (List (List ℕ) → Type 0) → Type 0

@@ -1,14 +1,9 @@
 -- The names of what is awaited.
-use Rattle.std.proofs.Common.{◌≡◌, ◌∙◌, ◌==◌, ℕ, if◌then◌else◌, List, codes, Option, Some, refl, sym, ap}
-use Rattle.std.specs.Option.{unwrap_or}
+use Rattle.osdp_test_script.proofs.Common.{◌≡◌, ◌∙◌, ◌==◌, ℕ, if◌then◌else◌, List, codes, Option, Some, refl, sym, ap, unwrap_or, awaited_code, awaited_name, AwaitsByName, Awaited, Silence, Same, Ack, Nak, PdId, PdCap, LocalState, Inputs, Outputs, Readers, Raw, Formatted, Keypad, Com, Busy, Maker}
 use Rattle.osdp_msg.specs.ReplyTable.{reply_code}
 use Rattle.osdp_msg.specs.ReplyText.{reply_row}
 use Rattle.osdp_msg.specs.declared.reply.Reply.{Reply}
 use Rattle.osdp_msg.specs.declared.reply.Reply.TheVariants as reply
-use Rattle.osdp_test_script.specs.Awaited.{awaited_code, awaited_name}
-use Rattle.osdp_test_script.specs.Laws.{AwaitsByName}
-use Rattle.osdp_test_script.specs.declared.awaited.Awaited.{Awaited}
-use Rattle.osdp_test_script.specs.declared.awaited.Awaited.TheVariants.{Silence, Same, Ack, Nak, PdId, PdCap, LocalState, Inputs, Outputs, Readers, Raw, Formatted, Keypad, Com, Busy, Maker}
 
 -- the name of a reply, by its code
 abbrev name_of : ℕ → List ℕ

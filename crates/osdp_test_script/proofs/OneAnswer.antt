@@ -1,9 +1,6 @@
 -- Of what was heard one answer alone fits.
-use Rattle.std.proofs.Common.{◌≡◌, ℕ, true, not, List, [], ◌∷◌, Option, Some, None, drop, refl, sym, ap, subst, arith}
+use Rattle.osdp_test_script.proofs.Common.{◌≡◌, ℕ, true, not, List, [], ◌∷◌, Option, Some, None, drop, refl, sym, ap, subst, arith, Packet, RunItem, PacketItem, SkippedItem, RefusedItem, Stands, item_size, EndsWith, IsAnswerIn, PassesTo, is_passed}
 use Rattle.osdp_frame.proofs.Decided.{one_item}
-use Rattle.osdp_frame.specs.Packet.{Packet}
-use Rattle.osdp_frame.specs.Reading.{RunItem, PacketItem, SkippedItem, RefusedItem, Stands, item_size}
-use Rattle.osdp_test_script.specs.Answers.{EndsWith, IsAnswerIn, PassesTo, is_passed}
 use Rattle.osdp_test_script.proofs.Passing.{has_room}
 
 packet_in : RunItem → Option Packet

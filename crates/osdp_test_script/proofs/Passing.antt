@@ -1,9 +1,6 @@
 -- Items that are passed over.
-use Rattle.std.proofs.Common.{◌≡◌, ℕ, ◌≤◌, true, List, [], ◌∷◌, Option, Some, None, drop, length, refl, subst}
+use Rattle.osdp_test_script.proofs.Common.{◌≡◌, ℕ, ◌≤◌, true, List, [], ◌∷◌, Option, Some, None, drop, length, refl, subst, Packet, packet_length, RunItem, PacketItem, Stands, item_size, IsAnswerIn, is_passed}
 use Rattle.osdp_frame.proofs.Head.{Tells-Begins}
-use Rattle.osdp_frame.specs.Packet.{Packet, packet_length}
-use Rattle.osdp_frame.specs.Reading.{RunItem, PacketItem, Stands, item_size}
-use Rattle.osdp_test_script.specs.Answers.{IsAnswerIn, is_passed}
 
 -- an item that is passed over stands before the answer
 pub passed : (bytes : List ℕ) (part : RunItem) (answer : Option Packet) → Stands bytes part → is_passed part ≡ true

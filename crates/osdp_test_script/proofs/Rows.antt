@@ -1,17 +1,5 @@
 -- The lines by their names: what is read after a name is what the line is made of.
-use Rattle.std.proofs.Common.{◌≡◌, ℕ, ◌<◌, ◌≤◌, ◌^◌, List, [], ◌∷◌, codes, refl}
-use Rattle.arrayvec.specs.ArrayVec.{ArrayVec}
-use Rattle.osdp_frame.specs.Check.{check_name}
-use Rattle.osdp_frame.specs.Times.{longest_time}
-use Rattle.osdp_frame.specs.declared.check_kind.CheckKind.{CheckKind}
-use Rattle.osdp_msg.proofs.RowTexts.{IsRow, differ}
-use Rattle.osdp_words.specs.Word.{bytes, number, plain}
-use Rattle.osdp_test_script.specs.Awaited.{awaited_name}
-use Rattle.osdp_test_script.specs.Calls.{CallFits, IsHeard, IsPlace, TermFits, call_fields, call_name, term_words}
-use Rattle.osdp_test_script.specs.declared.awaited.Awaited.{Awaited}
-use Rattle.osdp_test_script.specs.declared.call.Term.{Term}
-use Rattle.osdp_test_script.specs.declared.call.ScriptCall.{ScriptCall}
-use Rattle.osdp_test_script.specs.declared.call.ScriptCall.TheVariants.{Device, Check, Damage, Wait, Expect, Keep, Counts, Heard}
+use Rattle.osdp_test_script.proofs.Common.{◌≡◌, ℕ, ◌<◌, ◌≤◌, ◌^◌, List, [], ◌∷◌, codes, refl, ArrayVec, check_name, longest_time, CheckKind, IsRow, differ, bytes, number, plain, awaited_name, CallFits, IsHeard, IsPlace, TermFits, call_fields, call_name, term_words, Awaited, Term, ScriptCall, Device, Check, Damage, Wait, Expect, Keep, Counts, Heard}
 
 -- the row of a name by which only the lines go that are made so
 pub row : {X : Type 0} (name : List ℕ) (make : X → ScriptCall) → ((x : X) → call_name (make x) ≡ name)

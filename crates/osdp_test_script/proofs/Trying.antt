@@ -1,10 +1,7 @@
 -- How verdicts are counted, and when a packet goes out again.
-use Rattle.std.proofs.Common.{◌≡◌, ◌∙◌, ◌⊎◌, ◌&&◌, ℕ, ◌+◌, ◌-◌, ◌<◌, ◌^◌, nat_lt, Bool, true, false, if◌then◌else◌, Option, Some, None, inl, inr, refl, ap}
+use Rattle.osdp_test_script.proofs.Common.{◌≡◌, ◌∙◌, ◌⊎◌, ◌&&◌, ℕ, ◌+◌, ◌-◌, ◌<◌, ◌^◌, nat_lt, Bool, true, false, if◌then◌else◌, Option, Some, None, inl, inr, refl, ap, Packet, CountsEachVerdict, IsUnanswered, TriesAgain, count_of, Called, answer_heard, answer_taken, counted, heard_exchange, hears, hears_by, is_put_off, is_whole, with_heard}
 use Rattle.std.proofs.lemmas.Bool.{lt-ltb}
-use Rattle.osdp_frame.specs.Packet.{Packet}
 use Rattle.osdp_rules.specs.Packets.{is_busy}
-use Rattle.osdp_test_script.specs.Laws.{CountsEachVerdict, IsUnanswered, TriesAgain, count_of}
-use Rattle.osdp_test_script.specs.Runs.{Called, answer_heard, answer_taken, counted, heard_exchange, hears, hears_by, is_put_off, is_whole, with_heard}
 use Rattle.osdp_test_script.specs.declared.run.Awaits.{Awaits}
 use Rattle.osdp_test_script.specs.declared.run.Awaits.TheVariants as awaits
 use Rattle.osdp_test_script.specs.declared.run.Counts.{Counts}

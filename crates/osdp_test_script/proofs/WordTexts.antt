@@ -1,13 +1,7 @@
 -- The word at a place of a line.
-use Rattle.std.proofs.Common.{◌≡◌, ℕ, zero, suc, ◌<◌, ◌≤◌, List, [], ◌∷◌, length, get_or, Option, Some, None, refl, sym, ap, arith}
+use Rattle.osdp_test_script.proofs.Common.{◌≡◌, ℕ, zero, suc, ◌<◌, ◌≤◌, List, [], ◌∷◌, length, get_or, Option, Some, None, refl, sym, ap, arith, option_copied, Bor, length-append, StopsAt, texts, text_in}
 use Rattle.std.specs.Prelude.{MatchOption, slice_get}
 use Rattle.std.specs.List.{HoldsAt}
-use Rattle.std.specs.Option.{option_copied}
-use Rattle.std.specs.Borrow.{Bor}
-use Rattle.std.proofs.lemmas.List.{length-append}
-use Rattle.osdp_refused_words.specs.Stops.{StopsAt}
-use Rattle.osdp_words.specs.Word.{texts}
-use Rattle.osdp_test_script.specs.Texts.{text_in}
 
 pub word_there : (words : List (Bor (List ℕ))) (i : ℕ) (w : Bor (List ℕ)) → i < length words → w ≡ get_or words i w → slice_get (texts words) i ≡ Some w.now
 word_there [] i w h e = absurd (omega (arith, h))

@@ -1,18 +1,6 @@
 -- An order from its acceptance on: what is left of the exchange that is outstanding then.
-use Rattle.std.proofs.Common.{◌≡◌, ◌∙◌, ap, sym, subst, inl, ℕ, zero, suc, ◌+◌, ◌-◌, ◌*◌, ◌≤◌, true, List, [], ◌∷◌, length, Option, Some, None, refl, arith}
-use Rattle.std.proofs.Math.Nat.{mul-zero, suc-mul}
-use Rattle.std.proofs.lemmas.List.{length-append}
+use Rattle.osdp_time_laws.proofs.Common.{◌≡◌, ◌∙◌, ap, sym, subst, inl, ℕ, zero, suc, ◌+◌, ◌-◌, ◌*◌, ◌≤◌, true, List, [], ◌∷◌, length, Option, Some, None, refl, arith, mul-zero, suc-mul, length-append, Command, ControllerConfig, ControllerFault, Session, State, Waiting, Pausing, IsState, Machine, after_submit, changed_unless, is_outstanding, submit_refusal, Call, Submit, after_call, after_calls, AcceptedOrdersGoOut, WaitsItsTime, order_time}
 use Rattle.std.proofs.lemmas.Nat.{mul-le}
-use Rattle.osdp_msg.specs.declared.command.Command.{Command}
-use Rattle.osdp_controller.specs.declared.config.ControllerConfig.{ControllerConfig}
-use Rattle.osdp_controller.specs.declared.fault.ControllerFault.{ControllerFault}
-use Rattle.osdp_controller.specs.declared.session.Session.{Session}
-use Rattle.osdp_controller.specs.declared.state.State.{State}
-use Rattle.osdp_controller.specs.declared.state.State.TheVariants.{Waiting, Pausing}
-use Rattle.osdp_controller.specs.Machine.{IsState, Machine, after_submit, changed_unless, is_outstanding, submit_refusal}
-use Rattle.osdp_controller_laws.specs.Runs.{Call, Submit, after_call, after_calls}
-use Rattle.osdp_time_laws.specs.Acceptance.{AcceptedOrdersGoOut, WaitsItsTime}
-use Rattle.osdp_time_laws.specs.Orders.{order_time}
 use Rattle.osdp_time_laws.proofs.Beginnings.{on_from, one_less, whole, whole_is}
 use Rattle.osdp_time_laws.proofs.Duties.{due_anew}
 use Rattle.osdp_time_laws.proofs.Orders.{first_fits_order, next_product, orders}

@@ -1,25 +1,7 @@
 -- What an exchange, and a session, may take from its beginning on.
-use Rattle.std.proofs.Common.{◌≡◌, ◌∙◌, ◌⊎◌, ap, sym, subst, inl, inr, ℕ, zero, suc, ◌+◌, ◌*◌, ◌≤◌, Bool, true, ◌&&◌, ◌==◌, List, [], ◌∷◌, refl, arith}
-use Rattle.std.specs.Prelude.{All, is_some, nat_le, nat_lt}
-use Rattle.std.proofs.Math.Nat.{add_comm, suc-mul}
-use Rattle.std.proofs.lemmas.Bool.{eqb-true}
-use Rattle.osdp_frame.specs.Packet.{next_sequence}
-use Rattle.osdp_msg.specs.declared.command.Command.{Command}
-use Rattle.osdp_controller.specs.declared.config.ControllerConfig.{ControllerConfig}
+use Rattle.osdp_time_laws.proofs.Common.{◌≡◌, ◌∙◌, ◌⊎◌, ap, sym, subst, inl, inr, ℕ, zero, suc, ◌+◌, ◌*◌, ◌≤◌, Bool, true, ◌&&◌, ◌==◌, List, [], ◌∷◌, refl, arith, All, is_some, nat_le, nat_lt, add_comm, suc-mul, eqb-true, next_sequence, Command, ControllerConfig, Opening, Polling, Asking, Session, State, Closed, Quiet, Idle, Waiting, Pausing, IsMachine, IsState, Machine, after_begin, changed_unless, is_outstanding, refused_unless_closed, sent_in, later, seen, is_closed, Ticked, begins, gives_up, sends_frame, stays, ticks_in, tries_again, either_way, Call, Begin, Tick, after_call, after_calls, KeepsTime, Stays, ExchangesEnd, GoesOn, IsNotBusy, LastsAtMost, OpeningsEnd, is_opening, is_quiet}
 use Rattle.osdp_controller.specs.declared.exchange.Exchange.{Exchange}
-use Rattle.osdp_controller.specs.declared.exchange.Exchange.TheVariants.{Opening, Polling, Asking}
-use Rattle.osdp_controller.specs.declared.session.Session.{Session}
-use Rattle.osdp_controller.specs.declared.state.State.{State}
-use Rattle.osdp_controller.specs.declared.state.State.TheVariants.{Closed, Quiet, Idle, Waiting, Pausing}
-use Rattle.osdp_controller.specs.Machine.{IsMachine, IsState, Machine, after_begin, changed_unless, is_outstanding, refused_unless_closed, sent_in}
-use Rattle.osdp_controller.specs.Sessions.{later, seen}
-use Rattle.osdp_controller.specs.States.{is_closed}
-use Rattle.osdp_controller.specs.Ticking.{Ticked, begins, gives_up, sends_frame, stays, ticks_in, tries_again}
-use Rattle.osdp_controller.proofs.Choices.{either_way}
-use Rattle.osdp_controller_laws.specs.Runs.{Call, Begin, Tick, after_call, after_calls}
 use Rattle.osdp_time_laws.specs.Bounds.{exchange_time, opening_time, round_time}
-use Rattle.osdp_time_laws.specs.Clock.{KeepsTime, Stays}
-use Rattle.osdp_time_laws.specs.Laws.{ExchangesEnd, GoesOn, IsNotBusy, LastsAtMost, OpeningsEnd, is_opening, is_quiet}
 use Rattle.osdp_time_laws.proofs.Duties.{due_anew}
 use Rattle.osdp_time_laws.proofs.Ends.{ends, tick_at_moment}
 use Rattle.osdp_time_laws.proofs.Phases.{Holds, Ready, Sent, later_within}

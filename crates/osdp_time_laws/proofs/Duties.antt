@@ -1,20 +1,6 @@
 -- The moment by which a tick comes, from one call to the next.
-use Rattle.std.proofs.Common.{◌≡◌, ◌⊎◌, inl, inr, ℕ, ◌+◌, ◌≤◌, ◌<◌, Bool, true, false, List, [], ◌∷◌, refl, arith}
-use Rattle.std.specs.Prelude.{if◌then◌else◌, nat_le, nat_lt}
-use Rattle.std.proofs.lemmas.Bool.{le-leb}
+use Rattle.osdp_time_laws.proofs.Common.{◌≡◌, ◌⊎◌, inl, inr, ℕ, ◌+◌, ◌≤◌, ◌<◌, Bool, true, false, List, [], ◌∷◌, refl, arith, if◌then◌else◌, nat_le, nat_lt, le-leb, next_sequence, Command, Opening, Polling, Session, State, Closed, Quiet, Idle, Waiting, Pausing, acts, is_closed, Ticked, begins, gives_up, sends_frame, stays, ticks_in, tries_again, either_way, Call, IsBy, TicksBy, is_tick}
 use Rattle.std.proofs.lemmas.Bool.Decides.{leb_tells}
-use Rattle.osdp_frame.specs.Packet.{next_sequence}
-use Rattle.osdp_msg.specs.declared.command.Command.{Command}
-use Rattle.osdp_controller.specs.declared.exchange.Exchange.TheVariants.{Opening, Polling}
-use Rattle.osdp_controller.specs.declared.session.Session.{Session}
-use Rattle.osdp_controller.specs.declared.state.State.{State}
-use Rattle.osdp_controller.specs.declared.state.State.TheVariants.{Closed, Quiet, Idle, Waiting, Pausing}
-use Rattle.osdp_controller.specs.Machine.{acts}
-use Rattle.osdp_controller.specs.States.{is_closed}
-use Rattle.osdp_controller.specs.Ticking.{Ticked, begins, gives_up, sends_frame, stays, ticks_in, tries_again}
-use Rattle.osdp_controller.proofs.Choices.{either_way}
-use Rattle.osdp_controller_laws.specs.Runs.{Call}
-use Rattle.osdp_time_laws.specs.Clock.{IsBy, TicksBy, is_tick}
 
 -- the moment that a state waits for
 abbrev pub until_of : State → ℕ

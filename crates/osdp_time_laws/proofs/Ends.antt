@@ -1,20 +1,5 @@
 -- From the first call to the last: no call comes after the end.
-use Rattle.std.proofs.Common.{◌≡◌, ◌⊎◌, sym, subst, inl, inr, ℕ, ◌+◌, ◌≤◌, Bool, true, false, List, [], ◌∷◌, refl, arith}
-use Rattle.std.specs.Prelude.{All, max}
-use Rattle.std.proofs.lemmas.List.Elements.{All-head, All-tail}
-use Rattle.osdp_controller.specs.declared.config.ControllerConfig.{ControllerConfig}
-use Rattle.osdp_controller.specs.declared.exchange.Outstanding.{Outstanding}
-use Rattle.osdp_controller.specs.declared.session.Session.{Session}
-use Rattle.osdp_controller.specs.declared.state.State.{State}
-use Rattle.osdp_controller.specs.declared.state.State.TheVariants.{Closed, Idle, Waiting}
-use Rattle.osdp_controller.specs.Machine.{Machine, after_begin, after_retarget, changed_unless, or_no_device, refused_unless_closed, submit_refusal}
-use Rattle.osdp_controller.specs.Sessions.{seen}
-use Rattle.osdp_controller.specs.States.{is_closed}
-use Rattle.osdp_controller_laws.specs.Runs.{Call, Submit, Begin, Retarget, Withdraw, Tick, Hear, after_call, after_calls}
-use Rattle.osdp_controller_laws.proofs.Kept.{hears_at_moment, tick_keeps}
-use Rattle.osdp_controller_laws.proofs.Lasting.{submit_session}
-use Rattle.osdp_time_laws.specs.Clock.{IsBy, IsOwed, KeepsTime, Stays, TicksBy}
-use Rattle.osdp_time_laws.specs.Laws.{IsSilent}
+use Rattle.osdp_time_laws.proofs.Common.{◌≡◌, ◌⊎◌, sym, subst, inl, inr, ℕ, ◌+◌, ◌≤◌, Bool, true, false, List, [], ◌∷◌, refl, arith, All, max, All-head, All-tail, ControllerConfig, Outstanding, Session, State, Closed, Idle, Waiting, Machine, after_begin, after_retarget, changed_unless, or_no_device, refused_unless_closed, submit_refusal, seen, is_closed, Call, Submit, Begin, Retarget, Withdraw, Tick, Hear, after_call, after_calls, hears_at_moment, tick_keeps, submit_session, IsBy, IsOwed, KeepsTime, Stays, TicksBy, IsSilent}
 use Rattle.osdp_time_laws.proofs.Duties.{due_at, due_seen, until_of}
 use Rattle.osdp_time_laws.proofs.Phases.{Holds, Phase, frame_holds, holds_passed, phase_near, phase_seen, still, tick_holds}
 

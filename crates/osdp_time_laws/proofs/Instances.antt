@@ -1,29 +1,10 @@
 -- Each bound is reached.
-use Rattle.std.proofs.Common.{◌≡◌, ℕ, ◌+◌, ◌≤◌, Bool, true, false, ◌&&◌, ◌||◌, List, [], ◌∷◌, refl, sym, ◌∙◌, arith}
-use Rattle.std.specs.Prelude.{max, nat_le}
-use Rattle.std.proofs.lemmas.Bool.{and_parts, false≢true, leb-true}
-use Rattle.std.proofs.lemmas.List.Elements.{All-cons, All-nil}
-use Rattle.osdp_frame.specs.Packet.{next_sequence}
-use Rattle.osdp_msg.specs.declared.command.Command.{Command}
+use Rattle.osdp_time_laws.proofs.Common.{◌≡◌, ℕ, ◌+◌, ◌≤◌, Bool, true, false, ◌&&◌, ◌||◌, List, [], ◌∷◌, refl, sym, ◌∙◌, arith, max, nat_le, and_parts, false≢true, leb-true, All-cons, All-nil, next_sequence, Command, Opening, Polling, Session, State, Closed, Quiet, Idle, Waiting, Pausing, IsMachine, IsState, IsSubmitted, Machine, OpensAtZero, acts, seen, is_idle, Ticked, begins, sends_frame, stays, ticks_in, tries_again, either_way, Begin, Call, Hear, Tick, after_call, IsAccepted, IsBy, IsOwed, KeepsTime, TicksBy, is_tick, OrderWaits, FallsSilent, GoesOn, IsNotBusy, IsOpening, IsSilent}
 use Rattle.osdp_msg.specs.declared.command.Command.TheVariants.{Id}
 use Rattle.osdp_msg.specs.ReplyTable as replies
-use Rattle.osdp_controller.specs.declared.exchange.Exchange.TheVariants.{Opening, Polling}
-use Rattle.osdp_controller.specs.declared.session.Session.{Session}
-use Rattle.osdp_controller.specs.declared.state.State.{State}
-use Rattle.osdp_controller.specs.declared.state.State.TheVariants.{Closed, Quiet, Idle, Waiting, Pausing}
-use Rattle.osdp_controller.specs.Machine.{IsMachine, IsState, IsSubmitted, Machine, OpensAtZero, acts}
-use Rattle.osdp_controller.specs.Sessions.{seen}
 use Rattle.osdp_controller.specs.Settings.{IsConfig}
-use Rattle.osdp_controller.specs.States.{is_idle}
-use Rattle.osdp_controller.specs.Ticking.{Ticked, begins, sends_frame, stays, ticks_in, tries_again}
-use Rattle.osdp_controller.proofs.Choices.{either_way}
-use Rattle.osdp_controller_laws.specs.Runs.{Begin, Call, Hear, Tick, after_call}
 use Rattle.osdp_controller_laws.proofs.Well.{keeps_each}
-use Rattle.osdp_time_laws.specs.Acceptance.{IsAccepted}
-use Rattle.osdp_time_laws.specs.Clock.{IsBy, IsOwed, KeepsTime, TicksBy, is_tick}
 use Rattle.osdp_time_laws.specs.Instances.{BoundsAreReached, ack, order_calls, one_order, two_orders, dead_calls, machine_in, opening_calls, outstanding_poll, short_waits, silent_calls, slow_calls}
-use Rattle.osdp_time_laws.specs.Orders.{OrderWaits}
-use Rattle.osdp_time_laws.specs.Laws.{FallsSilent, GoesOn, IsNotBusy, IsOpening, IsSilent}
 use Rattle.osdp_time_laws.proofs.Duties.{until_of}
 
 -- where no command waits a tick does something only once the moment is reached

@@ -1,3 +1,4 @@
+pub mod Common
 pub mod Duties
 pub mod Phases
 pub mod Ends

@@ -1,29 +1,7 @@
 -- An order in time: one exchange after the other.
-use Rattle.std.proofs.Common.{◌≡◌, ◌∙◌, ap, sym, subst, inl, ℕ, zero, suc, ◌+◌, ◌-◌, ◌*◌, ◌≤◌, ◌<◌, Bool, true, false, List, [], ◌∷◌, length, Option, Some, None, refl, arith}
-use Rattle.std.specs.Prelude.{drop, if◌then◌else◌, max, nat_le, nat_lt}
-use Rattle.std.proofs.Math.Nat.{suc-mul}
-use Rattle.std.proofs.lemmas.List.{length-append}
-use Rattle.osdp_frame.specs.Packet.{next_sequence}
-use Rattle.osdp_msg.specs.declared.command.Command.{Command}
-use Rattle.osdp_controller.specs.declared.config.ControllerConfig.{ControllerConfig}
-use Rattle.osdp_controller.specs.declared.exchange.Exchange.TheVariants.{Opening, Polling, Asking}
-use Rattle.osdp_controller.specs.declared.fault.ControllerFault.{ControllerFault}
-use Rattle.osdp_controller.specs.declared.session.Session.{Session}
-use Rattle.osdp_controller.specs.declared.state.State.{State}
-use Rattle.osdp_controller.specs.declared.state.State.TheVariants.{Closed, Quiet, Idle, Waiting, Pausing}
-use Rattle.osdp_controller.specs.Hearing.{Heard}
-use Rattle.osdp_controller.specs.Machine.{Machine, acts, after_begin, after_retarget, after_submit, changed_unless, is_outstanding, submit_refusal}
-use Rattle.osdp_controller.specs.Sessions.{seen}
-use Rattle.osdp_controller.specs.States.{is_closed, is_idle}
-use Rattle.osdp_controller.specs.Ticking.{Ticked, begins, gives_up, sends_frame, stays, ticks_in, tries_again}
-use Rattle.osdp_controller.proofs.Choices.{either_way}
-use Rattle.osdp_controller_laws.specs.Runs.{Call, Submit, Begin, Retarget, Withdraw, Tick, Hear, after_call, after_calls}
-use Rattle.osdp_controller_laws.proofs.Kept.{hears_at_moment}
-use Rattle.osdp_controller_laws.proofs.Lasting.{submit_session}
+use Rattle.osdp_time_laws.proofs.Common.{◌≡◌, ◌∙◌, ap, sym, subst, inl, ℕ, zero, suc, ◌+◌, ◌-◌, ◌*◌, ◌≤◌, ◌<◌, Bool, true, false, List, [], ◌∷◌, length, Option, Some, None, refl, arith, drop, if◌then◌else◌, max, nat_le, nat_lt, suc-mul, length-append, next_sequence, Command, ControllerConfig, Opening, Polling, Asking, ControllerFault, Session, State, Closed, Quiet, Idle, Waiting, Pausing, Heard, Machine, acts, after_begin, after_retarget, after_submit, changed_unless, is_outstanding, submit_refusal, seen, is_closed, is_idle, Ticked, begins, gives_up, sends_frame, stays, ticks_in, tries_again, either_way, Call, Submit, Begin, Retarget, Withdraw, Tick, Hear, after_call, after_calls, hears_at_moment, submit_session, IsBy, IsOwed, KeepsTime, TicksBy, is_tick, order_time, OrdersGoOut, Waits, is_under_way, left_after}
 use Rattle.osdp_controller_laws.proofs.Stepwise.{frames_in_steps}
 use Rattle.osdp_controller_laws.proofs.Ticks.{takes_front}
-use Rattle.osdp_time_laws.specs.Clock.{IsBy, IsOwed, KeepsTime, TicksBy, is_tick}
-use Rattle.osdp_time_laws.specs.Orders.{order_time, OrdersGoOut, Waits, is_under_way, left_after}
 use Rattle.osdp_time_laws.proofs.Beginnings.{begun_new, begun_tick, one_less, whole, whole_is}
 use Rattle.osdp_time_laws.proofs.Duties.{Due, due_kept, due_seen}
 use Rattle.osdp_time_laws.proofs.Ends.{begun_not, moved_not, step, tick_at_moment}

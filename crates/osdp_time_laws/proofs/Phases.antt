@@ -1,31 +1,7 @@
 -- What a session may still take, from one call to the next.
-use Rattle.std.proofs.Common.{◌≡◌, ◌∙◌, ◌⊎◌, ap, subst, inl, inr, ℕ, zero, suc, ◌+◌, ◌-◌, ◌*◌, ◌^◌, ◌≤◌, ◌<◌, Bool, true, false, List, [], ◌∷◌, None, refl, arith}
-use Rattle.std.specs.Prelude.{All, nat_le, nat_lt}
-use Rattle.std.proofs.Math.Nat.{min-le_left, suc-mul}
-use Rattle.std.proofs.lemmas.Bool.{leb-false, ltb-false, ltb-true}
-use Rattle.std.proofs.lemmas.List.Elements.{All-head, All-tail}
-use Rattle.osdp_frame.specs.Packet.{Packet, next_sequence}
-use Rattle.osdp_msg.specs.declared.command.Command.{Command}
-use Rattle.osdp_controller.specs.declared.config.ControllerConfig.{ControllerConfig}
-use Rattle.osdp_controller.specs.declared.exchange.Exchange.TheVariants.{Opening, Polling, Asking}
-use Rattle.osdp_controller.specs.declared.exchange.Outstanding.{Outstanding}
-use Rattle.osdp_controller.specs.declared.meaning.ReplyMeaning.{ReplyMeaning}
+use Rattle.osdp_time_laws.proofs.Common.{◌≡◌, ◌∙◌, ◌⊎◌, ap, subst, inl, inr, ℕ, zero, suc, ◌+◌, ◌-◌, ◌*◌, ◌^◌, ◌≤◌, ◌<◌, Bool, true, false, List, [], ◌∷◌, None, refl, arith, All, nat_le, nat_lt, min-le_left, suc-mul, leb-false, ltb-false, ltb-true, All-head, All-tail, Packet, next_sequence, Command, ControllerConfig, Opening, Polling, Asking, Outstanding, ReplyMeaning, Session, State, Closed, Quiet, Idle, Waiting, Pausing, is_not_taken, meaning_of, Heard, hears, hears_busy, loses, waiting_hears, numbered_in, after_send, at_rest, closed, later, seen, is_closed, Ticked, begins, gives_up, sends_frame, stays, ticks_in, tries_again, either_way, Call, Hear, OfEach, either_frame, of_answer, of_pause, of_unread, is_tick, IsNotBusy}
 use Rattle.osdp_controller.specs.declared.meaning.ReplyMeaning.TheVariants.{NotTaken, Damaged, NumberRefused, Plain, Unreadable}
 use Rattle.osdp_controller.specs.declared.report.LostCause.TheVariants as causes
-use Rattle.osdp_controller.specs.declared.session.Session.{Session}
-use Rattle.osdp_controller.specs.declared.state.State.{State}
-use Rattle.osdp_controller.specs.declared.state.State.TheVariants.{Closed, Quiet, Idle, Waiting, Pausing}
-use Rattle.osdp_controller.specs.Answers.{is_not_taken, meaning_of}
-use Rattle.osdp_controller.specs.Hearing.{Heard, hears, hears_busy, loses, waiting_hears}
-use Rattle.osdp_controller.specs.Private.{numbered_in}
-use Rattle.osdp_controller.specs.Sessions.{after_send, at_rest, closed, later, seen}
-use Rattle.osdp_controller.specs.States.{is_closed}
-use Rattle.osdp_controller.specs.Ticking.{Ticked, begins, gives_up, sends_frame, stays, ticks_in, tries_again}
-use Rattle.osdp_controller.proofs.Choices.{either_way}
-use Rattle.osdp_controller_laws.specs.Runs.{Call, Hear}
-use Rattle.osdp_controller_laws.proofs.Frames.{OfEach, either_frame, of_answer, of_pause, of_unread}
-use Rattle.osdp_time_laws.specs.Clock.{is_tick}
-use Rattle.osdp_time_laws.specs.Laws.{IsNotBusy}
 use Rattle.osdp_time_laws.proofs.Duties.{Due, due_ahead, due_anew, due_kept, due_now, until_of}
 
 -- a wait ends no later than it says

@@ -1,22 +1,5 @@
 -- What a device that falls silent may take until it is told lost.
-use Rattle.std.proofs.Common.{◌≡◌, sym, subst, inr, ℕ, ◌+◌, ◌*◌, ◌≤◌, true, List, [], ◌∷◌, refl, arith}
-use Rattle.std.specs.Prelude.{All}
-use Rattle.std.proofs.lemmas.List.Elements.{All-cons, All-head, All-nil, All-tail}
-use Rattle.osdp_frame.specs.Packet.{Packet}
-use Rattle.osdp_controller.specs.declared.config.ControllerConfig.{ControllerConfig}
-use Rattle.osdp_controller.specs.declared.meaning.ReplyMeaning.{ReplyMeaning}
-use Rattle.osdp_controller.specs.declared.session.Session.{Session}
-use Rattle.osdp_controller.specs.declared.state.State.{State}
-use Rattle.osdp_controller.specs.declared.state.State.TheVariants.{Closed, Idle, Waiting, Pausing}
-use Rattle.osdp_controller.specs.Answers.{meaning_of}
-use Rattle.osdp_controller.specs.Hearing.{Heard, answered, hears}
-use Rattle.osdp_controller.specs.Machine.{is_outstanding}
-use Rattle.osdp_controller.specs.Private.{numbered_in}
-use Rattle.osdp_controller.specs.Sessions.{seen}
-use Rattle.osdp_controller.specs.States.{is_idle}
-use Rattle.osdp_controller_laws.specs.Runs.{Call, Hear, after_call, after_calls}
-use Rattle.osdp_controller_laws.proofs.Frames.{OfEach, either_frame, of_pause, of_wait}
-use Rattle.osdp_time_laws.specs.Laws.{IsNotBusy, IsSilent, SilenceIsTold, is_in_session}
+use Rattle.osdp_time_laws.proofs.Common.{◌≡◌, sym, subst, inr, ℕ, ◌+◌, ◌*◌, ◌≤◌, true, List, [], ◌∷◌, refl, arith, All, All-cons, All-head, All-nil, All-tail, Packet, ControllerConfig, ReplyMeaning, Session, State, Closed, Idle, Waiting, Pausing, meaning_of, Heard, answered, hears, is_outstanding, numbered_in, seen, is_idle, Call, Hear, after_call, after_calls, OfEach, either_frame, of_pause, of_wait, IsNotBusy, IsSilent, SilenceIsTold, is_in_session}
 use Rattle.osdp_time_laws.proofs.Beginnings.{no_busy, on_from, one_less, round_is}
 use Rattle.osdp_time_laws.proofs.Duties.{due_anew, until_of}
 use Rattle.osdp_time_laws.proofs.Ends.{ends}

@@ -1,26 +1,5 @@
 -- What a state waits for lies no further away than its own wait.
-use Rattle.std.proofs.Common.{sym, subst, ℕ, ◌+◌, ◌≤◌, List, [], ◌∷◌, Option, Some, None, arith}
-use Rattle.std.specs.Prelude.{max, nat_le, nat_lt}
-use Rattle.osdp_frame.specs.Packet.{Packet, next_sequence}
-use Rattle.osdp_msg.specs.declared.command.Command.{Command}
-use Rattle.osdp_controller.specs.declared.config.ControllerConfig.{ControllerConfig}
-use Rattle.osdp_controller.specs.declared.exchange.Exchange.TheVariants.{Opening, Polling}
-use Rattle.osdp_controller.specs.declared.fault.ControllerFault.{ControllerFault}
-use Rattle.osdp_controller.specs.declared.meaning.ReplyMeaning.{ReplyMeaning}
-use Rattle.osdp_controller.specs.declared.session.Session.{Session}
-use Rattle.osdp_controller.specs.declared.state.State.{State}
-use Rattle.osdp_controller.specs.declared.state.State.TheVariants.{Closed, Quiet, Idle, Waiting, Pausing}
-use Rattle.osdp_controller.specs.Answers.{meaning_of}
-use Rattle.osdp_controller.specs.Hearing.{Heard, hears}
-use Rattle.osdp_controller.specs.Machine.{Machine, after_begin, after_retarget, changed_unless, refused_unless_closed, retarget_refusal, submit_refusal}
-use Rattle.osdp_controller.specs.Private.{numbered_in}
-use Rattle.osdp_controller.specs.Sessions.{later, seen}
-use Rattle.osdp_controller.specs.Ticking.{Ticked, begins, gives_up, sends_frame, stays, ticks_in, tries_again}
-use Rattle.osdp_controller.proofs.Choices.{either_way}
-use Rattle.osdp_controller_laws.specs.Runs.{Call, Submit, Begin, Retarget, Withdraw, Tick, Hear, after_call, after_calls}
-use Rattle.osdp_controller_laws.proofs.Frames.{OfEach, either_frame, of_pause, of_wait}
-use Rattle.osdp_controller_laws.proofs.Lasting.{submit_session}
-use Rattle.osdp_time_laws.specs.Acceptance.{IsTimely, StaysTimely, WaitsItsTime}
+use Rattle.osdp_time_laws.proofs.Common.{sym, subst, ℕ, ◌+◌, ◌≤◌, List, [], ◌∷◌, Option, Some, None, arith, max, nat_le, nat_lt, Packet, next_sequence, Command, ControllerConfig, Opening, Polling, ControllerFault, ReplyMeaning, Session, State, Closed, Quiet, Idle, Waiting, Pausing, meaning_of, Heard, hears, Machine, after_begin, after_retarget, changed_unless, refused_unless_closed, retarget_refusal, submit_refusal, numbered_in, later, seen, Ticked, begins, gives_up, sends_frame, stays, ticks_in, tries_again, either_way, Call, Submit, Begin, Retarget, Withdraw, Tick, Hear, after_call, after_calls, OfEach, either_frame, of_pause, of_wait, submit_session, IsTimely, StaysTimely, WaitsItsTime}
 use Rattle.osdp_time_laws.proofs.Phases.{later_within}
 
 -- a later moment that is seen

@@ -1,12 +1,7 @@
 -- Words choose exactly what they are the words of.
-use Rattle.std.proofs.Common.{List, ℕ, false, true, refl, ◌≡◌, ◌⊎◌, ◌∙◌, Bool, [], ◌∷◌, subst, sym, inl, inr, codes, Err}
-use Rattle.std.specs.Str.{bytes_eq}
-use Rattle.std.proofs.lemmas.Slice.Eq.{bytes_eq-Decides}
-use Rattle.osdp_tool.specs.Job.{Words, job_of, wants_help}
-use Rattle.osdp_tool_streams.specs.declared.fault.ToolFault.TheVariants.{BadWords}
+use Rattle.osdp_tool.proofs.Common.{List, ℕ, false, true, refl, ◌≡◌, ◌⊎◌, ◌∙◌, Bool, [], ◌∷◌, subst, sym, inl, inr, codes, Err, bytes_eq, bytes_eq-Decides, Words, job_of, wants_help, BadWords, Topic}
 use Rattle.osdp_tool.specs.declared.choice.Choice.{Choice}
 use Rattle.osdp_tool.specs.declared.choice.Choice.TheVariants.{Help, Version, Show, Check, Monitor, Panel, Reader, Plan, Test, Job}
-use Rattle.osdp_tool.specs.declared.choice.Topic.{Topic}
 use Rattle.osdp_tool.specs.declared.choice.Topic.TheVariants as topic
 use Rattle.osdp_tool.specs.Choice.{AskForHelp, AskOf, ChoosesByWords, IsWordsOf, choice_of, topic_named}
 

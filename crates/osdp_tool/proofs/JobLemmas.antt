@@ -1,13 +1,8 @@
 -- Words choose a job exactly where they are its words.
-use Rattle.std.proofs.Common.{List, ℕ, false, true, refl, ◌≡◌, ◌==◌, ◌⊎◌, ◌∙◌, length, Bool, [], ◌∷◌, subst, ap, inl, inr, codes, Ok, Err}
-use Rattle.std.specs.Str.{bytes_eq}
-use Rattle.std.proofs.lemmas.Bool.{eqb-true}
+use Rattle.osdp_tool.proofs.Common.{List, ℕ, false, true, refl, ◌≡◌, ◌==◌, ◌⊎◌, ◌∙◌, length, Bool, [], ◌∷◌, subst, ap, inl, inr, codes, Ok, Err, bytes_eq, eqb-true, bytes_eq-Decides, BadWords, Words, job_of, wants_help, IsWordsOfJob, ChoosesJobByWords}
 use Rattle.std.proofs.lemmas.List.{nil_from_length}
-use Rattle.std.proofs.lemmas.Slice.Eq.{bytes_eq-Decides}
-use Rattle.osdp_tool_streams.specs.declared.fault.ToolFault.TheVariants.{BadWords}
 use Rattle.osdp_tool.specs.declared.jobs.Job.{Job}
 use Rattle.osdp_tool.specs.declared.jobs.Job.TheVariants.{Make, Sim}
-use Rattle.osdp_tool.specs.Job.{Words, job_of, wants_help, IsWordsOfJob, ChoosesJobByWords}
 
 -- words choose a job of theirs, or are bad
 abbrev Chooses : Words → Type 0

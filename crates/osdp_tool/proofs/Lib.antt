@@ -1,3 +1,4 @@
+pub mod Common
 mod JobLemmas
 mod Choosing
 mod OneTopic

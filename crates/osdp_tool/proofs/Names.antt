@@ -1,11 +1,9 @@
 -- No words are of a command and of a reply.
-use Rattle.std.proofs.Common.{◌≡◌, ℕ, false, List, [], ◌∷◌, refl, sym, ◌∙◌}
-use Rattle.osdp_words.specs.Word.{AllStandFor}
+use Rattle.osdp_tool.proofs.Common.{◌≡◌, ℕ, false, List, [], ◌∷◌, refl, sym, ◌∙◌, AllStandFor, command_words}
 use Rattle.osdp_msg.specs.declared.command.Command.{Command}
 use Rattle.osdp_msg.specs.declared.command.Command.TheVariants as command
 use Rattle.osdp_msg.specs.declared.reply.Reply.{Reply}
 use Rattle.osdp_msg.specs.declared.reply.Reply.TheVariants as reply
-use Rattle.osdp_msg.specs.CommandText.{command_words}
 use Rattle.osdp_msg.proofs.CommandTextRows.{command_name}
 use Rattle.osdp_msg.specs.ReplyText.{reply_words}
 use Rattle.osdp_msg.proofs.ReplyTextRows.{reply_name}

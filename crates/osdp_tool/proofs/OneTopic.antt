@@ -1,6 +1,5 @@
 -- A text is the help of one topic at most: its fifth to seventh characters tell which.
-use Rattle.std.proofs.Common.{◌≡◌, ◌∙◌, ◌==◌, ℕ, if◌then◌else◌, List, ◌++◌, length, drop, get_or, take-append-drop, refl, sym, ap}
-use Rattle.osdp_tool.specs.declared.choice.Topic.{Topic}
+use Rattle.osdp_tool.proofs.Common.{◌≡◌, ◌∙◌, ◌==◌, ℕ, if◌then◌else◌, List, ◌++◌, length, drop, get_or, take-append-drop, refl, sym, ap, Topic}
 use Rattle.osdp_tool.specs.declared.choice.Topic.TheVariants.{Program, Show, Monitor, Check, Make, Sim, Panel, Reader, Plan, Test}
 use Rattle.osdp_tool.specs.Help.{HasOneTopic, IsHelpOf, heading}
 

@@ -1,27 +1,13 @@
 -- Words order one packet, whose bytes are read as it.
-use Rattle.std.proofs.Common.{◌≡◌, ◌↔◌, ◌<◌, ◌≤◌, ℕ, suc, false, List, [], ◌∷◌, length, codes, refl, sym, ap, ◌∙◌, subst, arith}
-use Rattle.std.proofs.lemmas.Bool.{false≢true}
+use Rattle.osdp_tool.proofs.Common.{◌≡◌, ◌↔◌, ◌<◌, ◌≤◌, ℕ, suc, false, List, [], ◌∷◌, length, codes, refl, sym, ap, ◌∙◌, subst, arith, false≢true, bytes_eq, CheckKind, Sum, Crc, IsBytes, IsPacket, Packet, Spells, spelling, AllStandFor, command_code, command_data, Message, Command, Reply, PacketOrder, check_name, MessageFits, message_body, message_is_reply, message_words, order_packet}
 use Rattle.std.specs.Fmt.{decimal}
-use Rattle.std.specs.Str.{bytes_eq}
-use Rattle.osdp_frame.specs.declared.check_kind.CheckKind.{CheckKind}
-use Rattle.osdp_frame.specs.declared.check_kind.CheckKind.TheVariants.{Sum, Crc}
-use Rattle.hex.specs.Hex.{IsBytes}
-use Rattle.osdp_frame.specs.Packet.{IsPacket, Packet}
 use Rattle.osdp_frame.specs.Reading.{IsReading, PacketItem}
-use Rattle.osdp_frame.specs.Spelling.{Spells, spelling}
-use Rattle.osdp_words.specs.Word.{AllStandFor}
 use Rattle.osdp_words.proofs.WordLaws.{is_decimal}
-use Rattle.osdp_msg.specs.CommandTable.{command_code, command_data}
 use Rattle.osdp_msg.specs.ReplyTable.{reply_code, reply_data}
 use Rattle.osdp_msg_laws.proofs.CommandLaws.{command_laws}
 use Rattle.osdp_msg_laws.proofs.ReplyLaws.{reply_laws}
 use Rattle.osdp_msg_laws.proofs.CommandTexts.{command_texts}
 use Rattle.osdp_msg_laws.proofs.ReplyTexts.{reply_texts}
-use Rattle.osdp_tool.specs.declared.order.Message.{Message}
-use Rattle.osdp_tool.specs.declared.order.Message.TheVariants.{Command, Reply}
-use Rattle.osdp_tool.specs.declared.order.PacketOrder.{PacketOrder}
-use Rattle.osdp_frame.specs.Check.{check_name}
-use Rattle.osdp_tool.specs.PacketOrder.{MessageFits, message_body, message_is_reply, message_words, order_packet}
 use Rattle.osdp_tool.specs.Laws.{HasOneOrder, IsReadAs, ReadsBack}
 use Rattle.osdp_tool.proofs.Names.{not_both}
 use Rattle.osdp_tool.proofs.Orders.{is_packet}

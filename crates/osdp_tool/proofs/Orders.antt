@@ -1,21 +1,7 @@
 -- What words order, and that it is a packet.
-use Rattle.std.proofs.Common.{◌≡◌, ◌<◌, ◌≤◌, ℕ, Bool, List, length, Option, Some, None, refl, ap, arith}
-use Rattle.std.specs.Prelude.{IsSome}
+use Rattle.osdp_tool.proofs.Common.{◌≡◌, ◌<◌, ◌≤◌, ℕ, Bool, List, length, Option, Some, None, refl, ap, arith, IsSome, CheckKind, Sum, Crc, AreBytes, check_size, IsPacket, packed, AllStandFor, CommandValue, CommandFits, command_words, Message, Command, Reply, MessageFits, message_body, message_words}
 use Rattle.std.specs.Option.{SomeIff}
-use Rattle.osdp_frame.specs.declared.check_kind.CheckKind.{CheckKind}
-use Rattle.osdp_frame.specs.declared.check_kind.CheckKind.TheVariants.{Sum, Crc}
-use Rattle.osdp_frame.specs.Bytes.{AreBytes}
-use Rattle.osdp_frame.specs.Check.{check_size}
-use Rattle.osdp_frame.specs.Packet.{IsPacket}
-use Rattle.osdp_frame.specs.Packed.{packed}
-use Rattle.osdp_words.specs.Word.{AllStandFor}
 use Rattle.osdp_words.specs.Reading.{ReadsWords}
-use Rattle.osdp_msg.specs.declared.command.Command.{Command as CommandValue}
-use Rattle.osdp_msg.specs.CommandTable.{CommandFits}
-use Rattle.osdp_msg.specs.CommandText.{command_words}
-use Rattle.osdp_tool.specs.declared.order.Message.{Message}
-use Rattle.osdp_tool.specs.declared.order.Message.TheVariants.{Command, Reply}
-use Rattle.osdp_tool.specs.PacketOrder.{MessageFits, message_body, message_words}
 use Rattle.osdp_tool.proofs.Names.{not_both}
 
 -- a command that is read is the message that is read

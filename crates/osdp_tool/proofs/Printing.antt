@@ -1,12 +1,7 @@
 -- What was printed where a write failed.
-use Rattle.std.proofs.Common.{◌≡◌, ◌||◌, ℕ, Bool, true, false, is_err, List, ◌++◌, take, drop, take-append-drop, Option, Result, Ok, Err, OnOk, OnErr, inr, sym, subst, ap, ◌∙◌}
-use Rattle.std.specs.Prelude.{IsOkUnless}
+use Rattle.osdp_tool.proofs.Common.{◌≡◌, ◌||◌, ℕ, Bool, true, false, is_err, List, ◌++◌, take, drop, take-append-drop, Option, Result, Ok, Err, OnOk, OnErr, inr, sym, subst, ap, ◌∙◌, IsOkUnless, AppendsPart, WriteFailed, PacketOrder, order_line}
 use Rattle.std.specs.Io.KnownBytes.{Appends}
-use Rattle.osdp_tool_streams.specs.Watched.{AppendsPart}
 use Rattle.osdp_tool_streams.specs.declared.fault.ToolFault.{ToolFault}
-use Rattle.osdp_tool_streams.specs.declared.fault.ToolFault.TheVariants.{WriteFailed}
-use Rattle.osdp_tool.specs.declared.order.PacketOrder.{PacketOrder}
-use Rattle.osdp_tool.specs.PacketOrder.{order_line}
 use Rattle.osdp_tool.specs.Ending.{Ends, Order, PrintedSome}
 
 pub part_printed : (given : List (List ℕ)) (order : PacketOrder) (before after : Option (List ℕ)) (bytes : List ℕ) → Order given order

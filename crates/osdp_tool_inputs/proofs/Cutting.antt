@@ -1,10 +1,6 @@
 -- How a text is cut, line by line.
-use Rattle.std.proofs.Common.{◌≡◌, ℕ, ◌+◌, ◌-◌, ◌≤◌, ◌<◌, List, [], ◌∷◌, ◌++◌, Bor, length, take, drop, refl, sym, subst, ap, ◌∙◌, arith, append_assoc, append-nil, length-drop}
-use Rattle.std.proofs.lemmas.List.{map-append, take_rest}
-use Rattle.std.proofs.Math.Seq.{drop-drop}
-use Rattle.osdp_tool_streams.specs.Cut.{HasLine, IsLine, last_line, lines_of}
+use Rattle.osdp_tool_inputs.proofs.Common.{◌≡◌, ℕ, ◌+◌, ◌-◌, ◌≤◌, ◌<◌, List, [], ◌∷◌, ◌++◌, Bor, length, take, drop, refl, sym, subst, ap, ◌∙◌, arith, append_assoc, append-nil, length-drop, map-append, take_rest, drop-drop, HasLine, IsLine, last_line, lines_of, parts}
 use Rattle.osdp_tool_captures.proofs.Cutting.{line_cut, lines_of-feed, lines_of-line}
-use Rattle.osdp_tool_inputs.specs.Times.{parts}
 
 -- these are the lines that end in the bytes so far
 pub record AreCut (text : List ℕ) (at : ℕ) (lines : List (Bor (List ℕ))) : Type 0 where

@@ -1,16 +1,10 @@
 -- Lines that are left, and echoes that are not.
-use Rattle.std.proofs.Common.{◌≡◌, ℕ, ◌+◌, ◌==◌, ◌&&◌, inl, inr, Bool, true, false, cond, List, [], ◌∷◌, ◌++◌, ◌≤◌, length, codes, drop, flat_map, refl, sym, ap, ◌∙◌, arith, append-nil}
-use Rattle.std.specs.List.{AllByRecursion}
-use Rattle.std.proofs.lemmas.Bool.{cases_Bool, cond-false, cond-true, eqb-true}
-use Rattle.std.specs.Str.{bytes_eq}
+use Rattle.osdp_tool_inputs.proofs.Common.{◌≡◌, ℕ, ◌+◌, ◌==◌, ◌&&◌, inl, inr, Bool, true, false, cond, List, [], ◌∷◌, ◌++◌, ◌≤◌, length, codes, drop, flat_map, refl, sym, ap, ◌∙◌, arith, append-nil, AllByRecursion, cases_Bool, cond-false, cond-true, eqb-true, bytes_eq, IsLine, ended_lines, last_line, lines_of, unended_line, Rest, ends_so, has_digits, is_stamp, no_stamp}
 use Rattle.std.proofs.lemmas.List.Elements.{All-head, All-tail}
 use Rattle.std.proofs.lemmas.Slice.Eq.{bytes_eq-Decides}
-use Rattle.osdp_tool_streams.specs.Cut.{IsLine, ended_lines, last_line, lines_of, unended_line}
 use Rattle.osdp_tool_streams.proofs.Bytes.{is_cut}
 use Rattle.osdp_tool_streams.proofs.CutLemmas.{ended_lines-cut}
 use Rattle.osdp_tool_inputs.specs.Echoes.{AreSorted, Goes, KeepsOthers, LeavesAllElse, LeavesEchoOut, NoLines, SortsAll, Stays, all_echoes, echoes_below, echoes_in, ended, heard_part, is_echo, left_below, left_in, left_of, next_stamp, next_went, only, unless}
-use Rattle.osdp_tool_inputs.specs.declared.echoes.Rest.{Rest}
-use Rattle.osdp_tool_inputs.specs.Times.{ends_so, has_digits, is_stamp, no_stamp}
 
 pub one_line : (stamp went line : List ℕ) (lines : List (List ℕ))
     → left_below stamp went (line ∷ lines) ≡ unless (is_echo stamp went line) line ∷ left_below (next_stamp stamp line) (next_went stamp went line) lines

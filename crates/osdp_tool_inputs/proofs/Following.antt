@@ -1,12 +1,8 @@
 -- A capture that is followed line by line.
-use Rattle.std.proofs.Common.{◌≡◌, ℕ, ◌+◌, true, false, cond, List, [], ◌∷◌, ◌++◌, length, refl, sym, ap, ◌∙◌, arith, append_assoc, append-nil}
-use Rattle.std.proofs.lemmas.List.{length-append}
+use Rattle.osdp_tool_inputs.proofs.Common.{◌≡◌, ℕ, ◌+◌, true, false, cond, List, [], ◌∷◌, ◌++◌, length, refl, sym, ap, ◌∙◌, arith, append_assoc, append-nil, length-append, has_digits, Capture, Told}
 use Rattle.osdp_tool_inputs.specs.Heard.{tells_below}
 use Rattle.osdp_tool_inputs.specs.Places.{HasFollowed, late_from, late_in}
-use Rattle.osdp_tool_inputs.specs.Times.{has_digits}
-use Rattle.osdp_tool_inputs.specs.declared.capture.Capture.{Capture}
 use Rattle.osdp_tool_times.specs.Captures.{Heard, after_line, after_lines, heard_of, line_told, nothing_heard}
-use Rattle.osdp_tool_times.specs.declared.waits.Told.{Told}
 
 -- ---- one after the other
 

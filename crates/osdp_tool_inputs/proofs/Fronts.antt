@@ -1,23 +1,13 @@
 -- How options and files are told apart: fronts of the words, from the longest one on.
-use Rattle.std.proofs.Common.{◌≡◌, ◌+◌, ◌-◌, ◌≤◌, ◌&&◌, ℕ, Bool, true, false, List, Bor, Option, None, Some, length, take, drop, sym, subst, ap, ◌∙◌, arith, take-append-drop}
-use Rattle.std.proofs.lemmas.List.{drop-map, length-append, length-map, take-map}
+use Rattle.osdp_tool_inputs.proofs.Common.{◌≡◌, ◌+◌, ◌-◌, ◌≤◌, ◌&&◌, ℕ, Bool, true, false, List, Bor, Option, None, Some, length, take, drop, sym, subst, ap, ◌∙◌, arith, take-append-drop, drop-map, length-append, length-map, take-map, drop-append-add, take-append_seam, option_map, option_and_then, Words, texts_of, Format, MonitorMode, AreAsked, TaskOf, check_task, has_lines, show_task, Task, Listen}
 use Rattle.std.proofs.lemmas.List.Folds.{list_all-append}
-use Rattle.std.proofs.Math.Seq.{drop-append-add, take-append_seam}
-use Rattle.std.specs.Prelude.{option_map}
-use Rattle.std.specs.Option.{option_and_then}
 use Rattle.osdp_tool.specs.CaptureOptions.{ReadsCaptureMode, OptionFits, default_mode, name_of, name_text, numbers_of, with_option}
 use Rattle.osdp_tool.specs.InputWords.{are_files, is_file}
-use Rattle.osdp_tool.specs.Job.{Words, texts_of}
 use Rattle.osdp_tool.specs.declared.capture_options.CaptureMode.{CaptureMode}
-use Rattle.osdp_tool_captures.specs.declared.format.Format.{Format}
 use Rattle.osdp_tool_monitor.specs.Options as monitor
-use Rattle.osdp_tool_monitor.specs.declared.mode.MonitorMode.{MonitorMode}
 use Rattle.osdp_tool_options.proofs.One.{one_reading}
-use Rattle.osdp_tool_inputs.specs.Asked.{AreAsked, TaskOf, check_task, has_lines, show_task}
 use Rattle.osdp_tool_inputs.specs.declared.asked.Reads.{Reads}
 use Rattle.osdp_tool_inputs.specs.declared.asked.Reads.TheVariants.{Check, Monitor, Show}
-use Rattle.osdp_tool_inputs.specs.declared.asked.Task.{Task}
-use Rattle.osdp_tool_inputs.specs.declared.asked.Task.TheVariants.{Listen}
 
 one_capture : (words : Words) (m n : Option CaptureMode) → ReadsCaptureMode words m → ReadsCaptureMode words n → m ≡ n
 one_capture words m n a b = one_reading (λ option. name_text (name_of option)) numbers_of OptionFits with_option default_mode words m n a b

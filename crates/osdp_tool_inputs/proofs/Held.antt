@@ -1,16 +1,12 @@
 -- What holds of the times that are printed.
-use Rattle.std.proofs.Common.{◌≡◌, ◌+◌, ◌-◌, ◌*◌, ◌&&◌, ℕ, nat_le, Bool, true, cond, List, [], ◌∷◌, ◌++◌, drop, refl, subst, ap, ◌∙◌, arith}
+use Rattle.osdp_tool_inputs.proofs.Common.{◌≡◌, ◌+◌, ◌-◌, ◌*◌, ◌&&◌, ℕ, nat_le, Bool, true, cond, List, [], ◌∷◌, ◌++◌, drop, refl, subst, ap, ◌∙◌, arith, le-leb, is_decimal, StampsOneRun, TellsInOrder, TimesByRuns, AreInOrder}
 use Rattle.std.specs.Fmt.{decimal}
 use Rattle.std.specs.Char.{digit_value}
 use Rattle.std.specs.Str.Parse.{AllDigits, digits_value_after}
-use Rattle.std.proofs.lemmas.Bool.{le-leb}
 use Rattle.std.proofs.lemmas.Str.{digit_value_digit}
-use Rattle.osdp_tool_captures.specs.Lines.{is_decimal}
 use Rattle.osdp_tool_inputs.proofs.Stamps.{a_run, a_stamp, at_run}
 use Rattle.std.proofs.lemmas.Str.Parse.{digit_from_value}
 use Rattle.std.proofs.lemmas.Fmt.{decimal_is_IsNumeral}
-use Rattle.osdp_tool_inputs.specs.Laws.{StampsOneRun, TellsInOrder, TimesByRuns}
-use Rattle.osdp_tool_inputs.specs.Moments.{AreInOrder}
 use Rattle.osdp_tool_inputs.specs.Times.{number_after, stamp_at}
 
 pub tells_in_order : TellsInOrder

@@ -1,28 +1,11 @@
 -- Lines of a capture in memory, one after the other, each a run.
-use Rattle.std.proofs.Common.{◌≡◌, ℕ, ◌+◌, ◌<◌, ◌≤◌, ◌==◌, Bool, true, false, cond, inl, inr, is_some, List, [], ◌∷◌, ◌++◌, ◌^◌, length, map, Option, Some, None, Result, Ok, Err, IfOk, OnOk, refl, sym, subst, ap, ◌∙◌, arith, append_assoc, append-nil}
-use Rattle.std.proofs.lemmas.Bool.{cases_Bool, cond-false, cond-true, eqb-true}
-use Rattle.std.proofs.lemmas.List.{length-append, map-append}
+use Rattle.osdp_tool_inputs.proofs.Common.{◌≡◌, ℕ, ◌+◌, ◌<◌, ◌≤◌, ◌==◌, Bool, true, false, cond, inl, inr, is_some, List, [], ◌∷◌, ◌++◌, ◌^◌, length, map, Option, Some, None, Result, Ok, Err, IfOk, OnOk, refl, sym, subst, ap, ◌∙◌, arith, append_assoc, append-nil, cases_Bool, cond-false, cond-true, eqb-true, length-append, map-append, line_bytes, bad_line-append, bad_line-stays, good_front-append, good_front-stays, run_events, Hearing, Hears, IsOpen, RunEnds, TableDue, after_event, after_events, event_report, events_report, hearing_of, line_detail, nothing_yet, heard_items, listening_of, table, MonitorMode, OpenLine, after_events-append, events_report-append, nothing_heard, HasHeard, HeardLines, all_echoes, echoes_in, left_in, left_of, HasFollowed, no_stamp, Ears, Rest}
 use Rattle.osdp_frame.specs.Items.{items}
 use Rattle.osdp_tool_show.specs.Tally.{after_run}
 use Rattle.osdp_tool_show.specs.declared.detail.Detail.{Detail}
 use Rattle.osdp_tool_show.specs.declared.tally.Tally.{Tally}
-use Rattle.osdp_tool_streams.specs.Line.{line_bytes}
 use Rattle.osdp_tool_streams.specs.Runs.{bad_line, good_front}
-use Rattle.osdp_tool_streams.proofs.RunsLemmas.{bad_line-append, bad_line-stays, good_front-append, good_front-stays}
-use Rattle.osdp_tool_monitor.specs.Events.{run_events}
-use Rattle.osdp_tool_monitor.specs.Hearing.{Hearing, Hears, IsOpen, RunEnds, TableDue, after_event, after_events, event_report, events_report, hearing_of, line_detail, nothing_yet}
 use Rattle.osdp_tool_monitor.specs.InTurn.{after_all, report_of_all}
-use Rattle.osdp_tool_monitor.specs.Listening.{heard_items, listening_of, table}
-use Rattle.osdp_tool_monitor.specs.declared.mode.MonitorMode.{MonitorMode}
-use Rattle.osdp_tool_monitor.specs.declared.open_line.OpenLine.{OpenLine}
-use Rattle.osdp_tool_monitor.proofs.OpenRuns.{after_events-append, events_report-append}
-use Rattle.osdp_tool_times.specs.Captures.{nothing_heard}
-use Rattle.osdp_tool_inputs.specs.Ears.{HasHeard, HeardLines}
-use Rattle.osdp_tool_inputs.specs.Echoes.{all_echoes, echoes_in, left_in, left_of}
-use Rattle.osdp_tool_inputs.specs.Places.{HasFollowed}
-use Rattle.osdp_tool_inputs.specs.Times.{no_stamp}
-use Rattle.osdp_tool_inputs.specs.declared.ears.Ears.{Ears}
-use Rattle.osdp_tool_inputs.specs.declared.echoes.Rest.{Rest}
 use Rattle.osdp_tool_inputs.proofs.RunPlaces.{as_many, echoes_size, left_size, stamps_short}
 
 -- ---- runs that have ended

@@ -1,10 +1,5 @@
 -- A text that is retold.
-use Rattle.std.proofs.Common.{◌≡◌, ℕ, Bool, List, Result, Ok, Err, refl}
-use Rattle.osdp_tool_monitor.specs.Reading.{Wrote}
-use Rattle.osdp_tool_show.specs.Ending.{Stream}
-use Rattle.osdp_tool_streams.specs.declared.fault.ToolFault.{ToolFault}
-use Rattle.osdp_tool_streams.specs.declared.fault.ToolFault.TheVariants.{NoMemory, WriteFailed}
-use Rattle.osdp_tool_inputs.specs.Done.{Ending, InMemory, Retells}
+use Rattle.osdp_tool_inputs.proofs.Common.{◌≡◌, ℕ, Bool, List, Result, Ok, Err, refl, Wrote, Stream, ToolFault, NoMemory, WriteFailed, Ending, InMemory, Retells}
 
 module _ (ends : Ending) (retold : List ℕ → List ℕ) (text : List ℕ) (output : Stream) (shown : List ℕ) where
   -- all of it was written

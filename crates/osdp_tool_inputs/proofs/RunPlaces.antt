@@ -1,25 +1,15 @@
 -- Places in a capture, one run after the other.
-use Rattle.std.proofs.Common.{◌≡◌, ℕ, ◌+◌, ◌-◌, ◌≤◌, ◌<◌, ◌^◌, ◌==◌, ◌&&◌, Bool, true, false, cond, inl, inr, List, [], ◌∷◌, ◌++◌, codes, flat_map, get_or, length, drop, nat_lt, refl, sym, ap, ◌∙◌, arith, length-drop}
-use Rattle.std.proofs.lemmas.Bool.{cases_Bool, eqb-true, ltb-false, ltb-true, ne_eqb}
-use Rattle.std.proofs.Math.Seq.{drop-drop}
-use Rattle.std.proofs.lemmas.List.{drop_all, drop_more, get_or_past, length-append}
-use Rattle.std.specs.List.{starts_with}
-use Rattle.std.specs.Str.{bytes_eq}
+use Rattle.osdp_tool_inputs.proofs.Common.{◌≡◌, ℕ, ◌+◌, ◌-◌, ◌≤◌, ◌<◌, ◌^◌, ◌==◌, ◌&&◌, Bool, true, false, cond, inl, inr, List, [], ◌∷◌, ◌++◌, codes, flat_map, get_or, length, drop, nat_lt, refl, sym, ap, ◌∙◌, arith, length-drop, cases_Bool, eqb-true, ltb-false, ltb-true, ne_eqb, drop-drop, drop_all, drop_more, get_or_past, length-append, starts_with, bytes_eq, all_echoes, echoes_below, echoes_in, heard_part, is_echo, left_in, left_of, next_stamp, next_went, went_after, went_by, Capture, Heard, after_line, after_lines, heard_of, line_told, nothing_heard, Told, InTime, Late, Nothing}
 use Rattle.osdp_tool_streams.specs.Cut.{ended_after, last_line, line_feed, lines_of, unended_after}
-use Rattle.osdp_tool_inputs.specs.Echoes.{all_echoes, echoes_below, echoes_in, heard_part, is_echo, left_in, left_of, next_stamp, next_went, went_after, went_by}
 use Rattle.osdp_tool_inputs.specs.Heard.{printed_of, retold_line, retold_times, tells_at, tells_below}
 use Rattle.osdp_tool_inputs.specs.Places.{FindsLate, HasFollowed, IsAt, IsHeard, first_told, late_from, late_in, late_only, stamps_left, tells_left}
 use Rattle.osdp_tool_inputs.specs.Times.{ends_so, has_digits, is_stamp, no_stamp, stamp_at, stamps_below}
-use Rattle.osdp_tool_inputs.specs.declared.capture.Capture.{Capture}
 use Rattle.osdp_tool_inputs.specs.declared.capture.LateAnswer.{LateAnswer}
 use Rattle.osdp_tool_inputs.specs.declared.places.Found.{Found}
 use Rattle.osdp_tool_inputs.specs.declared.places.Place.{Place}
 use Rattle.osdp_tool_inputs.specs.declared.places.Source.{Source}
 use Rattle.osdp_tool_inputs.proofs.Echoing.{heard_lines, sorted_size, sorts_all}
 use Rattle.osdp_tool_inputs.proofs.Stamps.{a_run, a_stamp, at_run, beyond, no_digits}
-use Rattle.osdp_tool_times.specs.Captures.{Heard, after_line, after_lines, heard_of, line_told, nothing_heard}
-use Rattle.osdp_tool_times.specs.declared.waits.Told.{Told}
-use Rattle.osdp_tool_times.specs.declared.waits.Told.TheVariants.{InTime, Late, Nothing}
 
 -- ---- how many there are
 

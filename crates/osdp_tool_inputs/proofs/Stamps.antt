@@ -1,9 +1,6 @@
 -- The stamps of runs, and the numbers of runs.
-use Rattle.std.proofs.Common.{◌≡◌, ℕ, ◌+◌, ◌-◌, ◌*◌, ◌≤◌, ◌<◌, ◌==◌, true, false, cond, List, [], ◌∷◌, ◌++◌, Bor, length, drop, refl, sym, ap, ◌∙◌, arith, append_assoc, append-nil}
-use Rattle.std.proofs.lemmas.Bool.{ne_eqb}
-use Rattle.std.proofs.lemmas.List.{at_drop_more, drop_all, get_or_past, map-append}
+use Rattle.osdp_tool_inputs.proofs.Common.{◌≡◌, ℕ, ◌+◌, ◌-◌, ◌*◌, ◌≤◌, ◌<◌, ◌==◌, true, false, cond, List, [], ◌∷◌, ◌++◌, Bor, length, drop, refl, sym, ap, ◌∙◌, arith, append_assoc, append-nil, ne_eqb, at_drop_more, drop_all, get_or_past, map-append, is_decimal}
 use Rattle.std.specs.Prelude.{get_or}
-use Rattle.osdp_tool_captures.specs.Lines.{is_decimal}
 use Rattle.osdp_tool_inputs.specs.Times.{has_digits, is_stamp, no_stamp, number_after, parts, stamp_at, stamps_below}
 
 -- ---- the number of a run

@@ -1,23 +1,10 @@
 -- Lines that are told to an output of objects.
-use Rattle.std.proofs.Common.{◌≡◌, ◌&&◌, inl, inr, ℕ, Bool, true, false, not, List, [], ◌++◌, Option, None, Some, Result, Ok, Err, take, refl, sym, subst, ap, ◌∙◌, append-nil}
+use Rattle.osdp_tool_inputs.proofs.Common.{◌≡◌, ◌&&◌, inl, inr, ℕ, Bool, true, false, not, List, [], ◌++◌, Option, None, Some, Result, Ok, Err, take, refl, sym, subst, ap, ◌∙◌, append-nil, Format, input_report, Broken, End, MonitorMode, IsNew, fault_of, lines_taken, output_of, Stream, streamed, watched, inner_of, ToolFault, NoMemory, NotHex, ReadFailed, TooLong, WriteFailed, has_lines, Does, DoesInput, DoesObjects, EndsHeard, Listens, Read, Unread, has_objects, is_whole, text_of, unless_failed, Task, Listen, Print, Time}
 use Rattle.std.specs.Io.KnownBytes.{Appends, Keeps}
-use Rattle.osdp_tool_captures.specs.declared.format.Format.{Format}
-use Rattle.osdp_tool_monitor.specs.Ending.{input_report}
-use Rattle.osdp_tool_monitor.specs.Events.{Broken, End}
-use Rattle.osdp_tool_monitor.specs.declared.mode.MonitorMode.{MonitorMode}
-use Rattle.osdp_tool_objects.specs.Outputs.{IsNew, fault_of, lines_taken, output_of}
 use Rattle.osdp_tool_objects.specs.Streams.{marked}
 use Rattle.osdp_tool_objects.specs.declared.stream.Objects.{Objects}
 use Rattle.osdp_tool_objects.proofs.Outputs.{new_front, objects_written}
-use Rattle.osdp_tool_show.specs.Ending.{Stream, streamed, watched}
-use Rattle.osdp_tool_streams.specs.Watched.{inner_of}
-use Rattle.osdp_tool_streams.specs.declared.fault.ToolFault.{ToolFault}
-use Rattle.osdp_tool_streams.specs.declared.fault.ToolFault.TheVariants.{NoMemory, NotHex, ReadFailed, TooLong, WriteFailed}
-use Rattle.osdp_tool_inputs.specs.Asked.{has_lines}
-use Rattle.osdp_tool_inputs.specs.Done.{Does, DoesInput, DoesObjects, EndsHeard, Listens, Read, Unread, has_objects, is_whole, text_of, unless_failed}
 use Rattle.osdp_tool_inputs.specs.declared.asked.Asked.{Asked}
-use Rattle.osdp_tool_inputs.specs.declared.asked.Task.{Task}
-use Rattle.osdp_tool_inputs.specs.declared.asked.Task.TheVariants.{Listen, Print, Time}
 use Rattle.osdp_tool_inputs.specs.declared.tasks.TheConstants.{LONGEST}
 use Rattle.osdp_tool_inputs.specs.declared.told.Told.{Told}
 

@@ -1,12 +1,6 @@
 -- What is told with the moments of a capture.
-use Rattle.std.proofs.Common.{◌≡◌, ◌⊎◌, inl, inr, ℕ, Bool, List, [], ◌∷◌, ◌++◌, codes, flat_map, refl, sym, ap, ◌∙◌, append_assoc}
-use Rattle.std.proofs.lemmas.Bool.{cases_Bool, cond-false, cond-true}
-use Rattle.osdp_tool_streams.specs.Cut.{line_feed, lines_of}
-use Rattle.osdp_tool_inputs.specs.Heard.{late_notice, names_run, shown_stamp, tells_at, tells_of, times_after, told_line, took_text}
+use Rattle.osdp_tool_inputs.proofs.Common.{◌≡◌, ◌⊎◌, inl, inr, ℕ, Bool, List, [], ◌∷◌, ◌++◌, codes, flat_map, refl, sym, ap, ◌∙◌, append_assoc, cases_Bool, cond-false, cond-true, line_feed, lines_of, late_notice, names_run, shown_stamp, tells_at, tells_of, times_after, told_line, took_text, ends_so, run_of, stamps_of, Told, InTime, Late, Nothing}
 use Rattle.osdp_tool_inputs.specs.Laws.{AreEdges, Edges, IsFront, IsTail, MomentsLeaveLines, lines_between}
-use Rattle.osdp_tool_inputs.specs.Times.{ends_so, run_of, stamps_of}
-use Rattle.osdp_tool_times.specs.declared.waits.Told.{Told}
-use Rattle.osdp_tool_times.specs.declared.waits.Told.TheVariants.{InTime, Late, Nothing}
 
 -- ---- a line after its front
 

@@ -1,31 +1,10 @@
 -- What was heard line by line is what the monitor prints of the whole text, in one piece.
-use Rattle.std.proofs.Common.{◌≡◌, ℕ, ◌+◌, Bool, true, false, cond, inl, inr, is_some, List, [], ◌∷◌, ◌++◌, length, map, Option, Some, None, Ok, Err, refl, sym, subst, ap, ◌∙◌, arith, append_assoc, append-nil, string_bytes}
-use Rattle.std.proofs.lemmas.Bool.{cond-true}
-use Rattle.std.specs.Option.{option_map_or}
-use Rattle.osdp_tool_show.specs.Ending.{Stream}
-use Rattle.osdp_tool_streams.specs.Cut.{ended_lines, last_line, lines_of, unended_line}
-use Rattle.osdp_tool_streams.specs.Line.{kept, said}
+use Rattle.osdp_tool_inputs.proofs.Common.{◌≡◌, ℕ, ◌+◌, Bool, true, false, cond, inl, inr, is_some, List, [], ◌∷◌, ◌++◌, length, map, Option, Some, None, Ok, Err, refl, sym, subst, ap, ◌∙◌, arith, append_assoc, append-nil, string_bytes, cond-true, option_map_or, Stream, ended_lines, last_line, lines_of, unended_line, kept, said, NoMemory, NotHex, WriteFailed, bad_line-append, bad_line-stays, good_front-stays, CameIn, Hearing, LineEvent, RunEnds, TableDue, after_events, events_report, nothing_yet, is_wrong, listening_of, table, MonitorMode, OpenLine, after_events-append, events_report-append, EndsHeard, InMemory, Retells, HasEnded, HeardLines, answer_by, ears_answer, echoes_in, heard_part, left_of, printed_by, Ears, Wrote, ToolFault, Tells, Clock}
 use Rattle.osdp_tool_streams.specs.Runs.{bad_line, good_front}
-use Rattle.osdp_tool_streams.specs.declared.fault.ToolFault.TheVariants.{NoMemory, NotHex, WriteFailed}
-use Rattle.osdp_tool_streams.proofs.RunsLemmas.{bad_line-append, bad_line-stays, good_front-stays}
-use Rattle.osdp_tool_monitor.specs.Ending.{CameIn}
 use Rattle.osdp_tool_monitor.specs.Events.{Broken, End, Piece, after_pieces, are_good, bad_at_end, bad_in, byte_events, bytes_events, end_events, input_events, is_due, lines_in, nothing_cut, pieces_events, run_events, table_events}
-use Rattle.osdp_tool_monitor.specs.Hearing.{Hearing, LineEvent, RunEnds, TableDue, after_events, events_report, nothing_yet}
 use Rattle.osdp_tool_monitor.specs.InTurn.{after_all, report_of_all}
-use Rattle.osdp_tool_monitor.specs.Listening.{is_wrong, listening_of, table}
-use Rattle.osdp_tool_monitor.specs.declared.mode.MonitorMode.{MonitorMode}
-use Rattle.osdp_tool_monitor.specs.declared.open_line.OpenLine.{OpenLine}
-use Rattle.osdp_tool_monitor.proofs.OpenRuns.{after_events-append, events_report-append}
 use Rattle.osdp_tool_monitor.proofs.Sessions.{kept_again}
-use Rattle.osdp_tool_inputs.specs.Done.{EndsHeard, InMemory, Retells}
-use Rattle.osdp_tool_inputs.specs.Ears.{HasEnded, HeardLines, answer_by, ears_answer}
-use Rattle.osdp_tool_inputs.specs.Echoes.{echoes_in, heard_part, left_of, printed_by}
-use Rattle.osdp_tool_inputs.specs.declared.ears.Ears.{Ears}
 use Rattle.osdp_tool_inputs.proofs.Retelling.{retells_all, retells_part}
-use Rattle.osdp_tool_monitor.specs.Reading.{Wrote}
-use Rattle.osdp_tool_streams.specs.declared.fault.ToolFault.{ToolFault}
-use Rattle.osdp_tool_inputs.specs.Moments.{Tells}
-use Rattle.osdp_tool_inputs.specs.declared.clock.Clock.{Clock}
 use Rattle.osdp_tool_inputs.proofs.Echoing.{heard_lines}
 use Rattle.osdp_tool_inputs.proofs.OneByOne.{heard_empty, heard_nothing, runs_more}
 

@@ -1,11 +1,7 @@
 -- Lines that have the same characters that count.
-use Rattle.std.proofs.Common.{◌≡◌, ℕ, ◌+◌, ◌==◌, cond, true, false, List, [], ◌∷◌, ◌++◌, length, map, Some, refl, sym, ap, ◌∙◌}
-use Rattle.std.proofs.lemmas.List.{length-map}
-use Rattle.std.specs.Option.{option_map_or}
+use Rattle.osdp_tool_monitor.proofs.Common.{◌≡◌, ℕ, ◌+◌, ◌==◌, cond, true, false, List, [], ◌∷◌, ◌++◌, length, map, Some, refl, sym, ap, ◌∙◌, length-map, option_map_or, kept, said, kept-append}
 use Rattle.osdp_tool_streams.specs.Cut.{ended_after, line_feed, unended_after}
-use Rattle.osdp_tool_streams.specs.Line.{kept, said}
 use Rattle.osdp_tool_streams.specs.Runs.{bad_line, good_front}
-use Rattle.osdp_tool_streams.proofs.FormLemmas.{kept-append}
 
 -- .. one by one
 abbrev pub AreAlike : List (List ℕ) → List (List ℕ) → Type 0

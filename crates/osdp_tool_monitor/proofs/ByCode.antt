@@ -1,10 +1,9 @@
 -- What is counted of messages, by their codes.
-use Rattle.std.proofs.Common.{◌≡◌, ◌↔◌, ℕ, List, nat_eq, Bool, true, false, Result, Ok, refl, sym, ap, arith}
+use Rattle.osdp_tool_monitor.proofs.Common.{◌≡◌, ◌↔◌, ℕ, List, nat_eq, Bool, true, false, Result, Ok, refl, sym, ap, arith, is_poll, kind_of_reply}
 use Rattle.osdp_msg.specs.ReplyTable.{reply_of, reply_fault, reply_at}
 use Rattle.osdp_msg.specs.declared.command.Command.{Command}
 use Rattle.osdp_msg.specs.declared.command.Command.TheVariants.{Poll}
 use Rattle.osdp_msg.specs.declared.fault.MsgFault.{MsgFault}
-use Rattle.osdp_tool_monitor.specs.Counts.{is_poll, kind_of_reply}
 use Rattle.osdp_tool_monitor.specs.declared.counts.ReplyKind.TheVariants.{Other}
 
 -- what tells a POLL from the rest counts it as one

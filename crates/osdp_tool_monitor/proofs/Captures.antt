@@ -1,25 +1,10 @@
 -- A capture that is read piece by piece.
-use Rattle.std.proofs.Math.Seq.{take-length}
-use Rattle.std.proofs.Common.{◌≡◌, ℕ, ◌+◌, ◌<◌, ◌≤◌, ◌^◌, Bool, true, false, cond, is_some, List, [], ◌∷◌, ◌++◌, length, map, take, Option, Some, None, Result, Ok, Err, inl, inr, refl, sym, subst, ap, ◌∙◌, arith, append_assoc, append-nil, length-append}
-use Rattle.std.proofs.lemmas.List.{map-append}
-use Rattle.std.proofs.lemmas.List.Concat.{flat_map-append}
-use Rattle.std.specs.Option.{option_map_or}
-use Rattle.std.specs.Io.KnownBytes.{Consumes, IsAtEnd}
+use Rattle.osdp_tool_monitor.proofs.Common.{take-length, ◌≡◌, ℕ, ◌+◌, ◌<◌, ◌≤◌, ◌^◌, Bool, true, false, cond, is_some, List, [], ◌∷◌, ◌++◌, length, map, take, Option, Some, None, Result, Ok, Err, inl, inr, refl, sym, subst, ap, ◌∙◌, arith, append_assoc, append-nil, length-append, map-append, flat_map-append, option_map_or, Consumes, IsAtEnd, kept, ToolFault, NotHex, TooLong, ReadFailed, WriteFailed, NoMemory, ended_after-append, unended_after-append, bad_line-append, bad_line-stays, good_front-append, good_front-stays, Ends, IsBadAt, IsTold, IsToldInPart, IsTooLong, OnlyLastIsBad, input_report, LineEvent, RunEnds, TableDue, after_events, events_report, nothing_yet, is_wrong, MonitorMode, IsToldSoFar, TellsCaptures, TellsFailures, TellsInTurn, capture_answer, capture_events, capture_lines, capture_report, last_events_of}
 use Rattle.osdp_tool_streams.specs.Cut.{ended_after, ended_lines, unended_after, unended_line}
-use Rattle.osdp_tool_streams.specs.Line.{kept}
 use Rattle.osdp_tool_streams.specs.Runs.{bad_line, good_front}
-use Rattle.osdp_tool_streams.specs.declared.fault.ToolFault.{ToolFault}
-use Rattle.osdp_tool_streams.specs.declared.fault.ToolFault.TheVariants.{NotHex, TooLong, ReadFailed, WriteFailed, NoMemory}
-use Rattle.osdp_tool_streams.proofs.CutLemmas.{ended_after-append, unended_after-append}
-use Rattle.osdp_tool_streams.proofs.RunsLemmas.{bad_line-append, bad_line-stays, good_front-append, good_front-stays}
-use Rattle.osdp_tool_monitor.specs.Ending.{Ends, IsBadAt, IsTold, IsToldInPart, IsTooLong, OnlyLastIsBad, input_report}
 use Rattle.osdp_tool_monitor.specs.Events.{Broken, Cut, End, Following, More, Piece, after_piece, after_pieces, are_good, bad_at_end, bad_in, bytes_of, byte_events, input_events, is_due, last_events, lines_in, nothing_cut, piece_events, pieces_events, run_events, table_events}
-use Rattle.osdp_tool_monitor.specs.Hearing.{LineEvent, RunEnds, TableDue, after_events, events_report, nothing_yet}
-use Rattle.osdp_tool_monitor.specs.Listening.{is_wrong}
-use Rattle.osdp_tool_monitor.specs.declared.mode.MonitorMode.{MonitorMode}
 use Rattle.osdp_tool_monitor.proofs.Pieces.{after_pieces-more, last_bad, none_bad, pieces_events-more}
 use Rattle.osdp_tool_monitor.proofs.Sessions.{kept_again}
-use Rattle.osdp_tool_monitor.specs.Captures.{IsToldSoFar, TellsCaptures, TellsFailures, TellsInTurn, capture_answer, capture_events, capture_lines, capture_report, last_events_of}
 use Rattle.osdp_tool_monitor.proofs.Alike.{AreAlike, alike_after, bad_alike, good_alike, length_alike}
 
 bytes_of-more : (pieces : List Piece) (piece : Piece) → bytes_of (pieces ++ piece ∷ []) ≡ bytes_of pieces ++ piece.bytes

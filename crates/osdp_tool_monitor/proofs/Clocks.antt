@@ -1,8 +1,5 @@
 -- Moments of one clock.
-use Rattle.std.proofs.Common.{◌≡◌, ℕ, List, [], ◌∷◌, ◌++◌, map, refl, sym, subst, ap, ◌∙◌}
-use Rattle.osdp_tool_monitor.specs.Ending.{Told, input_report}
-use Rattle.osdp_tool_monitor.specs.Events.{Piece, moments_of}
-use Rattle.osdp_tool_monitor.specs.Captures.{IsSteady, TellsByTheClock}
+use Rattle.osdp_tool_monitor.proofs.Common.{◌≡◌, ℕ, List, [], ◌∷◌, ◌++◌, map, refl, sym, subst, ap, ◌∙◌, Told, input_report, Piece, moments_of, IsSteady, TellsByTheClock}
 
 module _ {M : Type 0} (tells : M → ℕ → M → Type 0) (steady : IsSteady tells) where
   -- as many moments are the same ones

@@ -1,20 +1,6 @@
 -- How the command ends.
-use Rattle.std.proofs.Common.{◌≡◌, ℕ, ◌+◌, ◌*◌, ◌^◌, ◌≤◌, Bool, true, false, cond, inl, inr, List, [], ◌∷◌, ◌++◌, length, take, Option, Some, None, Result, Ok, Err, IsErrAnd, refl, sym, subst, ap, ◌∙◌, arith, append-nil}
-use Rattle.std.proofs.KnownBytes.{Appends-kept, Appends-nil}
-use Rattle.std.specs.Io.KnownBytes.{Appends, IsAtEnd, Keeps}
-use Rattle.osdp_tool_streams.proofs.Answered.{on_err}
-use Rattle.osdp_tool_streams.specs.declared.fault.ToolFault.{ToolFault}
-use Rattle.osdp_tool_streams.specs.declared.fault.ToolFault.TheVariants.{NotHex, TooLong, ReadFailed, WriteFailed, NoMemory}
-use Rattle.osdp_tool_monitor.specs.declared.open_line.OpenLine.{OpenLine}
-use Rattle.osdp_tool_monitor.specs.Hearing.{Hearing, Hears, TableDue, after_events, events_report, hearing_of, nothing_yet}
-use Rattle.osdp_tool_monitor.specs.Listening.{is_wrong, listening_of}
+use Rattle.osdp_tool_monitor.proofs.Common.{◌≡◌, ℕ, ◌+◌, ◌*◌, ◌^◌, ◌≤◌, Bool, true, false, cond, inl, inr, List, [], ◌∷◌, ◌++◌, length, take, Option, Some, None, Result, Ok, Err, IsErrAnd, refl, sym, subst, ap, ◌∙◌, arith, append-nil, Appends-kept, Appends-nil, Appends, IsAtEnd, Keeps, on_err, ToolFault, NotHex, TooLong, ReadFailed, WriteFailed, NoMemory, OpenLine, Hearing, Hears, TableDue, after_events, events_report, hearing_of, nothing_yet, is_wrong, listening_of, MonitorMode, Session, CameIn, Ends, IsTold, IsToldInPart, IsTooLong, OnlyLastIsBad, input_report, Broken, End, Following, Piece, after_pieces, bad_at_end, bytes_of, end_events, input_events, last_events, nothing_cut, pieces_events, HasBroken, HasRead, HasTold, ReadsAll, TellsEvents, after_failed_read, cut_of, weight}
 use Rattle.osdp_tool_monitor.proofs.OpenRuns.{events_report-append}
-use Rattle.osdp_tool_monitor.specs.declared.mode.MonitorMode.{MonitorMode}
-use Rattle.osdp_tool_monitor.specs.declared.session.Session.{Session}
-use Rattle.osdp_tool_monitor.specs.Ending.{CameIn, Ends, IsTold, IsToldInPart, IsTooLong, OnlyLastIsBad, input_report}
-use Rattle.osdp_tool_monitor.specs.Events.{Broken, End, Following, Piece, after_pieces, bad_at_end, bytes_of, end_events, input_events, last_events, nothing_cut, pieces_events}
-use Rattle.osdp_tool_monitor.specs.Reading.{HasBroken, HasRead, HasTold, ReadsAll, TellsEvents, after_failed_read}
-use Rattle.osdp_tool_monitor.specs.Session.{cut_of, weight}
 use Rattle.osdp_tool_monitor.proofs.Pieces.{last_bad, none_bad, part_of, told_more}
 
 -- what ends an input is told after its pieces

@@ -1,7 +1,5 @@
 -- The diagnoses of the devices, one after the other.
-use Rattle.std.proofs.Common.{◌≡◌, ℕ, ◌+◌, ◌<◌, ◌≤◌, List, [], ◌∷◌, ◌++◌, length, get_or, drop, Result, Ok, Err, OnOk, refl, sym, ◌∙◌, ap, append_assoc, append-nil}
-use Rattle.std.proofs.lemmas.List.{drop_all, drop_more}
-use Rattle.osdp_tool_monitor.specs.declared.counts.Counts.{Counts}
+use Rattle.osdp_tool_monitor.proofs.Common.{◌≡◌, ℕ, ◌+◌, ◌<◌, ◌≤◌, List, [], ◌∷◌, ◌++◌, length, get_or, drop, Result, Ok, Err, OnOk, refl, sym, ◌∙◌, ap, append_assoc, append-nil, drop_all, drop_more, Counts}
 use Rattle.osdp_tool_monitor.specs.declared.diagnosis.Survey.{Survey}
 use Rattle.osdp_tool_monitor.specs.Diagnoses.{add, device_lines, lines_from}
 use Rattle.osdp_tool_monitor.specs.InTurn.{after_all}

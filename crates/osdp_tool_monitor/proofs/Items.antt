@@ -1,19 +1,5 @@
 -- The items of a run, one after the other.
-use Rattle.std.proofs.Common.{◌≡◌, ℕ, ◌+◌, ◌-◌, ◌*◌, ◌≤◌, false, List, [], ◌∷◌, ◌++◌, length, take, drop, refl, sym, ◌∙◌, ap, subst, append_assoc, append-nil, take-append-drop, arith, length-drop}
-use Rattle.std.specs.Prelude.{IsTrue}
-use Rattle.std.proofs.lemmas.List.{drop_all, drop-drop, take_all}
-use Rattle.osdp_frame.specs.Bytes.{AreBytes}
-use Rattle.osdp_frame.specs.Items.{reading}
-use Rattle.osdp_frame.specs.Reading.{IsFirst, RunItem, Stands, item_size}
-use Rattle.osdp_frame.proofs.Head.{AreBytes-drop}
-use Rattle.osdp_frame_laws.proofs.Readings.{is_reading, item_size-positive, reading_is, sizes_reading}
-use Rattle.osdp_tool_show.specs.declared.detail.Detail.{Detail}
-use Rattle.osdp_tool_monitor.specs.declared.listener.Listener.{Listener}
-use Rattle.osdp_tool_streams.specs.declared.fault.ToolFault.{ToolFault}
-use Rattle.osdp_tool_streams.specs.declared.fault.ToolFault.TheVariants.{NoMemory, TooLong}
-use Rattle.osdp_tool_show.specs.Tally.{counted}
-use Rattle.osdp_tool_show.proofs.Lines.{counted-tally_after}
-use Rattle.osdp_tool_monitor.specs.Listening.{HearsFirst, IsLineFault, Listening, heard_item, heard_items, item_report, items_report, listening_of, detail_of}
+use Rattle.osdp_tool_monitor.proofs.Common.{◌≡◌, ℕ, ◌+◌, ◌-◌, ◌*◌, ◌≤◌, false, List, [], ◌∷◌, ◌++◌, length, take, drop, refl, sym, ◌∙◌, ap, subst, append_assoc, append-nil, take-append-drop, arith, length-drop, IsTrue, drop_all, drop-drop, take_all, AreBytes, reading, IsFirst, RunItem, Stands, item_size, AreBytes-drop, is_reading, item_size-positive, reading_is, sizes_reading, Detail, Listener, ToolFault, NoMemory, TooLong, counted, counted-tally_after, HearsFirst, IsLineFault, Listening, heard_item, heard_items, item_report, items_report, listening_of, detail_of}
 use Rattle.osdp_tool_monitor.specs.InTurn.{after_all, report_of_all}
 
 not_true : IsTrue false → ⊥

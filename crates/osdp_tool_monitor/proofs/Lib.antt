@@ -1,3 +1,4 @@
+pub mod Common
 pub mod Spelling
 pub mod Plain
 pub mod ByCode

@@ -1,23 +1,8 @@
 -- Open lines: items that are taken off one by one, and pieces of a run one after the other.
-use Rattle.std.proofs.Common.{◌≡◌, ℕ, ◌+◌, ◌-◌, ◌*◌, ◌<◌, ◌≤◌, ◌==◌, not, Bool, true, false, List, [], ◌∷◌, ◌++◌, length, take, drop, Some, None, Result, Ok, Err, IfErr, OnOk, refl, sym, subst, ap, ◌∙◌, arith, append_assoc, append-nil, length-append, length-drop}
-use Rattle.std.proofs.Math.Seq.{take-add}
-use Rattle.std.proofs.lemmas.List.{drop_all, take-take, length-take}
-use Rattle.osdp_frame.specs.Bytes.{AreBytes}
+use Rattle.osdp_tool_monitor.proofs.Common.{◌≡◌, ℕ, ◌+◌, ◌-◌, ◌*◌, ◌<◌, ◌≤◌, ◌==◌, not, Bool, true, false, List, [], ◌∷◌, ◌++◌, length, take, drop, Some, None, Result, Ok, Err, IfErr, OnOk, refl, sym, subst, ap, ◌∙◌, arith, append_assoc, append-nil, length-append, length-drop, take-add, drop_all, take-take, length-take, AreBytes, items, left_over, RunItem, item_size, total_size, AreBytes-append, AreBytes-drop, AreBytes-take, gap_items, left_is, left_over-append, reading_split, total_size-append, is_reading, item_size-positive, item_size-decided, items-append, items_undecided, sizes_reading, counted, counted-after_run, counted-tally_after, Detail, Listener, OpenLine, Come, Drained, Hearing, Hears, HearsItems, IsOpen, LineEvent, RunEnds, TableDue, TableTold, after_event, after_events, event_report, events_report, hearing_of, load, line_detail, HearsItem, Listening, after_table, ended, heard_item, heard_items, item_report, items_report, listening_of, table, detail_of}
 use Rattle.osdp_frame.specs.Held.{Held, decided, after_advance, after_push, taken_count}
-use Rattle.osdp_frame.specs.Items.{items, left_over}
-use Rattle.osdp_frame.specs.Reading.{RunItem, item_size, total_size}
-use Rattle.osdp_frame.proofs.Head.{AreBytes-append, AreBytes-drop, AreBytes-take}
-use Rattle.osdp_frame_laws.proofs.LeftOver.{gap_items, left_is, left_over-append, reading_split, total_size-append}
-use Rattle.osdp_frame_laws.proofs.Readings.{is_reading, item_size-positive, item_size-decided, items-append, items_undecided, sizes_reading}
-use Rattle.osdp_tool_show.specs.Tally.{counted}
-use Rattle.osdp_tool_show.proofs.Lines.{counted-after_run, counted-tally_after}
 use Rattle.osdp_tool_show.proofs.OneByOne.{GoesOneByOne, TellsOneByOne, goes-append, tells-append}
 use Rattle.osdp_tool_show.proofs.Taking.{Taking, next_bytes, taken_all, taking_start, taking_step}
-use Rattle.osdp_tool_show.specs.declared.detail.Detail.{Detail}
-use Rattle.osdp_tool_monitor.specs.declared.listener.Listener.{Listener}
-use Rattle.osdp_tool_monitor.specs.declared.open_line.OpenLine.{OpenLine}
-use Rattle.osdp_tool_monitor.specs.Hearing.{Come, Drained, Hearing, Hears, HearsItems, IsOpen, LineEvent, RunEnds, TableDue, TableTold, after_event, after_events, event_report, events_report, hearing_of, load, line_detail}
-use Rattle.osdp_tool_monitor.specs.Listening.{HearsItem, Listening, after_table, ended, heard_item, heard_items, item_report, items_report, listening_of, table, detail_of}
 use Rattle.osdp_tool_monitor.specs.InTurn.{after_all, report_of_all}
 
 pub on_both : {T E : Type 0} {A B C : Type 0} (r : Result T E) → (A → B → C) → OnOk r A → OnOk r B → OnOk r C

@@ -1,20 +1,7 @@
 -- Pieces of an input, one after the other.
-use Rattle.std.proofs.Common.{◌≡◌, ℕ, ◌+◌, ◌*◌, ◌^◌, ◌≤◌, Bool, true, false, cond, is_some, List, [], ◌∷◌, ◌++◌, length, take, Option, None, Ok, Err, refl, sym, subst, ap, ◌∙◌, arith, append_assoc, append-nil, length-append}
-use Rattle.std.proofs.KnownBytes.{Appends-kept, Appends-nil, Appends-trans, Consumes-nil, Consumes-trans}
-use Rattle.std.proofs.Math.Seq.{take-append-add}
-use Rattle.std.proofs.lemmas.List.{map-append}
-use Rattle.std.proofs.lemmas.List.Concat.{flat_map-append}
-use Rattle.std.specs.Io.KnownBytes.{Appends, Consumes, Keeps}
-use Rattle.osdp_tool_streams.specs.declared.fault.ToolFault.{ToolFault}
-use Rattle.osdp_tool_streams.specs.declared.fault.ToolFault.TheVariants.{TooLong, WriteFailed, NoMemory}
-use Rattle.osdp_tool_monitor.specs.Hearing.{Hears, LineEvent, after_events, events_report, hearing_of, load, nothing_yet}
+use Rattle.osdp_tool_monitor.proofs.Common.{◌≡◌, ℕ, ◌+◌, ◌*◌, ◌^◌, ◌≤◌, Bool, true, false, cond, is_some, List, [], ◌∷◌, ◌++◌, length, take, Option, None, Ok, Err, refl, sym, subst, ap, ◌∙◌, arith, append_assoc, append-nil, length-append, Appends-kept, Appends-nil, Appends-trans, Consumes-nil, Consumes-trans, take-append-add, map-append, flat_map-append, Appends, Consumes, Keeps, ToolFault, TooLong, WriteFailed, NoMemory, Hears, LineEvent, after_events, events_report, hearing_of, load, nothing_yet, MonitorMode, Session, CameIn, IsToldInPart, IsTooLong, OnlyLastIsBad, Told, input_report, Broke, HasBroken, HasRead, HasTold, HasToldPieces, ReadsAll, TellsPiece, IsNew, IsReady, TakesPiece, cut_of, weight}
 use Rattle.osdp_tool_monitor.proofs.OpenRuns.{after_events-append, events_report-append}
-use Rattle.osdp_tool_monitor.specs.declared.mode.MonitorMode.{MonitorMode}
-use Rattle.osdp_tool_monitor.specs.declared.session.Session.{Session}
-use Rattle.osdp_tool_monitor.specs.Ending.{CameIn, IsToldInPart, IsTooLong, OnlyLastIsBad, Told, input_report}
 use Rattle.osdp_tool_monitor.specs.Events.{Cut, Following, More, Piece, after_piece, after_pieces, are_good, bad_in, bytes_of, moments_of, nothing_cut, piece_events, pieces_events}
-use Rattle.osdp_tool_monitor.specs.Reading.{Broke, HasBroken, HasRead, HasTold, HasToldPieces, ReadsAll, TellsPiece}
-use Rattle.osdp_tool_monitor.specs.Session.{IsNew, IsReady, TakesPiece, cut_of, weight}
 use Rattle.osdp_tool_monitor.specs.InTurn.{after_all, report_of_all}
 
 -- ---- one piece more

@@ -1,15 +1,6 @@
 -- A plain packet: nothing is told of it.
-use Rattle.std.proofs.Common.{◌≡◌, ◌∙◌, ◌<◌, ℕ, Bool, List, [], None, get_or, length, slice_index_or, slice_set, sym, ap}
-use Rattle.std.proofs.lemmas.List.{get_or_default}
-use Rattle.osdp_frame.specs.Packet.{Packet}
-use Rattle.osdp_monitor.proofs.Turns.{plain_found}
-use Rattle.osdp_monitor.specs.declared.found.Found.{Found}
-use Rattle.osdp_monitor.specs.Line.{expected_if, expected_in, nothing_wrong}
+use Rattle.osdp_tool_monitor.proofs.Common.{◌≡◌, ◌∙◌, ◌<◌, ℕ, Bool, List, [], None, get_or, length, slice_index_or, slice_set, sym, ap, get_or_default, Packet, plain_found, Found, expected_if, expected_in, nothing_wrong, Listening, told_in, Counts, after_packet, counts_after, no_counts, expected_bytes, found_text, told}
 use Rattle.osdp_monitor.specs.Plain.{IsPlain}
-use Rattle.osdp_tool_monitor.specs.Listening.{Listening, told_in}
-use Rattle.osdp_tool_monitor.specs.declared.counts.Counts.{Counts}
-use Rattle.osdp_tool_monitor.specs.Counts.{after_packet, counts_after, no_counts}
-use Rattle.osdp_tool_monitor.specs.Text.{expected_bytes, found_text, told}
 
 -- the counts of its address change in their place
 pub counts_in_place : (p : Packet) (clean copy : Bool) (counts : List Counts) (place : ℕ) (old new : Counts) → place ≡ p.address → place < length counts

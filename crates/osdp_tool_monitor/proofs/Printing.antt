@@ -1,19 +1,13 @@
 -- Whoever is accused is named in what is printed.
-use Rattle.std.proofs.Common.{◌≡◌, ◌⊎◌, inl, inr, ◌&&◌, ℕ, ◌+◌, Bool, true, false, List, [], ◌∷◌, ◌++◌, Option, Some, None, refl, sym, ◌∙◌, ap, append_assoc}
+use Rattle.osdp_tool_monitor.proofs.Common.{◌≡◌, ◌⊎◌, inl, inr, ◌&&◌, ℕ, ◌+◌, Bool, true, false, List, [], ◌∷◌, ◌++◌, Option, Some, None, refl, sym, ◌∙◌, ap, append_assoc, Packet, PacketItem, Found, detail_after, Listening, heard_item, item_report, items_report, told_in, accusation_line, accused_text, expected_bytes, expected_lines, is_left_out, is_profile, notice_line}
 use Rattle.std.proofs.lemmas.Bool.{and_left, and_right, cond-false, cond_both}
-use Rattle.osdp_frame.specs.Packet.{Packet}
-use Rattle.osdp_frame.specs.Reading.{PacketItem}
 use Rattle.osdp_monitor.specs.declared.accusation.Accusation.{Accusation}
 use Rattle.osdp_monitor.specs.declared.accusation.Basis.TheVariants.{Standard}
-use Rattle.osdp_monitor.specs.declared.found.Found.{Found}
 use Rattle.osdp_monitor.specs.Accused.{basis}
 use Rattle.osdp_monitor.specs.Line.{after_items, expected_in, found_in}
 use Rattle.osdp_tool_show.specs.ToldItems.{shown_line}
 use Rattle.osdp_tool_monitor.specs.Laws.{PrintsAccusations, both_packets, culprit, naming_line}
 use Rattle.osdp_tool_monitor.specs.Talk.{talk_line}
-use Rattle.osdp_tool_monitor.specs.Trail.{detail_after}
-use Rattle.osdp_tool_monitor.specs.Listening.{Listening, heard_item, item_report, items_report, told_in}
-use Rattle.osdp_tool_monitor.specs.Text.{accusation_line, accused_text, expected_bytes, expected_lines, is_left_out, is_profile, notice_line}
 use Rattle.osdp_tool_monitor.specs.InTurn.{after_all, report_of_all}
 
 in_parts : (s k n a e r : List ℕ) → (s ++ (k ++ (n ++ (a ++ e)))) ++ r ≡ s ++ (k ++ (n ++ (a ++ (e ++ r))))

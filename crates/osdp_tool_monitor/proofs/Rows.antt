@@ -1,7 +1,5 @@
 -- The rows of the table, one after the other.
-use Rattle.std.proofs.Common.{◌≡◌, ℕ, ◌+◌, ◌<◌, ◌≤◌, List, [], ◌∷◌, ◌++◌, length, get_or, drop, refl, sym, ◌∙◌, ap, append_assoc, append-nil}
-use Rattle.std.proofs.lemmas.List.{drop_all, drop_more, flat_map_more}
-use Rattle.osdp_tool_monitor.specs.declared.counts.Counts.{Counts}
+use Rattle.osdp_tool_monitor.proofs.Common.{◌≡◌, ℕ, ◌+◌, ◌<◌, ◌≤◌, List, [], ◌∷◌, ◌++◌, length, get_or, drop, refl, sym, ◌∙◌, ap, append_assoc, append-nil, drop_all, drop_more, flat_map_more, Counts}
 use Rattle.osdp_tool_monitor.specs.Counts.{column, columns, row_if, rows_from}
 
 rows_cons : (k : ℕ) (c : Counts) (counts : List Counts) → rows_from k (c ∷ counts) ≡ row_if k c ++ rows_from (k + 1) counts

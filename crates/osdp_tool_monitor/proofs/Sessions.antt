@@ -1,20 +1,8 @@
 -- Sessions: what stays in them, and what goes on.
-use Rattle.std.proofs.Common.{◌≡◌, ℕ, ◌+◌, ◌-◌, ◌<◌, ◌≤◌, Bool, true, false, cond, not, is_some, List, [], ◌∷◌, ◌++◌, length, map, take, drop, get_or, Option, Some, None, MatchOption, refl, sym, subst, ap, ◌∙◌, arith, append_assoc, append-nil, length-append, length-drop, take-append-drop}
+use Rattle.osdp_tool_monitor.proofs.Common.{◌≡◌, ℕ, ◌+◌, ◌-◌, ◌<◌, ◌≤◌, Bool, true, false, cond, not, is_some, List, [], ◌∷◌, ◌++◌, length, map, take, drop, get_or, Option, Some, None, MatchOption, refl, sym, subst, ap, ◌∙◌, arith, append_assoc, append-nil, length-append, length-drop, take-append-drop, drop_more, map-append, take_rest, IsLine, ended_after, line_feed, unended_after, is_blank, kept, line_bytes, said, ended_after-feed, ended_after-line, unended_after-feed, unended_after-line, kept-append, bad_line-append, good_front-append, OpenLine, Come, Hearing, Hears, IsOpen, LineEvent, RunEnds, TableDue, TableTold, after_events, hearing_of, MonitorMode, Session, Cut, Piece, after_piece, byte_events, bytes_events, closing_events, gap_events, is_due, lines_in, piece_events, run_events, table_events, tabled_after, Breaks, EndsAll, EndsInput, Goes, GoesOrBreaks, IsReady, TakesBytes, TakesPiece, cut_of}
 use Rattle.std.proofs.Math.Seq.{drop-drop}
-use Rattle.std.proofs.lemmas.List.{drop_more, map-append, take_rest}
-use Rattle.osdp_tool_streams.specs.Cut.{IsLine, ended_after, line_feed, unended_after}
-use Rattle.osdp_tool_streams.specs.Line.{is_blank, kept, line_bytes, said}
 use Rattle.osdp_tool_streams.specs.Runs.{bad_line, good_front}
-use Rattle.osdp_tool_streams.proofs.CutLemmas.{ended_after-feed, ended_after-line, unended_after-feed, unended_after-line}
-use Rattle.osdp_tool_streams.proofs.FormLemmas.{kept-append}
-use Rattle.osdp_tool_streams.proofs.RunsLemmas.{bad_line-append, good_front-append}
-use Rattle.osdp_tool_monitor.specs.declared.open_line.OpenLine.{OpenLine}
-use Rattle.osdp_tool_monitor.specs.Hearing.{Come, Hearing, Hears, IsOpen, LineEvent, RunEnds, TableDue, TableTold, after_events, hearing_of}
 use Rattle.osdp_tool_monitor.proofs.OpenRuns.{hears_nothing, hears_then}
-use Rattle.osdp_tool_monitor.specs.declared.mode.MonitorMode.{MonitorMode}
-use Rattle.osdp_tool_monitor.specs.declared.session.Session.{Session}
-use Rattle.osdp_tool_monitor.specs.Events.{Cut, Piece, after_piece, byte_events, bytes_events, closing_events, gap_events, is_due, lines_in, piece_events, run_events, table_events, tabled_after}
-use Rattle.osdp_tool_monitor.specs.Session.{Breaks, EndsAll, EndsInput, Goes, GoesOrBreaks, IsReady, TakesBytes, TakesPiece, cut_of}
 use Rattle.osdp_tool_monitor.specs.InTurn.{after_all}
 
 pub goes_none : (s : Session) (text : List ℕ) → IsReady s → Goes [] (cut_of s) s s text text

@@ -1,9 +1,7 @@
 -- The bytes of packets that are told.
-use Rattle.std.proofs.Common.{◌≡◌, List, ℕ, Option, Some, None}
-use Rattle.osdp_frame.specs.Packet.{Packet}
+use Rattle.osdp_tool_monitor.proofs.Common.{◌≡◌, List, ℕ, Option, Some, None, Packet, expected_bytes}
 use Rattle.osdp_frame.proofs.Spelled.{spelled_is}
 use Rattle.osdp_monitor.specs.Private.{IsSpelledIf}
-use Rattle.osdp_tool_monitor.specs.Text.{expected_bytes}
 
 pub spelled_if : (p : Option Packet) (bytes : List ℕ) → IsSpelledIf p bytes → bytes ≡ expected_bytes p
 spelled_if None bytes spelled = spelled

@@ -1,7 +1,6 @@
 -- What a session weighs, as bytes come.
-use Rattle.std.proofs.Common.{◌≡◌, ℕ, ◌+◌, ◌≤◌, Bool, true, false, cond, not, List, [], ◌∷◌, ◌++◌, length, ap, arith, length-append, Option, Some, None, MatchOption}
+use Rattle.osdp_tool_monitor.proofs.Common.{◌≡◌, ℕ, ◌+◌, ◌≤◌, Bool, true, false, cond, not, List, [], ◌∷◌, ◌++◌, length, ap, arith, length-append, Option, Some, None, MatchOption, is_blank, kept, said}
 use Rattle.osdp_tool_streams.proofs.Lengths.{said_short}
-use Rattle.osdp_tool_streams.specs.Line.{is_blank, kept, said}
 
 kept_one : (x : ℕ) (xs : List ℕ) (t : Bool) → length (kept xs) ≤ length xs → length (cond t (x ∷ kept xs) (kept xs)) ≤ length (x ∷ xs)
 kept_one x xs true so = omega arith

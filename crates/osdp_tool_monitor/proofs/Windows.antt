@@ -1,7 +1,5 @@
 -- The rows of a window, one after the other.
-use Rattle.std.proofs.Common.{◌≡◌, ℕ, ◌+◌, ◌<◌, ◌≤◌, List, [], ◌∷◌, ◌++◌, length, get_or, drop, refl, sym, ◌∙◌, ap, append_assoc, append-nil}
-use Rattle.std.proofs.lemmas.List.{drop_all, drop_more}
-use Rattle.osdp_tool_monitor.specs.declared.counts.Counts.{Counts}
+use Rattle.osdp_tool_monitor.proofs.Common.{◌≡◌, ℕ, ◌+◌, ◌<◌, ◌≤◌, List, [], ◌∷◌, ◌++◌, length, get_or, drop, refl, sym, ◌∙◌, ap, append_assoc, append-nil, drop_all, drop_more, Counts}
 use Rattle.osdp_tool_monitor.specs.Windows.{window_row_if, window_rows}
 
 rows_cons : (k : ℕ) (b c : Counts) (befores nows : List Counts)

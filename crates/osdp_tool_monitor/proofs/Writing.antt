@@ -1,16 +1,5 @@
 -- Texts that are written, in whole or in part.
-use Rattle.std.proofs.Common.{◌≡◌, ℕ, ◌||◌, Bool, true, false, is_err, List, [], length, Option, Result, Ok, Err, sym, subst, ap, ◌∙◌, arith}
-use Rattle.std.proofs.KnownBytes.{Appends-kept}
-use Rattle.std.proofs.lemmas.List.{take_all}
-use Rattle.std.specs.Io.KnownBytes.{Appends, Keeps}
-use Rattle.std.specs.Prelude.{IsOkUnless}
-use Rattle.osdp_tool_streams.specs.declared.fault.ToolFault.{ToolFault}
-use Rattle.osdp_tool_streams.specs.declared.fault.ToolFault.TheVariants.{WriteFailed}
-use Rattle.osdp_tool_monitor.specs.Hearing.{Hears, LineEvent}
-use Rattle.osdp_tool_monitor.specs.declared.session.Session.{Session}
-use Rattle.osdp_tool_monitor.specs.Events.{Piece}
-use Rattle.osdp_tool_monitor.specs.Reading.{TellsEvents, TellsPiece, Wrote}
-use Rattle.osdp_tool_monitor.specs.Session.{TakesPiece}
+use Rattle.osdp_tool_monitor.proofs.Common.{◌≡◌, ℕ, ◌||◌, Bool, true, false, is_err, List, [], length, Option, Result, Ok, Err, sym, subst, ap, ◌∙◌, arith, Appends-kept, take_all, Appends, Keeps, IsOkUnless, ToolFault, WriteFailed, Hears, LineEvent, Session, Piece, TellsEvents, TellsPiece, Wrote, TakesPiece}
 
 -- a flush after a write
 pub wrote_flushed : (text : List ℕ) (before mid after : Option (List ℕ)) (was failed : Bool) (r : Result (Unit {0}) ToolFault) → Appends before mid text → Keeps mid after

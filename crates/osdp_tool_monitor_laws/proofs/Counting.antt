@@ -1,30 +1,12 @@
 -- What is counted of any items, one after the other.
-use Rattle.std.proofs.Common.{◌≡◌, inl, inr, ◌<◌, ◌+◌, ◌-◌, ◌^◌, ℕ, min, Bool, true, false, cond, eqb, ltb, ◌&&◌, not, List, [], ◌∷◌, length, get_or, set, drop, filter, count_by, Option, Some, None, Result, Ok, refl, sym, subst, ap, ◌∙◌, arith}
-use Rattle.std.proofs.lemmas.Bool.{cases_Bool, cond-false, cond-true, cond_both, eqb-false, eqb-true, ltb-false, ltb-true, ne_eqb}
-use Rattle.std.proofs.lemmas.List.{get_or-replicate, get_or-set_other, get_or-set_same, length-set, length-replicate}
-use Rattle.std.proofs.lemmas.List.Sums.{sum_by-cons}
-use Rattle.std.specs.Prelude.{is_some}
-use Rattle.osdp_frame.specs.Packet.{Packet}
+use Rattle.osdp_tool_monitor_laws.proofs.Common.{◌≡◌, inl, inr, ◌<◌, ◌+◌, ◌-◌, ◌^◌, ℕ, min, Bool, true, false, cond, eqb, ltb, ◌&&◌, not, List, [], ◌∷◌, length, get_or, set, drop, filter, count_by, Option, Some, None, Result, Ok, refl, sym, subst, ap, ◌∙◌, arith, cases_Bool, cond-false, cond-true, cond_both, eqb-false, eqb-true, ltb-false, ltb-true, ne_eqb, get_or-replicate, get_or-set_other, get_or-set_same, length-set, length-replicate, sum_by-cons, is_some, Packet, RunItem, PacketItem, SkippedItem, RefusedItem, Found, Notice, Opened, Moved, copies_last, no_knowledge, MsgFault, NakReason, SecurityConditions, Reply, Counts, after_any_packet, after_damage, after_packet, after_reply, after_sent, counts_after, counts_after_damage, kind_of_reason, kind_of_reply, more_if, no_counts, after_bad, hit_by, is_clean, Listening, heard_item, heard_items, nothing_heard, told_in}
 use Rattle.osdp_frame.specs.declared.fault.FrameFault.{FrameFault}
-use Rattle.osdp_frame.specs.Reading.{RunItem, PacketItem, SkippedItem, RefusedItem}
-use Rattle.osdp_monitor.specs.declared.found.Found.{Found}
-use Rattle.osdp_monitor.specs.declared.found.Notice.{Notice}
-use Rattle.osdp_monitor.specs.declared.found.Notice.TheVariants.{Opened, Moved}
-use Rattle.osdp_monitor.specs.Line.{copies_last, no_knowledge}
 use Rattle.osdp_monitor.specs.Saying.{asked, reply_told}
 use Rattle.osdp_msg.specs.declared.command.Command.{Command}
 use Rattle.osdp_msg.specs.declared.command.Command.TheVariants as command
-use Rattle.osdp_msg.specs.declared.fault.MsgFault.{MsgFault}
-use Rattle.osdp_msg.specs.declared.nak.NakReason.{NakReason}
-use Rattle.osdp_msg.specs.declared.nak.NakReason.TheVariants.{SecurityConditions}
-use Rattle.osdp_msg.specs.declared.reply.Reply.{Reply}
 use Rattle.osdp_msg.specs.declared.reply.Reply.TheVariants as reply
-use Rattle.osdp_tool_monitor.specs.declared.counts.Counts.{Counts}
-use Rattle.osdp_tool_monitor.specs.Counts.{after_any_packet, after_damage, after_packet, after_reply, after_sent, counts_after, counts_after_damage, kind_of_reason, kind_of_reply, more_if, no_counts}
 use Rattle.osdp_tool_monitor.specs.Counts as counts
-use Rattle.osdp_tool_monitor.specs.Trail.{after_bad, hit_by, is_clean}
 use Rattle.osdp_tool_monitor.specs.InTurn.{after_all}
-use Rattle.osdp_tool_monitor.specs.Listening.{Listening, heard_item, heard_items, nothing_heard, told_in}
 use Rattle.osdp_tool_monitor_laws.specs.Counting.{CountsEachKind, CountsForgotten, CountsTheLine, Entry, accused, answered, brought, busy, capped, entries, how_many_at, is_busy, is_event, is_moved, is_nak, is_opened, is_poll, judged, moved, opened, polled, refused, repeated, sent}
 
 -- one more, up to a greatest number

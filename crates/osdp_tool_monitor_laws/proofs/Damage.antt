@@ -1,19 +1,7 @@
 -- Damage before the packets of a device, and after those to it.
-use Rattle.std.proofs.Common.{◌≡◌, inl, inr, ◌+◌, ℕ, min, Bool, true, false, cond, eqb, ltb, leb, ◌&&◌, ◌||◌, not, List, [], ◌∷◌, count_by, Option, Some, None, refl, sym, ap, ◌∙◌, arith}
-use Rattle.std.proofs.lemmas.Bool.{cases_Bool, cond-false, cond-true, ltb-false, ltb-true, leb-false, leb-true, lt-ltb, le-ltb, le-leb, lt-leb}
-use Rattle.std.proofs.lemmas.List.Sums.{sum_by-cons}
-use Rattle.osdp_frame.specs.Packet.{Packet}
-use Rattle.osdp_frame.specs.Reading.{RunItem, PacketItem, SkippedItem, RefusedItem}
-use Rattle.osdp_monitor.specs.declared.found.Found.{Found}
-use Rattle.osdp_monitor.specs.Line.{copies_last}
-use Rattle.osdp_tool_show.specs.Told.{is_skipped}
-use Rattle.osdp_tool_monitor.specs.declared.counts.Counts.{Counts}
-use Rattle.osdp_tool_monitor.specs.Counts.{after_damage, after_packet, counts_after_damage, more_if}
-use Rattle.osdp_tool_monitor.specs.Trail.{after_bad, hit_by, is_clean}
+use Rattle.osdp_tool_monitor_laws.proofs.Common.{◌≡◌, inl, inr, ◌+◌, ℕ, min, Bool, true, false, cond, eqb, ltb, leb, ◌&&◌, ◌||◌, not, List, [], ◌∷◌, count_by, Option, Some, None, refl, sym, ap, ◌∙◌, arith, cases_Bool, cond-false, cond-true, ltb-false, ltb-true, leb-false, leb-true, lt-ltb, le-ltb, le-leb, lt-leb, sum_by-cons, Packet, RunItem, PacketItem, SkippedItem, RefusedItem, Found, copies_last, is_skipped, Counts, after_damage, after_packet, counts_after_damage, more_if, after_bad, hit_by, is_clean, Listening, heard_item, heard_items, told_in, capped}
 use Rattle.osdp_tool_monitor.specs.declared.trail.Trail.{Trail}
 use Rattle.osdp_tool_monitor.specs.InTurn.{after_all}
-use Rattle.osdp_tool_monitor.specs.Listening.{Listening, heard_item, heard_items, told_in}
-use Rattle.osdp_tool_monitor_laws.specs.Counting.{capped}
 use Rattle.osdp_tool_monitor_laws.specs.Faults.{is_bad, is_hit, is_whole, up_to_packet, with_last, with_next}
 use Rattle.osdp_tool_monitor_laws.proofs.OneRow.{is_at, row, row_hit, row_taken, undamaged, within_of}
 use Rattle.osdp_tool_monitor_laws.proofs.Counting.{by_reply, from_none, kept_long, long_after, more, more_to, then_or}

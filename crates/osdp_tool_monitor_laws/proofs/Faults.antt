@@ -1,28 +1,10 @@
 -- What is counted for the diagnoses alone, of any items, one after the other.
-use Rattle.std.proofs.Common.{◌≡◌, inl, inr, ◌<◌, ◌+◌, ℕ, Bool, true, false, cond, eqb, ltb, ◌&&◌, ◌||◌, not, List, [], ◌∷◌, ◌++◌, length, get_or, count_by, Option, Some, Result, Ok, refl, sym, subst, ap, ◌∙◌, arith}
-use Rattle.std.proofs.lemmas.Bool.{cases_Bool, cond-false, cond-true, lt-ltb}
-use Rattle.std.proofs.lemmas.List.{get_or-replicate, length-replicate}
-use Rattle.std.proofs.lemmas.List.Sums.{sum_by-cons}
-use Rattle.osdp_frame.specs.Packet.{Packet}
-use Rattle.osdp_frame.specs.Reading.{RunItem, PacketItem, SkippedItem, RefusedItem}
+use Rattle.osdp_tool_monitor_laws.proofs.Common.{◌≡◌, inl, inr, ◌<◌, ◌+◌, ℕ, Bool, true, false, cond, eqb, ltb, ◌&&◌, ◌||◌, not, List, [], ◌∷◌, ◌++◌, length, get_or, count_by, Option, Some, Result, Ok, refl, sym, subst, ap, ◌∙◌, arith, cases_Bool, cond-false, cond-true, lt-ltb, get_or-replicate, length-replicate, sum_by-cons, Packet, RunItem, PacketItem, SkippedItem, RefusedItem, Found, Notice, Restarted, copies_last, reply_told, MsgFault, NakReason, SecurityConditions, Reply, Counts, after_damage, after_packet, counts_after, counts_after_damage, kind_of_reason, kind_of_reply, more_if, no_counts, after_bad, hit_by, is_clean, Listening, heard_item, heard_items, nothing_heard, told_in}
 use Rattle.osdp_monitor.specs.declared.accusation.Accusation.{Accusation}
 use Rattle.osdp_monitor.specs.declared.accusation.Accusation.TheVariants.{SecondReply}
-use Rattle.osdp_monitor.specs.declared.found.Found.{Found}
-use Rattle.osdp_monitor.specs.declared.found.Notice.{Notice}
-use Rattle.osdp_monitor.specs.declared.found.Notice.TheVariants.{Restarted}
-use Rattle.osdp_monitor.specs.Line.{copies_last}
-use Rattle.osdp_monitor.specs.Saying.{reply_told}
-use Rattle.osdp_msg.specs.declared.fault.MsgFault.{MsgFault}
-use Rattle.osdp_msg.specs.declared.nak.NakReason.{NakReason}
-use Rattle.osdp_msg.specs.declared.nak.NakReason.TheVariants.{SecurityConditions}
-use Rattle.osdp_msg.specs.declared.reply.Reply.{Reply}
 use Rattle.osdp_msg.specs.declared.reply.Reply.TheVariants as reply
-use Rattle.osdp_tool_monitor.specs.declared.counts.Counts.{Counts}
-use Rattle.osdp_tool_monitor.specs.Counts.{after_damage, after_packet, counts_after, counts_after_damage, kind_of_reason, kind_of_reply, more_if, no_counts}
 use Rattle.osdp_tool_monitor.specs.Counts as counts
-use Rattle.osdp_tool_monitor.specs.Trail.{after_bad, hit_by, is_clean}
 use Rattle.osdp_tool_monitor.specs.InTurn.{after_all}
-use Rattle.osdp_tool_monitor.specs.Listening.{Listening, heard_item, heard_items, nothing_heard, told_in}
 use Rattle.osdp_tool_monitor_laws.specs.Counting.{Entry, answered, busy, capped, entries, is_busy, is_nak, refused, sent}
 use Rattle.osdp_tool_monitor_laws.specs.Faults.{CountsFaults, CountsRepliesOnce, demanded, demands_channel, doubled, is_channel, is_needless, is_restarted, is_second, is_whole, last_or, named_rate, rates, replied, restarted, secured, since_new, was_answered, with_earlier, with_last}
 use Rattle.osdp_tool_monitor_laws.proofs.Damage.{clean_along, hit_along}

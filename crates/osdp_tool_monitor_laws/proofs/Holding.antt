@@ -1,13 +1,6 @@
 -- What the counts of a device are tested for, and what that says of the line.
-use Rattle.std.proofs.Common.{◌≡◌, ◌⊎◌, ◌↔◌, inl, inr, ◌<◌, ◌≤◌, ◌+◌, ◌-◌, ◌*◌, ◌/◌, ◌^◌, ℕ, min, Bool, true, false, eqb, ltb, leb, ◌&&◌, ◌||◌, not, get_or, refl, sym, ap, ◌∙◌, subst, arith}
-use Rattle.std.proofs.lemmas.Bool.{and_parts, and_from, both_ways, cases_Bool, eq-eqb, eqb-true, le-leb, leb-true, leb-false, lt-ltb, ltb-true, not-true, or_cases}
-use Rattle.osdp_tool_monitor.specs.declared.counts.Counts.{Counts}
-use Rattle.osdp_tool_monitor.specs.Counts.{is_ghost, no_counts}
+use Rattle.osdp_tool_monitor_laws.proofs.Common.{◌≡◌, ◌⊎◌, ◌↔◌, inl, inr, ◌<◌, ◌≤◌, ◌+◌, ◌-◌, ◌*◌, ◌/◌, ◌^◌, ℕ, min, Bool, true, false, eqb, ltb, leb, ◌&&◌, ◌||◌, not, get_or, refl, sym, ap, ◌∙◌, subst, arith, and_parts, and_from, both_ways, cases_Bool, eq-eqb, eqb-true, le-leb, leb-true, leb-false, lt-ltb, ltb-true, not-true, or_cases, Counts, is_ghost, no_counts, heard_items, nothing_heard, answered, busy, refused, repeated, demanded, doubled, replied, restarted, secured, so_many, Heard, IsAHalf, IsDoubled, IsHurt, IsMeasured, IsMute, IsOnceIn, IsShared, IsSilent, IsThere, IsTouched, LosesAnswers, asked, hits, needless, number, packets, rate, unanswered, whole}
 use Rattle.osdp_tool_monitor.specs.Diagnoses.{has_damage, is_common, is_echoed, is_half, is_measured, is_mute, is_often, is_shared, is_touched, loses, lost}
-use Rattle.osdp_tool_monitor.specs.Listening.{heard_items, nothing_heard}
-use Rattle.osdp_tool_monitor_laws.specs.Counting.{answered, busy, refused, repeated}
-use Rattle.osdp_tool_monitor_laws.specs.Faults.{demanded, doubled, replied, restarted, secured, so_many}
-use Rattle.osdp_tool_monitor_laws.specs.Told.{Heard, IsAHalf, IsDoubled, IsHurt, IsMeasured, IsMute, IsOnceIn, IsShared, IsSilent, IsThere, IsTouched, LosesAnswers, asked, hits, needless, number, packets, rate, unanswered, whole}
 use Rattle.osdp_tool_monitor_laws.proofs.Counting.{counts_each_kind}
 use Rattle.osdp_tool_monitor_laws.proofs.Faults.{counts_faults, counts_replies_once}
 

@@ -1,12 +1,5 @@
 -- One row after a packet, and after damage.
-use Rattle.std.proofs.Common.{◌≡◌, inl, inr, ◌<◌, ℕ, Bool, true, false, cond, eqb, List, length, get_or, set, Option, Some, None, refl, sym, subst, ap, ◌∙◌}
-use Rattle.std.proofs.lemmas.Bool.{cases_Bool, cond-false, cond-true, eqb-false, eqb-true}
-use Rattle.std.proofs.lemmas.List.{get_or-set_other, get_or-set_same}
-use Rattle.osdp_frame.specs.Packet.{Packet}
-use Rattle.osdp_monitor.specs.declared.found.Found.{Found}
-use Rattle.osdp_tool_monitor.specs.declared.counts.Counts.{Counts}
-use Rattle.osdp_tool_monitor.specs.Counts.{after_damage, after_packet, counts_after, counts_after_damage, no_counts}
-use Rattle.osdp_tool_monitor.specs.Listening.{Listening}
+use Rattle.osdp_tool_monitor_laws.proofs.Common.{◌≡◌, inl, inr, ◌<◌, ℕ, Bool, true, false, cond, eqb, List, length, get_or, set, Option, Some, None, refl, sym, subst, ap, ◌∙◌, cases_Bool, cond-false, cond-true, eqb-false, eqb-true, get_or-set_other, get_or-set_same, Packet, Found, Counts, after_damage, after_packet, counts_after, counts_after_damage, no_counts, Listening}
 
 module _ (a : ℕ) where
   abbrev pub row : List Counts → Counts

@@ -1,17 +1,7 @@
 -- What the survey of a line has: how many devices are measured, and how many of them are so.
-use Rattle.std.proofs.Common.{◌≡◌, ◌≤◌, ◌+◌, ℕ, Bool, cond, List, [], ◌∷◌, length, count_by, Option, Some, None, refl, ap, ◌∙◌, arith}
-use Rattle.std.proofs.lemmas.List.{length-replicate, length-set}
-use Rattle.std.proofs.lemmas.List.Sums.{count_by-le-length, sum_by-cons}
-use Rattle.osdp_frame.specs.Reading.{RunItem, PacketItem, SkippedItem, RefusedItem}
-use Rattle.osdp_monitor.specs.Line.{copies_last}
-use Rattle.osdp_tool_monitor.specs.declared.counts.Counts.{Counts}
-use Rattle.osdp_tool_monitor.specs.Counts.{after_damage, after_packet, counts_after_damage, more_if, no_counts}
-use Rattle.osdp_tool_monitor.specs.Diagnoses.{add, has_damage, is_measured, is_mute, is_touched, loses, survey_of}
+use Rattle.osdp_tool_monitor_laws.proofs.Common.{◌≡◌, ◌≤◌, ◌+◌, ℕ, Bool, cond, List, [], ◌∷◌, length, count_by, Option, Some, None, refl, ap, ◌∙◌, arith, length-replicate, length-set, count_by-le-length, sum_by-cons, RunItem, PacketItem, SkippedItem, RefusedItem, copies_last, Counts, after_damage, after_packet, counts_after_damage, more_if, no_counts, add, has_damage, is_measured, is_mute, is_touched, loses, survey_of, Listening, heard_item, heard_items, nothing_heard, told_in, after_bad, hit_by, is_clean, capped}
 use Rattle.osdp_tool_monitor.specs.InTurn.{after_all}
-use Rattle.osdp_tool_monitor.specs.Listening.{Listening, heard_item, heard_items, nothing_heard, told_in}
-use Rattle.osdp_tool_monitor.specs.Trail.{after_bad, hit_by, is_clean}
 use Rattle.std.specs.Prelude.{slice_index_or, ◌&&◌, ◌||◌}
-use Rattle.osdp_tool_monitor_laws.specs.Counting.{capped}
 use Rattle.osdp_tool_monitor_laws.proofs.Counting.{from_none, more}
 
 -- ---- there are 128 rows

@@ -1,19 +1,9 @@
 -- What is told after the table: a line for each diagnosis that holds.
-use Rattle.std.proofs.Common.{◌≡◌, ◌⊎◌, inl, inr, ◌<◌, ◌+◌, ◌*◌, ◌/◌, ℕ, zero, suc, Bool, true, false, cond, eqb, ltb, leb, ◌&&◌, ◌||◌, not, List, [], ◌∷◌, ◌++◌, length, drop, count_by, filter, flat_map, codes, decimal, refl, sym, ap, ◌∙◌, subst, arith, append_assoc, append-nil}
+use Rattle.osdp_tool_monitor_laws.proofs.Common.{◌≡◌, ◌⊎◌, inl, inr, ◌<◌, ◌+◌, ◌*◌, ◌/◌, ℕ, zero, suc, Bool, true, false, cond, eqb, ltb, leb, ◌&&◌, ◌||◌, not, List, [], ◌∷◌, ◌++◌, length, drop, count_by, filter, flat_map, codes, decimal, refl, sym, ap, ◌∙◌, subst, arith, append_assoc, append-nil, and_parts, cases_Bool, cond-false, cond-true, lt-ltb, drop_all, drop_more, sum_by-cons, RunItem, PacketItem, SkippedItem, RefusedItem, is_packet, is_skipped, tally_after, Tally, Counts, is_ghost, no_counts, Listening, heard_item, heard_items, nothing_heard}
 use Rattle.std.proofs.Math.Path.{fun_ext}
-use Rattle.std.proofs.lemmas.Bool.{and_parts, cases_Bool, cond-false, cond-true, lt-ltb}
-use Rattle.std.proofs.lemmas.List.{drop_all, drop_more}
-use Rattle.std.proofs.lemmas.List.Sums.{sum_by-cons}
-use Rattle.osdp_frame.specs.Reading.{RunItem, PacketItem, SkippedItem, RefusedItem}
 use Rattle.osdp_tool_show.specs.ItemText.{is_refusal}
-use Rattle.osdp_tool_show.specs.Told.{is_packet, is_skipped}
-use Rattle.osdp_tool_show.specs.Tally.{tally_after}
-use Rattle.osdp_tool_show.specs.declared.tally.Tally.{Tally}
-use Rattle.osdp_tool_monitor.specs.declared.counts.Counts.{Counts}
-use Rattle.osdp_tool_monitor.specs.Counts.{is_ghost, no_counts}
 use Rattle.osdp_tool_monitor.specs.Diagnoses.{answer_lines, are_all, copy_lines, damage_lines, device_lines, diagnoses_text, has_damage, is_alone, is_common, is_echoed, is_measured, is_mute, is_noise, is_shared, is_touched, is_worn, lines_from, loses, lost, loss_lines, loss_words, repeat_lines, setting_lines, survey_of, told_at, told_count, told_if, told_share}
 use Rattle.osdp_tool_monitor.specs.InTurn.{after_all}
-use Rattle.osdp_tool_monitor.specs.Listening.{Listening, heard_item, heard_items, nothing_heard}
 use Rattle.osdp_tool_monitor_laws.specs.Told.{AreSeveral, Diagnosis, Noise, AllHit, Of, Fault, NeverAnswers, ComesTwice, Loses, LosesAlone, Restarts, IsTwo, IsHitAlone, IsRepeated, Demands, Speaks, IsSet, Heard, Holds, IsHurt, IsMeasured, IsOnly, IsSilent, IsSo, IsTouched, LosesAnswers, TellsDiagnoses, every, fault_words, asked, of_device, of_devices, share, told_line}
 use Rattle.osdp_tool_monitor_laws.proofs.Holding.{Tells, at_most, below, both, doubled_tells, either, equal, given, hurt_tells, loses_tells, lost_is, measured_tells, mute_tells, none, read, repeated_tells, row_is, row_of, same, shared_tells, silent_tells, there_tells, touched_tells}
 use Rattle.osdp_tool_monitor_laws.proofs.Counting.{from_none}

@@ -1,24 +1,11 @@
 -- What counts come to while a line goes on: none grows less.
-use Rattle.std.proofs.Common.{◌≡◌, ◌≤◌, ◌<◌, ◌+◌, ◌-◌, ℕ, Bool, true, false, ◌&&◌, not, eqb, ltb, List, [], ◌∷◌, ◌++◌, length, get_or, Option, Some, refl, sym, subst, ap, ◌∙◌, arith}
-use Rattle.std.proofs.lemmas.Bool.{cond_both}
+use Rattle.osdp_tool_monitor_laws.proofs.Common.{◌≡◌, ◌≤◌, ◌<◌, ◌+◌, ◌-◌, ℕ, Bool, true, false, ◌&&◌, not, eqb, ltb, List, [], ◌∷◌, ◌++◌, length, get_or, Option, Some, refl, sym, subst, ap, ◌∙◌, arith, cond_both, RunItem, PacketItem, SkippedItem, RefusedItem, Packet, Found, copies_last, Tally, after_run, Counts, after_damage, after_packet, more_if, no_counts, table_of, Listening, after_table, ended, heard_item, heard_items, tabled_now, told_in, after_bad, hit_by, is_clean, diagnoses_text, Entry, accused, answered, brought, busy, judged, moved, opened, polled, refused, repeated, sent}
 use Rattle.std.specs.Prelude.{◌^◌}
 use Rattle.osdp_frame.specs.Items.{items}
-use Rattle.osdp_frame.specs.Reading.{RunItem, PacketItem, SkippedItem, RefusedItem}
-use Rattle.osdp_frame.specs.Packet.{Packet}
-use Rattle.osdp_monitor.specs.declared.found.Found.{Found}
-use Rattle.osdp_monitor.specs.Line.{copies_last}
-use Rattle.osdp_tool_show.specs.declared.tally.Tally.{Tally}
-use Rattle.osdp_tool_show.specs.Tally.{after_run}
-use Rattle.osdp_tool_monitor.specs.declared.counts.Counts.{Counts}
-use Rattle.osdp_tool_monitor.specs.Counts.{after_damage, after_packet, more_if, no_counts, table_of}
 use Rattle.osdp_tool_monitor.specs.Hearing.{Come, Hearing, LineEvent, RunEnds, TableDue, TableTold, after_event, after_events}
 use Rattle.osdp_tool_monitor.specs.InTurn.{after_all}
-use Rattle.osdp_tool_monitor.specs.Listening.{Listening, after_table, ended, heard_item, heard_items, tabled_now, told_in}
-use Rattle.osdp_tool_monitor.specs.Trail.{after_bad, hit_by, is_clean}
 use Rattle.osdp_tool_monitor.specs.Windows.{Tabled, window_text}
-use Rattle.osdp_tool_monitor.specs.Diagnoses.{diagnoses_text}
 use Rattle.osdp_tool_monitor_laws.proofs.Counting.{accused_step, answered_step, asked_step, busy_step, damaged, events_step, forgot_step, judged_step, kept_long, long_after, moved_step, nak_step, opened_step, polls_step, repeats_step, taken}
-use Rattle.osdp_tool_monitor_laws.specs.Counting.{Entry, accused, answered, brought, busy, judged, moved, opened, polled, refused, repeated, sent}
 use Rattle.osdp_tool_monitor_laws.specs.Windows.{LinesAddUp, NoTableTold, RowsAddUp, TellsWindows}
 
 more_is_more : (test : Bool) (n : ℕ) → n ≤ more_if test n

@@ -1,14 +1,8 @@
 -- How the command ends, in the words of its reader.
-use Rattle.std.proofs.Common.{◌≡◌, ◌∙◌, ◌⊎◌, ◌↔◌, ◌||◌, ℕ, Bool, true, false, is_err, List, [], ◌++◌, take, drop, take-append-drop, append-nil, append_assoc, Option, Some, None, OnOk, OnErr, Result, Ok, Err, inl, inr, refl, sym, ap, subst}
-use Rattle.std.specs.Prelude.{IsOkUnless}
+use Rattle.osdp_tool_plan.proofs.Common.{◌≡◌, ◌∙◌, ◌⊎◌, ◌↔◌, ◌||◌, ℕ, Bool, true, false, is_err, List, [], ◌++◌, take, drop, take-append-drop, append-nil, append_assoc, Option, Some, None, OnOk, OnErr, Result, Ok, Err, inl, inr, refl, sym, ap, subst, IsOkUnless, Plan, Ends, Plans, PlansNone, PrintsPart, EndsInTurn, IsBegun, IsToldInTurn, plan_text, AppendsPart}
 use Rattle.std.specs.Io.KnownBytes.{Appends, Keeps}
-use Rattle.osdp_plan.specs.declared.plan.Plan.{Plan}
-use Rattle.osdp_tool_plan.specs.Ending.{Ends, Plans, PlansNone, PrintsPart}
-use Rattle.osdp_tool_plan.specs.Laws.{EndsInTurn, IsBegun, IsToldInTurn}
-use Rattle.osdp_tool_plan.specs.Text.{plan_text}
 use Rattle.osdp_tool_plan.proofs.OneLine.{one_plan}
 use Rattle.osdp_tool_streams.specs.FinalAnswer.{final_answer_of}
-use Rattle.osdp_tool_streams.specs.Watched.{AppendsPart}
 use Rattle.osdp_tool_streams.specs.declared.fault.ToolFault.{ToolFault}
 use Rattle.osdp_tool_streams.specs.declared.fault.ToolFault.TheVariants.{NotHex, TooLong, BadWords, BadStep, HoldsPacket, NotQuiet, ReadFailed, WriteFailed, NoMemory}
 

@@ -1,3 +1,4 @@
+pub mod Common
 mod InTurn
 mod OneLine
 mod OneSetting

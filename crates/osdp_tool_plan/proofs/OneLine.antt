@@ -1,17 +1,6 @@
 -- Words plan one line at most.
-use Rattle.std.proofs.Common.{◌≡◌, ◌∙◌, ℕ, List, ◌++◌, Option, Some, None, refl, sym, ap, arith}
-use Rattle.osdp_plan.specs.declared.judging.TooShort.{TooShort}
+use Rattle.osdp_tool_plan.proofs.Common.{◌≡◌, ◌∙◌, ℕ, List, ◌++◌, Option, Some, None, refl, sym, ap, arith, TooShort, Plan, IsLongEnough, Judges, some_same, after, Prints, PlansOnce, ArePlan, defaults, put, plan_text, Planned, PlanSetting}
 use Rattle.osdp_plan.specs.declared.judging.TooShort.TheVariants.{PacketPasses, AnswerComes, LineIsQuiet}
-use Rattle.osdp_plan.specs.declared.plan.Plan.{Plan}
-use Rattle.osdp_plan.specs.Judging.{IsLongEnough, Judges}
-use Rattle.osdp_settings.proofs.Reading.{some_same}
-use Rattle.osdp_settings.specs.Settings.{after}
-use Rattle.osdp_tool_plan.specs.Ending.{Prints}
-use Rattle.osdp_tool_plan.specs.Laws.{PlansOnce}
-use Rattle.osdp_tool_plan.specs.Settings.{ArePlan, defaults, put}
-use Rattle.osdp_tool_plan.specs.Text.{plan_text}
-use Rattle.osdp_tool_plan.specs.declared.setting.Planned.{Planned}
-use Rattle.osdp_tool_plan.specs.declared.setting.PlanSetting.{PlanSetting}
 use Rattle.osdp_tool_plan.proofs.OneSetting.{given_once}
 use Rattle.osdp_tool_plan.proofs.Ranges.{planned_in_range}
 

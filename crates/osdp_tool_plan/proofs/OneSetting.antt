@@ -1,14 +1,9 @@
 -- A name and its value say one setting at most.
-use Rattle.std.proofs.Common.{◌≡◌, ◌∙◌, ◌&&◌, ◌==◌, ◌<◌, ◌^◌, ℕ, Bool, true, false, if◌then◌else◌, List, [], ◌∷◌, codes, refl, sym, ap, subst, arith}
+use Rattle.osdp_tool_plan.proofs.Common.{◌≡◌, ◌∙◌, ◌&&◌, ◌==◌, ◌<◌, ◌^◌, ℕ, Bool, true, false, if◌then◌else◌, List, [], ◌∷◌, codes, refl, sym, ap, subst, arith, Give, SettingFits, setting_words, AllStandFor, PlanSetting, Check, Readers, Rate, Longest, Answer, Hold, Late, Orders, PollBetweenOrders, ReplyWait, PollInterval, Sends, BusyWait, BusyLimit, QuietWait, entry}
 use Rattle.std.specs.Fmt.{decimal}
 use Rattle.std.specs.Str.Parse.{digits_value}
 use Rattle.std.proofs.lemmas.Fmt.{decimal_is_IsNumeral}
 use Rattle.osdp_frame.specs.declared.check_kind.CheckKind.TheVariants.{Sum, Crc}
-use Rattle.osdp_settings.specs.Settings.{Give, SettingFits, setting_words}
-use Rattle.osdp_words.specs.Word.{AllStandFor}
-use Rattle.osdp_tool_plan.specs.declared.setting.PlanSetting.{PlanSetting}
-use Rattle.osdp_tool_plan.specs.declared.setting.PlanSetting.TheVariants.{Check, Readers, Rate, Longest, Answer, Hold, Late, Orders, PollBetweenOrders, ReplyWait, PollInterval, Sends, BusyWait, BusyLimit, QuietWait}
-use Rattle.osdp_tool_plan.specs.Settings.{entry}
 
 abbrev same : List ℕ → List ℕ → Bool
 same [] [] = true

@@ -1,15 +1,6 @@
 -- Settings within their ranges keep a plan within its own.
-use Rattle.std.proofs.Common.{◌≡◌, ℕ, List, [], ◌∷◌, Some, subst, arith}
+use Rattle.osdp_tool_plan.proofs.Common.{◌≡◌, ℕ, List, [], ◌∷◌, Some, subst, arith, Plan, IsPlan, default_plan, some_same, SettingFits, after, Plans, Planned, PlanSetting, Check, Readers, Rate, Longest, Answer, Hold, Late, Orders, PollBetweenOrders, ReplyWait, PollInterval, Sends, BusyWait, BusyLimit, QuietWait, AreInRange, ArePlan, defaults, entry, put, with_setting}
 use Rattle.std.specs.List.{AllByRecursion}
-use Rattle.osdp_plan.specs.declared.plan.Plan.{Plan}
-use Rattle.osdp_plan.specs.Plans.{IsPlan, default_plan}
-use Rattle.osdp_settings.proofs.Reading.{some_same}
-use Rattle.osdp_settings.specs.Settings.{SettingFits, after}
-use Rattle.osdp_tool_plan.specs.Ending.{Plans}
-use Rattle.osdp_tool_plan.specs.declared.setting.Planned.{Planned}
-use Rattle.osdp_tool_plan.specs.declared.setting.PlanSetting.{PlanSetting}
-use Rattle.osdp_tool_plan.specs.declared.setting.PlanSetting.TheVariants.{Check, Readers, Rate, Longest, Answer, Hold, Late, Orders, PollBetweenOrders, ReplyWait, PollInterval, Sends, BusyWait, BusyLimit, QuietWait}
-use Rattle.osdp_tool_plan.specs.Settings.{AreInRange, ArePlan, defaults, entry, put, with_setting}
 
 pub set_in_range : (s : PlanSetting) (p : Plan) → SettingFits entry s → IsPlan p → IsPlan (with_setting s p)
 set_in_range (Check kind) p fits h = record { readers = h.readers; rate = h.rate; longest = h.longest; answer = h.answer; hold = h.hold; late = h.late; orders = h.orders; reply_wait = h.reply_wait; poll_interval = h.poll_interval; sends = h.sends; busy_wait = h.busy_wait; busy_limit = h.busy_limit; quiet_wait = h.quiet_wait }

@@ -1,23 +1,12 @@
 -- Words are refused for one thing at most.
-use Rattle.std.proofs.Common.{◌≡◌, ◌∙◌, ℕ, Bool, true, false, List, [], ◌∷◌, ◌++◌, Some, None, Result, Ok, Err, inl, inr, refl, sym, ap, subst}
-use Rattle.std.specs.Prelude.{IfErr}
-use Rattle.osdp_plan.specs.declared.judging.TooShort.{TooShort}
+use Rattle.osdp_tool_plan.proofs.Common.{◌≡◌, ◌∙◌, ℕ, Bool, true, false, List, [], ◌∷◌, ◌++◌, Some, None, Result, Ok, Err, inl, inr, refl, sym, ap, subst, IfErr, TooShort, Plan, HasOneJudgement, IsLongEnough, Judges, some_same, Give, SettingFits, setting_words, AllStandFor, PlanSetting, Plans, PlansNone, RefusesPlan, RefusesWords, AreSameRefusal, RefusesOnce, ArePlan, defaults, entry, put}
 use Rattle.osdp_plan.specs.declared.judging.TooShort.TheVariants as short
-use Rattle.osdp_plan.specs.declared.plan.Plan.{Plan}
-use Rattle.osdp_plan.specs.Judging.{HasOneJudgement, IsLongEnough, Judges}
-use Rattle.osdp_settings.proofs.Reading.{some_same}
 use Rattle.osdp_settings.specs.Laws.{AreAlike}
-use Rattle.osdp_settings.specs.Settings.{Give, SettingFits, setting_words}
 use Rattle.osdp_settings.specs.Wrong.{IsWrong}
 use Rattle.osdp_settings.specs.declared.wrong.WrongSetting.{WrongSetting}
 use Rattle.osdp_settings.specs.declared.wrong.WrongSetting.TheVariants.{NoValue, NoSetting, OneTooMany}
-use Rattle.osdp_words.specs.Word.{AllStandFor}
 use Rattle.osdp_tool_plan.specs.declared.command.WrongPlan.{WrongPlan}
 use Rattle.osdp_tool_plan.specs.declared.command.WrongPlan.TheVariants.{Setting, PacketPasses, AnswerComes, LineIsQuiet}
-use Rattle.osdp_tool_plan.specs.declared.setting.PlanSetting.{PlanSetting}
-use Rattle.osdp_tool_plan.specs.Ending.{Plans, PlansNone, RefusesPlan, RefusesWords}
-use Rattle.osdp_tool_plan.specs.Laws.{AreSameRefusal, RefusesOnce}
-use Rattle.osdp_tool_plan.specs.Settings.{ArePlan, defaults, entry, put}
 use Rattle.osdp_tool_plan.proofs.OneLine.{none_short, one_plan}
 use Rattle.osdp_tool_plan.proofs.Ranges.{are_in_range}
 

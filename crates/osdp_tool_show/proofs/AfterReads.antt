@@ -1,9 +1,5 @@
 -- What waits is written out after each read: what was told stays.
-use Rattle.std.proofs.Common.{ℕ, ◌+◌, Bool, true, false, List, [], ◌++◌, take, drop, take-append-drop, Option, sym, append-nil}
-use Rattle.osdp_tool_show.specs.declared.capture.Capture.{Capture}
-use Rattle.osdp_tool_show.specs.Shown.{shown_so_far}
-use Rattle.osdp_tool_show.specs.Capture.{TookPart, StopsInPiece}
-use Rattle.osdp_tool_show.specs.Written.{IsBeginning}
+use Rattle.osdp_tool_show.proofs.Common.{ℕ, ◌+◌, Bool, true, false, List, [], ◌++◌, take, drop, take-append-drop, Option, sym, append-nil, Capture, shown_so_far, TookPart, StopsInPiece, IsBeginning}
 use Rattle.osdp_tool_show.proofs.Beginnings.{stops_by}
 
 -- the piece was taken, and the output failed when what waits was to be written out

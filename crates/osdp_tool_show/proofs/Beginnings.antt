@@ -1,11 +1,5 @@
 -- What was written where a call stopped before all of its text was.
-use Rattle.std.proofs.Common.{◌≡◌, ℕ, List, [], ◌++◌, take, drop, take-append-drop, string_bytes, Option, Some, None, Result, Ok, Err, OnErr, refl, sym, ap, ◌∙◌, append_assoc, append-nil}
-use Rattle.std.specs.Io.KnownBytes.{Appends, append_known}
-use Rattle.std.proofs.KnownBytes.{Appends-nil, Appends-trans}
-use Rattle.osdp_tool_streams.specs.Watched.{AppendsPart}
-use Rattle.osdp_tool_show.specs.declared.report.Report.{Report}
-use Rattle.osdp_tool_show.specs.Machine.{written_or_held}
-use Rattle.osdp_tool_show.specs.Written.{IsBeginning, StopsWithin}
+use Rattle.osdp_tool_show.proofs.Common.{◌≡◌, ℕ, List, [], ◌++◌, take, drop, take-append-drop, string_bytes, Option, Some, None, Result, Ok, Err, OnErr, refl, sym, ap, ◌∙◌, append_assoc, append-nil, Appends, append_known, Appends-nil, Appends-trans, AppendsPart, Report, written_or_held, IsBeginning, StopsWithin}
 
 -- what follows from how a call stopped
 pub on_err_map : {T E : Type 0} {A B : Type 0} (r : Result T E) → (A → B) → OnErr r A → OnErr r B

@@ -1,14 +1,8 @@
 -- Texts from their fronts: where they part, and what was printed in front.
-use Rattle.std.proofs.Common.{◌≡◌, ℕ, zero, suc, ◌<◌, ◌^◌, ◌⊎◌, false, eqb, List, [], ◌∷◌, ◌++◌, get_or, Result, refl, sym, ap, ◌∙◌, arith}
-use Rattle.std.proofs.lemmas.Bool.{eq-eqb, true≢false}
-use Rattle.std.proofs.lemmas.Fmt.{decimal_injective}
-use Rattle.std.specs.Fmt.{decimal}
+use Rattle.osdp_tool_show.proofs.Common.{◌≡◌, ℕ, zero, suc, ◌<◌, ◌^◌, ◌⊎◌, false, eqb, List, [], ◌∷◌, ◌++◌, get_or, Result, refl, sym, ap, ◌∙◌, arith, eq-eqb, true≢false, decimal_injective, decimal, LacksByte, IsBytes, decode_of, encode_upper, decimal_lacks}
 use Rattle.std.specs.Result.{result_unwrap_or}
-use Rattle.std.specs.Str.Iter.{LacksByte}
-use Rattle.hex.specs.Hex.{IsBytes, decode_of, encode_upper}
 use Rattle.hex.specs.declared.error.FromHexError.{FromHexError}
 use Rattle.hex.proofs.HexLemmas.{decode_of-encode_upper}
-use Rattle.osdp_words.proofs.RecordWords.{decimal_lacks}
 
 -- texts whose characters at a place differ
 pub differ_at : (place : ℕ) (xs ys : List ℕ) → eqb (get_or xs place 0) (get_or ys place 0) ≡ false → xs ≡ ys → ⊥

@@ -1,6 +1,5 @@
 -- How many bytes decide the first item of some.
-use Rattle.std.proofs.Common.{◌≡◌, ◌⊎◌, ℕ, zero, suc, ◌<◌, List, length, refl, inl, inr, arith}
-use Rattle.std.proofs.lemmas.Bool.{cases_order}
+use Rattle.osdp_tool_show.proofs.Common.{◌≡◌, ◌⊎◌, ℕ, zero, suc, ◌<◌, List, length, refl, inl, inr, arith, cases_order}
 use Rattle.osdp_frame.specs.Ahead.{IsDecidedBy}
 
 -- where bytes are there, one of them at least

@@ -1,17 +1,7 @@
 -- Items told and taken off one by one.
-use Rattle.std.proofs.Common.{◌≡◌, ℕ, ◌+◌, ◌*◌, ◌<◌, ◌≤◌, Bool, true, List, [], ◌∷◌, ◌++◌, length, drop, Option, Some, None, sym, subst, ap, ◌∙◌, arith, append_assoc}
-use Rattle.osdp_frame.specs.Bytes.{AreBytes}
-use Rattle.osdp_frame.specs.Reading.{RunItem, item_size, total_size}
-use Rattle.osdp_frame.specs.Held.{Held, decided, after_advance}
-use Rattle.osdp_frame.specs.Items.{items}
-use Rattle.osdp_frame_laws.proofs.Readings.{item_size-positive, item_size-decided, items_decided}
-use Rattle.osdp_tool_show.specs.Tally.{tally_after, tally_after_all, counted}
-use Rattle.osdp_tool_show.specs.ToldItems.{shown_lines}
+use Rattle.osdp_tool_show.proofs.Common.{◌≡◌, ℕ, ◌+◌, ◌*◌, ◌<◌, ◌≤◌, Bool, true, List, [], ◌∷◌, ◌++◌, length, drop, Option, Some, None, sym, subst, ap, ◌∙◌, arith, append_assoc, AreBytes, RunItem, item_size, total_size, Held, decided, after_advance, items, item_size-positive, item_size-decided, items_decided, tally_after, tally_after_all, counted, shown_lines, StopsWithin, Report, Tells, Drained}
 use Rattle.osdp_tool_show.proofs.Lines.{tally_after_all-nil, tally_after_all-cons, shown_lines-append, counted-later}
-use Rattle.osdp_tool_show.specs.Written.{StopsWithin}
 use Rattle.osdp_tool_show.proofs.Beginnings.{stops_after}
-use Rattle.osdp_tool_show.specs.declared.report.Report.{Report}
-use Rattle.osdp_tool_show.specs.Machine.{Tells, Drained}
 use Rattle.osdp_tool_show.proofs.Reports.{tells_none, tells_more}
 use Rattle.osdp_tool_show.proofs.Taking.{Taking, next_bytes, taken_all, taking_start, taking_step}
 

@@ -1,16 +1,5 @@
 -- What a command answers once its output was flushed.
-use Rattle.std.proofs.Common.{◌≡◌, ℕ, ◌+◌, ◌≤◌, Bool, true, false, List, [], ◌∷◌, ◌++◌, length, Option, Some, None, Result, Ok, Err, ◌⊎◌, inl, inr, refl, sym, subst, ap, ◌∙◌, arith, append-nil, length-append}
-use Rattle.std.specs.Io.KnownBytes.{Appends, Consumes, Keeps}
-use Rattle.std.proofs.KnownBytes.{Appends-kept}
-use Rattle.osdp_tool_streams.specs.declared.form.Form.{Form}
-use Rattle.osdp_tool_streams.specs.FinalAnswer.{final_answer_of}
-use Rattle.osdp_tool_streams.specs.declared.fault.ToolFault.{ToolFault}
-use Rattle.osdp_tool_streams.specs.declared.fault.ToolFault.TheVariants.{NotHex, TooLong, ReadFailed, WriteFailed, NoMemory}
-use Rattle.osdp_tool_show.specs.declared.detail.Detail.{Detail}
-use Rattle.osdp_tool_show.specs.Shown.{shown, shown_so_far}
-use Rattle.osdp_tool_show.specs.Ending.{streamed, Ends, EndsPartWay}
-use Rattle.osdp_tool_show.specs.Works.{Works}
-use Rattle.osdp_tool_show.specs.Written.{StopsWithin}
+use Rattle.osdp_tool_show.proofs.Common.{◌≡◌, ℕ, ◌+◌, ◌≤◌, Bool, true, false, List, [], ◌∷◌, ◌++◌, length, Option, Some, None, Result, Ok, Err, ◌⊎◌, inl, inr, refl, sym, subst, ap, ◌∙◌, arith, append-nil, length-append, Appends, Consumes, Keeps, Appends-kept, Form, final_answer_of, ToolFault, NotHex, TooLong, ReadFailed, WriteFailed, NoMemory, Detail, shown, shown_so_far, streamed, Ends, EndsPartWay, Works, StopsWithin}
 use Rattle.osdp_tool_show.proofs.Beginnings.{begun_all, stops_by}
 
 -- nothing was written since

@@ -1,13 +1,5 @@
 -- How far an input was read and told, by the answer.
-use Rattle.std.proofs.Common.{◌≡◌, ℕ, ◌+◌, ◌≤◌, Bool, true, false, List, [], ◌∷◌, ◌++◌, length, Option, Some, Result, Ok, Err, inl, inr, refl, sym, ◌∙◌, arith, append-nil, length-append}
-use Rattle.std.specs.Io.KnownBytes.{Appends}
-use Rattle.osdp_tool_streams.specs.declared.form.Form.{Form}
-use Rattle.osdp_tool_streams.specs.declared.fault.ToolFault.{ToolFault}
-use Rattle.osdp_tool_streams.specs.declared.fault.ToolFault.TheVariants.{NotHex, TooLong, ReadFailed, WriteFailed, NoMemory}
-use Rattle.osdp_tool_show.specs.declared.detail.Detail.{Detail}
-use Rattle.osdp_tool_show.specs.Ending.{Ends, Stream, streamed}
-use Rattle.osdp_tool_show.specs.Shown.{shown, shown_so_far}
-use Rattle.osdp_tool_show.specs.Written.{StopsWithin}
+use Rattle.osdp_tool_show.proofs.Common.{◌≡◌, ℕ, ◌+◌, ◌≤◌, Bool, true, false, List, [], ◌∷◌, ◌++◌, length, Option, Some, Result, Ok, Err, inl, inr, refl, sym, ◌∙◌, arith, append-nil, length-append, Appends, Form, ToolFault, NotHex, TooLong, ReadFailed, WriteFailed, NoMemory, Detail, Ends, Stream, streamed, shown, shown_so_far, StopsWithin}
 use Rattle.osdp_tool_show.specs.Stops.{EndsInTurn, IsReadInTurn, TellsFailures, TellsSome}
 use Rattle.osdp_tool_show.proofs.Beginnings.{begun_all, stops_all}
 use Rattle.osdp_tool_show.proofs.Whole.{consumed}

@@ -1,3 +1,4 @@
+pub mod Common
 pub mod Beginnings
 pub mod Reports
 pub mod AfterReads

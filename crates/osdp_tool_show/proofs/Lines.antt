@@ -1,13 +1,6 @@
 -- Lines and counts, piece by piece.
-use Rattle.std.proofs.Common.{◌≡◌, ℕ, ◌+◌, ◌*◌, ◌<◌, ◌≤◌, ◌==◌, cond, Bool, true, false, List, [], ◌∷◌, ◌++◌, length, drop, refl, ap, arith, append-nil}
-use Rattle.std.proofs.Common.{length-drop}
-use Rattle.std.proofs.lemmas.Bool.{eqb-true, eqb-false}
-use Rattle.osdp_frame.specs.Reading.{RunItem, PacketItem, SkippedItem, RefusedItem, item_size}
-use Rattle.osdp_frame.specs.Items.{reading}
-use Rattle.osdp_tool_show.specs.declared.detail.Detail.{Detail}
+use Rattle.osdp_tool_show.proofs.Common.{◌≡◌, ℕ, ◌+◌, ◌*◌, ◌<◌, ◌≤◌, ◌==◌, cond, Bool, true, false, List, [], ◌∷◌, ◌++◌, length, drop, refl, ap, arith, append-nil, length-drop, eqb-true, eqb-false, RunItem, PacketItem, SkippedItem, RefusedItem, item_size, reading, Detail, Tally, is_refusal}
 use Rattle.osdp_tool_show.proofs.OneByOne.{GoesOneByOne, TellsOneByOne, goes-append, tells-append}
-use Rattle.osdp_tool_show.specs.declared.tally.Tally.{Tally}
-use Rattle.osdp_tool_show.specs.ItemText.{is_refusal}
 use Rattle.osdp_tool_show.specs.Tally.{one_if, tally_after, tally_after_all, after_run, counted}
 use Rattle.osdp_tool_show.specs.ToldItems.{shown_line, shown_lines, after_runs, runs_lines}
 

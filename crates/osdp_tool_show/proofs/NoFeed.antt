@@ -1,28 +1,15 @@
 -- The text of an item has no line feed in it.
-use Rattle.std.proofs.Common.{◌≡◌, ◌≢◌, ℕ, ◌<◌, ◌^◌, inl, inr, Bool, true, false, not, eqb, ◌&&◌, List, [], ◌∷◌, ◌++◌, codes, Result, Ok, Err, lit<, refl, arith}
-use Rattle.std.proofs.lemmas.Bool.{eqb-false}
-use Rattle.std.specs.Fmt.{decimal}
-use Rattle.std.specs.List.{flat_map}
-use Rattle.std.specs.Str.Iter.{LacksByte}
+use Rattle.osdp_tool_show.proofs.Common.{◌≡◌, ◌≢◌, ℕ, ◌<◌, ◌^◌, inl, inr, Bool, true, false, not, eqb, ◌&&◌, List, [], ◌∷◌, ◌++◌, codes, Result, Ok, Err, lit<, refl, arith, eqb-false, decimal, flat_map, LacksByte, decimal_lacks, MsgFault, UnknownCode, CommandFits, IsCommand, command_of, IsReply, ReplyFits, reply_of, HasPlainWords, IsPlainCharacter, ReadsTheTable, command_laws, reply_laws, data_text, message_text, refusal_text, told_text, unread_text}
 use Rattle.hex.specs.Hex.{IsBytes, encode_upper, encode_with}
 use Rattle.osdp_words.specs.Word.{Word, plain, printed, text_of}
-use Rattle.osdp_words.proofs.RecordWords.{decimal_lacks}
 use Rattle.osdp_words.proofs.WordLaws.{lacks-append, lacks-cons}
-use Rattle.osdp_msg.specs.declared.fault.MsgFault.{MsgFault}
-use Rattle.osdp_msg.specs.declared.fault.MsgFault.TheVariants.{UnknownCode}
-use Rattle.osdp_msg.specs.CommandTable.{CommandFits, IsCommand, command_of}
 use Rattle.osdp_msg.specs.CommandText.{command_text}
 use Rattle.osdp_msg.proofs.CommandTextRows.{command_fields, command_name}
-use Rattle.osdp_msg.specs.ReplyTable.{IsReply, ReplyFits, reply_of}
 use Rattle.osdp_msg.specs.ReplyText.{reply_text}
 use Rattle.osdp_msg.proofs.ReplyTextRows.{reply_fields, reply_name}
-use Rattle.osdp_msg_laws.specs.Laws.{HasPlainWords, IsPlainCharacter, ReadsTheTable}
-use Rattle.osdp_msg_laws.proofs.CommandLaws.{command_laws}
 use Rattle.osdp_msg_laws.proofs.PlainCommands.{plain_commands}
 use Rattle.osdp_msg_laws.proofs.PlainReplies.{plain_replies}
 use Rattle.osdp_msg_laws.proofs.PlainWords.{ArePlain, ArePlainWords, bytes_plain}
-use Rattle.osdp_msg_laws.proofs.ReplyLaws.{reply_laws}
-use Rattle.osdp_tool_show.specs.ItemText.{data_text, message_text, refusal_text, told_text, unread_text}
 
 pub record HasNoFeed (text : List ℕ) : Type 0 where
   pub lacks : LacksByte 10 text

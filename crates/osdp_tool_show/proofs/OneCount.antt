@@ -1,6 +1,5 @@
 -- A line of counts is that of one count of each.
-use Rattle.std.proofs.Common.{drop, inl, lit<, ap}
-use Rattle.osdp_tool_show.specs.Laws.{HasOneCount}
+use Rattle.osdp_tool_show.proofs.Common.{drop, inl, lit<, ap, HasOneCount}
 use Rattle.osdp_tool_show.proofs.Cuts.{cut_decimal}
 
 pub one_count : HasOneCount

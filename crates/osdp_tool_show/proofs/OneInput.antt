@@ -1,28 +1,9 @@
 -- The full text of an input is that of its runs alone.
-use Rattle.std.proofs.Common.{◌≡◌, ℕ, ◌+◌, ◌<◌, ◌≤◌, ◌^◌, ◌==◌, cond, not, Bool, true, false, List, [], ◌∷◌, ◌++◌, length, get_or, take, drop, refl, sym, ap, subst, ◌∙◌, arith, append_assoc, append-nil, length-append}
-use Rattle.std.proofs.lemmas.Bool.{eqb-true}
+use Rattle.osdp_tool_show.proofs.Common.{◌≡◌, ℕ, ◌+◌, ◌<◌, ◌≤◌, ◌^◌, ◌==◌, cond, not, Bool, true, false, List, [], ◌∷◌, ◌++◌, length, get_or, take, drop, refl, sym, ap, subst, ◌∙◌, arith, append_assoc, append-nil, length-append, eqb-true, take-append_seam, AllByRecursion, concat, AreBytes, Packet, packet_length, spelling, start_of_message, AreBytes-drop, sizes_reading, Form, Raw, runs_of, with_bytes, runs_short, Full, item_line, IsItem, no_tally, runs_lines, shown, AreReadings, HasRuns, TellsRuns, items_text, readings_text}
 use Rattle.std.proofs.lemmas.List.{append_cancel_right, nil_from_length, take-append-drop}
-use Rattle.std.proofs.Math.Seq.{take-append_seam}
-use Rattle.std.specs.List.{AllByRecursion, concat}
-use Rattle.osdp_frame.specs.Bytes.{AreBytes}
-use Rattle.osdp_frame.specs.Packet.{Packet, packet_length}
-use Rattle.osdp_frame.specs.Spelling.{spelling, start_of_message}
 use Rattle.osdp_frame.specs.Reading.{RunItem, PacketItem, SkippedItem, RefusedItem, Begins, Stands, IsReading, item_size, total_size}
-use Rattle.osdp_frame.proofs.Head.{AreBytes-drop}
-use Rattle.osdp_frame_laws.proofs.Readings.{sizes_reading}
 use Rattle.osdp_frame.proofs.Spelled.{length-spelled, spelled_is}
-use Rattle.osdp_tool_streams.specs.declared.form.Form.{Form}
-use Rattle.osdp_tool_streams.specs.declared.form.Form.TheVariants.{Raw}
-use Rattle.osdp_tool_streams.specs.Runs.{runs_of, with_bytes}
-use Rattle.osdp_tool_streams.proofs.Lengths.{runs_short}
-use Rattle.osdp_tool_show.specs.declared.detail.Detail.TheVariants.{Full}
-use Rattle.osdp_tool_show.specs.ItemText.{item_line}
-use Rattle.osdp_tool_show.specs.Laws.{IsItem}
-use Rattle.osdp_tool_show.specs.Tally.{no_tally}
-use Rattle.osdp_tool_show.specs.ToldItems.{runs_lines}
 use Rattle.osdp_tool_show.proofs.OneLine.{next_line, some_line}
-use Rattle.osdp_tool_show.specs.Shown.{shown}
-use Rattle.osdp_tool_show.specs.Told.{AreReadings, HasRuns, TellsRuns, items_text, readings_text}
 use Rattle.osdp_tool_show.proofs.Readings.{HasBytes, runs_are, runs_have_bytes, shown_is, some_readings}
 
 -- ---- a reading is that of one run

@@ -1,21 +1,8 @@
 -- A line is that of one item.
-use Rattle.std.proofs.Common.{◌≡◌, ℕ, ◌<◌, ◌^◌, ◌==◌, cond, inl, inr, Bool, true, false, List, [], ◌∷◌, ◌++◌, length, get_or, slice_index, codes, drop, lit<, refl, sym, ap, ◌∙◌, arith, append_assoc}
-use Rattle.std.proofs.lemmas.Bool.{eqb-true}
-use Rattle.std.proofs.lemmas.List.{append_cancel_left, append_cancel_right}
-use Rattle.std.specs.Fmt.{decimal}
-use Rattle.std.specs.Str.Iter.{LacksByte}
-use Rattle.hex.specs.Hex.{IsBytes, encode_upper}
-use Rattle.osdp_frame.specs.declared.check_kind.CheckKind.{CheckKind}
-use Rattle.osdp_frame.specs.declared.check_kind.CheckKind.TheVariants.{Sum, Crc}
-use Rattle.osdp_frame.specs.declared.fault.FrameFault.{FrameFault}
+use Rattle.osdp_tool_show.proofs.Common.{◌≡◌, ℕ, ◌<◌, ◌^◌, ◌==◌, cond, inl, inr, Bool, true, false, List, [], ◌∷◌, ◌++◌, length, get_or, slice_index, codes, drop, lit<, refl, sym, ap, ◌∙◌, arith, append_assoc, eqb-true, append_cancel_left, append_cancel_right, decimal, LacksByte, IsBytes, encode_upper, CheckKind, Sum, Crc, FrameFault, IsPacket, Packet, RunItem, PacketItem, SkippedItem, RefusedItem, check_name, bits_text, body_text, direction_name, fault_name, item_line, item_text, message_text, HasOneItem, IsItem}
 use Rattle.osdp_frame.specs.declared.fault.FrameFault.TheVariants.{TooShort, TooLong, BadCheck, Ended}
-use Rattle.osdp_frame.specs.Packet.{IsPacket, Packet}
-use Rattle.osdp_frame.specs.Reading.{RunItem, PacketItem, SkippedItem, RefusedItem}
 use Rattle.osdp_msg.proofs.RowTexts.{differ}
 use Rattle.osdp_msg_laws.proofs.TextWords.{name_word}
-use Rattle.osdp_frame.specs.Check.{check_name}
-use Rattle.osdp_tool_show.specs.ItemText.{bits_text, body_text, direction_name, fault_name, item_line, item_text, message_text}
-use Rattle.osdp_tool_show.specs.Laws.{HasOneItem, IsItem}
 use Rattle.osdp_tool_show.proofs.Cuts.{cut, cut_decimal, differ_at, one_byte, one_list}
 use Rattle.osdp_tool_show.proofs.OneMessage.{message_first, one_message}
 

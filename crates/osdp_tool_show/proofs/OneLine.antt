@@ -1,16 +1,5 @@
 -- Each item has one line.
-use Rattle.std.proofs.Common.{◌≡◌, ℕ, suc, ◌<◌, ◌==◌, cond, Bool, true, false, List, [], ◌∷◌, ◌++◌, length, slice_index, codes, drop, refl, sym, ap, ◌∙◌, arith, append_assoc, length-append}
-use Rattle.std.specs.Fmt.{decimal}
-use Rattle.hex.specs.Hex.{IsBytes, encode_upper}
-use Rattle.osdp_frame.specs.declared.check_kind.CheckKind.{CheckKind}
-use Rattle.osdp_frame.specs.declared.check_kind.CheckKind.TheVariants.{Sum, Crc}
-use Rattle.osdp_frame.specs.declared.fault.FrameFault.{FrameFault}
-use Rattle.osdp_frame.specs.declared.fault.FrameFault.TheVariants.{TooShort}
-use Rattle.osdp_frame.specs.Packet.{IsPacket, Packet}
-use Rattle.osdp_frame.specs.Reading.{RunItem, PacketItem, SkippedItem, RefusedItem}
-use Rattle.osdp_frame.specs.Check.{check_name}
-use Rattle.osdp_tool_show.specs.ItemText.{direction_name, fault_name, item_line, item_text, message_text}
-use Rattle.osdp_tool_show.specs.Laws.{HasOneLine, IsCount, IsItem}
+use Rattle.osdp_tool_show.proofs.Common.{◌≡◌, ℕ, suc, ◌<◌, ◌==◌, cond, Bool, true, false, List, [], ◌∷◌, ◌++◌, length, slice_index, codes, drop, refl, sym, ap, ◌∙◌, arith, append_assoc, length-append, decimal, IsBytes, encode_upper, CheckKind, Sum, Crc, FrameFault, TooShort, IsPacket, Packet, RunItem, PacketItem, SkippedItem, RefusedItem, check_name, direction_name, fault_name, item_line, item_text, message_text, HasOneLine, IsCount, IsItem}
 use Rattle.osdp_tool_show.proofs.Cuts.{cut, one_byte}
 use Rattle.osdp_tool_show.proofs.OneItem.{one_item}
 use Rattle.osdp_tool_show.proofs.NoFeed.{HasNoFeed, both, decimal_no_feed, digits_no_feed, lacks_feed, literal, message_no_feed, nothing}

@@ -1,23 +1,14 @@
 -- What is told of a code and data is told of no other.
-use Rattle.std.proofs.Common.{◌≡◌, ℕ, suc, ◌<◌, Bool, true, false, List, [], ◌∷◌, ◌++◌, get_or, codes, take, drop, Result, Ok, Err, lit<, refl, ap, subst, arith}
-use Rattle.std.proofs.lemmas.List.{append_cancel_left}
+use Rattle.osdp_tool_show.proofs.Common.{◌≡◌, ℕ, suc, ◌<◌, Bool, true, false, List, [], ◌∷◌, ◌++◌, get_or, codes, take, drop, Result, Ok, Err, lit<, refl, ap, subst, arith, append_cancel_left, MsgFault, UnknownCode, Length, Count, CommandFits, IsCommand, command_of, IsReply, ReplyFits, reply_of, HasOneSpelling, HasOneText, ReadsTheTable, command_laws, reply_laws, data_text, message_text, told_text, unread_text}
 use Rattle.hex.specs.Hex.{IsBytes, encode_upper, encode_with}
 use Rattle.osdp_msg.specs.declared.command.Command.{Command}
 use Rattle.osdp_msg.specs.declared.command.Command.TheVariants.{Poll}
 use Rattle.osdp_msg.specs.declared.reply.Reply.{Reply}
 use Rattle.osdp_msg.specs.declared.reply.Reply.TheVariants.{Ack}
-use Rattle.osdp_msg.specs.declared.fault.MsgFault.{MsgFault}
-use Rattle.osdp_msg.specs.declared.fault.MsgFault.TheVariants.{UnknownCode, Length, Count}
-use Rattle.osdp_msg.specs.CommandTable.{CommandFits, IsCommand, command_of}
 use Rattle.osdp_msg.specs.CommandText.{command_text}
-use Rattle.osdp_msg.specs.ReplyTable.{IsReply, ReplyFits, reply_of}
 use Rattle.osdp_msg.specs.ReplyText.{reply_text}
-use Rattle.osdp_msg_laws.specs.Laws.{HasOneSpelling, HasOneText, ReadsTheTable}
-use Rattle.osdp_msg_laws.proofs.CommandLaws.{command_laws}
 use Rattle.osdp_msg_laws.proofs.CommandTexts.{command_texts}
-use Rattle.osdp_msg_laws.proofs.ReplyLaws.{reply_laws}
 use Rattle.osdp_msg_laws.proofs.ReplyTexts.{reply_texts}
-use Rattle.osdp_tool_show.specs.ItemText.{data_text, message_text, told_text, unread_text}
 use Rattle.osdp_tool_show.proofs.Cuts.{differ_at, one_byte, one_list}
 
 -- ---- no message

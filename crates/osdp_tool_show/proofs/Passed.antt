@@ -1,23 +1,7 @@
 -- Skipped bytes that are counted at once.
-use Rattle.std.proofs.Common.{◌≡◌, ◌≢◌, ℕ, ◌+◌, ◌-◌, ◌*◌, cond, false, List, [], ◌∷◌, length, map, take, drop, Option, Some, refl, sym, subst, ap, ◌∙◌, arith}
-use Rattle.std.proofs.lemmas.Bool.{ne_eqb}
-use Rattle.std.proofs.lemmas.List.{drop_all}
-use Rattle.std.proofs.KnownBytes.{Appends-nil}
-use Rattle.std.specs.Io.KnownBytes.{Appends}
-use Rattle.std.specs.List.{AllByRecursion}
-use Rattle.osdp_frame.specs.Bytes.{AreBytes}
-use Rattle.osdp_frame.specs.Reading.{SkippedItem, total_size}
+use Rattle.osdp_tool_show.proofs.Common.{◌≡◌, ◌≢◌, ℕ, ◌+◌, ◌-◌, ◌*◌, cond, false, List, [], ◌∷◌, length, map, take, drop, Option, Some, refl, sym, subst, ap, ◌∙◌, arith, ne_eqb, drop_all, Appends-nil, Appends, AllByRecursion, AreBytes, SkippedItem, total_size, items, start_of_message, AreBytes-drop, AreBytes-take, decided_nothing, items_undecided, items_decided, Refusals, tally_after_all, counted, shown_lines, Report, Tells, Drained, Took}
 use Rattle.osdp_frame.specs.Held.{begun, decided, new_run}
-use Rattle.osdp_frame.specs.Items.{items}
-use Rattle.osdp_frame.specs.Spelling.{start_of_message}
-use Rattle.osdp_frame.proofs.Head.{AreBytes-drop, AreBytes-take}
-use Rattle.osdp_frame_laws.proofs.Readings.{decided_nothing, items_undecided, items_decided}
-use Rattle.osdp_tool_show.specs.declared.detail.Detail.TheVariants.{Refusals}
-use Rattle.osdp_tool_show.specs.Tally.{tally_after_all, counted}
-use Rattle.osdp_tool_show.specs.ToldItems.{shown_lines}
 use Rattle.osdp_tool_show.proofs.PassedItems.{after_passed, lines_passed}
-use Rattle.osdp_tool_show.specs.declared.report.Report.{Report}
-use Rattle.osdp_tool_show.specs.Machine.{Tells, Drained, Took}
 use Rattle.osdp_tool_show.proofs.WholeItems.{settled_new, took_drained}
 
 abbrev pub AreSkipped : List ℕ → Type 0

@@ -1,8 +1,5 @@
 -- Skipped bytes one after the other.
-use Rattle.std.proofs.Common.{◌≡◌, ℕ, ◌+◌, List, [], ◌∷◌, length, map, refl, ◌∙◌, arith}
-use Rattle.osdp_frame.specs.Reading.{SkippedItem}
-use Rattle.osdp_tool_show.specs.declared.detail.Detail.TheVariants.{Refusals}
-use Rattle.osdp_tool_show.specs.declared.tally.Tally.{Tally}
+use Rattle.osdp_tool_show.proofs.Common.{◌≡◌, ℕ, ◌+◌, List, [], ◌∷◌, length, map, refl, ◌∙◌, arith, SkippedItem, Refusals, Tally}
 use Rattle.osdp_tool_show.specs.Tally.{tally_after, tally_after_all}
 use Rattle.osdp_tool_show.specs.ToldItems.{shown_lines}
 

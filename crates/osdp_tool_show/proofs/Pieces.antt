@@ -1,31 +1,10 @@
 -- A capture that goes on, piece by piece.
-use Rattle.std.proofs.Common.{◌≡◌, ℕ, ◌+◌, ◌*◌, ◌^◌, ◌<◌, ◌≤◌, not, Bool, true, false, List, [], ◌∷◌, ◌++◌, length, take, drop, string_bytes, Option, Some, None, MatchOption, ◌⊎◌, inl, inr, refl, sym, subst, ap, ◌∙◌, arith, append_assoc, append-nil, length-append}
-use Rattle.std.specs.Io.KnownBytes.{Appends, append_known}
-use Rattle.std.proofs.KnownBytes.{Appends-nil}
-use Rattle.std.proofs.Math.Seq.{take-add}
-use Rattle.std.proofs.Common.{take-append-drop}
-use Rattle.std.proofs.lemmas.List.{take_more}
+use Rattle.osdp_tool_show.proofs.Common.{◌≡◌, ℕ, ◌+◌, ◌*◌, ◌^◌, ◌<◌, ◌≤◌, not, Bool, true, false, List, [], ◌∷◌, ◌++◌, length, take, drop, string_bytes, Option, Some, None, MatchOption, ◌⊎◌, inl, inr, refl, sym, subst, ap, ◌∙◌, arith, append_assoc, append-nil, length-append, Appends, append_known, Appends-nil, take-add, take-append-drop, take_more, Detail, AreBytes, AreBytes-nil, items_nothing, left_nothing, Held, new_run, items, left_over, Form, Raw, Joined, Apart, is_blank, kept, said, ended_lines-hold, unended_line-hold, ended_lines-feed, unended_line-feed, kept-append, hold_runs, feed_joined, feed_apart, feed_bad, said_short, no_tally, counted, tally_after_all, Capture, Report, written_or_held, IsSettled, Stands, Took, EndedRun, load, LineStands, OpenLine, HasShown, Stops, HasShownIf, TookPiece}
 use Rattle.std.proofs.lemmas.List.Filters.{length-filter_both}
-use Rattle.osdp_tool_show.specs.declared.detail.Detail.{Detail}
-use Rattle.osdp_frame.specs.Bytes.{AreBytes}
-use Rattle.osdp_frame.proofs.Head.{AreBytes-nil}
-use Rattle.osdp_frame_laws.proofs.LeftOver.{items_nothing, left_nothing}
-use Rattle.osdp_frame.specs.Held.{Held, new_run}
-use Rattle.osdp_frame.specs.Items.{items, left_over}
-use Rattle.osdp_tool_streams.specs.declared.form.Form.{Form}
-use Rattle.osdp_tool_streams.specs.declared.form.Form.TheVariants.{Raw, Joined, Apart}
 use Rattle.osdp_tool_streams.specs.Cut.{HasLine, ended_after, unended_after, line_feed, ended_lines, unended_line, IsLine}
-use Rattle.osdp_tool_streams.specs.Line.{is_blank, kept, said}
 use Rattle.osdp_tool_streams.specs.Runs.{good_front, bad_line, ended_runs, open_run, first_bad_ended}
-use Rattle.osdp_tool_streams.proofs.FormLemmas.{ended_lines-hold, unended_line-hold, ended_lines-feed, unended_line-feed, kept-append, hold_runs, feed_joined, feed_apart, feed_bad}
-use Rattle.osdp_tool_streams.proofs.Lengths.{said_short}
-use Rattle.osdp_tool_show.specs.Tally.{no_tally, counted, tally_after_all}
 use Rattle.osdp_tool_show.specs.ToldItems.{shown_lines, after_runs, runs_lines, tally_so_far, lines_so_far}
 use Rattle.osdp_tool_show.proofs.Lines.{tally_after_all-nil, shown_lines-nil}
-use Rattle.osdp_tool_show.specs.declared.capture.Capture.{Capture}
-use Rattle.osdp_tool_show.specs.declared.report.Report.{Report}
-use Rattle.osdp_tool_show.specs.Machine.{written_or_held, IsSettled, Stands, Took, EndedRun}
-use Rattle.osdp_tool_show.specs.Capture.{load, LineStands, OpenLine, HasShown, Stops, HasShownIf, TookPiece}
 
 -- one piece after another
 pub took_both : (xs ys : List ℕ) (good : Bool) (a b c : Capture) (before middle after : Option (List ℕ))

@@ -1,34 +1,12 @@
 -- The text of readings, and the lines that are counted on the way.
-use Rattle.std.proofs.Common.{◌≡◌, ℕ, zero, suc, drop, length-drop, ◌+◌, ◌<◌, ◌≤◌, not, Bool, false, cond, nat_lt, List, [], ◌∷◌, ◌++◌, length, Option, Some, None, ◌⊎◌, inl, inr, refl, sym, subst, ap, ◌∙◌, arith, zero-add}
-use Rattle.std.proofs.lemmas.Bool.{ne_eqb}
-use Rattle.std.proofs.lemmas.List.{nil_from_length}
+use Rattle.osdp_tool_show.proofs.Common.{◌≡◌, ℕ, zero, suc, drop, length-drop, ◌+◌, ◌<◌, ◌≤◌, not, Bool, false, cond, nat_lt, List, [], ◌∷◌, ◌++◌, length, Option, Some, None, ◌⊎◌, inl, inr, refl, sym, subst, ap, ◌∙◌, arith, zero-add, ne_eqb, nil_from_length, AllByRecursion, concat, option_map_or, AreBytes, RunItem, PacketItem, SkippedItem, RefusedItem, item_size, total_size, IsReading, items, reading, Drains, decided, AreBytes-append, AreBytes-drop, AreBytes-nil, first_decided, undecided_none, is_reading, reading_is, sizes_reading, drained_items, decided_nothing, items_undecided, items_decided, item_size-positive, item_size-decided, Form, Raw, Joined, Apart, ended_lines, unended_line, last_line, lines_of, line_bytes, is_cut, good_front-bytes, Detail, Full, Refusals, Filtered, Tally, is_refusal, counts_line, shown, shown_so_far, is_refused_input, tally_of, Say, Says, SaysSoFar, HasRuns, HasRunsSoFar, AreReadings, items_text, readings_text, is_packet, is_skipped, count_items, end_text}
 use Rattle.std.specs.Prelude.{flat_map, count_by}
 use Rattle.std.proofs.lemmas.List.Sums.{sum_by-append, sum_by-cons}
-use Rattle.std.specs.List.{AllByRecursion, concat}
-use Rattle.std.specs.Option.{option_map_or}
-use Rattle.osdp_frame.specs.Bytes.{AreBytes}
-use Rattle.osdp_frame.specs.Reading.{RunItem, PacketItem, SkippedItem, RefusedItem, item_size, total_size, IsReading}
-use Rattle.osdp_frame.specs.Items.{items, reading, Drains}
-use Rattle.osdp_frame.specs.Held.{decided}
-use Rattle.osdp_frame.proofs.Head.{AreBytes-append, AreBytes-drop, AreBytes-nil}
-use Rattle.osdp_frame.proofs.Decided.{first_decided, undecided_none}
-use Rattle.osdp_frame_laws.proofs.Readings.{is_reading, reading_is, sizes_reading, drained_items, decided_nothing, items_undecided, items_decided, item_size-positive, item_size-decided}
-use Rattle.osdp_tool_streams.specs.declared.form.Form.{Form}
-use Rattle.osdp_tool_streams.specs.declared.form.Form.TheVariants.{Raw, Joined, Apart}
-use Rattle.osdp_tool_streams.specs.Cut.{ended_lines, unended_line, last_line, lines_of}
-use Rattle.osdp_tool_streams.specs.Line.{line_bytes}
 use Rattle.osdp_tool_streams.specs.Runs.{good_front, with_bytes, runs_of, ended_runs, open_run}
 use Rattle.osdp_tool_streams.proofs.CutLemmas.{ended_lines-cut}
-use Rattle.osdp_tool_streams.proofs.Bytes.{is_cut, good_front-bytes}
-use Rattle.osdp_tool_show.specs.declared.detail.Detail.{Detail}
-use Rattle.osdp_tool_show.specs.declared.detail.Detail.TheVariants.{Full, Refusals, Filtered}
-use Rattle.osdp_tool_show.specs.declared.tally.Tally.{Tally}
-use Rattle.osdp_tool_show.specs.ItemText.{is_refusal, counts_line}
 use Rattle.osdp_tool_show.specs.Tally.{no_tally, one_if, tally_after, tally_after_all, after_run}
 use Rattle.osdp_tool_show.specs.ToldItems.{shown_line, shown_lines, after_runs, runs_lines, end_line}
 use Rattle.osdp_tool_show.proofs.Lines.{after_runs-place}
-use Rattle.osdp_tool_show.specs.Shown.{shown, shown_so_far, is_refused_input, tally_of}
-use Rattle.osdp_tool_show.specs.Told.{Say, Says, SaysSoFar, HasRuns, HasRunsSoFar, AreReadings, items_text, readings_text, is_packet, is_skipped, count_items, end_text}
 
 -- ---- the lines of a run's items
 

@@ -1,14 +1,6 @@
 -- What waits to be written, item by item.
-use Rattle.std.proofs.Common.{◌≡◌, ℕ, List, [], ◌∷◌, ◌++◌, string_bytes, Option, Some, None, Result, Ok, Err, OnOk, IfOk, refl, sym, subst, ap, ◌∙◌, append_assoc, append-nil}
-use Rattle.std.specs.Io.KnownBytes.{Appends, Keeps, append_known}
-use Rattle.std.proofs.KnownBytes.{Appends-trans, Appends-kept, Appends-nil}
-use Rattle.osdp_frame.specs.Reading.{RunItem}
-use Rattle.osdp_tool_show.specs.declared.detail.Detail.{Detail}
-use Rattle.osdp_tool_show.specs.Tally.{tally_after, tally_after_all}
-use Rattle.osdp_tool_show.specs.ToldItems.{shown_line, shown_lines}
+use Rattle.osdp_tool_show.proofs.Common.{◌≡◌, ℕ, List, [], ◌∷◌, ◌++◌, string_bytes, Option, Some, None, Result, Ok, Err, OnOk, IfOk, refl, sym, subst, ap, ◌∙◌, append_assoc, append-nil, Appends, Keeps, append_known, Appends-trans, Appends-kept, Appends-nil, RunItem, Detail, tally_after, tally_after_all, shown_line, shown_lines, Report, written_or_held, Tells, KeepsReport}
 use Rattle.osdp_tool_show.proofs.Lines.{tally_after_all-nil, tally_after_all-cons, tally_after_all-append, shown_lines-nil, shown_lines-cons, shown_lines-append}
-use Rattle.osdp_tool_show.specs.declared.report.Report.{Report}
-use Rattle.osdp_tool_show.specs.Machine.{written_or_held, Tells, KeepsReport}
 
 -- more text waits
 pub grown : (known : Option (List ℕ)) (old new line : List ℕ) → new ≡ old ++ line → Appends (append_known known old) (append_known known new) line

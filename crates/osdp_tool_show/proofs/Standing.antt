@@ -1,26 +1,6 @@
 -- Runs that go on and end, and what has been told of them.
-use Rattle.std.proofs.Common.{◌≡◌, ℕ, ◌+◌, ◌≤◌, ◌==◌, not, Bool, true, false, cond, List, [], ◌∷◌, ◌++◌, length, take, drop, Option, None, refl, sym, subst, ap, ◌∙◌, arith, append_assoc, append-nil, length-append, take-append-drop}
-use Rattle.std.proofs.Math.Seq.{take-add}
-use Rattle.std.proofs.lemmas.List.{drop_all}
-use Rattle.std.proofs.lemmas.Bool.{ne_eqb}
-use Rattle.std.specs.Io.KnownBytes.{Appends}
-use Rattle.std.proofs.KnownBytes.{Appends-trans}
-use Rattle.osdp_frame.specs.Bytes.{AreBytes}
-use Rattle.osdp_frame.specs.Reading.{total_size}
-use Rattle.osdp_frame.specs.Held.{Held, decided, after_gap, after_push, taken_count}
-use Rattle.osdp_frame.specs.Items.{items, left_over}
-use Rattle.osdp_frame.proofs.Decided.{AreBytes-front}
-use Rattle.osdp_frame.proofs.Head.{AreBytes-append, AreBytes-drop, AreBytes-nil, AreBytes-take}
-use Rattle.osdp_frame_laws.proofs.LeftOver.{gap_items, items_nothing, left_bytes, left_is, left_nothing, left_over-append, reading_split}
-use Rattle.osdp_frame_laws.proofs.Readings.{items-append, left_undecided, sizes_reading, is_reading}
-use Rattle.osdp_tool_streams.specs.Runs.{closed_runs, with_bytes}
-use Rattle.osdp_tool_show.specs.declared.detail.Detail.{Detail}
-use Rattle.osdp_tool_show.specs.Tally.{no_tally, tally_after_all, after_run, counted}
-use Rattle.osdp_tool_show.specs.ToldItems.{shown_lines, after_runs, runs_lines, tally_so_far, lines_so_far}
+use Rattle.osdp_tool_show.proofs.Common.{◌≡◌, ℕ, ◌+◌, ◌≤◌, ◌==◌, not, Bool, true, false, cond, List, [], ◌∷◌, ◌++◌, length, take, drop, Option, None, refl, sym, subst, ap, ◌∙◌, arith, append_assoc, append-nil, length-append, take-append-drop, take-add, drop_all, ne_eqb, Appends, Appends-trans, AreBytes, total_size, Held, decided, after_gap, after_push, taken_count, items, left_over, AreBytes-front, AreBytes-append, AreBytes-drop, AreBytes-nil, AreBytes-take, gap_items, items_nothing, left_bytes, left_is, left_nothing, left_over-append, reading_split, items-append, left_undecided, sizes_reading, is_reading, closed_runs, with_bytes, Detail, no_tally, tally_after_all, after_run, counted, shown_lines, after_runs, runs_lines, tally_so_far, lines_so_far, Report, Drained, IsSettled, Stands, Took, EndedRun, StopsIn, StopsAtRunEnd, StopsWithin}
 use Rattle.osdp_tool_show.proofs.Lines.{tally_after_all-nil, tally_after_all-append, shown_lines-nil, shown_lines-append, after_runs-append, after_runs-one, runs_lines-append, runs_lines-one, after_run-none, after_runs-place, counted-after_run}
-use Rattle.osdp_tool_show.specs.declared.report.Report.{Report}
-use Rattle.osdp_tool_show.specs.Machine.{Drained, IsSettled, Stands, Took, EndedRun, StopsIn, StopsAtRunEnd}
-use Rattle.osdp_tool_show.specs.Written.{StopsWithin}
 use Rattle.osdp_tool_show.proofs.Beginnings.{stops_after, stops_longer}
 
 -- ---- a run that goes on

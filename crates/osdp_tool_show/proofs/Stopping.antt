@@ -1,28 +1,6 @@
 -- Where a call on a capture stopped: within a piece, at its last line, or at its end.
-use Rattle.std.proofs.Common.{◌≡◌, ℕ, ◌+◌, Bool, true, List, [], ◌∷◌, ◌++◌, length, take, drop, take-append-drop, Option, Some, None, ◌⊎◌, inl, inr, refl, sym, subst, ap, ◌∙◌, arith, append_assoc, append-nil, length-append}
-use Rattle.std.proofs.lemmas.List.{take_more}
-use Rattle.osdp_frame.specs.Bytes.{AreBytes}
-use Rattle.osdp_frame.specs.Held.{Held}
-use Rattle.osdp_frame.specs.Items.{items, left_over}
-use Rattle.osdp_tool_streams.specs.declared.form.Form.{Form}
-use Rattle.osdp_tool_streams.specs.declared.form.Form.TheVariants.{Raw, Joined, Apart}
-use Rattle.osdp_tool_streams.specs.Cut.{HasLine, line_feed, unended_line, IsLine}
-use Rattle.osdp_tool_streams.specs.Line.{said, line_bytes}
+use Rattle.osdp_tool_show.proofs.Common.{◌≡◌, ℕ, ◌+◌, Bool, true, List, [], ◌∷◌, ◌++◌, length, take, drop, take-append-drop, Option, Some, None, ◌⊎◌, inl, inr, refl, sym, subst, ap, ◌∙◌, arith, append_assoc, append-nil, length-append, take_more, AreBytes, Held, items, left_over, Form, Raw, Joined, Apart, HasLine, line_feed, unended_line, IsLine, said, line_bytes, feed_joined, feed_apart, good_front-bytes, AllByRecursion, option_map_or, Detail, no_tally, shown_lines, after_runs, runs_lines, end_line, tally_so_far, lines_so_far, Capture, Report, written_or_held, IsSettled, Took, EndedRun, StopsIn, StopsAtRunEnd, shown, shown_so_far, HasShown, TookPiece, StopsInPiece, EndsLine, StopsAtEnd, StopsClosing, StopsWithin}
 use Rattle.osdp_tool_streams.specs.Runs.{good_front, ended_runs, open_run, first_bad_ended, closed_runs}
-use Rattle.osdp_tool_streams.proofs.FormLemmas.{feed_joined, feed_apart}
-use Rattle.osdp_tool_streams.proofs.Bytes.{good_front-bytes}
-use Rattle.std.specs.List.{AllByRecursion}
-use Rattle.std.specs.Option.{option_map_or}
-use Rattle.osdp_tool_show.specs.declared.detail.Detail.{Detail}
-use Rattle.osdp_tool_show.specs.Tally.{no_tally}
-use Rattle.osdp_tool_show.specs.ToldItems.{shown_lines, after_runs, runs_lines, end_line, tally_so_far, lines_so_far}
-use Rattle.osdp_tool_show.specs.declared.capture.Capture.{Capture}
-use Rattle.osdp_tool_show.specs.declared.report.Report.{Report}
-use Rattle.osdp_tool_show.specs.Machine.{written_or_held, IsSettled, Took, EndedRun, StopsIn, StopsAtRunEnd}
-use Rattle.osdp_tool_show.specs.Shown.{shown, shown_so_far}
-use Rattle.osdp_tool_show.specs.Capture.{HasShown, TookPiece, StopsInPiece}
-use Rattle.osdp_tool_show.specs.Works.{EndsLine, StopsAtEnd, StopsClosing}
-use Rattle.osdp_tool_show.specs.Written.{StopsWithin}
 use Rattle.osdp_tool_show.proofs.Beginnings.{begun_told, stops_by, stops_longer, stops_after}
 use Rattle.osdp_tool_show.proofs.Standing.{closed_lines}
 use Rattle.osdp_tool_show.proofs.Pieces.{Room, holding, held_by}

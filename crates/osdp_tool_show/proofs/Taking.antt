@@ -1,14 +1,5 @@
 -- Items that are taken off a framer one by one.
-use Rattle.std.proofs.Common.{◌≡◌, ℕ, ◌<◌, ◌==◌, ◌&&◌, not, Bool, true, false, List, [], ◌∷◌, ◌++◌, length, drop, Some, None, refl, sym, subst, ap, ◌∙◌, arith, append_assoc, append-nil}
-use Rattle.std.proofs.Math.Seq.{drop-drop}
-use Rattle.std.proofs.lemmas.Bool.{ne_eqb}
-use Rattle.osdp_frame.specs.Bytes.{AreBytes}
-use Rattle.osdp_frame.specs.Reading.{RunItem, item_size, total_size}
-use Rattle.osdp_frame.specs.Held.{Held, decided, after_advance, after_first, later}
-use Rattle.osdp_frame.specs.Items.{items}
-use Rattle.osdp_frame.proofs.Head.{AreBytes-drop}
-use Rattle.osdp_frame.proofs.Decided.{undecided_none, undecided_ended}
-use Rattle.osdp_frame_laws.proofs.Readings.{decided_nothing, items_undecided, items_decided}
+use Rattle.osdp_tool_show.proofs.Common.{◌≡◌, ℕ, ◌<◌, ◌==◌, ◌&&◌, not, Bool, true, false, List, [], ◌∷◌, ◌++◌, length, drop, Some, None, refl, sym, subst, ap, ◌∙◌, arith, append_assoc, append-nil, drop-drop, ne_eqb, AreBytes, RunItem, item_size, total_size, Held, decided, after_advance, after_first, later, items, AreBytes-drop, undecided_none, undecided_ended, decided_nothing, items_undecided, items_decided}
 
 -- these of the items that the held bytes decide have been taken off
 pub record Taking (start now : Held) (parts : List RunItem) : Type 0 where

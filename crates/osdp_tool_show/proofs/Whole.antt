@@ -1,20 +1,5 @@
 -- Where the bytes of an input are known, the answer and the text are those of these bytes.
-use Rattle.std.proofs.Common.{◌≡◌, ℕ, ◌+◌, ◌-◌, ◌<◌, ◌≤◌, Bool, true, false, cond, ◌||◌, nat_le, List, [], ◌∷◌, ◌++◌, length, take, drop, Option, Some, None, is_some, Result, Ok, Err, inl, inr, refl, sym, subst, ap, ◌∙◌, arith, append_assoc, append-nil, length-append}
-use Rattle.std.specs.Option.{option_map_or}
-use Rattle.std.specs.Io.KnownBytes.{Appends, Consumes, IsAtEnd}
-use Rattle.std.proofs.lemmas.List.{take_all}
-use Rattle.std.proofs.Math.Seq.{take-add, take-append_seam, drop-append_seam}
-use Rattle.std.proofs.lemmas.Bool.{le-leb, lt-leb}
-use Rattle.osdp_tool_streams.specs.declared.form.Form.{Form}
-use Rattle.osdp_tool_streams.specs.Runs.{first_bad, first_bad_ended}
-use Rattle.osdp_tool_streams.proofs.FormLemmas.{bad_stays}
-use Rattle.osdp_tool_show.specs.declared.detail.Detail.{Detail}
-use Rattle.osdp_tool_show.specs.Tally.{no_tally}
-use Rattle.osdp_tool_show.specs.ToldItems.{after_runs, runs_lines, end_line}
-use Rattle.osdp_tool_streams.specs.declared.fault.ToolFault.{ToolFault}
-use Rattle.osdp_tool_streams.specs.declared.fault.ToolFault.TheVariants.{NotHex, TooLong, ReadFailed, WriteFailed, NoMemory}
-use Rattle.osdp_tool_show.specs.Shown.{shown, shown_so_far, answer_to, is_refused_input, ends_within}
-use Rattle.osdp_tool_show.specs.Ending.{Stream, streamed, Ends, IsWhole, EndsWhole}
+use Rattle.osdp_tool_show.proofs.Common.{◌≡◌, ℕ, ◌+◌, ◌-◌, ◌<◌, ◌≤◌, Bool, true, false, cond, ◌||◌, nat_le, List, [], ◌∷◌, ◌++◌, length, take, drop, Option, Some, None, is_some, Result, Ok, Err, inl, inr, refl, sym, subst, ap, ◌∙◌, arith, append_assoc, append-nil, length-append, option_map_or, Appends, Consumes, IsAtEnd, take_all, take-add, take-append_seam, drop-append_seam, le-leb, lt-leb, Form, first_bad, first_bad_ended, bad_stays, Detail, no_tally, after_runs, runs_lines, end_line, ToolFault, NotHex, TooLong, ReadFailed, WriteFailed, NoMemory, shown, shown_so_far, answer_to, is_refused_input, ends_within, Stream, streamed, Ends, IsWhole, EndsWhole}
 
 -- what was consumed of known bytes is their front
 pub consumed : (bytes read : List ℕ) (after : Option (List ℕ)) → Consumes (Some bytes) after read → (rest : List ℕ) × (after ≡ Some rest) × (bytes ≡ read ++ rest)

@@ -1,21 +1,9 @@
 -- Items that need no framer, and pieces of a run one after the other.
-use Rattle.std.proofs.Common.{◌≡◌, ℕ, ◌+◌, ◌≤◌, ◌==◌, not, false, List, [], ◌∷◌, ◌++◌, length, take, drop, take-append-drop, Option, Some, None, refl, sym, subst, ap, ◌∙◌, arith, append_assoc, append-nil, length-append}
-use Rattle.std.proofs.Math.Seq.{take-add}
+use Rattle.osdp_tool_show.proofs.Common.{◌≡◌, ℕ, ◌+◌, ◌≤◌, ◌==◌, not, false, List, [], ◌∷◌, ◌++◌, length, take, drop, take-append-drop, Option, Some, None, refl, sym, subst, ap, ◌∙◌, arith, append_assoc, append-nil, length-append, take-add, AreBytes, RunItem, item_size, Held, decided, by_itself, new_run, after_push, after_gap, after_advance, after_first, taken_count, AreBytes-append, AreBytes-drop, AreBytes-nil, AreBytes-take, decided_nothing, item_size-decided, item_size-positive, Report, tally_after, shown_lines, append_known, Tells, Drained, IsSettled, Stands, Took, StopsIn, StopsWithin}
 use Rattle.std.proofs.lemmas.List.{drop_all, length-take, nil_from_length, take-take}
-use Rattle.osdp_frame.specs.Bytes.{AreBytes}
-use Rattle.osdp_frame.specs.Reading.{RunItem, item_size}
-use Rattle.osdp_frame.specs.Held.{Held, decided, by_itself, new_run, after_push, after_gap, after_advance, after_first, taken_count}
-use Rattle.osdp_frame.proofs.Head.{AreBytes-append, AreBytes-drop, AreBytes-nil, AreBytes-take}
 use Rattle.osdp_frame.proofs.FirstItems.{decided_by_itself}
 use Rattle.osdp_frame.proofs.Receipt.{gap_some}
-use Rattle.osdp_frame_laws.proofs.Readings.{decided_nothing, item_size-decided, item_size-positive}
-use Rattle.osdp_tool_show.specs.declared.report.Report.{Report}
-use Rattle.osdp_tool_show.specs.Tally.{tally_after}
-use Rattle.osdp_tool_show.specs.ToldItems.{shown_lines}
 use Rattle.osdp_tool_show.proofs.Lines.{tally_after_all-nil, tally_after_all-cons}
-use Rattle.std.specs.Io.KnownBytes.{append_known}
-use Rattle.osdp_tool_show.specs.Machine.{Tells, Drained, IsSettled, Stands, Took, StopsIn}
-use Rattle.osdp_tool_show.specs.Written.{StopsWithin}
 use Rattle.osdp_tool_show.proofs.Beginnings.{known_appends, stops_by}
 use Rattle.osdp_tool_show.proofs.Drains.{draining_start, draining_step, draining_end}
 use Rattle.osdp_tool_show.proofs.Standing.{drained_settled, stands_more, stops_longer_run, took_start, took_step}

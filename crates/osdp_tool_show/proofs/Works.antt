@@ -1,33 +1,8 @@
 -- A capture that is read to its end.
-use Rattle.std.proofs.Common.{◌≡◌, ℕ, ◌+◌, ◌-◌, ◌≤◌, Bool, true, false, List, [], ◌∷◌, ◌++◌, length, take, drop, take-append-drop, Option, Some, None, Result, Ok, Err, ◌⊎◌, inl, inr, refl, sym, subst, ap, ◌∙◌, arith, append_assoc, append-nil, length-append, length-take}
-use Rattle.std.specs.Prelude.{IsErrAnd, if◌then◌else◌}
-use Rattle.std.specs.Io.KnownBytes.{Appends, Consumes, IsAtEnd, Keeps}
-use Rattle.std.proofs.KnownBytes.{Consumes-kept, Consumes-nil, Consumes-trans}
-use Rattle.std.proofs.KnownBytes.{Appends-nil, Appends-trans, Appends-kept}
-use Rattle.osdp_frame.specs.Held.{Held}
-use Rattle.osdp_frame_laws.proofs.Readings.{decided_nothing, items_undecided}
-use Rattle.osdp_tool_streams.specs.declared.form.Form.{Form}
-use Rattle.osdp_tool_streams.specs.declared.form.Form.TheVariants.{Raw, Joined, Apart}
-use Rattle.osdp_tool_streams.specs.Cut.{line_feed, unended_line}
-use Rattle.osdp_tool_streams.specs.Line.{line_bytes}
-use Rattle.osdp_tool_streams.specs.Runs.{ended_runs, open_run, runs_of, first_bad, first_bad_ended, closed_runs}
-use Rattle.osdp_tool_streams.proofs.FormLemmas.{feed_joined, feed_apart, feed_bad, end_joined, end_apart, end_bad, bad_stays}
-use Rattle.osdp_tool_show.specs.declared.detail.Detail.{Detail}
-use Rattle.osdp_tool_show.specs.Tally.{no_tally, tally_after_all}
-use Rattle.osdp_tool_show.specs.ToldItems.{shown_lines, after_runs, runs_lines, end_line, tally_so_far, lines_so_far}
+use Rattle.osdp_tool_show.proofs.Common.{◌≡◌, ℕ, ◌+◌, ◌-◌, ◌≤◌, Bool, true, false, List, [], ◌∷◌, ◌++◌, length, take, drop, take-append-drop, Option, Some, None, Result, Ok, Err, ◌⊎◌, inl, inr, refl, sym, subst, ap, ◌∙◌, arith, append_assoc, append-nil, length-append, length-take, IsErrAnd, if◌then◌else◌, Appends, Consumes, IsAtEnd, Keeps, Consumes-kept, Consumes-nil, Consumes-trans, Appends-nil, Appends-trans, Appends-kept, Held, decided_nothing, items_undecided, Form, Raw, Joined, Apart, line_feed, unended_line, line_bytes, ended_runs, open_run, runs_of, first_bad, first_bad_ended, closed_runs, feed_joined, feed_apart, feed_bad, end_joined, end_apart, end_bad, bad_stays, Detail, no_tally, tally_after_all, shown_lines, after_runs, runs_lines, end_line, tally_so_far, lines_so_far, Capture, Report, ToolFault, NotHex, WriteFailed, NoMemory, IsStep, EndedRun, Stands, IsBeginning, StopsWithin, shown, shown_so_far, streamed, EndsAtBadLine, EndsAtFailedRead, EndsPartWay, EndsPastLimit, HasShown, HasShownIf, TookPiece, TookPart, StopsInPiece, Works, Answered, Closed, EndedInput, EndsLine, ReadToEnd, ReadToBadLine, ReadToLimit, ReadPart, StopsAtEnd, StopsClosing}
 use Rattle.osdp_tool_show.proofs.Lines.{tally_after_all-nil, shown_lines-nil}
-use Rattle.osdp_tool_show.specs.declared.capture.Capture.{Capture}
-use Rattle.osdp_tool_show.specs.declared.report.Report.{Report}
-use Rattle.osdp_tool_streams.specs.declared.fault.ToolFault.{ToolFault}
-use Rattle.osdp_tool_streams.specs.declared.fault.ToolFault.TheVariants.{NotHex, WriteFailed, NoMemory}
 use Rattle.osdp_tool_streams.specs.Reading.{ReadsBytes}
-use Rattle.osdp_tool_show.specs.Machine.{IsStep, EndedRun, Stands}
-use Rattle.osdp_tool_show.specs.Written.{IsBeginning, StopsWithin}
 use Rattle.osdp_tool_show.proofs.Beginnings.{begun_all, stops_by}
-use Rattle.osdp_tool_show.specs.Shown.{shown, shown_so_far}
-use Rattle.osdp_tool_show.specs.Ending.{streamed, EndsAtBadLine, EndsAtFailedRead, EndsPartWay, EndsPastLimit}
-use Rattle.osdp_tool_show.specs.Capture.{HasShown, HasShownIf, TookPiece, TookPart, StopsInPiece}
-use Rattle.osdp_tool_show.specs.Works.{Works, Answered, Closed, EndedInput, EndsLine, ReadToEnd, ReadToBadLine, ReadToLimit, ReadPart, StopsAtEnd, StopsClosing}
 use Rattle.osdp_tool_show.proofs.Pieces.{took_both, nothing_bad, told_nothing}
 
 -- ---- reading

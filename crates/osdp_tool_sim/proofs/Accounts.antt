@@ -1,32 +1,11 @@
 -- What a run of several readers hands back is told.
-use Rattle.std.proofs.Common.{◌≡◌, ◌≢◌, ◌+◌, ◌<◌, ◌≤◌, ℕ, zero, suc, arith, List, [], ◌∷◌, ◌++◌, length, map, drop, get_or, Result, Ok, Err, refl, sym, subst, ap, ◌∙◌, append_assoc, add-one, drop-cons}
-use Rattle.std.specs.Global.{Vec}
-use Rattle.osdp_bus.specs.Settings.{default_config}
+use Rattle.osdp_tool_sim.proofs.Common.{◌≡◌, ◌≢◌, ◌+◌, ◌<◌, ◌≤◌, ℕ, zero, suc, arith, List, [], ◌∷◌, ◌++◌, length, map, drop, get_or, Result, Ok, Err, refl, sym, subst, ap, ◌∙◌, append_assoc, add-one, drop-cons, Vec, default_config, Script, steps_of, handler_after, handler_answer, ScriptReader, Cause, Fault, SimStep, Account, lists_of, room_for, RunEnds, Stops, StopsAt, lists_of_all, Given, BusAnswer, Given, accounts, ToolFault, account_text, texts_from, TellsEach, line_of, readers_from, EndsBy, OfEach, IsTextOfEach, TellsReaders}
 use Rattle.osdp_bus.specs.declared.config.BusConfig.{BusConfig}
-use Rattle.osdp_script.specs.declared.script.Script.{Script}
-use Rattle.osdp_script.specs.Script.{steps_of}
-use Rattle.osdp_script.specs.Handler.{handler_after, handler_answer}
-use Rattle.osdp_script.specs.declared.handler.ScriptReader.{ScriptReader}
 use Rattle.osdp_session.specs.SeveralReaders.{HoldsOfBusRun, TellsSessions}
 use Rattle.osdp_sim.specs.declared.account.Account as declared
-use Rattle.osdp_sim.specs.declared.fault.Cause.{Cause}
 use Rattle.osdp_sim.specs.declared.fault.Cause.TheVariants as cause
-use Rattle.osdp_sim.specs.declared.fault.Fault.{Fault}
-use Rattle.osdp_sim.specs.declared.step.SimStep.{SimStep}
-use Rattle.osdp_sim.specs.Account.{Account, lists_of}
-use Rattle.osdp_sim.specs.State.{room_for}
-use Rattle.osdp_sim_bus.specs.Runs.{RunEnds, Stops, StopsAt, lists_of_all}
-use Rattle.osdp_sim_bus.specs.State.{Given}
 use Rattle.osdp_sim_bus_laws.specs.Accepted.{AcceptsEach}
-use Rattle.osdp_sim_bus_laws.specs.Accounts.{BusAnswer}
-use Rattle.osdp_sim_bus.specs.State.{Given, accounts}
 use Rattle.osdp_sim_bus.specs.Steps.{after_step, fault_of}
-use Rattle.osdp_tool_streams.specs.declared.fault.ToolFault.{ToolFault}
-use Rattle.osdp_tool_sim.specs.AccountText.{account_text, texts_from}
-use Rattle.osdp_tool_sim.specs.Several.{TellsEach, line_of, readers_from}
-use Rattle.osdp_tool_sim.specs.Steps.{EndsBy}
-use Rattle.osdp_sim_bus_laws.specs.Accounts.{OfEach}
-use Rattle.osdp_tool_sim.specs.Told.{IsTextOfEach, TellsReaders}
 use Rattle.osdp_tool_sim.proofs.Stopped.{stop_is_told}
 
 abbrev pub config_of : Script → BusConfig

@@ -1,13 +1,9 @@
 -- How many steps a script has.
-use Rattle.std.proofs.Common.{◌≡◌, ◌+◌, ◌*◌, ◌<◌, ◌≤◌, ◌^◌, ◌==◌, ℕ, zero, suc, Bool, true, false, List, [], ◌∷◌, ◌++◌, length, inl, inr, refl, ap, arith, length-append}
+use Rattle.osdp_tool_sim.proofs.Common.{◌≡◌, ◌+◌, ◌*◌, ◌<◌, ◌≤◌, ◌^◌, ◌==◌, ℕ, zero, suc, Bool, true, false, List, [], ◌∷◌, ◌++◌, length, inl, inr, refl, ap, arith, length-append, Script, LineFits, AreRead, IsRead, IsScriptOf, Plan, line_steps, lines_steps, steps_of, with_line}
 use Rattle.osdp_tool_streams.specs.Cut.{ended_after, last_line, line_feed, lines_of, unended_after}
-use Rattle.osdp_script.specs.declared.script.Script.{Script}
 use Rattle.osdp_script.specs.declared.script.ScriptLine.{ScriptLine}
 use Rattle.osdp_script.specs.declared.script.ScriptLine.TheVariants.{Check, Reader, Step, Clean}
-use Rattle.osdp_script.specs.Lines.{LineFits}
-use Rattle.osdp_script.specs.Reading.{AreRead, IsRead, IsScriptOf}
 use Rattle.osdp_sim.specs.Rounds.{rounds}
-use Rattle.osdp_script.specs.Script.{Plan, line_steps, lines_steps, steps_of, with_line}
 
 -- ---- lines
 

@@ -1,21 +1,6 @@
 -- How a script that is told can have ended.
-use Rattle.std.proofs.Common.{ℕ, List, [], ◌∷◌, Option, Result, Ok, Err}
-use Rattle.osdp_script.specs.declared.script.Script.{Script}
-use Rattle.osdp_script.specs.Script.{steps_of}
-use Rattle.osdp_script.specs.Handler.{handler_after, handler_answer}
-use Rattle.osdp_sim.specs.Steps.{after_step, fault_of}
-use Rattle.osdp_sim.specs.declared.fault.Cause.{Cause}
-use Rattle.osdp_sim.specs.declared.step.SimStep.{SimStep}
-use Rattle.osdp_sim_bus.specs.State.{accounts}
+use Rattle.osdp_tool_sim.proofs.Common.{ℕ, List, [], ◌∷◌, Option, Result, Ok, Err, Script, steps_of, handler_after, handler_answer, after_step, fault_of, Cause, SimStep, accounts, ToolFault, NotHex, TooLong, BadWords, BadStep, HoldsPacket, NotQuiet, ReadFailed, WriteFailed, NoMemory, start_of, line_of, RunTells, IsTextOfEach, IsTextOfOne, Tells, TellsReaders}
 use Rattle.osdp_sim_bus.specs.Steps as bus
-use Rattle.osdp_tool_streams.specs.declared.fault.ToolFault.{ToolFault}
-use Rattle.osdp_tool_streams.specs.declared.fault.ToolFault.TheVariants.{NotHex, TooLong, BadWords, BadStep}
-use Rattle.osdp_tool_streams.specs.declared.fault.ToolFault.TheVariants.{HoldsPacket, NotQuiet, ReadFailed}
-use Rattle.osdp_tool_streams.specs.declared.fault.ToolFault.TheVariants.{WriteFailed, NoMemory}
-use Rattle.osdp_tool_sim.specs.One.{start_of}
-use Rattle.osdp_tool_sim.specs.Several.{line_of}
-use Rattle.osdp_tool_sim.specs.Steps.{RunTells}
-use Rattle.osdp_tool_sim.specs.Told.{IsTextOfEach, IsTextOfOne, Tells, TellsReaders}
 
 abbrev Answer : Type 0
 Answer = Result (Unit {0}) ToolFault

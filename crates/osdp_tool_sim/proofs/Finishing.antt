@@ -1,16 +1,5 @@
 -- The answer, settled between the streams.
-use Rattle.std.proofs.Common.{◌≡◌, ◌<◌, ◌≤◌, ℕ, Bool, true, false, List, [], ◌∷◌, ◌++◌, length, Option, Some, None, Result, Ok, Err, inl, inr, refl, sym, subst, ap, ◌∙◌, arith, append-nil, length-append}
-use Rattle.std.specs.Io.KnownBytes.{Appends, Consumes, IsAtEnd, Keeps}
-use Rattle.std.proofs.KnownBytes.{Appends-kept}
-use Rattle.osdp_script.specs.Reading.{IsBadLine}
-use Rattle.osdp_tool_streams.specs.FinalAnswer.{final_answer_of}
-use Rattle.osdp_tool_streams.specs.declared.fault.ToolFault.{ToolFault}
-use Rattle.osdp_tool_streams.specs.declared.fault.ToolFault.TheVariants.{NotHex, TooLong, BadWords, BadStep}
-use Rattle.osdp_tool_streams.specs.declared.fault.ToolFault.TheVariants.{HoldsPacket, NotQuiet, ReadFailed}
-use Rattle.osdp_tool_streams.specs.declared.fault.ToolFault.TheVariants.{WriteFailed, NoMemory}
-use Rattle.osdp_tool_sim.specs.Ending.{AreFailed, Ends, EndsWhole, IsTold, IsWhole, PrintedPart, Says, SaysOf}
-use Rattle.osdp_tool_sim.specs.Reading.{ReadsPastLimit, ReadsToEnd}
-use Rattle.osdp_tool_sim.specs.Told.{Tells}
+use Rattle.osdp_tool_sim.proofs.Common.{◌≡◌, ◌<◌, ◌≤◌, ℕ, Bool, true, false, List, [], ◌∷◌, ◌++◌, length, Option, Some, None, Result, Ok, Err, inl, inr, refl, sym, subst, ap, ◌∙◌, arith, append-nil, length-append, Appends, Consumes, IsAtEnd, Keeps, Appends-kept, IsBadLine, final_answer_of, ToolFault, NotHex, TooLong, BadWords, BadStep, HoldsPacket, NotQuiet, ReadFailed, WriteFailed, NoMemory, AreFailed, Ends, EndsWhole, IsTold, IsWhole, PrintedPart, Says, SaysOf, ReadsPastLimit, ReadsToEnd, Tells}
 use Rattle.osdp_tool_sim.proofs.Ended.{end_of}
 
 abbrev Answer : Type 0

@@ -1,3 +1,4 @@
+pub mod Common
 pub mod ReadWhole
 pub mod Stopped
 pub mod Running

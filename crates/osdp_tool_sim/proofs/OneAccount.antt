@@ -1,13 +1,5 @@
 -- The text of accounts is of these accounts alone.
-use Rattle.std.proofs.Common.{◌≡◌, ◌+◌, ◌<◌, ◌^◌, lit<, ℕ, List, [], ◌∷◌, ◌++◌, codes, drop, length, map, get_or, refl, sym, ap, ◌∙◌, append_assoc, append-nil, arith}
-use Rattle.std.proofs.lemmas.List.Elements.{All-head, All-tail}
-use Rattle.osdp_msg.specs.CommandTable.{CommandFits}
-use Rattle.osdp_msg.specs.Events.{EventFits}
-use Rattle.osdp_msg_laws.proofs.PrintedWords.{ArePrintedWords, name_printed, number_printed, same_printed, text_shown}
-use Rattle.osdp_sim.specs.Account.{Account}
-use Rattle.osdp_words.specs.Word.{Word, plain, printed, text_of}
-use Rattle.osdp_tool_sim.specs.AccountText.{account_text, command_line, counts_line, ended_line, lines_text, reported_line, settled_line, texts_from}
-use Rattle.osdp_tool_sim.specs.Laws.{AccountFits, HasOneAccount, HasOneEach, PairFits, TellSame}
+use Rattle.osdp_tool_sim.proofs.Common.{◌≡◌, ◌+◌, ◌<◌, ◌^◌, lit<, ℕ, List, [], ◌∷◌, ◌++◌, codes, drop, length, map, get_or, refl, sym, ap, ◌∙◌, append_assoc, append-nil, arith, All-head, All-tail, CommandFits, EventFits, ArePrintedWords, name_printed, number_printed, same_printed, text_shown, Account, Word, plain, printed, text_of, account_text, command_line, counts_line, ended_line, lines_text, reported_line, settled_line, texts_from, AccountFits, HasOneAccount, HasOneEach, PairFits, TellSame}
 use Rattle.osdp_tool_sim.proofs.OneText.{MayFollow, after_line, command_shown, event_shown, first_line, one_command, one_count, one_event, one_pair, pair_shown, same_ends, same_list}
 use Rattle.osdp_tool_sim.proofs.Written.{lines_both}
 

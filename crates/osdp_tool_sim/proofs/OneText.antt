@@ -1,16 +1,8 @@
 -- A text of lines is of one list of values.
-use Rattle.std.proofs.Common.{◌≡◌, ◌≢◌, ◌<◌, ◌^◌, inl, inr, lit<, ℕ, List, [], ◌∷◌, ◌++◌, codes, drop, length, map, get_or, refl, sym, ap, subst, ◌∙◌, append_assoc, arith}
-use Rattle.std.specs.Fmt.{decimal}
-use Rattle.std.specs.List.{All, AllByRecursion, join_with_byte}
+use Rattle.osdp_tool_sim.proofs.Common.{◌≡◌, ◌≢◌, ◌<◌, ◌^◌, inl, inr, lit<, ℕ, List, [], ◌∷◌, ◌++◌, codes, drop, length, map, get_or, refl, sym, ap, subst, ◌∙◌, append_assoc, arith, decimal, All, AllByRecursion, join_with_byte, append_cancel_left, append_cancel_right, map-append, All-head, All-tail, Command, Reply, CommandFits, EventFits, event_reply, event_text, event_words, ArePrintedWords, IsPrintedWord, IsTextCharacter, both_printed, name_printed, plain_words_printed, same_printed, text_shown, Word, plain, printed, text_of, command_line, end_name, ended_line, line_text, lines_text, reported_line, settled_line, PairFits}
 use Rattle.std.specs.Str.Parse.{digits_value}
-use Rattle.std.proofs.lemmas.List.{append_cancel_left, append_cancel_right, map-append}
-use Rattle.std.proofs.lemmas.List.Elements.{All-head, All-tail}
 use Rattle.osdp_controller.specs.declared.report.LostCause.TheVariants.{NoReply, TooBusy, NumberRefused}
-use Rattle.osdp_msg.specs.declared.command.Command.{Command}
-use Rattle.osdp_msg.specs.declared.reply.Reply.{Reply}
-use Rattle.osdp_msg.specs.CommandTable.{CommandFits}
 use Rattle.osdp_msg.specs.CommandText.{command_text, command_words}
-use Rattle.osdp_msg.specs.Events.{EventFits, event_reply, event_text, event_words}
 use Rattle.osdp_msg.specs.ReplyTable.{ReplyFits}
 use Rattle.osdp_msg.specs.ReplyText.{reply_text, reply_words}
 use Rattle.osdp_msg.proofs.RowTexts.{differ}
@@ -19,15 +11,11 @@ use Rattle.osdp_msg_laws.proofs.CommandTexts.{command_texts}
 use Rattle.osdp_msg_laws.proofs.EventReplies.{same_event}
 use Rattle.osdp_msg_laws.proofs.PlainCommands.{plain_commands}
 use Rattle.osdp_msg_laws.proofs.PlainReplies.{plain_events, plain_replies}
-use Rattle.osdp_msg_laws.proofs.PrintedWords.{ArePrintedWords, IsPrintedWord, IsTextCharacter, both_printed, name_printed, plain_words_printed, same_printed, text_shown}
 use Rattle.osdp_msg_laws.proofs.ReplyTexts.{reply_texts}
 use Rattle.osdp_sim.specs.declared.account.End.{End}
 use Rattle.osdp_sim.specs.declared.account.End.TheVariants.{Lost, Moved}
-use Rattle.osdp_words.specs.Word.{Word, plain, printed, text_of}
 use Rattle.osdp_words.proofs.TextLaws.{joins_by_spaces}
 use Rattle.osdp_words.proofs.WordLaws.{is_decimal}
-use Rattle.osdp_tool_sim.specs.AccountText.{command_line, end_name, ended_line, line_text, lines_text, reported_line, settled_line}
-use Rattle.osdp_tool_sim.specs.Laws.{PairFits}
 
 -- ---- lines
 

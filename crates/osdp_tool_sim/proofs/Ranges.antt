@@ -1,27 +1,12 @@
 -- The settings of a script of several readers are in the ranges of those of a run.
-use Rattle.std.proofs.Common.{◌≡◌, ◌≢◌, ◌+◌, ◌==◌, ℕ, zero, suc, Bool, true, false, not, List, [], ◌∷◌, length, Err, refl, subst, ap, arith, ◌||◌}
-use Rattle.std.specs.Global.{Vec}
-use Rattle.std.specs.List.{All, list_all, list_any}
+use Rattle.osdp_tool_sim.proofs.Common.{◌≡◌, ◌≢◌, ◌+◌, ◌==◌, ℕ, zero, suc, Bool, true, false, not, List, [], ◌∷◌, length, Err, refl, subst, ap, arith, ◌||◌, Vec, All, list_all, list_any, All-head, All-tail, IsBusConfig, default_config, Script, IsSetting, IsFree, steps_of, handler_after, handler_answer, Cause, Fault, Account, room_for, are_apart, is_at, is_reader_in_range, lists_of_all, readers_from}
 use Rattle.std.proofs.lemmas.Bool.{and_from, le-leb, ne_eqb}
-use Rattle.std.proofs.lemmas.List.Elements.{All-head, All-tail}
 use Rattle.osdp_bus.proofs.Defaults.{bus_in_range}
-use Rattle.osdp_bus.specs.Settings.{IsBusConfig, default_config}
 use Rattle.osdp_frame.specs.declared.check_kind.CheckKind.{CheckKind}
-use Rattle.osdp_script.specs.declared.script.Script.{Script}
-use Rattle.osdp_script.specs.Lines.{IsSetting}
-use Rattle.osdp_script.specs.Reading.{IsFree}
-use Rattle.osdp_script.specs.Script.{steps_of}
 use Rattle.osdp_script.specs.Settings.{AreApart, AreReaders}
-use Rattle.osdp_script.specs.Handler.{handler_after, handler_answer}
 use Rattle.osdp_sim.specs.declared.account.Account as declared
-use Rattle.osdp_sim.specs.declared.fault.Cause.{Cause}
 use Rattle.osdp_sim.specs.declared.fault.Cause.TheVariants as cause
-use Rattle.osdp_sim.specs.declared.fault.Fault.{Fault}
-use Rattle.osdp_sim.specs.Account.{Account}
-use Rattle.osdp_sim.specs.State.{room_for}
 use Rattle.osdp_sim_bus.specs.Runs as several
-use Rattle.osdp_sim_bus.specs.Runs.{are_apart, is_at, is_reader_in_range, lists_of_all}
-use Rattle.osdp_tool_sim.specs.Several.{readers_from}
 use Rattle.osdp_tool_sim.proofs.Accounts.{Ends}
 
 bus_set : (check : CheckKind) → IsBusConfig (default_config check (room_for 64))

@@ -1,9 +1,6 @@
 -- An input that is read piece by piece.
-use Rattle.std.proofs.Common.{◌≡◌, ℕ, ◌+◌, ◌-◌, List, [], ◌∷◌, ◌++◌, length, take, Option, arith, length-append, length-take}
-use Rattle.std.specs.Io.KnownBytes.{Consumes, IsAtEnd, Keeps}
-use Rattle.std.proofs.KnownBytes.{Consumes-kept, Consumes-trans}
+use Rattle.osdp_tool_sim.proofs.Common.{◌≡◌, ℕ, ◌+◌, ◌-◌, List, [], ◌∷◌, ◌++◌, length, take, Option, arith, length-append, length-take, Consumes, IsAtEnd, Keeps, Consumes-kept, Consumes-trans, ReadsPastLimit, ReadsSome, ReadsToEnd}
 use Rattle.osdp_tool_streams.specs.Reading.{ReadsBytes}
-use Rattle.osdp_tool_sim.specs.Reading.{ReadsPastLimit, ReadsSome, ReadsToEnd}
 
 -- what has been read, with as many bytes left of the limit
 pub record HasRead (limit left : ℕ) (bytes : List ℕ) (before after : Option (List ℕ)) : Type 0 where

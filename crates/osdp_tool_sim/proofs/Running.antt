@@ -1,23 +1,11 @@
 -- What a run hands back is told.
-use Rattle.std.proofs.Common.{◌≡◌, ◌≤◌, ℕ, zero, suc, List, Result, Ok, Err, IfOk, sym, subst, arith}
-use Rattle.osdp_script.specs.declared.script.Script.{Script}
-use Rattle.osdp_script.specs.Script.{steps_of}
-use Rattle.osdp_script.specs.Handler.{handler_after, handler_answer, new_handler}
+use Rattle.osdp_tool_sim.proofs.Common.{◌≡◌, ◌≤◌, ℕ, zero, suc, List, Result, Ok, Err, IfOk, sym, subst, arith, Script, steps_of, handler_after, handler_answer, new_handler, ScriptReader, SimStep, Cause, Fault, Account, lists_of, after_step, fault_of, ToolFault, TellsOne, config_of, start_of, EndsBy}
 use Rattle.osdp_session.specs.Runs.{HoldsOfRun, TellsSessions}
 use Rattle.osdp_sim.specs.declared.account.Account as declared
-use Rattle.osdp_script.specs.declared.handler.ScriptReader.{ScriptReader}
 use Rattle.osdp_sim.specs.declared.config.SimConfig.{SimConfig}
-use Rattle.osdp_sim.specs.declared.step.SimStep.{SimStep}
-use Rattle.osdp_sim.specs.declared.fault.Cause.{Cause}
 use Rattle.osdp_sim.specs.declared.fault.Cause.TheVariants as cause
-use Rattle.osdp_sim.specs.declared.fault.Fault.{Fault}
-use Rattle.osdp_sim.specs.Account.{Account, lists_of}
 use Rattle.osdp_sim.specs.Runs.{Stops, StopsAt}
-use Rattle.osdp_sim.specs.Steps.{after_step, fault_of}
 use Rattle.osdp_sim_laws.specs.Accepted.{IsAcceptedByRoom}
-use Rattle.osdp_tool_streams.specs.declared.fault.ToolFault.{ToolFault}
-use Rattle.osdp_tool_sim.specs.One.{TellsOne, config_of, start_of}
-use Rattle.osdp_tool_sim.specs.Steps.{EndsBy}
 use Rattle.osdp_tool_sim.proofs.Stopped.{stop_is_told}
 
 abbrev pub Answer : Type 0

@@ -1,11 +1,7 @@
 -- A run that stops is told as it stopped.
-use Rattle.std.proofs.Common.{◌≡◌, ◌≤◌, ◌-◌, ℕ, List, Option, take, Result, refl, sym, subst}
-use Rattle.osdp_sim.specs.declared.fault.Cause.{Cause}
+use Rattle.osdp_tool_sim.proofs.Common.{◌≡◌, ◌≤◌, ◌-◌, ℕ, List, Option, take, Result, refl, sym, subst, Cause, SimStep, ToolFault, EndsBy, RunTells, steps_taken}
 use Rattle.osdp_sim.specs.declared.fault.Cause.TheVariants as cause
-use Rattle.osdp_sim.specs.declared.step.SimStep.{SimStep}
 use Rattle.osdp_sim.specs.Schedules.{StopsAt}
-use Rattle.osdp_tool_streams.specs.declared.fault.ToolFault.{ToolFault}
-use Rattle.osdp_tool_sim.specs.Steps.{EndsBy, RunTells, steps_taken}
 
 module _ {S A : Type 0} (after_step : SimStep → S → S) (fault_of : SimStep → S → Option Cause) (account_of : S → A) where
   -- the run that this end tells, and the steps that were taken

@@ -1,17 +1,8 @@
 -- Lines as they are written, and lists of lines one by one.
-use Rattle.std.proofs.Common.{◌≡◌, ◌<◌, ℕ, Bool, true, false, List, [], ◌∷◌, ◌++◌, arith, codes, drop, length, map, refl, subst, sym, ap, ◌∙◌, append_assoc, append-nil, Result, Ok, Err, OnOk, Some, None}
+use Rattle.osdp_tool_sim.proofs.Common.{◌≡◌, ◌<◌, ℕ, Bool, true, false, List, [], ◌∷◌, ◌++◌, arith, codes, drop, length, map, refl, subst, sym, ap, ◌∙◌, append_assoc, append-nil, Result, Ok, Err, OnOk, Some, None, decimal, flat_map, Command, Event, Reply, event_text, event_words, Account, Word, plain, printed, text_of, AddsNext, command_line, counts_line, line_text, lines_text, named}
 use Rattle.std.specs.Prelude.{slice_get}
-use Rattle.std.specs.Fmt.{decimal}
-use Rattle.std.specs.List.{flat_map}
-use Rattle.osdp_msg.specs.declared.command.Command.{Command}
-use Rattle.osdp_msg.specs.declared.event.Event.{Event}
-use Rattle.osdp_msg.specs.declared.reply.Reply.{Reply}
 use Rattle.osdp_msg.specs.CommandText.{command_text, command_words}
-use Rattle.osdp_msg.specs.Events.{event_text, event_words}
 use Rattle.osdp_msg.specs.ReplyText.{reply_text, reply_words}
-use Rattle.osdp_sim.specs.Account.{Account}
-use Rattle.osdp_words.specs.Word.{Word, plain, printed, text_of}
-use Rattle.osdp_tool_sim.specs.AccountText.{AddsNext, command_line, counts_line, line_text, lines_text, named}
 
 pub command_is : (name : List ℕ) (c : Command) → line_text (command_line name c) ≡ name ++ (codes " " ++ (command_text c ++ codes "\n"))
 unfolding command_text

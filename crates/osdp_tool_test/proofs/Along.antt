@@ -1,6 +1,5 @@
 -- What a loop over a list writes and counts.
-use Rattle.std.proofs.Common.{◌≡◌, ℕ, ◌+◌, ◌≤◌, List, [], ◌∷◌, ◌++◌, length, map, drop, flat_map, refl, sym, ◌∙◌, ap, append-nil}
-use Rattle.std.proofs.lemmas.List.{drop_all}
+use Rattle.osdp_tool_test.proofs.Common.{◌≡◌, ℕ, ◌+◌, ◌≤◌, List, [], ◌∷◌, ◌++◌, length, map, drop, flat_map, refl, sym, ◌∙◌, ap, append-nil, drop_all}
 
 pub text_end : {X : Type 0} (lines : X → List ℕ) (before all : List ℕ) (xs : List X) (k : ℕ) → length xs ≤ k → before ++ flat_map lines (drop k xs) ≡ all → before ≡ all
 text_end lines before all xs k past so_far =

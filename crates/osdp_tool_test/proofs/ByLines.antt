@@ -1,17 +1,6 @@
 -- Where nothing stops a test of lines, it ends by its words and its lines.
-use Rattle.std.proofs.Common.{◌≡◌, ◌∙◌, ◌⊎◌, ℕ, ◌+◌, ◌<◌, ◌≤◌, Bool, List, [], ◌∷◌, ◌++◌, length, drop, Option, Some, None, Result, Ok, Err, inl, inr, refl, sym, ap, subst, arith, append-nil, length-append}
+use Rattle.osdp_tool_test.proofs.Common.{◌≡◌, ◌∙◌, ◌⊎◌, ℕ, ◌+◌, ◌<◌, ◌≤◌, Bool, List, [], ◌∷◌, ◌++◌, length, drop, Option, Some, None, Result, Ok, Err, inl, inr, refl, sym, ap, subst, arith, append-nil, length-append, Keeps, lines_of, ToolFault, NotHex, TooLong, BadWords, BadStep, HoldsPacket, NotQuiet, ReadFailed, WriteFailed, NoMemory, Ends, IsRead, PastLimit, status_of, Told, WasStopped, report_text, Tests, asking_words, Form, Plain, Tap}
 use Rattle.std.proofs.Transfers.{drop-appended}
-use Rattle.std.specs.Io.KnownBytes.{Keeps}
-use Rattle.osdp_tool_streams.specs.Cut.{lines_of}
-use Rattle.osdp_tool_streams.specs.declared.fault.ToolFault.{ToolFault}
-use Rattle.osdp_tool_streams.specs.declared.fault.ToolFault.TheVariants.{NotHex, TooLong, BadWords, BadStep, HoldsPacket, NotQuiet, ReadFailed, WriteFailed, NoMemory}
-use Rattle.osdp_tool_test.specs.Ending.{Ends, IsRead, PastLimit, status_of}
-use Rattle.osdp_tool_test.specs.Entries.{Told}
-use Rattle.osdp_tool_test.specs.Laws.{WasStopped}
-use Rattle.osdp_tool_test.specs.Report.{report_text}
-use Rattle.osdp_tool_test.specs.Running.{Tests, asking_words}
-use Rattle.osdp_tool_test.specs.declared.report.Form.{Form}
-use Rattle.osdp_tool_test.specs.declared.report.Form.TheVariants.{Plain, Tap}
 
 -- words ask for one form at most
 pub form_once : (words : List (List ℕ)) (a b : Form) → words ≡ asking_words a → words ≡ asking_words b → a ≡ b

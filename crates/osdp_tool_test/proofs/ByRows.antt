@@ -1,13 +1,6 @@
 -- What a line adds to a test of a device goes by the rows of the rules alone.
-use Rattle.std.proofs.Common.{◌≡◌, ◌∙◌, ℕ, Bool, true, false, List, [], ◌∷◌, Option, Some, None, refl, sym, ap}
-use Rattle.std.specs.Option.{option_map}
-use Rattle.osdp_tool_test.specs.Entries.{Told}
-use Rattle.osdp_tool_test.specs.Lines.{LeftOut, Line, SaidFits, asks, device, opens, said_words, skips, times}
-use Rattle.osdp_tool_test.specs.Rules.{rule_in}
+use Rattle.osdp_tool_test.proofs.Common.{◌≡◌, ◌∙◌, ℕ, Bool, true, false, List, [], ◌∷◌, Option, Some, None, refl, sym, ap, option_map, Told, LeftOut, Line, SaidFits, asks, device, opens, said_words, skips, times, rule_in, Row, row, DeviceTest, after_each, after_exchange, after_said, after_seen, after_times, all_entries, begun_done, begun_entry, judged_entry, left_out, new_test, timed_entry, with_entry, with_known, with_run, Exchange}
 use Rattle.osdp_tool_test.specs.Seen.{Seen, is_answered, seen_in}
-use Rattle.osdp_tool_test.specs.Table.{Row, row}
-use Rattle.osdp_tool_test.specs.Tests.{DeviceTest, after_each, after_exchange, after_said, after_seen, after_times, all_entries, begun_done, begun_entry, judged_entry, left_out, new_test, timed_entry, with_entry, with_known, with_run}
-use Rattle.osdp_tool_test.specs.declared.exchange.Exchange.{Exchange}
 use Rattle.osdp_tool_test.specs.declared.rules.Rule.{Rule}
 use Rattle.osdp_tool_test.proofs.OneLine.{lines_named}
 use Rattle.osdp_tool_test.proofs.OneReport.{GoesByRows, all_plain, plain as plain_by, plain_rule as plain_rule_by}

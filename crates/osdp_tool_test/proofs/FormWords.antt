@@ -1,13 +1,11 @@
 -- The words that ask for a form: which of them cannot stand where it is.
-use Rattle.std.proofs.Common.{ℕ, List, [], ◌∷◌, ◌++◌, codes, refl, sym, ap, subst}
+use Rattle.osdp_tool_test.proofs.Common.{ℕ, List, [], ◌∷◌, ◌++◌, codes, refl, sym, ap, subst, AsksForm, Plain, Tap}
 use Rattle.std.specs.Borrow.{Bor}
 use Rattle.osdp_refused_words.proofs.Stopping.{stops_alike}
 use Rattle.osdp_refused_words.specs.Slots.{Fills}
 use Rattle.osdp_refused_words.specs.Stops.{GoesOn, StopsAt}
 use Rattle.osdp_refused_words.specs.declared.slot.Slot.{Slot}
 use Rattle.osdp_refused_words.specs.declared.slot.Slot.TheVariants.{Text}
-use Rattle.osdp_tool_test.specs.Running.{AsksForm}
-use Rattle.osdp_tool_test.specs.declared.report.Form.TheVariants.{Plain, Tap}
 
 abbrev lent : List ℕ → Bor (List ℕ)
 lent text = record { ref_ptr = (0, 0); now = text }

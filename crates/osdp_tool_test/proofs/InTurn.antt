@@ -1,15 +1,5 @@
 -- What is told of a test of lines, however it ends.
-use Rattle.std.proofs.Common.{◌≡◌, ◌∙◌, ◌⊎◌, ◌↔◌, ℕ, ◌≤◌, Bool, true, false, List, ◌++◌, length, take, Option, Some, Result, Ok, Err, inl, inr, refl, sym, ap, subst}
-use Rattle.std.proofs.Math.Seq.{take-length}
-use Rattle.osdp_tool_streams.specs.Cut.{lines_of}
-use Rattle.osdp_tool_streams.specs.declared.fault.ToolFault.{ToolFault}
-use Rattle.osdp_tool_streams.specs.declared.fault.ToolFault.TheVariants.{NotHex, TooLong, BadWords, BadStep, HoldsPacket, NotQuiet, ReadFailed, WriteFailed, NoMemory}
-use Rattle.osdp_tool_test.specs.Ending.{Ends, IsRead}
-use Rattle.osdp_tool_test.specs.Entries.{Told}
-use Rattle.osdp_tool_test.specs.Laws.{EndsInTurn, IsReportedInPart, IsToldInTurn}
-use Rattle.osdp_tool_test.specs.Report.{report_text}
-use Rattle.osdp_tool_test.specs.Running.{AsksNone, Tests, asking_words}
-use Rattle.osdp_tool_test.specs.declared.report.Form.{Form}
+use Rattle.osdp_tool_test.proofs.Common.{◌≡◌, ◌∙◌, ◌⊎◌, ◌↔◌, ℕ, ◌≤◌, Bool, true, false, List, ◌++◌, length, take, Option, Some, Result, Ok, Err, inl, inr, refl, sym, ap, subst, take-length, lines_of, ToolFault, NotHex, TooLong, BadWords, BadStep, HoldsPacket, NotQuiet, ReadFailed, WriteFailed, NoMemory, Ends, IsRead, Told, EndsInTurn, IsReportedInPart, IsToldInTurn, report_text, AsksNone, Tests, asking_words, Form}
 use Rattle.osdp_tool_test.proofs.ByLines.{all_read, left_as_it_was}
 
 no_fault : false ≡ true → ⊥

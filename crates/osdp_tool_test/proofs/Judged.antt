@@ -1,19 +1,9 @@
 -- What a whole input is judged by.
-use Rattle.std.proofs.Common.{◌≡◌, ℕ, ◌≤◌, List, take, length, map, Option, Some, None, Ok, sym, ap, subst, ◌∙◌}
-use Rattle.std.specs.Io.KnownBytes.{Appends, Consumes, IsAtEnd, Keeps}
-use Rattle.std.specs.Prelude.{MatchOption}
+use Rattle.osdp_tool_test.proofs.Common.{◌≡◌, ℕ, ◌≤◌, List, take, length, map, Option, Some, None, Ok, sym, ap, subst, ◌∙◌, Appends, Consumes, IsAtEnd, Keeps, MatchOption, take-length, lines_of, ToolFault, IsPart, IsRead, IsReported, Judges, status_of, Told, told, StopsAt, TakesAll, report_text, Form}
 use Rattle.std.proofs.KnownBytes.{Appends-kept}
-use Rattle.std.proofs.Math.Seq.{take-length}
 use Rattle.osdp_tool_captures.specs.Whole.{ReadWhole}
-use Rattle.osdp_tool_streams.specs.Cut.{lines_of}
 use Rattle.osdp_tool_streams.specs.Watched.{AppendsPart}
-use Rattle.osdp_tool_streams.specs.declared.fault.ToolFault.{ToolFault}
-use Rattle.osdp_tool_test.specs.Ending.{IsPart, IsRead, IsReported, Judges, status_of}
-use Rattle.osdp_tool_test.specs.Entries.{Told, told}
-use Rattle.osdp_tool_test.specs.Judging.{StopsAt, TakesAll}
-use Rattle.osdp_tool_test.specs.Report.{report_text}
 use Rattle.osdp_tool_test.specs.declared.entry.Entry.{Entry}
-use Rattle.osdp_tool_test.specs.declared.report.Form.{Form}
 
 -- lines that were taken, or of which one was refused
 module _ {T : Type 0} (takes : T → List (List ℕ) → T → Type 0) (refuses : List (List ℕ) → Type 0) (found : T → List Told) (start last : T)

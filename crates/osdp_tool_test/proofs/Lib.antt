@@ -1,3 +1,4 @@
+pub mod Common
 pub mod Along
 pub mod Finding
 pub mod Taking

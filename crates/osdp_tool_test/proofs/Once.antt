@@ -1,9 +1,5 @@
 -- A line says one thing at most, and of lines one is the first that is bad.
-use Rattle.std.proofs.Common.{◌≡◌, ◌∙◌, ℕ, suc, ◌+◌, ◌==◌, Bool, cond, not, List, [], ◌∷◌, ◌++◌, length, filter, Option, Some, None, inl, inr, refl, sym, ap, subst, arith}
-use Rattle.std.proofs.lemmas.Bool.{ne_eqb}
-use Rattle.std.specs.List.{onto_first, slice_split}
-use Rattle.osdp_words.specs.Word.{AllStandFor, Word, words_in}
-use Rattle.osdp_tool_test.specs.Saying.{IsComment, IsFirstBad, LineSays, LinesSay, SaysNone, WordsSay}
+use Rattle.osdp_tool_test.proofs.Common.{◌≡◌, ◌∙◌, ℕ, suc, ◌+◌, ◌==◌, Bool, cond, not, List, [], ◌∷◌, ◌++◌, length, filter, Option, Some, None, inl, inr, refl, sym, ap, subst, arith, ne_eqb, onto_first, slice_split, AllStandFor, Word, words_in, IsComment, IsFirstBad, LineSays, LinesSay, SaysNone, WordsSay}
 
 abbrev head_or : {A : Type 0} → A → List A → A
 head_or x [] = x

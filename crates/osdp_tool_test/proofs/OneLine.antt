@@ -1,13 +1,7 @@
 -- A line says one thing at most.
-use Rattle.std.proofs.Common.{◌≡◌, ◌∙◌, ◌<◌, ◌^◌, ℕ, List, [], ◌∷◌, codes, refl, sym, ap, arith}
+use Rattle.osdp_tool_test.proofs.Common.{◌≡◌, ◌∙◌, ◌<◌, ◌^◌, ℕ, List, [], ◌∷◌, codes, refl, sym, ap, arith, ArrayVec, differ, AllStandFor, StandsFor, Word, bytes, number, plain, ExchangeFits, IsList, LeftOut, Line, SaidFits, asks, device, exchange_words, opens, said_name, said_words, skips, skips_words, times, IsRule, Exchange}
 use Rattle.std.proofs.lemmas.Fmt.{decimal_injective}
-use Rattle.arrayvec.specs.ArrayVec.{ArrayVec}
-use Rattle.osdp_msg.proofs.RowTexts.{differ}
 use Rattle.osdp_words.proofs.WordLaws.{has_one_word}
-use Rattle.osdp_words.specs.Word.{AllStandFor, StandsFor, Word, bytes, number, plain}
-use Rattle.osdp_tool_test.specs.Lines.{ExchangeFits, IsList, LeftOut, Line, SaidFits, asks, device, exchange_words, opens, said_name, said_words, skips, skips_words, times}
-use Rattle.osdp_tool_test.specs.Rules.{IsRule}
-use Rattle.osdp_tool_test.specs.declared.exchange.Exchange.{Exchange}
 use Rattle.osdp_tool_test.proofs.Once.{AreNamed}
 
 pub number_once : (given : List (List ℕ)) (m n : ℕ) → m < 2 ^ 64 → n < 2 ^ 64 → AllStandFor (number m ∷ []) given → AllStandFor (number n ∷ []) given → m ≡ n

@@ -1,15 +1,6 @@
 -- What lines show by the rows of rules is one list, and so a test of lines ends in one way.
-use Rattle.std.proofs.Common.{◌≡◌, ◌∙◌, ℕ, ◌-◌, ◌==◌, Bool, true, false, if◌then◌else◌, List, [], ◌∷◌, map, Option, Some, None, refl, sym, ap}
-use Rattle.std.specs.Option.{option_map}
-use Rattle.std.specs.Prelude.{slice_get}
+use Rattle.osdp_tool_test.proofs.Common.{◌≡◌, ◌∙◌, ℕ, ◌-◌, ◌==◌, Bool, true, false, if◌then◌else◌, List, [], ◌∷◌, map, Option, Some, None, refl, sym, ap, option_map, slice_get, Word, Told, EndsByItsLines, rule_in, Tests, IsFirstBad, LinesFind, LinesSay, ShowsByRows, after_all, Form}
 use Rattle.std.proofs.lemmas.Option.{slice_get-map}
-use Rattle.osdp_words.specs.Word.{Word}
-use Rattle.osdp_tool_test.specs.Entries.{Told}
-use Rattle.osdp_tool_test.specs.Laws.{EndsByItsLines}
-use Rattle.osdp_tool_test.specs.Rules.{rule_in}
-use Rattle.osdp_tool_test.specs.Running.{Tests}
-use Rattle.osdp_tool_test.specs.Saying.{IsFirstBad, LinesFind, LinesSay, ShowsByRows, after_all}
-use Rattle.osdp_tool_test.specs.declared.report.Form.{Form}
 use Rattle.osdp_tool_test.proofs.ByLines.{by_lines}
 use Rattle.osdp_tool_test.proofs.Once.{AreNamed, first_bad_once, lines_once, none_bad}
 

@@ -1,11 +1,6 @@
 -- What is read in two parts: a first word, and the words after it.
-use Rattle.std.proofs.Common.{◌≡◌, ◌<◌, ◌^◌, ℕ, Bool, true, false, List, ◌∷◌, Option, Some, None, refl, sym, ap, subst, ◌∙◌}
-use Rattle.std.proofs.lemmas.Bool.{true≢false}
-use Rattle.arrayvec.specs.ArrayVec.{ArrayVec}
+use Rattle.osdp_tool_test.proofs.Common.{◌≡◌, ◌<◌, ◌^◌, ℕ, Bool, true, false, List, ◌∷◌, Option, Some, None, refl, sym, ap, subst, ◌∙◌, true≢false, ArrayVec, AllStandFor, Word, bytes, number, ExchangeFits, HeardFits, IsList, PairFits, SentFits, exchange_words, heard_words, pair_words, sent_words, Exchange}
 use Rattle.osdp_words.specs.Reading.{Reads, ReadsWords}
-use Rattle.osdp_words.specs.Word.{AllStandFor, Word, bytes, number}
-use Rattle.osdp_tool_test.specs.Lines.{ExchangeFits, HeardFits, IsList, PairFits, SentFits, exchange_words, heard_words, pair_words, sent_words}
-use Rattle.osdp_tool_test.specs.declared.exchange.Exchange.{Exchange}
 
 abbrev pub is_none : {X : Type 0} → Option X → Bool
 is_none None = true

@@ -1,8 +1,5 @@
 -- The lines by their names: what is read after a name is what the line is made of.
-use Rattle.std.proofs.Common.{◌≡◌, ℕ, codes, refl}
-use Rattle.osdp_msg.proofs.RowTexts.{differ}
-use Rattle.osdp_tool_test.specs.Lines.{LeftOut, Line, asks, device, opens, said_name, skips, times}
-use Rattle.osdp_tool_test.specs.declared.exchange.Exchange.{Exchange}
+use Rattle.osdp_tool_test.proofs.Common.{◌≡◌, ℕ, codes, refl, differ, LeftOut, Line, asks, device, opens, said_name, skips, times, Exchange}
 
 pub is_device : (m : Line) → said_name m ≡ codes "device" → (x : ℕ) × (m ≡ device x)
 is_device (device x) e = (x, refl)

@@ -1,11 +1,6 @@
 -- How the lines of an input are taken, one after the other.
-use Rattle.std.proofs.Common.{◌≡◌, ℕ, ◌+◌, ◌-◌, ◌<◌, ◌≤◌, Bool, true, false, List, [], ◌∷◌, length, take, drop, refl, sym, ap, subst, ◌∙◌, arith, inl, inr, length-drop}
-use Rattle.std.proofs.lemmas.List.{drop_all, take_rest}
-use Rattle.std.proofs.Math.Seq.{drop-drop}
+use Rattle.osdp_tool_test.proofs.Common.{◌≡◌, ℕ, ◌+◌, ◌-◌, ◌<◌, ◌≤◌, Bool, true, false, List, [], ◌∷◌, length, take, drop, refl, sym, ap, subst, ◌∙◌, arith, inl, inr, length-drop, drop_all, take_rest, drop-drop, HasLine, IsLine, last_line, lines_of, Told, RefusesLine, StopsAt, TakesAll, TakesLine, TakesOr}
 use Rattle.osdp_tool_captures.proofs.Cutting.{line_cut, lines_of-feed, lines_of-line}
-use Rattle.osdp_tool_streams.specs.Cut.{HasLine, IsLine, last_line, lines_of}
-use Rattle.osdp_tool_test.specs.Entries.{Told}
-use Rattle.osdp_tool_test.specs.Judging.{RefusesLine, StopsAt, TakesAll, TakesLine, TakesOr}
 
 module _ {T : Type 0} (takes : T → List (List ℕ) → T → Type 0) (refuses : List (List ℕ) → Type 0) (found : T → List Told) (start : T) (bytes : List ℕ) where
   abbrev pub All : T → List (List ℕ) → T → Type 0

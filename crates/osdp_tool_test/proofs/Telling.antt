@@ -1,16 +1,5 @@
 -- What the lines that were taken say, and how a command ends by them.
-use Rattle.std.proofs.Common.{◌≡◌, ◌⊎◌, ℕ, ◌+◌, Bool, List, [], ◌∷◌, ◌++◌, length, map, Option, None, Result, Ok, Err, refl, sym, ap, subst, ◌∙◌, arith, inl, inr}
-use Rattle.osdp_tool_streams.specs.declared.fault.ToolFault.{ToolFault}
-use Rattle.osdp_tool_streams.specs.declared.fault.ToolFault.TheVariants.{NotHex, TooLong, BadWords, BadStep, HoldsPacket, NotQuiet, ReadFailed, WriteFailed, NoMemory}
-use Rattle.std.specs.Io.KnownBytes.{Keeps}
-use Rattle.std.specs.Prelude.{IsUtf8}
-use Rattle.osdp_words.specs.Word.{Word, words_in}
-use Rattle.osdp_tool_test.specs.Ending.{Ends, IsPart}
-use Rattle.osdp_tool_test.specs.Entries.{Told}
-use Rattle.osdp_tool_test.specs.Judging.{RefusesLine, StopsAt, TakesAll, TakesLine, Finds, Stops}
-use Rattle.osdp_tool_test.specs.Running.{Tests}
-use Rattle.osdp_tool_test.specs.Saying.{IsFirstBad, LineSays, LinesSay, LinesFind, RefusesSaid, SaysNone, ShowsByRows, TakesSaid, after_all}
-use Rattle.osdp_tool_test.specs.declared.report.Form.{Form}
+use Rattle.osdp_tool_test.proofs.Common.{◌≡◌, ◌⊎◌, ℕ, ◌+◌, Bool, List, [], ◌∷◌, ◌++◌, length, map, Option, None, Result, Ok, Err, refl, sym, ap, subst, ◌∙◌, arith, inl, inr, ToolFault, NotHex, TooLong, BadWords, BadStep, HoldsPacket, NotQuiet, ReadFailed, WriteFailed, NoMemory, Keeps, IsUtf8, Word, words_in, Ends, IsPart, Told, RefusesLine, StopsAt, TakesAll, TakesLine, Finds, Stops, Tests, IsFirstBad, LineSays, LinesSay, LinesFind, RefusesSaid, SaysNone, ShowsByRows, TakesSaid, after_all, Form}
 
 module _ {C T M : Type 0} (words_of : C → List Word) (Fits : C → Type 0) (model : T → M) (after : Option C → M → M) (all : M → List Told)
     (none : (m : M) → after None m ≡ m) (start : T) where

@@ -1,20 +1,12 @@
 -- What a line adds to a test of a panel goes by the rows of the rules alone.
-use Rattle.std.proofs.Common.{◌≡◌, ◌∙◌, ℕ, ◌+◌, false, List, [], ◌∷◌, map, Option, Some, None, refl, sym, ap}
+use Rattle.osdp_tool_test_panel.proofs.Common.{◌≡◌, ◌∙◌, ℕ, ◌+◌, false, List, [], ◌∷◌, map, Option, Some, None, refl, sym, ap, Told, new_entry, Exchange, GoesByRows, all_plain, plain_by, plain_rule, Line, SaidFits, device, hears, said_words, says, skips, fresh_from, Row, row, PanelTest, after_hearing, after_packet_of, after_said, entries_of, judged_by, judged_entry, new_test, PanelRule}
 use Rattle.std.specs.Option.{option_map}
 use Rattle.osdp_frame.specs.Packet.{Packet}
 use Rattle.osdp_panel_rules.specs.Known.{after_packet}
 use Rattle.osdp_panel_rules.specs.declared.known.Known.{Known}
-use Rattle.osdp_tool_test.specs.Entries.{Told, new_entry}
 use Rattle.osdp_tool_test.specs.Rules.{rule_in}
 use Rattle.osdp_tool_test.specs.Runs.{first_of, packets_of}
-use Rattle.osdp_tool_test.specs.declared.exchange.Exchange.{Exchange}
 use Rattle.osdp_tool_test.specs.declared.report.Form.{Form}
-use Rattle.osdp_tool_test.proofs.OneReport.{GoesByRows, all_plain, plain as plain_by, plain_rule}
-use Rattle.osdp_tool_test_panel.specs.Lines.{Line, SaidFits, device, hears, said_words, says, skips}
-use Rattle.osdp_tool_test_panel.specs.Rules.{fresh_from}
-use Rattle.osdp_tool_test_panel.specs.Table.{Row, row}
-use Rattle.osdp_tool_test_panel.specs.Tests.{PanelTest, after_hearing, after_packet_of, after_said, entries_of, judged_by, judged_entry, new_test}
-use Rattle.osdp_tool_test_panel.specs.declared.rules.PanelRule.{PanelRule}
 use Rattle.osdp_tool_test_panel.proofs.OneLine.{lines_named}
 
 abbrev pub of_row : Row → PanelRule

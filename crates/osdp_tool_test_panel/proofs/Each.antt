@@ -1,10 +1,7 @@
 -- A loop that changes each rule of a list, and one that makes them.
-use Rattle.std.proofs.Common.{◌≡◌, ℕ, ◌+◌, ◌<◌, ◌≤◌, List, [], ◌∷◌, ◌++◌, length, get_or, map, take, drop, set, refl, sym, subst, ap, ◌∙◌, append_assoc, append-nil, arith}
+use Rattle.osdp_tool_test_panel.proofs.Common.{◌≡◌, ℕ, ◌+◌, ◌<◌, ◌≤◌, List, [], ◌∷◌, ◌++◌, length, get_or, map, take, drop, set, refl, sym, subst, ap, ◌∙◌, append_assoc, append-nil, arith, Told, new_entry, told, fresh_from, PanelRule}
 use Rattle.std.proofs.lemmas.List.{drop-set-lt, drop_all, drop_more, map-append, take_all, take_more_set}
-use Rattle.osdp_tool_test.specs.Entries.{Told, new_entry, told}
 use Rattle.osdp_tool_test.specs.declared.entry.Entry.{Entry}
-use Rattle.osdp_tool_test_panel.specs.Rules.{fresh_from}
-use Rattle.osdp_tool_test_panel.specs.declared.rules.PanelRule.{PanelRule}
 
 -- those before a place were changed so, and the others not
 pub record Changed (f : Told → Told) (old : List Entry) (k : ℕ) (now : List Entry) : Type 0 where

@@ -1,3 +1,4 @@
+pub mod Common
 pub mod Each
 pub mod Rows
 pub mod Parts

@@ -1,14 +1,9 @@
 -- A line says one thing at most.
-use Rattle.std.proofs.Common.{◌≡◌, ◌∙◌, ◌<◌, ◌^◌, ℕ, List, [], ◌∷◌, codes, refl, sym, ap, arith}
+use Rattle.osdp_tool_test_panel.proofs.Common.{◌≡◌, ◌∙◌, ◌<◌, ◌^◌, ℕ, List, [], ◌∷◌, codes, refl, sym, ap, arith, differ, AllStandFor, Line, MoreFits, SaidFits, device, hears, more_words, said_name, said_words, says, skips, IsAsked, More}
 use Rattle.std.proofs.lemmas.Fmt.{decimal_injective}
 use Rattle.arrayvec.specs.ArrayVec.{ArrayVec}
-use Rattle.osdp_msg.proofs.RowTexts.{differ}
-use Rattle.osdp_words.specs.Word.{AllStandFor}
 use Rattle.osdp_tool_test.proofs.Once.{AreNamed}
 use Rattle.osdp_tool_test.proofs.OneLine.{exchange_once, list_once, number_once, skip_once}
-use Rattle.osdp_tool_test_panel.specs.Lines.{Line, MoreFits, SaidFits, device, hears, more_words, said_name, said_words, says, skips}
-use Rattle.osdp_tool_test_panel.specs.Rules.{IsAsked}
-use Rattle.osdp_tool_test_panel.specs.declared.said.More.{More}
 
 abbrev more : ℕ → ArrayVec ℕ → More
 more delay said = record { delay = delay; said = said }

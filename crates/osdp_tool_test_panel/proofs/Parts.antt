@@ -1,12 +1,8 @@
 -- What the device said too, by the words of what was heard.
-use Rattle.std.proofs.Common.{◌≡◌, ℕ, List, Option, Some, None, ap, option_map}
+use Rattle.osdp_tool_test_panel.proofs.Common.{◌≡◌, ℕ, List, Option, Some, None, ap, option_map, AllStandFor, HeardFits, heard_words, MoreFits, more_words, More}
 use Rattle.std.specs.Prelude.{IfSome}
 use Rattle.osdp_words.specs.Reading.{ReadsWords}
-use Rattle.osdp_words.specs.Word.{AllStandFor}
 use Rattle.osdp_tool_test.proofs.Parts.{Heard}
-use Rattle.osdp_tool_test.specs.Lines.{HeardFits, heard_words}
-use Rattle.osdp_tool_test_panel.specs.Lines.{MoreFits, more_words}
-use Rattle.osdp_tool_test_panel.specs.declared.said.More.{More}
 
 abbrev pub more_of : Heard → More
 more_of x = record { delay = x.0; said = x.1 }

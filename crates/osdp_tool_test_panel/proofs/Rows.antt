@@ -1,10 +1,5 @@
 -- The lines by their names: what is read after a name is what the line is made of.
-use Rattle.std.proofs.Common.{◌≡◌, ℕ, codes, refl}
-use Rattle.osdp_msg.proofs.RowTexts.{differ}
-use Rattle.osdp_tool_test.specs.Lines.{LeftOut}
-use Rattle.osdp_tool_test_panel.specs.Lines.{Line, device, hears, said_name, says, skips}
-use Rattle.osdp_tool_test.specs.declared.exchange.Exchange.{Exchange}
-use Rattle.osdp_tool_test_panel.specs.declared.said.More.{More}
+use Rattle.osdp_tool_test_panel.proofs.Common.{◌≡◌, ℕ, codes, refl, differ, LeftOut, Line, device, hears, said_name, says, skips, Exchange, More}
 
 pub is_device : (m : Line) → said_name m ≡ codes "device" → (x : ℕ) × (m ≡ device x)
 is_device (device x) e = (x, refl)

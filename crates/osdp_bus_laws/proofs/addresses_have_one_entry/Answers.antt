@@ -1,5 +1,4 @@
-use Rattle.osdp_bus.specs.Buses.{new_bus}
-use Rattle.osdp_bus_laws.specs.Calls.{after_calls}
+use Rattle.osdp_bus_laws.proofs.Common.{new_bus, after_calls}
 use Rattle.osdp_bus_laws.proofs.Calling.{always}
 use Rattle.osdp_bus_laws.proofs.Reserving.{reservations_last}
 use Rattle.osdp_bus_laws.proofs.addresses_have_one_entry.Goals as goal

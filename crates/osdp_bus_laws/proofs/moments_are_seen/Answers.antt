@@ -1,5 +1,4 @@
-use Rattle.osdp_bus.specs.Buses.{new_bus}
-use Rattle.osdp_bus_laws.specs.Calls.{after_calls}
+use Rattle.osdp_bus_laws.proofs.Common.{new_bus, after_calls}
 use Rattle.osdp_bus_laws.proofs.Calling.{always}
 use Rattle.osdp_bus_laws.proofs.Moments.{moments_are_seen, runs_are_heard}
 use Rattle.osdp_bus_laws.proofs.moments_are_seen.Goals as goal

@@ -1,5 +1,4 @@
-use Rattle.osdp_bus.specs.Buses.{new_bus}
-use Rattle.osdp_bus_laws.specs.Calls.{after_calls}
+use Rattle.osdp_bus_laws.proofs.Common.{new_bus, after_calls}
 use Rattle.osdp_bus_laws.proofs.Refusing.{refuses_in_order}
 use Rattle.osdp_bus_laws.proofs.Rooms.{always_rooms}
 use Rattle.osdp_bus_laws.proofs.refusals_come_in_order.Goals as goal

@@ -1,5 +1,4 @@
-use Rattle.osdp_bus.specs.Buses.{new_bus}
-use Rattle.osdp_bus_laws.specs.Calls.{after_calls}
+use Rattle.osdp_bus_time_laws.proofs.Common.{new_bus, after_calls}
 use Rattle.osdp_bus_time_laws.proofs.Devices.{always_well}
 use Rattle.osdp_bus_time_laws.proofs.Told.{open_are_asked}
 use Rattle.osdp_bus_time_laws.proofs.open_entries_are_asked.Goals as goal

@@ -1,7 +1,6 @@
 use Rattle.osdp_calls_instance.proofs.CPrograms.{devices_are, makes_anew, panels_are}
 use Rattle.osdp_calls_instance.proofs.OwnCalls.{call_the_line}
-use Rattle.osdp_calls_instance.specs.CPrograms.{c_device, c_panel}
-use Rattle.osdp_device.specs.Program.{program_after, program_answer}
+use Rattle.osdp_calls_instance.proofs.Common.{c_device, c_panel, program_after, program_answer}
 use Rattle.osdp_calls_instance.proofs.calls_for_c_are_calls.Goals as goal
 
 pub returns : goal.returns

@@ -1,7 +1,6 @@
 use Rattle.osdp_calls_instance.proofs.LinePrograms.{device_lines_are, lines_are_these, panel_lines_are}
 use Rattle.osdp_calls_instance.proofs.OwnCalls.{call_the_line}
-use Rattle.osdp_calls_instance.specs.LinePrograms.{line_device, line_panel}
-use Rattle.osdp_device.specs.Status.{status_after, status_answer}
+use Rattle.osdp_calls_instance.proofs.Common.{line_device, line_panel, status_after, status_answer}
 use Rattle.osdp_calls_instance.proofs.lines_are_calls.Goals as goal
 
 pub returns : goal.returns

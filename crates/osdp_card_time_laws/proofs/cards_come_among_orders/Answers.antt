@@ -1,6 +1,4 @@
-use Rattle.osdp_bus.specs.Buses.{new_bus}
-use Rattle.osdp_bus_laws.specs.Calls.{after_calls}
-use Rattle.osdp_bus_time_laws.proofs.Devices.{always_well}
+use Rattle.osdp_card_time_laws.proofs.Common.{new_bus, after_calls, always_well}
 use Rattle.osdp_card_time_laws.proofs.Among.{cards_among_orders}
 use Rattle.osdp_card_time_laws.proofs.cards_come_among_orders.Goals as goal
 

@@ -1,5 +1,4 @@
-use Rattle.std.proofs.Common.{false, refl}
-use Rattle.osdp_line_calls.specs.OrderedPanels.{new_ordered}
+use Rattle.osdp_line_laws.proofs.Common.{false, refl, new_ordered}
 use Rattle.osdp_line_laws.proofs.Ordered.{plain_at_first, speaks_plain}
 use Rattle.osdp_line_laws.proofs.without_the_setting_a_panel_answers_as_before.Goals as goal
 

@@ -1,6 +1,4 @@
-use Rattle.std.proofs.Common.{ap}
-use Rattle.osdp_controller.specs.Answers.{meaning_by_reading}
-use Rattle.osdp_msg.specs.ReplyTable.{reply_code}
+use Rattle.osdp_link_laws.proofs.Common.{ap, meaning_by_reading, reply_code}
 use Rattle.osdp_link_laws.proofs.Tables.{reply_read}
 use Rattle.osdp_link_laws.proofs.reads_what_is_answered.Goals as goal
 

@@ -1,6 +1,4 @@
-use Rattle.osdp_bus.specs.Buses.{new_bus}
-use Rattle.osdp_bus_laws.specs.Calls.{after_calls}
-use Rattle.osdp_bus_time_laws.proofs.Devices.{always_well}
+use Rattle.osdp_plan_laws.proofs.Common.{new_bus, after_calls, always_well}
 use Rattle.osdp_plan_laws.proofs.Figures.{cards_between_by_plan, cards_by_plan}
 use Rattle.osdp_plan_laws.proofs.cards_keep_to_figures.Goals as goal
 

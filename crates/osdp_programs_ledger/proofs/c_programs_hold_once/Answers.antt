@@ -1,5 +1,4 @@
-use Rattle.osdp_calls_instance.specs.CPrograms.{c_device, c_panel}
-use Rattle.osdp_device.specs.Program.{program_after, program_answer}
+use Rattle.osdp_programs_ledger.proofs.Common.{c_device, c_panel, program_after, program_answer}
 use Rattle.osdp_programs_ledger.proofs.Programs.{programs_hold, ruled_programs_hold}
 use Rattle.osdp_programs_ledger.proofs.c_programs_hold_once.Goals as goal
 

@@ -1,5 +1,4 @@
-use Rattle.osdp_calls_instance.specs.LinePrograms.{line_device, line_panel}
-use Rattle.osdp_device.specs.Status.{status_after, status_answer}
+use Rattle.osdp_programs_ledger.proofs.Common.{line_device, line_panel, status_after, status_answer}
 use Rattle.osdp_programs_ledger.proofs.Programs.{programs_hold, ruled_programs_hold}
 use Rattle.osdp_programs_ledger.proofs.line_programs_hold_once.Goals as goal
 

@@ -1,5 +1,4 @@
-use Rattle.osdp_calls_instance.specs.LinePrograms.{line_device, line_panel}
-use Rattle.osdp_device.specs.Status.{status_after, status_answer}
+use Rattle.osdp_programs_ledger.proofs.Common.{line_device, line_panel, status_after, status_answer}
 use Rattle.osdp_programs_ledger.proofs.OwnOrder.{any_programs_keep, own_programs_hold}
 use Rattle.osdp_programs_ledger.proofs.line_programs_hold_once_in_any_order.Goals as goal
 

@@ -1,6 +1,4 @@
-use Rattle.std.proofs.Common.{refl, rules}
-use Rattle.osdp_reader.specs.Table.{kind_of}
-use Rattle.osdp_reader_laws.specs.Laws.{KeepsWhatItTook}
+use Rattle.osdp_reader_laws.proofs.Common.{refl, rules, kind_of, KeepsWhatItTook}
 use Rattle.osdp_reader_laws.proofs.Handlers.{outcome_alike}
 use Rattle.osdp_reader_laws.proofs.Repeating.{the_same_still}
 use Rattle.osdp_reader_laws.proofs.changes_answers_alone.Goals as goal

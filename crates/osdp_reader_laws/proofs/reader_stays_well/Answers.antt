@@ -1,6 +1,4 @@
-use Rattle.std.proofs.Common.{suc, None, refl, arith}
-use Rattle.osdp_reader.specs.Table.{kind_of}
-use Rattle.osdp_reader_laws.specs.Laws.{HasDeviceAddress, HasRoom, KeepsReply}
+use Rattle.osdp_reader_laws.proofs.Common.{suc, None, refl, arith, kind_of, HasDeviceAddress, HasRoom, KeepsReply}
 use Rattle.osdp_reader_laws.proofs.Addresses.{keeps_device}
 use Rattle.osdp_reader_laws.proofs.Keeping.{keeps_reply, none_is_some}
 use Rattle.osdp_reader_laws.proofs.Offering.{lapse_offer, none_offered, offer_stays, outcome_offer, submit_offer, withdraw_offer}

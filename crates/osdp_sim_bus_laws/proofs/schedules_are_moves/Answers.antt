@@ -1,5 +1,4 @@
-use Rattle.std.proofs.Common.{refl, arith}
-use Rattle.osdp_frame.specs.Spelling.{spelling}
+use Rattle.osdp_sim_bus_laws.proofs.Common.{refl, arith, spelling}
 use Rattle.osdp_sim_bus_laws.proofs.Beginning.{first_net, follows_first, is_set_up, nothing_is_kept}
 use Rattle.osdp_sim_bus_laws.proofs.Scheduling.{schedules_are_moves}
 use Rattle.osdp_sim_bus_laws.proofs.Stepping.{steps_are_moves}

@@ -1,5 +1,4 @@
-use Rattle.std.proofs.Common.{refl}
-use Rattle.osdp_frame.specs.Spelling.{spelling}
+use Rattle.osdp_sim_laws.proofs.Common.{refl, spelling}
 use Rattle.osdp_sim_laws.proofs.stands_on_one_link.Goals as goal
 
 pub returns : goal.returns

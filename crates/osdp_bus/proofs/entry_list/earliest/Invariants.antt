@@ -1,5 +1,4 @@
-use Rattle.std.proofs.Common.{take}
-use Rattle.osdp_bus.specs.Waits.{IsDueFrom, any_due}
+use Rattle.osdp_bus.proofs.Common.{take, IsDueFrom, any_due}
 use Rattle.osdp_bus.proofs.entry_list.earliest.Given as goal
 
 -- what holds of the devices so far

@@ -1,5 +1,4 @@
-use Rattle.std.proofs.Common.{◌≡◌, drop}
-use Rattle.osdp_bus.specs.Entries.{first_from, is_at}
+use Rattle.osdp_bus.proofs.Common.{◌≡◌, drop, first_from, is_at}
 use Rattle.osdp_bus.proofs.entry_list.first_at.Given as goal
 
 -- the devices that are left give what all of them do

@@ -1,5 +1,4 @@
-use Rattle.std.proofs.Common.{◌≡◌, drop}
-use Rattle.osdp_bus.specs.Entries.{first_from, holds}
+use Rattle.osdp_bus.proofs.Common.{◌≡◌, drop, first_from, holds}
 use Rattle.osdp_bus.proofs.entry_list.first_holding.Given as goal
 
 -- the devices that are left give what all of them do

@@ -1,6 +1,4 @@
-use Rattle.std.proofs.Common.{◌≡◌, drop}
-use Rattle.std.specs.List.{list_any}
-use Rattle.osdp_bus.specs.Entries.{takes_up}
+use Rattle.osdp_bus.proofs.Common.{◌≡◌, drop, list_any, takes_up}
 use Rattle.osdp_bus.proofs.entry_list.is_taken.Given as goal
 
 -- the devices that are left tell what all of them do

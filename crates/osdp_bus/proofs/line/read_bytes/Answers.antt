@@ -1,9 +1,4 @@
-use Rattle.std.proofs.Common.{sym, ap, ◌∙◌, arith}
-use Rattle.osdp_frame.specs.Held.{Held}
-use Rattle.osdp_frame.specs.Receiving.{Received}
-use Rattle.osdp_frame_laws.proofs.InTurn.{all_taken}
-use Rattle.osdp_bus.specs.Hearing.{hears_items}
-use Rattle.osdp_bus.specs.Private.{devices_of}
+use Rattle.osdp_bus.proofs.Common.{sym, ap, ◌∙◌, arith, Held, Received, all_taken, hears_items, devices_of}
 use Rattle.osdp_bus.proofs.Runs.{HeadRead, head_read}
 use Rattle.osdp_bus.proofs.line.read_bytes.Goals as goal
 

@@ -1,8 +1,4 @@
-use Rattle.std.proofs.Common.{◌≡◌, ◌≤◌, ◌-◌, ◌++◌, false, length, drop, vec_capacity}
-use Rattle.osdp_frame.specs.Items.{items, left_over}
-use Rattle.osdp_frame.specs.Receiving.{IsAllRead, Received}
-use Rattle.osdp_bus.specs.Hearing.{hears_items}
-use Rattle.osdp_bus.specs.Private.{devices_of}
+use Rattle.osdp_bus.proofs.Common.{◌≡◌, ◌≤◌, ◌-◌, ◌++◌, false, length, drop, vec_capacity, items, left_over, IsAllRead, Received, hears_items, devices_of}
 use Rattle.osdp_bus.proofs.line.read_bytes.Given as goal
 
 -- the bytes that are left bring the devices to where all of them do

@@ -1,5 +1,4 @@
-use Rattle.std.proofs.Common.{arith}
-use Rattle.osdp_bus.specs.Private.{devices_of}
+use Rattle.osdp_bus.proofs.Common.{arith, devices_of}
 use Rattle.osdp_bus.proofs.Runs.{head_after, head_held, head_some}
 use Rattle.osdp_bus.proofs.line.read_head.Goals as goal
 

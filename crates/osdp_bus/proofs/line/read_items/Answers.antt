@@ -1,11 +1,5 @@
-use Rattle.std.proofs.Common.{sym, ap, ◌∙◌}
-use Rattle.osdp_frame.specs.Held.{Held, after_advance}
-use Rattle.osdp_frame.specs.Receiving.{Received}
-use Rattle.osdp_frame.specs.Shown.{item_of}
-use Rattle.osdp_frame_laws.proofs.InTurn.{item_leaves, item_read, none_left}
+use Rattle.osdp_bus.proofs.Common.{sym, ap, ◌∙◌, Held, after_advance, Received, item_of, item_leaves, item_read, none_left, hears_items, devices_of}
 use Rattle.osdp_frame_laws.proofs.OneByOne.{fewer_held}
-use Rattle.osdp_bus.specs.Hearing.{hears_items}
-use Rattle.osdp_bus.specs.Private.{devices_of}
 use Rattle.osdp_bus.proofs.Runs.{hears_items-append}
 use Rattle.osdp_bus.proofs.line.read_items.Goals as goal
 

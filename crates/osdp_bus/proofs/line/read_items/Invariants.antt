@@ -1,8 +1,4 @@
-use Rattle.std.proofs.Common.{◌≡◌, length, vec_capacity}
-use Rattle.osdp_frame.specs.Items.{items, rest_of}
-use Rattle.osdp_frame.specs.Receiving.{Received}
-use Rattle.osdp_bus.specs.Hearing.{hears_items}
-use Rattle.osdp_bus.specs.Private.{devices_of}
+use Rattle.osdp_bus.proofs.Common.{◌≡◌, length, vec_capacity, items, rest_of, Received, hears_items, devices_of}
 use Rattle.osdp_bus.proofs.line.read_items.Given as goal
 
 -- the items that are left bring the devices to where all of them do, and leave the same bytes

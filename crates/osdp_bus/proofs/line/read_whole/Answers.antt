@@ -1,6 +1,4 @@
-use Rattle.std.proofs.Common.{sym, subst, arith}
-use Rattle.osdp_frame.specs.Shown.{item_of}
-use Rattle.osdp_bus.specs.Private.{ReadsHead, devices_of}
+use Rattle.osdp_bus.proofs.Common.{sym, subst, arith, item_of, ReadsHead, devices_of}
 use Rattle.osdp_bus.proofs.Runs.{head_whole}
 use Rattle.osdp_bus.proofs.line.read_whole.Goals as goal
 

@@ -1,5 +1,4 @@
-use Rattle.std.proofs.Common.{◌≡◌}
-use Rattle.osdp_tool_monitor.specs.Hearing.{TableDue}
+use Rattle.osdp_c.proofs.Common.{◌≡◌, TableDue}
 use Rattle.osdp_c.proofs.Heard.{heard_in}
 use Rattle.osdp_c.proofs.monitor.osdp_monitor_table.Goals as goal
 

@@ -1,7 +1,5 @@
-use Rattle.std.proofs.Common.{◌≡◌, ap, sym, ◌∙◌}
+use Rattle.osdp_c.proofs.Common.{◌≡◌, ap, sym, ◌∙◌, added_entry, added_status, number}
 use Rattle.osdp_c_values.specs.Addresses.{device_address}
-use Rattle.osdp_c_values.specs.Panels.{added_entry, added_status}
-use Rattle.osdp_c_values.specs.Statuses.{number}
 use Rattle.osdp_c.proofs.Added.{added_in}
 use Rattle.osdp_c.proofs.panel.osdp_panel_add.Goals as goal
 use Rattle.osdp_c.proofs.panel.osdp_panel_add.Goals.{in-Ok, in-Err}

@@ -1,6 +1,4 @@
-use Rattle.std.proofs.Common.{◌≡◌, ◌++◌, [], ◌∷◌, ap, ◌∙◌}
-use Rattle.osdp_words.specs.Word.{bytes}
-use Rattle.osdp_c_values.specs.Pieces.{following}
+use Rattle.osdp_c_values.proofs.Common.{◌≡◌, ◌++◌, [], ◌∷◌, ap, ◌∙◌, bytes, following}
 use Rattle.osdp_c_values.proofs.Putting.{put_after_two, word_then}
 use Rattle.osdp_c_values.proofs.command_texts.put_maker.Goals as goal
 

@@ -1,5 +1,4 @@
-use Rattle.std.proofs.Common.{◌≡◌, ◌++◌, drop, map}
-use Rattle.osdp_c_values.specs.Making.{output_record}
+use Rattle.osdp_c_values.proofs.Common.{◌≡◌, ◌++◌, drop, map, output_record}
 use Rattle.osdp_c_values.proofs.making.put_outputs.Given as goal
 
 abbrev pub invariant-loop-one : goal.invariant-loop-one

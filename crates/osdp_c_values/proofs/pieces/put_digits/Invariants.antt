@@ -1,6 +1,4 @@
-use Rattle.std.proofs.Common.{take}
-use Rattle.std.specs.List.{flat_map}
-use Rattle.osdp_c_values.specs.Pieces.{IsAt, two_digits}
+use Rattle.osdp_c_values.proofs.Common.{take, flat_map, IsAt, two_digits}
 use Rattle.osdp_c_values.proofs.pieces.put_digits.Given as goal
 
 -- the bytes before the place have been put

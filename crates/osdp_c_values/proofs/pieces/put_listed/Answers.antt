@@ -1,5 +1,4 @@
-use Rattle.std.proofs.Common.{append_assoc}
-use Rattle.std.proofs.lemmas.Grind.{flat_map-append}
+use Rattle.osdp_c_values.proofs.Common.{append_assoc, flat_map-append}
 use Rattle.osdp_c_values.proofs.Putting.{put_then}
 use Rattle.osdp_c_values.proofs.pieces.put_listed.Goals as goal
 

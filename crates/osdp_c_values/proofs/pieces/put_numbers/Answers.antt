@@ -1,5 +1,4 @@
-use Rattle.std.proofs.Common.{◌++◌}
-use Rattle.std.specs.Fmt.{decimal}
+use Rattle.osdp_c_values.proofs.Common.{◌++◌, decimal}
 use Rattle.osdp_c_values.proofs.Putting.{failed, nothing_put, piece_more, piece_without_room, pieces_done}
 use Rattle.osdp_c_values.proofs.pieces.put_numbers.Goals as goal
 

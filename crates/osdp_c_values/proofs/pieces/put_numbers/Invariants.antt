@@ -1,7 +1,4 @@
-use Rattle.std.proofs.Common.{◌++◌, take}
-use Rattle.std.specs.Fmt.{decimal}
-use Rattle.std.specs.List.{flat_map}
-use Rattle.osdp_c_values.specs.Pieces.{IsAt}
+use Rattle.osdp_c_values.proofs.Common.{◌++◌, take, decimal, flat_map, IsAt}
 use Rattle.osdp_c_values.proofs.pieces.put_numbers.Given as goal
 
 -- the numbers before the place have been put

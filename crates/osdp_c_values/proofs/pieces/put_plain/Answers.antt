@@ -1,5 +1,4 @@
-use Rattle.std.proofs.Common.{◌++◌, ap, sym}
-use Rattle.osdp_words.specs.Word.{number}
+use Rattle.osdp_c_values.proofs.Common.{◌++◌, ap, sym, number}
 use Rattle.osdp_c_values.proofs.Putting.{put_then, words_following}
 use Rattle.osdp_c_values.proofs.pieces.put_plain.Goals as goal
 

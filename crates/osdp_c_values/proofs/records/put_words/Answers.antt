@@ -1,7 +1,4 @@
-use Rattle.std.proofs.Common.{◌≡◌, ◌++◌, [], ◌∷◌, List, ℕ, codes, ap, subst, sym, refl, ◌∙◌, append_assoc, append-nil}
-use Rattle.std.specs.List.{flat_map}
-use Rattle.osdp_words.specs.Word.{printed}
-use Rattle.osdp_c_values.specs.Pieces.{IsAt}
+use Rattle.osdp_c_values.proofs.Common.{◌≡◌, ◌++◌, [], ◌∷◌, List, ℕ, codes, ap, subst, sym, refl, ◌∙◌, append_assoc, append-nil, flat_map, printed, IsAt}
 use Rattle.osdp_c_values.proofs.Putting.{failed, next_piece, next_without_room, nothing_put}
 use Rattle.osdp_c_values.proofs.records.put_words.Goals as goal
 

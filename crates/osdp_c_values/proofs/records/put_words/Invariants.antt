@@ -1,7 +1,4 @@
-use Rattle.std.proofs.Common.{◌≡◌, ◌++◌, List, codes, length}
-use Rattle.std.specs.List.{flat_map}
-use Rattle.osdp_words.specs.Word.{printed}
-use Rattle.osdp_c_values.specs.Pieces.{IsAt}
+use Rattle.osdp_c_values.proofs.Common.{◌≡◌, ◌++◌, List, codes, length, flat_map, printed, IsAt}
 use Rattle.osdp_c_values.proofs.records.put_words.Given as goal
 
 -- the records before those that are left have been put

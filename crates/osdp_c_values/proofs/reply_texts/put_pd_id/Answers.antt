@@ -1,6 +1,4 @@
-use Rattle.std.proofs.Common.{◌≡◌, ◌++◌, [], ◌∷◌, List, ℕ, codes, map, ap, ◌∙◌}
-use Rattle.osdp_words.specs.Word.{bytes, number}
-use Rattle.osdp_c_values.specs.Pieces.{following}
+use Rattle.osdp_c_values.proofs.Common.{◌≡◌, ◌++◌, [], ◌∷◌, List, ℕ, codes, map, ap, ◌∙◌, bytes, number, following}
 use Rattle.osdp_c_values.proofs.Putting.{numbers_then, put_after_two}
 use Rattle.osdp_c_values.proofs.reply_texts.put_pd_id.Goals as goal
 

@@ -1,6 +1,5 @@
-use Rattle.std.proofs.Common.{arith, sym, ◌∙◌}
+use Rattle.osdp_c_values.proofs.Common.{arith, sym, ◌∙◌, longest_command}
 use Rattle.osdp_msg.specs.CommandText.{command_text}
-use Rattle.osdp_msg_laws.proofs.LongestTexts.{longest_command}
 use Rattle.osdp_c_values.proofs.Texts.{text_told}
 use Rattle.osdp_c_values.proofs.text.write_command_text.Goals as goal
 

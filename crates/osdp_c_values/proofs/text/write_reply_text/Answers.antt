@@ -1,6 +1,5 @@
-use Rattle.std.proofs.Common.{arith, sym, ◌∙◌}
+use Rattle.osdp_c_values.proofs.Common.{arith, sym, ◌∙◌, longest_reply}
 use Rattle.osdp_msg.specs.ReplyText.{reply_text}
-use Rattle.osdp_msg_laws.proofs.LongestTexts.{longest_reply}
 use Rattle.osdp_c_values.proofs.Texts.{text_told}
 use Rattle.osdp_c_values.proofs.text.write_reply_text.Goals as goal
 

@@ -1,12 +1,4 @@
-use Rattle.std.proofs.Common.{ℕ, ◌≡◌, refl, sym, ap, Some, ◌∙◌}
-use Rattle.std.specs.Result.{result_ok}
-use Rattle.osdp_frame.specs.Held.{after_advance, decided}
-use Rattle.osdp_frame.specs.Reading.{PacketItem}
-use Rattle.osdp_frame.specs.Shown.{item_of}
-use Rattle.osdp_reader.specs.Table.{command_in}
-use Rattle.osdp_device.specs.Deciding.{acted_on}
-use Rattle.osdp_device.specs.Device.{command_at}
-use Rattle.osdp_device.specs.Lent.{said_if}
+use Rattle.osdp_device.proofs.Common.{ℕ, ◌≡◌, refl, sym, ap, Some, ◌∙◌, result_ok, after_advance, decided, PacketItem, item_of, command_in, acted_on, command_at, said_if}
 use Rattle.osdp_device.proofs.Taking.{told_here}
 use Rattle.osdp_device.proofs.first.answer_first.Goals as goal
 

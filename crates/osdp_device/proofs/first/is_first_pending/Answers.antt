@@ -1,9 +1,4 @@
-use Rattle.std.proofs.Common.{◌≡◌, Some, is_some, sym, ap, ◌∙◌}
-use Rattle.osdp_frame.specs.Held.{decided}
-use Rattle.osdp_frame.specs.Reading.{PacketItem}
-use Rattle.osdp_frame.specs.Shown.{item_of}
-use Rattle.osdp_device.specs.Device.{command_at}
-use Rattle.osdp_device.specs.Lent.{pending_if}
+use Rattle.osdp_device.proofs.Common.{◌≡◌, Some, is_some, sym, ap, ◌∙◌, decided, PacketItem, item_of, command_at, pending_if}
 use Rattle.osdp_device.proofs.Taking.{pending_shown}
 use Rattle.osdp_device.proofs.first.is_first_pending.Goals as goal
 

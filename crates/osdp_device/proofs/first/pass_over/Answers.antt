@@ -1,5 +1,4 @@
-use Rattle.std.proofs.Common.{sym, ap}
-use Rattle.osdp_frame_laws.proofs.OneByOne.{fewer_held}
+use Rattle.osdp_device.proofs.Common.{sym, ap, fewer_held}
 use Rattle.osdp_device.proofs.first.pass_over.Goals as goal
 
 pub items-smaller : goal.items-smaller

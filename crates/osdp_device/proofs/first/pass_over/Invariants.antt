@@ -1,6 +1,4 @@
-use Rattle.std.proofs.Common.{◌≡◌, length}
-use Rattle.osdp_device.specs.Deciding.{passed, pending_of}
-use Rattle.osdp_device.specs.Telling.{next_told}
+use Rattle.osdp_device.proofs.Common.{◌≡◌, length, passed, pending_of, next_told}
 use Rattle.osdp_device.proofs.first.pass_over.Given as goal
 
 -- the items left tell what all of them do

@@ -1,5 +1,4 @@
-use Rattle.std.proofs.Common.{refl, inl, inr, arith}
-use Rattle.osdp_reader.specs.Table.{hears}
+use Rattle.osdp_device.proofs.Common.{refl, inl, inr, arith, hears}
 use Rattle.osdp_device.proofs.Waiting.{arrives, leaves, released, stayed, tells_ages}
 use Rattle.osdp_device.proofs.laws.events_keep_their_moments.Goals as goal
 

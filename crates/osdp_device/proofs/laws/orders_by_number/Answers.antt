@@ -1,10 +1,4 @@
-use Rattle.std.proofs.Common.{◌≡◌, ◌↔◌, ◌∙◌, Bool, false, Option, Some, sym, subst, ap}
-use Rattle.osdp_msg.specs.declared.command.Command.{Command}
-use Rattle.osdp_reader.specs.Table.{hears, kind_of}
-use Rattle.osdp_reader.specs.declared.kind.Kind.TheVariants.{Zero, Taken}
-use Rattle.osdp_device.specs.Orders.{either, is_nak}
-use Rattle.osdp_device.specs.Saying.{again_by, said_to, taken_by}
-use Rattle.osdp_device.specs.declared.order.Order.TheVariants.{Nothing, Once, Again}
+use Rattle.osdp_device.proofs.Common.{◌≡◌, ◌↔◌, ◌∙◌, Bool, false, Option, Some, sym, subst, ap, Command, hears, kind_of, Zero, Taken, either, is_nak, again_by, said_to, taken_by, Nothing, Once, Again}
 use Rattle.osdp_device.proofs.Ordering.{about_it, acted, done_again, done_once, order_at, polled, unread}
 use Rattle.osdp_device.proofs.laws.orders_by_number.Goals as goal
 

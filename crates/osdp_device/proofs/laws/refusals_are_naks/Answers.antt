@@ -1,22 +1,8 @@
 -- What a reader sends is a NAK where its reply is one.
-use Rattle.std.proofs.Common.{◌≡◌, ◌↔◌, ℕ, Bool, true, false, Option, None, Some, Result, Ok, Err, refl, ap, sym, ◌∙◌}
-use Rattle.osdp_device.specs.Saying.{again_by, bytes_of, said_to, taken_by}
-use Rattle.osdp_frame.specs.Packet.{Packet}
-use Rattle.osdp_frame.specs.Spelling.{spelling}
-use Rattle.osdp_msg.specs.declared.command.Command.{Command}
-use Rattle.osdp_msg.specs.declared.fault.MsgFault.{MsgFault}
+use Rattle.osdp_device.proofs.Common.{◌≡◌, ◌↔◌, ℕ, Bool, true, false, Option, None, Some, Result, Ok, Err, refl, ap, sym, ◌∙◌, again_by, bytes_of, said_to, taken_by, Packet, spelling, Command, MsgFault, Reply, Answer, Kind, event_for, released, refused, reply_packet, unread_reason, ReaderState, answer_to, begun, command_in, event_or_answer, kind_of, outcome, taken, either, is_nak, is_refusal, order_by, Refused}
 use Rattle.osdp_msg.specs.declared.nak.NakReason.TheVariants.{SecurityBlock, UnexpectedSequence}
-use Rattle.osdp_msg.specs.declared.reply.Reply.{Reply}
 use Rattle.osdp_msg.specs.declared.reply.Reply.TheVariants.{Ack, Busy}
-use Rattle.osdp_reader.specs.declared.handler.Answer.{Answer}
-use Rattle.osdp_reader.specs.declared.kind.Kind.{Kind}
 use Rattle.osdp_reader.specs.declared.kind.Kind.TheVariants as kind
-use Rattle.osdp_reader.specs.Queue.{event_for, released}
-use Rattle.osdp_reader.specs.Replies.{refused, reply_packet, unread_reason}
-use Rattle.osdp_reader.specs.State.{ReaderState}
-use Rattle.osdp_reader.specs.Table.{answer_to, begun, command_in, event_or_answer, kind_of, outcome, taken}
-use Rattle.osdp_device.specs.Orders.{either, is_nak, is_refusal, order_by}
-use Rattle.osdp_device.specs.declared.order.Order.TheVariants.{Refused}
 use Rattle.osdp_device.proofs.laws.refusals_are_naks.Goals as goal
 
 -- the code of a reply is the sixth byte of its packet

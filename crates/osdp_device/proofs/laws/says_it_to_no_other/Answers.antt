@@ -1,15 +1,4 @@
-use Rattle.std.proofs.Common.{◌≡◌, Option, Some, None, refl}
-use Rattle.osdp_frame.specs.Held.{Held}
-use Rattle.osdp_msg.specs.declared.command.Command.{Command}
-use Rattle.osdp_reader.specs.declared.kind.Kind.TheVariants.{Repeat}
-use Rattle.osdp_reader.specs.State.{ReaderState}
-use Rattle.osdp_device.specs.Deciding.{pending_of, turned_by}
-use Rattle.osdp_device.specs.Program.{program_after, program_answer}
-use Rattle.osdp_device.specs.Saying.{Said, bytes_of}
-use Rattle.osdp_device.specs.Telling.{items_of}
-use Rattle.osdp_device.specs.declared.program.ProgramAnswers.{ProgramAnswers}
-use Rattle.osdp_device.specs.declared.question.Question.{Question}
-use Rattle.osdp_device.specs.declared.question.Question.TheVariants.{NotAsked, Asked, Answered}
+use Rattle.osdp_device.proofs.Common.{◌≡◌, Option, Some, None, refl, Held, Command, Repeat, ReaderState, pending_of, turned_by, program_after, program_answer, Said, bytes_of, items_of, ProgramAnswers, Question, NotAsked, Asked, Answered}
 use Rattle.osdp_device.proofs.Sets.{repeats_stored, says_no_other}
 use Rattle.osdp_device.proofs.laws.says_it_to_no_other.Goals as goal
 

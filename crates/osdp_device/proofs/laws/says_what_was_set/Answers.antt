@@ -1,15 +1,4 @@
-use Rattle.std.proofs.Common.{◌≡◌, Some, refl, sym, ap, ◌∙◌, subst}
-use Rattle.osdp_frame.specs.Held.{Held}
-use Rattle.osdp_msg.specs.declared.command.Command.{Command}
-use Rattle.osdp_reader.specs.Replies.{reply_for}
-use Rattle.osdp_reader.specs.State.{ReaderState}
-use Rattle.osdp_device.specs.Deciding.{pending_of, stops, turned, turned_by}
-use Rattle.osdp_device.specs.DecidingLaws.{IsSaidTo}
-use Rattle.osdp_device.specs.Program.{program_after, program_answer, set_or_told}
-use Rattle.osdp_device.specs.Telling.{items_of, next_told}
-use Rattle.osdp_device.specs.declared.program.ProgramAnswers.{ProgramAnswers}
-use Rattle.osdp_device.specs.declared.question.Question.{Question}
-use Rattle.osdp_device.specs.declared.question.Question.TheVariants.{Asked, Answered}
+use Rattle.osdp_device.proofs.Common.{◌≡◌, Some, refl, sym, ap, ◌∙◌, subst, Held, Command, reply_for, ReaderState, pending_of, stops, turned, turned_by, IsSaidTo, program_after, program_answer, set_or_told, items_of, next_told, ProgramAnswers, Question, Asked, Answered}
 use Rattle.osdp_device.proofs.Sets.{says_it}
 use Rattle.osdp_device.proofs.Staying.{stays_ended, stays_taken, stays_tick}
 use Rattle.osdp_device.proofs.laws.says_what_was_set.Goals as goal

@@ -1,5 +1,4 @@
-use Rattle.std.proofs.Common.{sym, ◌∙◌, arith}
-use Rattle.osdp_bus.specs.Entries.{is_at}
+use Rattle.osdp_line_calls.proofs.Common.{sym, ◌∙◌, arith, is_at}
 use Rattle.osdp_line_calls.proofs.Listening.{found, not_found}
 use Rattle.osdp_line_calls.proofs.listener.entry_at.Goals as goal
 

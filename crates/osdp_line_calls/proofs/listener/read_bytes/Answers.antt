@@ -1,6 +1,4 @@
-use Rattle.std.proofs.Common.{sym, ◌∙◌, arith, string_bytes}
-use Rattle.osdp_frame_laws.proofs.InTurn.{PieceTaken, all_taken, piece_read, piece_some, piece_taken}
-use Rattle.osdp_line_calls.specs.Passing.{passed_item}
+use Rattle.osdp_line_calls.proofs.Common.{sym, ◌∙◌, arith, string_bytes, PieceTaken, all_taken, piece_read, piece_some, piece_taken, passed_item}
 use Rattle.osdp_line_calls.proofs.Listening.{all_written, written, written-append}
 use Rattle.osdp_line_calls.proofs.ReaderTurns.{line_on}
 use Rattle.osdp_line_calls.proofs.listener.read_bytes.Goals as goal

@@ -1,7 +1,4 @@
-use Rattle.std.proofs.Common.{◌≡◌, ◌≤◌, ◌-◌, ◌++◌, false, length, drop, string_bytes}
-use Rattle.osdp_frame.specs.Items.{items, left_over}
-use Rattle.osdp_frame.specs.Receiving.{IsAllRead, Received}
-use Rattle.osdp_line_calls.specs.Passing.{passed_item}
+use Rattle.osdp_line_calls.proofs.Common.{◌≡◌, ◌≤◌, ◌-◌, ◌++◌, false, length, drop, string_bytes, items, left_over, IsAllRead, Received, passed_item}
 use Rattle.osdp_line_calls.proofs.Listening.{written}
 use Rattle.osdp_line_calls.proofs.listener.read_bytes.Given as goal
 

@@ -1,9 +1,6 @@
-use Rattle.std.proofs.Common.{sym, ap, string_bytes, ◌∙◌}
-use Rattle.osdp_frame.specs.Receiving.{Received}
+use Rattle.osdp_line_calls.proofs.Common.{sym, ap, string_bytes, ◌∙◌, Received, item_leaves, item_read, none_left, passed_item}
 use Rattle.osdp_frame.specs.Shown.{item_of}
-use Rattle.osdp_frame_laws.proofs.InTurn.{item_leaves, item_read, none_left}
 use Rattle.osdp_frame_laws.proofs.OneByOne.{fewer_held}
-use Rattle.osdp_line_calls.specs.Passing.{passed_item}
 use Rattle.osdp_line_calls.proofs.Listening.{all_written, line_written, written, written-append}
 use Rattle.osdp_line_calls.proofs.ReaderTurns.{line_on}
 use Rattle.osdp_line_calls.proofs.listener.read_items.Goals as goal

@@ -1,7 +1,4 @@
-use Rattle.std.proofs.Common.{◌≡◌, length, string_bytes}
-use Rattle.osdp_frame.specs.Items.{items, rest_of}
-use Rattle.osdp_frame.specs.Receiving.{Received}
-use Rattle.osdp_line_calls.specs.Passing.{passed_item}
+use Rattle.osdp_line_calls.proofs.Common.{◌≡◌, length, string_bytes, items, rest_of, Received, passed_item}
 use Rattle.osdp_line_calls.proofs.Listening.{written}
 use Rattle.osdp_line_calls.proofs.listener.read_items.Given as goal
 

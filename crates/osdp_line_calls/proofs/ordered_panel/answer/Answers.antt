@@ -1,6 +1,5 @@
-use Rattle.std.proofs.Common.{string_bytes, subst}
+use Rattle.osdp_line_calls.proofs.Common.{string_bytes, subst, Session, overhears}
 use Rattle.osdp_line_calls.specs.OrderedPanels.{Comes, answered, does, with_orders, plain_of, then_reports}
-use Rattle.osdp_line_calls.specs.PanelSessions.{Session, overhears}
 use Rattle.osdp_line_calls.proofs.OrderedCalls.{ended_so, heard_first, told_so}
 use Rattle.osdp_line_calls.proofs.ordered_panel.answer.Goals as goal
 

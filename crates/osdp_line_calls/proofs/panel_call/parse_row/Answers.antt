@@ -1,11 +1,4 @@
-use Rattle.std.proofs.Common.{◌∷◌, [], ◌<◌, ◌^◌, ℕ, Some, None, codes, refl}
-use Rattle.osdp_words.specs.Word.{number, texts}
-use Rattle.osdp_msg.specs.declared.command.Command.{Command}
-use Rattle.osdp_msg.specs.CommandTable.{CommandFits}
-use Rattle.osdp_msg.specs.CommandText.{command_words}
-use Rattle.osdp_msg.proofs.RowTexts.{row_read}
-use Rattle.osdp_line_calls.specs.declared.panel_call.PanelCall.TheVariants.{At, Add, Begin, Withdraw}
-use Rattle.osdp_line_calls.specs.PanelCalls.{CallFits, IsAddress, IsEntry, call_fields, call_name, entry_word}
+use Rattle.osdp_line_calls.proofs.Common.{◌∷◌, [], ◌<◌, ◌^◌, ℕ, Some, None, codes, refl, number, texts, Command, CommandFits, command_words, row_read, At, Add, Begin, Withdraw, CallFits, IsAddress, IsEntry, call_fields, call_name, entry_word}
 use Rattle.osdp_line_calls.proofs.PanelRows.{retarget_call, row_add, row_at, row_begin, row_retarget, row_submit, row_withdraw, submit_call}
 use Rattle.osdp_line_calls.proofs.panel_call.parse_row.Goals as goal
 

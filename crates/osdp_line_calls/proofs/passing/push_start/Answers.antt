@@ -1,6 +1,5 @@
-use Rattle.std.proofs.Common.{◌+◌, ◌++◌, ap, append_assoc, codes, string_bytes}
+use Rattle.osdp_line_calls.proofs.Common.{◌+◌, ◌++◌, ap, append_assoc, codes, string_bytes, number_text}
 use Rattle.std.specs.Fmt.{decimal}
-use Rattle.osdp_line_calls.specs.Passing.{number_text}
 use Rattle.osdp_line_calls.proofs.PanelCalls.{then_written}
 use Rattle.osdp_line_calls.proofs.passing.push_start.Goals as goal
 

@@ -1,9 +1,4 @@
-use Rattle.std.proofs.Common.{◌++◌, false, length, string_bytes, refl, sym, ap, ◌∙◌, arith, append-nil}
-use Rattle.osdp_device.specs.Ages.{after_expiry, after_removal}
-use Rattle.osdp_device.specs.Device.{DeviceState}
-use Rattle.osdp_device.specs.declared.status.DeviceStatus.{DeviceStatus}
-use Rattle.osdp_line_calls.specs.ReaderAbsence.{LetGo}
-use Rattle.osdp_line_calls.specs.ReaderTexts.{expired_lines}
+use Rattle.osdp_line_calls.proofs.Common.{◌++◌, false, length, string_bytes, refl, sym, ap, ◌∙◌, arith, append-nil, after_expiry, after_removal, DeviceState, DeviceStatus, LetGo, expired_lines}
 use Rattle.osdp_line_calls.proofs.LettingGo.{ages_of, goes, leaves, line_of, none_goes, reader_of, wrote_one}
 use Rattle.osdp_line_calls.proofs.reader_absence.let_go.Goals as goal
 

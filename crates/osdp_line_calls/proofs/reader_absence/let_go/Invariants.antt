@@ -1,10 +1,4 @@
-use Rattle.std.proofs.Common.{◌≡◌, ◌++◌, length, string_bytes}
-use Rattle.osdp_device.specs.Ages.{AgesState}
-use Rattle.osdp_device.specs.declared.status.DeviceStatus.{DeviceStatus}
-use Rattle.osdp_frame.specs.Receiving.{Received}
-use Rattle.osdp_reader.specs.State.{ReaderState}
-use Rattle.osdp_line_calls.specs.ReaderAbsence.{lets_go}
-use Rattle.osdp_line_calls.specs.ReaderTexts.{expired_lines}
+use Rattle.osdp_line_calls.proofs.Common.{◌≡◌, ◌++◌, length, string_bytes, AgesState, DeviceStatus, Received, ReaderState, lets_go, expired_lines}
 use Rattle.osdp_line_calls.proofs.reader_absence.let_go.Given as goal
 
 -- those that go of the events that are left, after what was written, are all that go

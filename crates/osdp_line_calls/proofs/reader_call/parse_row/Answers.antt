@@ -1,9 +1,6 @@
-use Rattle.std.proofs.Common.{◌∷◌, [], ◌<◌, ◌^◌, ℕ, Some, None, codes, refl}
-use Rattle.osdp_words.specs.Word.{number, texts}
-use Rattle.osdp_msg.proofs.RowTexts.{row_read}
+use Rattle.osdp_line_calls.proofs.Common.{◌∷◌, [], ◌<◌, ◌^◌, ℕ, Some, None, codes, refl, number, texts, row_read, switch_word}
 use Rattle.osdp_line_calls.specs.declared.reader_call.ReaderCall.TheVariants.{At, Busy}
 use Rattle.osdp_line_calls.specs.ReaderCalls.{CallFits, call_fields, call_name}
-use Rattle.osdp_settings.specs.Values.{switch_word}
 use Rattle.osdp_line_calls.proofs.ReaderRows.{local_call, row_at, row_busy, row_local}
 use Rattle.osdp_line_calls.proofs.reader_call.parse_row.Goals as goal
 

@@ -1,8 +1,4 @@
-use Rattle.std.proofs.Common.{string_bytes, ap, arith}
-use Rattle.osdp_device.specs.Device.{DeviceState}
-use Rattle.osdp_device.specs.Hearing.{hears_bytes}
-use Rattle.osdp_device.specs.Status.{status_after, status_answer}
-use Rattle.osdp_device.specs.declared.status.DeviceStatus.{DeviceStatus}
+use Rattle.osdp_line_calls.proofs.Common.{string_bytes, ap, arith, DeviceState, hears_bytes, status_after, status_answer, DeviceStatus}
 use Rattle.osdp_line_calls.proofs.ReaderTurns.{turned_on}
 use Rattle.osdp_line_calls.proofs.reader_session.hear.Goals as goal
 

@@ -1,6 +1,4 @@
-use Rattle.std.proofs.Common.{◌≤◌, length, drop, string_bytes}
-use Rattle.osdp_device.specs.Hearing.{hears_bytes, turns_left}
-use Rattle.osdp_device.specs.Status.{status_after, status_answer}
+use Rattle.osdp_line_calls.proofs.Common.{◌≤◌, length, drop, string_bytes, hears_bytes, turns_left, status_after, status_answer}
 use Rattle.osdp_line_calls.proofs.ReaderTurns.{IsOnTheWay}
 use Rattle.osdp_line_calls.proofs.reader_session.hear.Given as goal
 

@@ -1,13 +1,5 @@
-use Rattle.std.proofs.Common.{◌≡◌, ◌++◌, suc, length, string_bytes, Some, None, sym, ap, subst, ◌∙◌, arith, append-nil, refl}
-use Rattle.osdp_device.specs.Ages.{after_saying}
-use Rattle.osdp_frame.specs.Receiving.{Received}
-use Rattle.osdp_frame.specs.Held.{Held}
-use Rattle.osdp_device.specs.Saying.{Said}
+use Rattle.osdp_line_calls.proofs.Common.{◌≡◌, ◌++◌, suc, length, string_bytes, Some, None, sym, ap, subst, ◌∙◌, arith, append-nil, refl, after_saying, Received, Held, Said, status_after, status_answer, after_items, after_all, items_of, said_to_all, is_any, all_lines, said_lines}
 use Rattle.osdp_device.specs.Lent.{said_by}
-use Rattle.osdp_device.specs.Status.{status_after, status_answer}
-use Rattle.osdp_device.specs.Telling.{after_items, after_all, items_of, said_to_all}
-use Rattle.osdp_line_calls.specs.ReaderSessions.{is_any}
-use Rattle.osdp_line_calls.specs.ReaderTexts.{all_lines, said_lines}
 use Rattle.osdp_line_calls.proofs.ReaderTurns.{ages_on, line_on, turned, written}
 use Rattle.osdp_line_calls.proofs.reader_session.say_all.Goals as goal
 

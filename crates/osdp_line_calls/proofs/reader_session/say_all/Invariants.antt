@@ -1,10 +1,4 @@
-use Rattle.std.proofs.Common.{◌≡◌, ◌++◌, length, string_bytes}
-use Rattle.osdp_device.specs.Ages.{AgesState, after_saying}
-use Rattle.osdp_frame.specs.Receiving.{Received}
-use Rattle.osdp_device.specs.Status.{status_after, status_answer}
-use Rattle.osdp_device.specs.Telling.{after_items, after_all, items_of, said_to_all}
-use Rattle.osdp_line_calls.specs.ReaderSessions.{is_any}
-use Rattle.osdp_line_calls.specs.ReaderTexts.{all_lines}
+use Rattle.osdp_line_calls.proofs.Common.{◌≡◌, ◌++◌, length, string_bytes, AgesState, after_saying, Received, status_after, status_answer, after_items, after_all, items_of, said_to_all, is_any, all_lines}
 use Rattle.osdp_line_calls.proofs.reader_session.say_all.Given as goal
 
 -- what is said to the items left, after what was written, is what is said to all of them

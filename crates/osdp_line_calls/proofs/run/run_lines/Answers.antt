@@ -1,6 +1,5 @@
-use Rattle.std.proofs.Common.{inr}
+use Rattle.osdp_line_calls.proofs.Common.{inr, Runs}
 use Rattle.osdp_tool_streams.proofs.Answered.{on_err}
-use Rattle.osdp_line_calls.specs.Runs.{Runs}
 use Rattle.osdp_line_calls.proofs.Running.{unset}
 use Rattle.osdp_line_calls.proofs.run.run_lines.Goals as goal
 

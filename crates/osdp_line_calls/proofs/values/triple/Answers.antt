@@ -1,6 +1,5 @@
-use Rattle.std.proofs.Common.{◌≡◌, ℕ, List, [], ◌∷◌, Some, slice_index_or, refl, sym, subst}
+use Rattle.osdp_line_calls.proofs.Common.{◌≡◌, ℕ, List, [], ◌∷◌, Some, slice_index_or, refl, sym, subst, numbers}
 use Rattle.osdp_words.specs.Reading.{Reads}
-use Rattle.osdp_words.specs.Word.{numbers}
 use Rattle.osdp_line_calls.specs.Values.{IsTriple}
 use Rattle.osdp_line_calls.proofs.values.triple.Goals as goal
 

@@ -1,7 +1,4 @@
-use Rattle.osdp_bus.specs.Buses.{new_bus}
-use Rattle.osdp_bus_laws.specs.Calls.{after_calls as after_bus_calls}
-use Rattle.osdp_bus_time_laws.proofs.Devices.{Well, always_well}
-use Rattle.osdp_orders_laws.specs.Calls.{after_calls, new_panel}
+use Rattle.osdp_orders_laws.proofs.Common.{new_bus, after_bus_calls, Well, always_well, after_calls, new_panel}
 use Rattle.osdp_orders_laws.proofs.Ending.{bus_tells_ends, ends_are_told}
 use Rattle.osdp_orders_laws.proofs.Keeping.{Inv, inv_along, inv_new}
 use Rattle.osdp_orders_laws.proofs.in_time.ended_sessions_are_told.Goals as goal

@@ -1,6 +1,4 @@
-use Rattle.std.proofs.Common.{[], ◌∷◌, ◌≡◌, rules}
-use Rattle.std.proofs.lemmas.List.{nil_from_length}
-use Rattle.osdp_words.specs.Word.{texts}
+use Rattle.osdp_refused_words.proofs.Common.{[], ◌∷◌, ◌≡◌, rules, nil_from_length, texts}
 use Rattle.osdp_refused_words.proofs.CommandRows.{at_named, at_none, at_unnamed}
 use Rattle.osdp_refused_words.proofs.command.command_stop.Goals as goal
 

@@ -1,5 +1,4 @@
-use Rattle.std.proofs.Common.{refl, rules}
-use Rattle.osdp_words.specs.Word.{texts}
+use Rattle.osdp_refused_words.proofs.Common.{refl, rules, texts}
 use Rattle.osdp_refused_words.proofs.RecordWords.{at_end, at_full, at_next, at_refused}
 use Rattle.osdp_refused_words.proofs.slots.records_stop.Goals as goal
 

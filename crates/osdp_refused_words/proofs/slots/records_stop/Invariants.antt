@@ -1,5 +1,4 @@
-use Rattle.std.proofs.Common.{length}
-use Rattle.osdp_words.specs.Word.{texts}
+use Rattle.osdp_refused_words.proofs.Common.{length, texts}
 use Rattle.osdp_refused_words.proofs.RecordWords.{IsLeft}
 use Rattle.osdp_refused_words.proofs.slots.records_stop.Given as goal
 

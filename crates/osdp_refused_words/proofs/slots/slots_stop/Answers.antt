@@ -1,5 +1,4 @@
-use Rattle.std.proofs.Common.{refl, rules}
-use Rattle.osdp_words.specs.Word.{texts}
+use Rattle.osdp_refused_words.proofs.Common.{refl, rules, texts}
 use Rattle.osdp_refused_words.proofs.Filling.{at_end, at_more, at_next, at_next_place, at_refused}
 use Rattle.osdp_refused_words.proofs.slots.slots_stop.Goals as goal
 

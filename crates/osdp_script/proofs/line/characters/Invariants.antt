@@ -1,5 +1,4 @@
-use Rattle.std.proofs.Common.{◌≡◌, ◌++◌, drop}
-use Rattle.osdp_script.specs.Words.{characters}
+use Rattle.osdp_script.proofs.Common.{◌≡◌, ◌++◌, drop, characters}
 use Rattle.osdp_script.proofs.line.characters.Given as goal
 
 -- what is kept and what is to come are the whole

@@ -1,5 +1,4 @@
-use Rattle.std.proofs.Common.{◌≡◌, drop}
-use Rattle.osdp_script.specs.Words.{is_passed_over}
+use Rattle.osdp_script.proofs.Common.{◌≡◌, drop, is_passed_over}
 use Rattle.osdp_script.proofs.line.is_passed_over.Given as goal
 
 -- the characters so far are spaces

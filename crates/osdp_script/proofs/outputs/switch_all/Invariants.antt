@@ -1,5 +1,4 @@
-use Rattle.std.proofs.Common.{◌≡◌, length}
-use Rattle.osdp_script.specs.Outputs.{outputs_after}
+use Rattle.osdp_script.proofs.Common.{◌≡◌, length, outputs_after}
 use Rattle.osdp_script.proofs.outputs.switch_all.Given as goal
 
 -- the records that are left do to the outputs as they are what all of them do to those at first

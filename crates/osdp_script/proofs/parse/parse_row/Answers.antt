@@ -1,5 +1,4 @@
-use Rattle.std.proofs.Common.{Some, None, ap, refl}
-use Rattle.osdp_words.specs.Word.{texts}
+use Rattle.osdp_script.proofs.Common.{Some, None, ap, refl, texts}
 use Rattle.osdp_script.proofs.Rows.{BusyRow, CheckRow, CleanRow, IssueRow, QueueRow, ReaderRow, ReopenRow, WaitRow, reads_row, row_line}
 use Rattle.osdp_script.proofs.parse.parse_row.Goals as goal
 

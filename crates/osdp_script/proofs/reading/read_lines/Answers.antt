@@ -1,5 +1,4 @@
-use Rattle.std.proofs.Common.{subst}
-use Rattle.osdp_script.specs.Drafts.{Judges, plan_of}
+use Rattle.osdp_script.proofs.Common.{subst, Judges, plan_of}
 use Rattle.osdp_script.proofs.Lines.{read_more}
 use Rattle.osdp_script.proofs.reading.read_lines.Goals as goal
 

@@ -1,5 +1,4 @@
-use Rattle.std.proofs.Common.{length}
-use Rattle.osdp_script.specs.Drafts.{plan_of}
+use Rattle.osdp_script.proofs.Common.{length, plan_of}
 use Rattle.osdp_script.proofs.Lines.{HasRead}
 use Rattle.osdp_script.proofs.reading.read_lines.Given as goal
 

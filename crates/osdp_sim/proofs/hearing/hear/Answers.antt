@@ -1,8 +1,5 @@
-use Rattle.std.proofs.Common.{◌≡◌, ℕ, [], ◌∷◌, ◌++◌, ap, rules, ◌∙◌}
-use Rattle.std.proofs.lemmas.List.{map-append}
-use Rattle.arrayvec.specs.ArrayVec.{ArrayVec}
+use Rattle.osdp_sim.proofs.Common.{◌≡◌, ℕ, [], ◌∷◌, ◌++◌, ap, rules, ◌∙◌, map-append, ArrayVec, bytes_of, sent}
 use Rattle.osdp_reader.specs.Table.{hears}
-use Rattle.osdp_sim.specs.Line.{bytes_of, sent}
 use Rattle.osdp_sim.proofs.Bursts.{sent_burst}
 use Rattle.osdp_sim.proofs.hearing.hear.Goals as goal
 

@@ -1,8 +1,5 @@
-use Rattle.std.proofs.Common.{◌≡◌, true, not, ◌==◌, [], length, arith, rules, ap, sym, ◌∙◌}
-use Rattle.osdp_frame.specs.Held.{Held}
-use Rattle.osdp_frame.specs.Items.{items}
+use Rattle.osdp_sim.proofs.Common.{◌≡◌, true, not, ◌==◌, [], length, arith, rules, ap, sym, ◌∙◌, Held, items, has_packet}
 use Rattle.osdp_frame_laws.proofs.OneByOne.{still_ended}
-use Rattle.osdp_sim.specs.Line.{has_packet}
 use Rattle.osdp_sim.proofs.Bursts.{framed_run}
 use Rattle.osdp_sim.proofs.line.holds_packet.Goals as goal
 

@@ -1,6 +1,4 @@
-use Rattle.std.proofs.Common.{◌≡◌, length}
-use Rattle.osdp_frame.specs.Items.{items}
-use Rattle.osdp_sim.specs.Line.{has_packet}
+use Rattle.osdp_sim.proofs.Common.{◌≡◌, length, items, has_packet}
 use Rattle.osdp_sim.proofs.line.holds_packet.Given as goal
 
 -- a packet is among the items left where one is among all of them

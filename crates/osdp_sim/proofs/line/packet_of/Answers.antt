@@ -1,6 +1,4 @@
-use Rattle.std.proofs.Common.{ℕ, List, false, ap, sym, subst, ◌∙◌}
-use Rattle.osdp_frame.specs.Held.{by_itself, decided}
-use Rattle.osdp_frame.specs.Spelling.{Spells}
+use Rattle.osdp_sim.proofs.Common.{ℕ, List, false, ap, sym, subst, ◌∙◌, by_itself, decided, Spells}
 use Rattle.osdp_sim.proofs.Bursts.{burst_packet, no_item, no_other, same_packet, spelled_first}
 use Rattle.osdp_sim.proofs.line.packet_of.Goals as goal
 

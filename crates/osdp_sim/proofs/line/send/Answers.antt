@@ -1,8 +1,5 @@
-use Rattle.std.proofs.Common.{◌≡◌, ◌-◌, ◌++◌, ◌∷◌, [], ℕ, arith, length, ap, rules, slice_index_or, slice_set, ◌∙◌}
-use Rattle.std.proofs.Math.Seq.{get_or-append_seam, set-append_seam}
-use Rattle.std.proofs.lemmas.List.{length-append}
+use Rattle.osdp_sim.proofs.Common.{◌≡◌, ◌-◌, ◌++◌, ◌∷◌, [], ℕ, arith, length, ap, rules, slice_index_or, slice_set, ◌∙◌, get_or-append_seam, set-append_seam, length-append, ArrayVec}
 use Rattle.std.specs.VecDeque.{deque_len}
-use Rattle.arrayvec.specs.ArrayVec.{ArrayVec}
 use Rattle.osdp_sim.proofs.line.send.Goals as goal
 
 pub returns-in-Some-clause-items : goal.returns-in-Some-clause-items

@@ -1,8 +1,5 @@
-use Rattle.std.proofs.Common.{◌<◌, ◌≤◌, ◌∙◌, All, arith, length, rules, slice_index_or, sym, subst, take}
+use Rattle.osdp_sim_bus.proofs.Common.{◌<◌, ◌≤◌, ◌∙◌, All, arith, length, rules, slice_index_or, sym, subst, take, take_all, take_more_set, All-push, HasPlace, site_of}
 use Rattle.std.proofs.Math.Seq.{map-set_same}
-use Rattle.std.proofs.lemmas.List.{take_all, take_more_set}
-use Rattle.std.proofs.lemmas.List.Elements.{All-push}
-use Rattle.osdp_sim_bus.specs.Room.{HasPlace, site_of}
 use Rattle.osdp_sim_bus.specs.declared.site.ReaderSite.{ReaderSite}
 use Rattle.osdp_sim_bus.proofs.line.grow_all.Goals as goal
 

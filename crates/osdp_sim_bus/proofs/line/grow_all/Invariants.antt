@@ -1,5 +1,4 @@
-use Rattle.std.proofs.Common.{◌≡◌, All, take}
-use Rattle.osdp_sim_bus.specs.Room.{HasPlace, sites_of}
+use Rattle.osdp_sim_bus.proofs.Common.{◌≡◌, All, take, HasPlace, sites_of}
 use Rattle.osdp_sim_bus.proofs.line.grow_all.Given as goal
 
 abbrev pub invariant-loop-site : goal.invariant-loop-site

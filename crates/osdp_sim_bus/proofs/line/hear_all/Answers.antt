@@ -1,7 +1,4 @@
-use Rattle.std.proofs.Common.{◌<◌, arith, length, sym, subst}
-use Rattle.std.proofs.lemmas.List.{length-set}
-use Rattle.osdp_sim.specs.Line.{bytes_of}
-use Rattle.osdp_sim_bus.specs.Room.{HasPlace}
+use Rattle.osdp_sim_bus.proofs.Common.{◌<◌, arith, length, sym, subst, length-set, bytes_of, HasPlace}
 use Rattle.osdp_sim_bus.proofs.Hearing.{one_more, same_there}
 use Rattle.osdp_sim_bus.proofs.line.hear_all.Goals as goal
 

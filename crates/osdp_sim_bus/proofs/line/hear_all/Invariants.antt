@@ -1,6 +1,5 @@
-use Rattle.std.proofs.Common.{◌+◌, ◌-◌, ◌≤◌, length}
+use Rattle.osdp_sim_bus.proofs.Common.{◌+◌, ◌-◌, ◌≤◌, length, bytes_of}
 use Rattle.std.specs.VecDeque.{deque_capacity, deque_len}
-use Rattle.osdp_sim.specs.Line.{bytes_of}
 use Rattle.osdp_sim_bus.proofs.Hearing.{HaveHeard}
 use Rattle.osdp_sim_bus.proofs.line.hear_all.Given as goal
 

@@ -1,6 +1,5 @@
 use Rattle.std.proofs.Common.{◌≡◌, ◌<◌, length, rules, slice_set}
-use Rattle.osdp_sim_bus.specs.Room.{sites_of}
-use Rattle.osdp_sim_bus.specs.Steps.{changed_site, site_is_told}
+use Rattle.osdp_sim_bus.proofs.Common.{sites_of, changed_site, site_is_told}
 use Rattle.osdp_sim_bus.specs.declared.site.ReaderSite.{ReaderSite}
 use Rattle.osdp_sim_bus.proofs.Places.{changed_there}
 use Rattle.osdp_sim_bus.proofs.line.tell.Goals as goal

@@ -1,6 +1,4 @@
-use Rattle.std.proofs.Common.{◌≡◌, ◌≤◌, ◌+◌, ◌++◌, length, vec_capacity}
-use Rattle.std.specs.Vec.Iter.{into_iter_items, into_iter_len}
-use Rattle.osdp_sim_bus.specs.Runs.{lists_of_all}
+use Rattle.osdp_sim_bus.proofs.Common.{◌≡◌, ◌≤◌, ◌+◌, ◌++◌, length, vec_capacity, into_iter_items, into_iter_len, lists_of_all}
 use Rattle.osdp_sim_bus.proofs.Rooms.{accounts_of}
 use Rattle.osdp_sim_bus.proofs.run.accounts.Given as goal
 

@@ -1,8 +1,4 @@
-use Rattle.std.proofs.Common.{◌≡◌, ◌∷◌, [], ◌++◌, ap, arith, length, map, rules, sym, ◌∙◌}
-use Rattle.std.proofs.lemmas.List.{append-nil, map-append, nil_from_length}
-use Rattle.std.specs.Vec.Iter.{into_iter_items}
-use Rattle.osdp_sim_bus.specs.Room.{site_of, sites_of}
-use Rattle.osdp_sim_bus.specs.State.{Given, new_site}
+use Rattle.osdp_sim_bus.proofs.Common.{◌≡◌, ◌∷◌, [], ◌++◌, ap, arith, length, map, rules, sym, ◌∙◌, append-nil, map-append, nil_from_length, into_iter_items, site_of, sites_of, Given, new_site}
 use Rattle.osdp_sim_bus.proofs.Adding.{one_more_begun, one_more_put}
 use Rattle.osdp_sim_bus.proofs.run.add_all.Goals as goal
 

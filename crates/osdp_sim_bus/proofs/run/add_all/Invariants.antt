@@ -1,7 +1,4 @@
-use Rattle.std.proofs.Common.{◌≡◌, ◌++◌, length, map}
-use Rattle.std.specs.Vec.Iter.{into_iter_items, into_iter_len}
-use Rattle.osdp_sim_bus.specs.Room.{sites_of}
-use Rattle.osdp_sim_bus.specs.State.{new_site}
+use Rattle.osdp_sim_bus.proofs.Common.{◌≡◌, ◌++◌, length, map, into_iter_items, into_iter_len, sites_of, new_site}
 use Rattle.osdp_sim_bus.proofs.Adding.{HaveBegun}
 use Rattle.osdp_sim_bus.proofs.run.add_all.Given as goal
 

@@ -1,7 +1,4 @@
-use Rattle.std.proofs.Common.{subst, sym}
-use Rattle.std.proofs.lemmas.List.Elements.{All-nil}
-use Rattle.osdp_sim.specs.Line.{IsSent}
-use Rattle.osdp_sim_bus.specs.State.{AreSent, LineState}
+use Rattle.osdp_sim_bus.proofs.Common.{subst, sym, All-nil, IsSent, AreSent, LineState}
 use Rattle.osdp_sim_bus.proofs.run.begin.Goals as goal
 
 pub returns-in-Ok-clause-ready : goal.returns-in-Ok-clause-ready

@@ -1,7 +1,4 @@
-use Rattle.std.proofs.Common.{◌≡◌, arith, length, map, ap}
-use Rattle.std.proofs.lemmas.List.{length-map}
-use Rattle.osdp_sim_bus.specs.Room.{site_of}
-use Rattle.osdp_sim_bus.specs.State.{new_site}
+use Rattle.osdp_sim_bus.proofs.Common.{◌≡◌, arith, length, map, ap, length-map, site_of, new_site}
 use Rattle.osdp_sim_bus.proofs.run.set_up.Goals as goal
 
 -- as many sites as readers, for which there is room

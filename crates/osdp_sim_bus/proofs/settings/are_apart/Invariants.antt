@@ -1,5 +1,4 @@
-use Rattle.std.proofs.Common.{◌≡◌, drop}
-use Rattle.osdp_sim_bus.specs.Runs.{are_apart}
+use Rattle.osdp_sim_bus.proofs.Common.{◌≡◌, drop, are_apart}
 use Rattle.osdp_sim_bus.proofs.settings.are_apart.Given as goal
 
 -- the readers that are left tell what all of them do

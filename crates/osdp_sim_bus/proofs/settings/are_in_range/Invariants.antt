@@ -1,6 +1,4 @@
-use Rattle.std.proofs.Common.{◌≡◌, drop}
-use Rattle.std.specs.List.{list_all}
-use Rattle.osdp_sim_bus.specs.Runs.{is_reader_in_range}
+use Rattle.osdp_sim_bus.proofs.Common.{◌≡◌, drop, list_all, is_reader_in_range}
 use Rattle.osdp_sim_bus.proofs.settings.are_in_range.Given as goal
 
 -- the readers that are left tell what all of them do

@@ -1,6 +1,4 @@
-use Rattle.std.proofs.Common.{◌≡◌, drop}
-use Rattle.std.specs.List.{list_any}
-use Rattle.osdp_sim_bus.specs.Runs.{is_at}
+use Rattle.osdp_sim_bus.proofs.Common.{◌≡◌, drop, list_any, is_at}
 use Rattle.osdp_sim_bus.proofs.settings.has_address.Given as goal
 
 -- the readers that are left tell what all of them do

@@ -1,7 +1,5 @@
 use Rattle.osdp_site.proofs.States.{all_states}
-use Rattle.std.proofs.lemmas.List.Elements.{All-nil}
-use Rattle.osdp_site.specs.Laws.{IsState}
-use Rattle.osdp_site.specs.Places.{new_place}
+use Rattle.osdp_site.proofs.Common.{All-nil, IsState, new_place}
 use Rattle.osdp_site.proofs.laws.orders_are_not_repeated.Goals as goal
 
 pub returns : goal.returns

@@ -1,5 +1,4 @@
-use Rattle.std.proofs.Common.{◌≡◌}
-use Rattle.osdp_site.specs.Acting.{withdraws}
+use Rattle.osdp_site.proofs.Common.{◌≡◌, withdraws}
 use Rattle.osdp_site.proofs.place.begin_anew.Given as goal
 
 -- so many were taken back

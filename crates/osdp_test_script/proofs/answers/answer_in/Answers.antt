@@ -1,5 +1,4 @@
-use Rattle.std.proofs.Common.{rules}
-use Rattle.osdp_frame.specs.Reading.{PacketItem}
+use Rattle.osdp_test_script.proofs.Common.{rules, PacketItem}
 use Rattle.osdp_frame.specs.Shown.{item_read}
 use Rattle.osdp_test_script.proofs.Passing.{passed_at}
 use Rattle.osdp_test_script.proofs.answers.answer_in.Goals as goal

@@ -1,6 +1,4 @@
-use Rattle.std.proofs.Common.{length, Option}
-use Rattle.osdp_frame.specs.Packet.{Packet}
-use Rattle.osdp_test_script.specs.Answers.{IsAnswerIn}
+use Rattle.osdp_test_script.proofs.Common.{length, Option, Packet, IsAnswerIn}
 use Rattle.osdp_test_script.proofs.answers.answer_in.Given as goal
 
 -- the answer in the rest is the answer in all

@@ -1,9 +1,5 @@
-use Rattle.std.proofs.Common.{◌≡◌, ℕ, Option, Some, ap, rules}
-use Rattle.osdp_frame.specs.Packet.{Packet}
-use Rattle.osdp_test_script.specs.Awaited.{awaited_code}
+use Rattle.osdp_test_script.proofs.Common.{◌≡◌, ℕ, Option, Some, ap, rules, Packet, awaited_code, Awaited, Silence, Same}
 use Rattle.osdp_test_script.specs.Seen.{answer_seen, by_code}
-use Rattle.osdp_test_script.specs.declared.awaited.Awaited.{Awaited}
-use Rattle.osdp_test_script.specs.declared.awaited.Awaited.TheVariants.{Silence, Same}
 use Rattle.osdp_test_script.proofs.laws.sees_its_reply.Goals as goal
 
 seen_by_code : (awaited : Awaited) (code : ℕ) (first : Option Packet) (a : Packet) → awaited_code awaited ≡ Some code → answer_seen awaited first a ≡ by_code (Some code) a

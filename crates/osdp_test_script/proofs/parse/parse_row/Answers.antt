@@ -1,14 +1,4 @@
-use Rattle.std.proofs.Common.{◌∷◌, [], ◌<◌, ◌≤◌, ◌^◌, ℕ, Some, None, codes, refl}
-use Rattle.arrayvec.specs.ArrayVec.{ArrayVec}
-use Rattle.osdp_frame.specs.Check.{check_name}
-use Rattle.osdp_frame.specs.Times.{longest_time}
-use Rattle.osdp_words.specs.Word.{bytes, number, plain, texts}
-use Rattle.osdp_msg.proofs.RowTexts.{row_read}
-use Rattle.osdp_test_script.specs.Awaited.{awaited_name}
-use Rattle.osdp_test_script.specs.Calls.{CallFits, IsHeard, IsPlace, TermFits, call_fields, call_name, term_words}
-use Rattle.osdp_test_script.specs.declared.awaited.Awaited.{Awaited}
-use Rattle.osdp_test_script.specs.declared.call.Term.{Term}
-use Rattle.osdp_test_script.specs.declared.call.ScriptCall.TheVariants.{Device, Check, Damage, Wait, Keep, Counts}
+use Rattle.osdp_test_script.proofs.Common.{◌∷◌, [], ◌<◌, ◌≤◌, ◌^◌, ℕ, Some, None, codes, refl, ArrayVec, check_name, longest_time, bytes, number, plain, texts, row_read, awaited_name, CallFits, IsHeard, IsPlace, TermFits, call_fields, call_name, term_words, Awaited, Term, Device, Check, Damage, Wait, Keep, Counts}
 use Rattle.osdp_test_script.proofs.Rows.{expect_call, heard_call, row_check, row_counts, row_damage, row_device, row_expect, row_heard, row_keep, row_wait}
 use Rattle.osdp_test_script.proofs.parse.parse_row.Goals as goal
 

@@ -1,5 +1,4 @@
-use Rattle.std.proofs.Common.{◌≡◌, ◌++◌, List, ℕ, OnOk, Option, ap, ◌∙◌, string_bytes, subst}
-use Rattle.osdp_test_script.specs.Texts.{text_in, wrong_word_text}
+use Rattle.osdp_test_script.proofs.Common.{◌≡◌, ◌++◌, List, ℕ, OnOk, Option, ap, ◌∙◌, string_bytes, subst, text_in, wrong_word_text}
 use Rattle.osdp_test_script.proofs.WordTexts.{word_at}
 use Rattle.osdp_test_script.proofs.say.push_word_at.Goals as goal
 

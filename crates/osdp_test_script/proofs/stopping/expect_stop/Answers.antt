@@ -1,6 +1,4 @@
-use Rattle.std.proofs.Common.{[], ◌∷◌, ◌≡◌, refl, rules}
-use Rattle.std.proofs.lemmas.List.{nil_from_length}
-use Rattle.osdp_words.specs.Word.{texts}
+use Rattle.osdp_test_script.proofs.Common.{[], ◌∷◌, ◌≡◌, refl, rules, nil_from_length, texts}
 use Rattle.osdp_test_script.proofs.LineRows.{expect_after, expect_none, expect_refused}
 use Rattle.osdp_test_script.proofs.stopping.expect_stop.Goals as goal
 

@@ -1,6 +1,4 @@
-use Rattle.std.proofs.Common.{[], ◌∷◌, ◌≡◌, rules}
-use Rattle.std.proofs.lemmas.List.{nil_from_length}
-use Rattle.osdp_words.specs.Word.{texts}
+use Rattle.osdp_test_script.proofs.Common.{[], ◌∷◌, ◌≡◌, rules, nil_from_length, texts}
 use Rattle.osdp_test_script.proofs.LineRows.{may_after, may_none, may_refused}
 use Rattle.osdp_test_script.proofs.stopping.may_stop.Goals as goal
 

@@ -1,6 +1,4 @@
-use Rattle.std.proofs.Common.{[], ◌∷◌, ◌≡◌, codes, rules}
-use Rattle.std.proofs.lemmas.List.{nil_from_length}
-use Rattle.osdp_words.specs.Word.{texts}
+use Rattle.osdp_test_script.proofs.Common.{[], ◌∷◌, ◌≡◌, codes, rules, nil_from_length, texts}
 use Rattle.osdp_test_script.proofs.LineRows.{term_none, user, within_time}
 use Rattle.osdp_test_script.proofs.stopping.term_stop.Goals as goal
 

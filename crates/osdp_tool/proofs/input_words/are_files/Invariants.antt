@@ -1,6 +1,4 @@
-use Rattle.std.proofs.Common.{◌≡◌, drop}
-use Rattle.osdp_tool.specs.Job.{texts_of}
-use Rattle.osdp_tool.specs.InputWords.{are_files}
+use Rattle.osdp_tool.proofs.Common.{◌≡◌, drop, texts_of, are_files}
 use Rattle.osdp_tool.proofs.input_words.are_files.Given as goal
 
 -- the words so far, and those that are left

@@ -1,6 +1,4 @@
-use Rattle.std.proofs.Common.{◌≡◌, drop}
-use Rattle.osdp_tool.specs.Job.{texts_of}
-use Rattle.osdp_tool.specs.InputWords.{format_of, last_format}
+use Rattle.osdp_tool.proofs.Common.{◌≡◌, drop, texts_of, format_of, last_format}
 use Rattle.osdp_tool.proofs.input_words.format_of.Given as goal
 
 -- the words so far, and those that are left

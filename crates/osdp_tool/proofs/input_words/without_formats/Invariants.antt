@@ -1,6 +1,4 @@
-use Rattle.std.proofs.Common.{◌≡◌, ◌++◌, drop, filter, not, is_some}
-use Rattle.osdp_tool.specs.Job.{texts_of}
-use Rattle.osdp_tool.specs.InputWords.{format_named}
+use Rattle.osdp_tool.proofs.Common.{◌≡◌, ◌++◌, drop, filter, not, is_some, texts_of, format_named}
 use Rattle.osdp_tool.proofs.input_words.without_formats.Given as goal
 
 -- the words so far, and those that are left

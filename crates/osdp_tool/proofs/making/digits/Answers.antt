@@ -1,7 +1,4 @@
-use Rattle.std.proofs.Common.{◌≡◌, ap, subst, ◌∙◌, List, ℕ, string_bytes, IfOk}
-use Rattle.hex.specs.Hex.{encode_upper}
-use Rattle.osdp_frame.specs.Spelling.{spelling}
-use Rattle.osdp_tool.specs.PacketOrder.{order_packet}
+use Rattle.osdp_tool.proofs.Common.{◌≡◌, ap, subst, ◌∙◌, List, ℕ, string_bytes, IfOk, encode_upper, spelling, order_packet}
 use Rattle.osdp_tool.proofs.making.digits.Goals as goal
 
 pub returns : goal.returns

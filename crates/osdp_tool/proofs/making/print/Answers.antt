@@ -1,6 +1,4 @@
-use Rattle.std.proofs.Common.{◌∙◌}
-use Rattle.osdp_tool_streams.specs.Watched.{inner_of, has_failed}
-use Rattle.osdp_words.specs.Word.{texts}
+use Rattle.osdp_tool.proofs.Common.{◌∙◌, inner_of, has_failed, texts}
 use Rattle.osdp_tool.proofs.Printing.{line_written}
 use Rattle.osdp_tool.proofs.making.print.Goals as goal
 

@@ -1,5 +1,4 @@
-use Rattle.std.proofs.Common.{sym, ◌∙◌, arith}
-use Rattle.osdp_tool.specs.Job.{texts_of}
+use Rattle.osdp_tool_inputs.proofs.Common.{sym, ◌∙◌, arith, texts_of}
 use Rattle.osdp_tool_inputs.proofs.Fronts.{back_are, front_is, no_files, no_options}
 use Rattle.osdp_tool_inputs.proofs.asked.read_words.Goals as goal
 

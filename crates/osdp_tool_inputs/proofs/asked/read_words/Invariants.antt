@@ -1,5 +1,4 @@
-use Rattle.std.proofs.Common.{◌+◌, ◌-◌, ◌≤◌, length}
-use Rattle.osdp_tool.specs.Job.{texts_of}
+use Rattle.osdp_tool_inputs.proofs.Common.{◌+◌, ◌-◌, ◌≤◌, length, texts_of}
 use Rattle.osdp_tool_inputs.proofs.Fronts.{Tried}
 use Rattle.osdp_tool_inputs.proofs.asked.read_words.Given as goal
 

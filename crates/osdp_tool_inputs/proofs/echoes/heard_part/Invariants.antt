@@ -1,6 +1,5 @@
-use Rattle.std.proofs.Common.{◌≡◌, ◌++◌, length}
+use Rattle.osdp_tool_inputs.proofs.Common.{◌≡◌, ◌++◌, length, all_echoes, echoes_in, ended, left_in, left_of}
 use Rattle.std.specs.Prelude.{flat_map}
-use Rattle.osdp_tool_inputs.specs.Echoes.{all_echoes, echoes_in, ended, left_in, left_of}
 use Rattle.osdp_tool_inputs.proofs.echoes.heard_part.Given as goal
 
 -- the lines so far, and those to come

@@ -1,7 +1,5 @@
-use Rattle.std.proofs.Common.{◌≡◌, ◌++◌, [], OnOk, ap, subst, sym, ◌∙◌}
-use Rattle.std.proofs.lemmas.Bool.{cond-true}
+use Rattle.osdp_tool_inputs.proofs.Common.{◌≡◌, ◌++◌, [], OnOk, ap, subst, sym, ◌∙◌, cond-true, echo_line, ended}
 use Rattle.osdp_tool_objects.specs.Objects.{object_of, object_with}
-use Rattle.osdp_tool_inputs.specs.Echoes.{echo_line, ended}
 use Rattle.osdp_tool_inputs.proofs.echoes.push_echo_line.Goals as goal
 
 pub returns-then-json : goal.returns-then-json

@@ -1,5 +1,4 @@
-use Rattle.std.proofs.Common.{◌++◌, ap, refl, ◌∙◌}
-use Rattle.osdp_tool_inputs.specs.Heard.{marked_object}
+use Rattle.osdp_tool_inputs.proofs.Common.{◌++◌, ap, refl, ◌∙◌, marked_object}
 use Rattle.osdp_tool_inputs.proofs.OneByOne.{on_each}
 use Rattle.osdp_tool_inputs.proofs.RunPlaces.{marked_is}
 use Rattle.osdp_tool_inputs.proofs.heard.push_one.Goals as goal

@@ -1,6 +1,4 @@
-use Rattle.std.proofs.Common.{◌++◌, ap, refl, sym, ◌∙◌}
-use Rattle.std.proofs.lemmas.Bool.{cond-true}
-use Rattle.osdp_tool_inputs.specs.Heard.{marked_line, names_run}
+use Rattle.osdp_tool_inputs.proofs.Common.{◌++◌, ap, refl, sym, ◌∙◌, cond-true, marked_line, names_run}
 use Rattle.osdp_tool_inputs.proofs.OneByOne.{on_each}
 use Rattle.osdp_tool_inputs.proofs.RunPlaces.{marked_is}
 use Rattle.osdp_tool_inputs.proofs.heard.push_told.Goals as goal

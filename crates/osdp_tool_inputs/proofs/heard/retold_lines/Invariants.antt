@@ -1,8 +1,5 @@
-use Rattle.std.proofs.Common.{◌≡◌, ◌++◌, length}
+use Rattle.osdp_tool_inputs.proofs.Common.{◌≡◌, ◌++◌, length, lines_of, retold_line, IsAt, stamps_left, tells_left}
 use Rattle.std.specs.Prelude.{flat_map}
-use Rattle.osdp_tool_streams.specs.Cut.{lines_of}
-use Rattle.osdp_tool_inputs.specs.Heard.{retold_line}
-use Rattle.osdp_tool_inputs.specs.Places.{IsAt, stamps_left, tells_left}
 use Rattle.osdp_tool_inputs.proofs.heard.retold_lines.Given as goal
 
 -- the lines so far, and those to come

@@ -1,7 +1,4 @@
-use Rattle.std.proofs.Common.{sym, ap, ◌∙◌}
-use Rattle.osdp_tool_streams.specs.Watched.{has_failed, inner_of}
-use Rattle.osdp_tool_objects.specs.Outputs.{fault_of}
-use Rattle.osdp_tool_inputs.specs.Done.{unless_failed}
+use Rattle.osdp_tool_inputs.proofs.Common.{sym, ap, ◌∙◌, has_failed, inner_of, fault_of, unless_failed}
 use Rattle.osdp_tool_inputs.proofs.Telling.{does_objects}
 use Rattle.osdp_tool_inputs.proofs.inputs.do_objects.Goals as goal
 

@@ -1,7 +1,5 @@
-use Rattle.std.proofs.Common.{◌≡◌, ◌<◌, ◌+◌, get_or, length, refl, rules, sym}
-use Rattle.std.proofs.lemmas.Bool.{ltb-true}
+use Rattle.osdp_tool_inputs.proofs.Common.{◌≡◌, ◌<◌, ◌+◌, get_or, length, refl, rules, sym, ltb-true, Late, Nothing}
 use Rattle.osdp_tool_inputs.proofs.RunPlaces.{finds_it, finds_other, finds_past}
-use Rattle.osdp_tool_times.specs.declared.waits.Told.TheVariants.{Late, Nothing}
 use Rattle.osdp_tool_inputs.proofs.places.find_late.Goals as goal
 
 pub returns-then-answer-run : goal.returns-then-answer-run

@@ -1,8 +1,4 @@
-use Rattle.std.proofs.Common.{None, refl, sym, subst, ◌∙◌}
-use Rattle.osdp_tool_show.specs.Ending.{watched}
-use Rattle.osdp_tool_inputs.specs.Done.{EndsHeard, Retells}
-use Rattle.osdp_tool_inputs.specs.Echoes.{echoes_in, heard_part, printed_by}
-use Rattle.osdp_tool_inputs.specs.declared.clock.Clock.{Clock}
+use Rattle.osdp_tool_inputs.proofs.Common.{None, refl, sym, subst, ◌∙◌, watched, EndsHeard, Retells, echoes_in, heard_part, printed_by, Clock}
 use Rattle.osdp_tool_inputs.proofs.WholeText.{retells_lines, retells_some}
 use Rattle.osdp_tool_inputs.proofs.tasks.listen_lines.Goals as goal
 

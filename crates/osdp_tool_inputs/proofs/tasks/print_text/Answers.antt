@@ -1,5 +1,4 @@
-use Rattle.std.proofs.Common.{◌||◌, ◌∙◌, Bool, false, ap}
-use Rattle.osdp_tool_streams.specs.Watched.{inner_of, has_failed}
+use Rattle.osdp_tool_inputs.proofs.Common.{◌||◌, ◌∙◌, Bool, false, ap, inner_of, has_failed}
 use Rattle.osdp_tool_monitor.proofs.Writing.{wrote_flushed}
 use Rattle.osdp_tool_inputs.proofs.tasks.print_text.Goals as goal
 

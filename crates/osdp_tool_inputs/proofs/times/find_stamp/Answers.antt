@@ -1,6 +1,4 @@
-use Rattle.std.proofs.Common.{◌++◌, ap, sym, ◌∙◌}
-use Rattle.std.proofs.lemmas.List.{take_rest}
-use Rattle.osdp_tool_inputs.specs.Times.{parts, stamps_below}
+use Rattle.osdp_tool_inputs.proofs.Common.{◌++◌, ap, sym, ◌∙◌, take_rest, parts, stamps_below}
 use Rattle.osdp_tool_inputs.proofs.Stamps.{a_stamp, added, no_digits}
 use Rattle.osdp_tool_inputs.proofs.times.find_stamp.Goals as goal
 

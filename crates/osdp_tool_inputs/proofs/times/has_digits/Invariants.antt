@@ -1,5 +1,4 @@
-use Rattle.std.proofs.Common.{◌≡◌, drop}
-use Rattle.osdp_tool_inputs.specs.Times.{has_digits}
+use Rattle.osdp_tool_inputs.proofs.Common.{◌≡◌, drop, has_digits}
 use Rattle.osdp_tool_inputs.proofs.times.has_digits.Given as goal
 
 -- blanks alone stand before

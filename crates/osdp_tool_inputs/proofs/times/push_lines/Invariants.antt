@@ -1,6 +1,5 @@
-use Rattle.std.proofs.Common.{◌≡◌, ◌++◌, drop}
+use Rattle.osdp_tool_inputs.proofs.Common.{◌≡◌, ◌++◌, drop, parts, timed_line}
 use Rattle.std.specs.Prelude.{flat_map}
-use Rattle.osdp_tool_inputs.specs.Times.{parts, timed_line}
 use Rattle.osdp_tool_inputs.proofs.times.push_lines.Given as goal
 
 -- the lines so far, and those to come

@@ -1,5 +1,4 @@
-use Rattle.std.proofs.Common.{◌≡◌, drop}
-use Rattle.osdp_tool_inputs.specs.Times.{number_after, run_of}
+use Rattle.osdp_tool_inputs.proofs.Common.{◌≡◌, drop, number_after, run_of}
 use Rattle.osdp_tool_inputs.proofs.times.run_in.Given as goal
 
 -- the digits so far, and those to come

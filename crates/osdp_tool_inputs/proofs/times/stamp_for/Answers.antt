@@ -1,6 +1,4 @@
-use Rattle.std.proofs.Common.{◌<◌, ℕ, List, Bor, arith, sym, length}
-use Rattle.std.proofs.lemmas.List.{length-map}
-use Rattle.osdp_tool_inputs.specs.Times.{parts, run_of}
+use Rattle.osdp_tool_inputs.proofs.Common.{◌<◌, ℕ, List, Bor, arith, sym, length, length-map, parts, run_of}
 use Rattle.osdp_tool_inputs.proofs.Stamps.{beyond}
 use Rattle.osdp_tool_inputs.proofs.times.stamp_for.Goals as goal
 

@@ -1,5 +1,4 @@
-use Rattle.std.proofs.Common.{arith}
-use Rattle.osdp_tool_inputs.specs.Times.{no_stamp, parts, stamps_below}
+use Rattle.osdp_tool_inputs.proofs.Common.{arith, no_stamp, parts, stamps_below}
 use Rattle.osdp_tool_inputs.proofs.Stamps.{past_all}
 use Rattle.osdp_tool_inputs.proofs.times.stamps.Goals as goal
 

@@ -1,5 +1,4 @@
-use Rattle.std.proofs.Common.{◌≡◌, ◌++◌, drop}
-use Rattle.osdp_tool_inputs.specs.Times.{no_stamp, parts, stamps_below}
+use Rattle.osdp_tool_inputs.proofs.Common.{◌≡◌, ◌++◌, drop, no_stamp, parts, stamps_below}
 use Rattle.osdp_tool_inputs.proofs.times.stamps.Given as goal
 
 -- the stamps so far, and those to come

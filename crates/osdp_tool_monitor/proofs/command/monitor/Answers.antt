@@ -1,7 +1,4 @@
-use Rattle.std.proofs.Common.{Err, sym, subst}
-use Rattle.osdp_tool_streams.specs.Watched.{inner_of, has_failed}
-use Rattle.osdp_tool_streams.proofs.Answered.{on_err}
-use Rattle.osdp_tool_monitor.specs.Ending.{Ends}
+use Rattle.osdp_tool_monitor.proofs.Common.{Err, sym, subst, inner_of, has_failed, on_err, Ends}
 use Rattle.osdp_tool_monitor.proofs.Closing.{breaks_stopped, breaks_well, ends_bad, ends_stopped, ends_well, fails_by, fails_well}
 use Rattle.osdp_tool_monitor.proofs.Pieces.{nothing_read}
 use Rattle.osdp_tool_monitor.proofs.command.monitor.Goals as goal

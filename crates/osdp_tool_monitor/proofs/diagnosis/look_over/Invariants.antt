@@ -1,6 +1,4 @@
-use Rattle.std.proofs.Common.{◌≡◌, drop}
-use Rattle.osdp_tool_monitor.specs.Diagnoses.{add, survey_of}
-use Rattle.osdp_tool_monitor.specs.InTurn.{after_all}
+use Rattle.osdp_tool_monitor.proofs.Common.{◌≡◌, drop, add, survey_of, after_all}
 use Rattle.osdp_tool_monitor.proofs.diagnosis.look_over.Given as goal
 
 abbrev pub invariant-addresses : goal.invariant-addresses

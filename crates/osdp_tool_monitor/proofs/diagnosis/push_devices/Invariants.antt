@@ -1,5 +1,4 @@
-use Rattle.std.proofs.Common.{◌≡◌, ◌++◌, drop, string_bytes}
-use Rattle.osdp_tool_monitor.specs.Diagnoses.{lines_from}
+use Rattle.osdp_tool_monitor.proofs.Common.{◌≡◌, ◌++◌, drop, string_bytes, lines_from}
 use Rattle.osdp_tool_monitor.proofs.diagnosis.push_devices.Given as goal
 
 abbrev pub invariant-devices : goal.invariant-devices

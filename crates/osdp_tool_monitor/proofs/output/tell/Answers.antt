@@ -1,6 +1,4 @@
-use Rattle.std.proofs.Common.{◌||◌, ◌∙◌, Bool, false, ap, subst}
-use Rattle.std.specs.Io.KnownBytes.{Appends}
-use Rattle.osdp_tool_streams.specs.Watched.{inner_of, has_failed}
+use Rattle.osdp_tool_monitor.proofs.Common.{◌||◌, ◌∙◌, Bool, false, ap, subst, Appends, inner_of, has_failed}
 use Rattle.osdp_tool_monitor.proofs.Writing.{wrote_flushed}
 use Rattle.osdp_tool_monitor.proofs.output.tell.Goals as goal
 

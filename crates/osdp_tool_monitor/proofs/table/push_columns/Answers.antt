@@ -1,5 +1,4 @@
-use Rattle.std.proofs.Common.{get_or, string_bytes, take}
-use Rattle.std.proofs.lemmas.List.{take_more}
+use Rattle.osdp_tool_monitor.proofs.Common.{get_or, string_bytes, take, take_more}
 use Rattle.osdp_tool_monitor.proofs.Rows.{columns_more}
 use Rattle.osdp_tool_monitor.proofs.table.push_columns.Goals as goal
 

@@ -1,5 +1,4 @@
-use Rattle.std.proofs.Common.{◌≡◌, ◌++◌, string_bytes, take}
-use Rattle.osdp_tool_monitor.specs.Counts.{columns}
+use Rattle.osdp_tool_monitor.proofs.Common.{◌≡◌, ◌++◌, string_bytes, take, columns}
 use Rattle.osdp_tool_monitor.proofs.table.push_columns.Given as goal
 
 abbrev pub invariant-loop-number : goal.invariant-loop-number

@@ -1,5 +1,4 @@
-use Rattle.std.proofs.Common.{sym}
-use Rattle.std.proofs.lemmas.Option.{get_or_from_slice_get}
+use Rattle.osdp_tool_monitor.proofs.Common.{sym, get_or_from_slice_get}
 use Rattle.osdp_tool_monitor.proofs.Rows.{rows_end, rows_step}
 use Rattle.osdp_tool_monitor.proofs.table.push_rows.Goals as goal
 

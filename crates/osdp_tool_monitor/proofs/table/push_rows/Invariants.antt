@@ -1,5 +1,4 @@
-use Rattle.std.proofs.Common.{◌≡◌, ◌++◌, drop, string_bytes}
-use Rattle.osdp_tool_monitor.specs.Counts.{rows_from}
+use Rattle.osdp_tool_monitor.proofs.Common.{◌≡◌, ◌++◌, drop, string_bytes, rows_from}
 use Rattle.osdp_tool_monitor.proofs.table.push_rows.Given as goal
 
 abbrev pub invariant-rows : goal.invariant-rows

@@ -1,5 +1,4 @@
-use Rattle.std.proofs.Common.{sym, subst, ◌<◌, ◌≤◌, ℕ}
-use Rattle.std.proofs.lemmas.Option.{get_or_from_slice_get}
+use Rattle.osdp_tool_monitor.proofs.Common.{sym, subst, ◌<◌, ◌≤◌, ℕ, get_or_from_slice_get}
 use Rattle.osdp_tool_monitor.proofs.Windows.{rows_end, rows_step}
 use Rattle.osdp_tool_monitor.proofs.window.push_rows.Goals as goal
 

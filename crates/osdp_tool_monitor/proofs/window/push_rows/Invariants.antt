@@ -1,5 +1,4 @@
-use Rattle.std.proofs.Common.{◌≡◌, ◌++◌, drop, string_bytes}
-use Rattle.osdp_tool_monitor.specs.Windows.{window_rows}
+use Rattle.osdp_tool_monitor.proofs.Common.{◌≡◌, ◌++◌, drop, string_bytes, window_rows}
 use Rattle.osdp_tool_monitor.proofs.window.push_rows.Given as goal
 
 abbrev pub invariant-rows : goal.invariant-rows

@@ -1,6 +1,4 @@
-use Rattle.std.proofs.Common.{◌≡◌, ◌∙◌, false, ap, sym}
-use Rattle.osdp_tool_streams.specs.Watched.{has_failed, inner_of}
-use Rattle.osdp_words.specs.Word.{texts}
+use Rattle.osdp_tool_plan.proofs.Common.{◌≡◌, ◌∙◌, false, ap, sym, has_failed, inner_of, texts}
 use Rattle.osdp_tool_plan.proofs.InTurn.{flushed}
 use Rattle.osdp_tool_plan.proofs.command.plan.Goals as goal
 

@@ -1,6 +1,4 @@
-use Rattle.std.proofs.Common.{◌∙◌}
-use Rattle.osdp_tool_streams.specs.Watched.{has_failed, inner_of}
-use Rattle.osdp_words.specs.Word.{texts}
+use Rattle.osdp_tool_plan.proofs.Common.{◌∙◌, has_failed, inner_of, texts}
 use Rattle.osdp_tool_plan.proofs.InTurn.{figures_written, unchanged}
 use Rattle.osdp_tool_plan.proofs.Ranges.{planned_in_range}
 use Rattle.osdp_tool_plan.proofs.Refused.{no_plan}

@@ -1,8 +1,4 @@
-use Rattle.std.proofs.Common.{sym, ap, ◌∙◌}
-use Rattle.osdp_tool_streams.specs.FinalAnswer.{final_answer_of}
-use Rattle.osdp_tool_streams.specs.Watched.{inner_of, has_failed}
-use Rattle.osdp_tool_show.specs.Ending.{watched}
-use Rattle.osdp_tool_show.specs.Works.{Works}
+use Rattle.osdp_tool_show.proofs.Common.{sym, ap, ◌∙◌, final_answer_of, inner_of, has_failed, watched, Works}
 use Rattle.osdp_tool_show.proofs.Whole.{ends_whole}
 use Rattle.osdp_tool_show.proofs.Finishing.{ends_finished}
 use Rattle.osdp_tool_show.proofs.Works.{ends_at_once, part_at_once}

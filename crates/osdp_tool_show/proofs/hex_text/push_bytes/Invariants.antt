@@ -1,5 +1,4 @@
-use Rattle.std.proofs.Common.{◌≡◌, ◌++◌, drop, string_bytes}
-use Rattle.hex.specs.Hex.{encode_upper}
+use Rattle.osdp_tool_show.proofs.Common.{◌≡◌, ◌++◌, drop, string_bytes, encode_upper}
 use Rattle.osdp_tool_show.proofs.hex_text.push_bytes.Given as goal
 
 -- what is written and what is to come are the whole

@@ -1,7 +1,4 @@
-use Rattle.std.proofs.Common.{sym, ◌∙◌, refl}
-use Rattle.osdp_tool_streams.specs.Watched.{inner_of}
-use Rattle.osdp_frame.specs.Shown.{item_of}
-use Rattle.osdp_tool_show.specs.Machine.{written_or_held}
+use Rattle.osdp_tool_show.proofs.Common.{sym, ◌∙◌, refl, inner_of, item_of, written_or_held}
 use Rattle.osdp_tool_show.proofs.Drains.{draining_start, draining_step, draining_end}
 use Rattle.osdp_tool_show.proofs.Drains.{draining_stops}
 use Rattle.osdp_tool_show.proofs.Beginnings.{on_err}

@@ -1,6 +1,4 @@
-use Rattle.std.proofs.Common.{◌≡◌, length}
-use Rattle.osdp_tool_streams.specs.Watched.{inner_of, has_failed}
-use Rattle.osdp_tool_show.specs.Machine.{written_or_held}
+use Rattle.osdp_tool_show.proofs.Common.{◌≡◌, length, inner_of, has_failed, written_or_held}
 use Rattle.osdp_tool_show.proofs.Drains.{Draining}
 use Rattle.osdp_tool_show.proofs.runs.drain.Given as goal
 

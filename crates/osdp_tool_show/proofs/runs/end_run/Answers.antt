@@ -1,8 +1,4 @@
-use Rattle.std.proofs.Common.{rules, ◌≡◌, length, refl}
-use Rattle.osdp_tool_streams.specs.Watched.{inner_of}
-use Rattle.osdp_frame.specs.Held.{after_gap}
-use Rattle.osdp_tool_show.specs.declared.report.Report.{Report}
-use Rattle.osdp_tool_show.specs.Machine.{written_or_held, Drained}
+use Rattle.osdp_tool_show.proofs.Common.{rules, ◌≡◌, length, refl, inner_of, after_gap, Report, written_or_held, Drained}
 use Rattle.osdp_tool_show.proofs.Standing.{ended_run, run_end_stops}
 use Rattle.osdp_tool_show.proofs.Beginnings.{on_err}
 use Rattle.osdp_tool_show.proofs.WholeItems.{drained_none}

@@ -1,7 +1,4 @@
-use Rattle.std.proofs.Common.{arith, refl}
-use Rattle.osdp_frame.specs.Held.{new_run}
-use Rattle.osdp_tool_show.specs.declared.report.Report.{Report}
-use Rattle.osdp_tool_show.specs.Machine.{written_or_held}
+use Rattle.osdp_tool_show.proofs.Common.{arith, refl, new_run, Report, written_or_held}
 use Rattle.osdp_tool_show.proofs.Passed.{took_passed}
 use Rattle.osdp_tool_show.proofs.Standing.{took_start}
 use Rattle.osdp_tool_show.proofs.WholeItems.{settled_new}

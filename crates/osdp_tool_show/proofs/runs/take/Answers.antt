@@ -1,9 +1,7 @@
-use Rattle.std.proofs.Common.{◌+◌, ◌-◌, ◌∙◌, length, length-drop, drop, arith}
+use Rattle.osdp_tool_show.proofs.Common.{◌+◌, ◌-◌, ◌∙◌, length, length-drop, drop, arith, inner_of, written_or_held}
 use Rattle.std.proofs.lemmas.List.{length-take}
 use Rattle.osdp_tool_show.proofs.WholeItems.{took_after}
 use Rattle.osdp_tool_show.proofs.Standing.{stops_in_rest}
-use Rattle.osdp_tool_streams.specs.Watched.{inner_of}
-use Rattle.osdp_tool_show.specs.Machine.{written_or_held}
 use Rattle.osdp_tool_show.proofs.Beginnings.{on_err}
 use Rattle.osdp_tool_show.proofs.runs.take.Goals as goal
 

@@ -1,6 +1,4 @@
-use Rattle.std.proofs.Common.{◌≡◌, ◌≤◌, ◌-◌, length, take}
-use Rattle.osdp_tool_streams.specs.Watched.{inner_of, has_failed}
-use Rattle.osdp_tool_show.specs.Machine.{written_or_held, Took}
+use Rattle.osdp_tool_show.proofs.Common.{◌≡◌, ◌≤◌, ◌-◌, length, take, inner_of, has_failed, written_or_held, Took}
 use Rattle.osdp_tool_show.proofs.runs.take.Given as goal
 
 abbrev pub invariant-pieces : goal.invariant-pieces

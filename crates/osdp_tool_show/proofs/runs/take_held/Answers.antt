@@ -1,7 +1,4 @@
-use Rattle.std.proofs.Common.{◌<◌, take, subst, sym, arith}
-use Rattle.osdp_frame_laws.proofs.LeftOver.{takes_some}
-use Rattle.osdp_tool_streams.specs.Watched.{inner_of}
-use Rattle.osdp_tool_show.specs.Machine.{written_or_held, Took}
+use Rattle.osdp_tool_show.proofs.Common.{◌<◌, take, subst, sym, arith, takes_some, inner_of, written_or_held, Took}
 use Rattle.osdp_tool_show.proofs.Standing.{pushed_stops, took_start}
 use Rattle.osdp_tool_show.proofs.WholeItems.{took_pushed}
 use Rattle.osdp_tool_show.proofs.Beginnings.{on_err}

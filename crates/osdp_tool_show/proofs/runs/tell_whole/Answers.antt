@@ -1,10 +1,4 @@
-use Rattle.std.proofs.Common.{refl, ◌≡◌, ◌+◌, ◌≤◌, ◌∙◌, Some, length, length-take, length-drop, drop, take, false, subst, sym, ap, arith}
-use Rattle.std.proofs.lemmas.List.{take_rest}
-use Rattle.osdp_tool_streams.specs.Watched.{inner_of}
-use Rattle.osdp_frame.specs.Held.{new_run, by_itself, decided}
-use Rattle.osdp_frame.specs.Reading.{item_size}
-use Rattle.osdp_frame.specs.Shown.{item_of}
-use Rattle.osdp_tool_show.specs.Machine.{written_or_held, Took}
+use Rattle.osdp_tool_show.proofs.Common.{refl, ◌≡◌, ◌+◌, ◌≤◌, ◌∙◌, Some, length, length-take, length-drop, drop, take, false, subst, sym, ap, arith, take_rest, inner_of, new_run, by_itself, decided, item_size, item_of, written_or_held, Took}
 use Rattle.osdp_tool_show.proofs.WholeItems.{took_item, item_within}
 use Rattle.osdp_tool_show.proofs.WholeItems.{item_stops}
 use Rattle.osdp_tool_show.proofs.Beginnings.{on_err}

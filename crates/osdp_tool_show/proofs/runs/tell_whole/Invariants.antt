@@ -1,7 +1,4 @@
-use Rattle.std.proofs.Common.{◌≡◌, ◌≤◌, ◌-◌, length, take}
-use Rattle.osdp_frame.specs.Held.{new_run}
-use Rattle.osdp_tool_streams.specs.Watched.{inner_of, has_failed}
-use Rattle.osdp_tool_show.specs.Machine.{written_or_held, Took}
+use Rattle.osdp_tool_show.proofs.Common.{◌≡◌, ◌≤◌, ◌-◌, length, take, new_run, inner_of, has_failed, written_or_held, Took}
 use Rattle.osdp_tool_show.proofs.runs.tell_whole.Given as goal
 
 abbrev pub invariant-items : goal.invariant-items

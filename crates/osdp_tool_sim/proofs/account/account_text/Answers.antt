@@ -1,9 +1,4 @@
-use Rattle.std.proofs.Common.{◌++◌, ap, ◌∙◌, codes, map, string_bytes}
-use Rattle.osdp_msg.specs.CommandText.{command_words}
-use Rattle.osdp_msg.specs.Events.{event_words}
-use Rattle.osdp_msg.specs.Kept.{command_kept, event_kept}
-use Rattle.osdp_sim.specs.Account.{lists_of}
-use Rattle.osdp_tool_sim.specs.AccountText.{command_line, counts_line, end_words, ended_line, line_text, reported_line, settled_line, settled_words}
+use Rattle.osdp_tool_sim.proofs.Common.{◌++◌, ap, ◌∙◌, codes, map, string_bytes, command_words, event_words, command_kept, event_kept, lists_of, command_line, counts_line, end_words, ended_line, line_text, reported_line, settled_line, settled_words}
 use Rattle.osdp_tool_sim.proofs.Written.{five_lists, told_items, told_list}
 use Rattle.osdp_tool_sim.proofs.account.account_text.Goals as goal
 

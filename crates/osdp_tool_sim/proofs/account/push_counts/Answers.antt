@@ -1,7 +1,4 @@
-use Rattle.std.proofs.Common.{string_bytes, sym, ◌∙◌}
-use Rattle.std.proofs.lemmas.List.{length-map}
-use Rattle.osdp_msg.specs.Kept.{command_kept, event_kept}
-use Rattle.osdp_sim.specs.Account.{lists_of}
+use Rattle.osdp_tool_sim.proofs.Common.{string_bytes, sym, ◌∙◌, length-map, command_kept, event_kept, lists_of}
 use Rattle.osdp_tool_sim.proofs.Written.{counts_are, on_ok}
 use Rattle.osdp_tool_sim.proofs.account.push_counts.Goals as goal
 

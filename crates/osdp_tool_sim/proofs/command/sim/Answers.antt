@@ -1,7 +1,4 @@
-use Rattle.std.proofs.Common.{subst, sym, ap, ◌∙◌}
-use Rattle.osdp_tool_streams.specs.FinalAnswer.{final_answer_of}
-use Rattle.osdp_tool_streams.specs.Watched.{inner_of, has_failed}
-use Rattle.osdp_tool_sim.specs.Ending.{Ends}
+use Rattle.osdp_tool_sim.proofs.Common.{subst, sym, ap, ◌∙◌, final_answer_of, inner_of, has_failed, Ends}
 use Rattle.osdp_tool_sim.proofs.Finishing.{ends_final, ends_whole}
 use Rattle.osdp_tool_sim.proofs.command.sim.Goals as goal
 

@@ -1,6 +1,4 @@
-use Rattle.std.proofs.Common.{◌∙◌, List, ℕ, subst}
-use Rattle.osdp_tool_streams.specs.Watched.{inner_of, has_failed}
-use Rattle.osdp_tool_sim.specs.Ending.{SaysOf}
+use Rattle.osdp_tool_sim.proofs.Common.{◌∙◌, List, ℕ, subst, inner_of, has_failed, SaysOf}
 use Rattle.osdp_tool_sim.proofs.Finishing.{failed_of, says_of}
 use Rattle.osdp_tool_sim.proofs.command.work.Goals as goal
 

@@ -1,5 +1,4 @@
-use Rattle.std.proofs.Common.{◌≡◌, ◌++◌, length, string_bytes}
-use Rattle.osdp_tool_sim.specs.AccountText.{lines_text, named}
+use Rattle.osdp_tool_sim.proofs.Common.{◌≡◌, ◌++◌, length, string_bytes, lines_text, named}
 use Rattle.osdp_tool_sim.proofs.lines.push_list.Given as goal
 
 -- what is written and what is to come are the whole

@@ -1,8 +1,5 @@
-use Rattle.std.proofs.Common.{Ok, Err, sym, subst}
-use Rattle.osdp_script.specs.Schedule.{steps_left}
-use Rattle.osdp_sim.specs.Account.{lists_of}
+use Rattle.osdp_tool_sim.proofs.Common.{Ok, Err, sym, subst, steps_left, lists_of, TellsOne}
 use Rattle.osdp_sim.specs.declared.account.Account as declared
-use Rattle.osdp_tool_sim.specs.One.{TellsOne}
 use Rattle.osdp_tool_sim.specs.declared.told.Told.{Told}
 use Rattle.osdp_tool_sim.proofs.Running.{holds_as, told_ok, told_stopped}
 use Rattle.osdp_tool_sim.proofs.one.tell_one.Goals as goal

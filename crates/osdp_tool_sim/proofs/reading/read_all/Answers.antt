@@ -1,5 +1,4 @@
-use Rattle.std.proofs.Common.{◌∙◌}
-use Rattle.osdp_tool_streams.specs.Watched.{inner_of}
+use Rattle.osdp_tool_sim.proofs.Common.{◌∙◌, inner_of}
 use Rattle.osdp_tool_sim.proofs.ReadWhole.{read_kept, read_past, read_some_more, read_to_end}
 use Rattle.osdp_tool_sim.proofs.reading.read_all.Goals as goal
 

@@ -1,5 +1,4 @@
-use Rattle.std.proofs.Common.{◌≡◌}
-use Rattle.osdp_tool_streams.specs.Watched.{inner_of, has_failed}
+use Rattle.osdp_tool_sim.proofs.Common.{◌≡◌, inner_of, has_failed}
 use Rattle.osdp_tool_sim.proofs.ReadWhole.{HasRead}
 use Rattle.osdp_tool_sim.proofs.reading.read_all.Given as goal
 

@@ -1,5 +1,4 @@
-use Rattle.std.proofs.Common.{◌∙◌, sym, subst, List, ℕ, string_bytes}
-use Rattle.osdp_tool_sim.specs.Told.{TellsReaders}
+use Rattle.osdp_tool_sim.proofs.Common.{◌∙◌, sym, subst, List, ℕ, string_bytes, TellsReaders}
 use Rattle.osdp_tool_sim.proofs.Accounts.{of_each}
 use Rattle.osdp_tool_sim.proofs.Running.{if_ok}
 use Rattle.osdp_tool_sim.proofs.run.tell.Goals as goal

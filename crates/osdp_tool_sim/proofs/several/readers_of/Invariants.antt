@@ -1,5 +1,4 @@
-use Rattle.std.proofs.Common.{◌≡◌, ◌+◌, ◌++◌, drop}
-use Rattle.osdp_tool_sim.specs.Several.{readers_from}
+use Rattle.osdp_tool_sim.proofs.Common.{◌≡◌, ◌+◌, ◌++◌, drop, readers_from}
 use Rattle.osdp_tool_sim.proofs.several.readers_of.Given as goal
 
 -- the readers so far, and those that are left

@@ -1,9 +1,5 @@
-use Rattle.std.proofs.Common.{Ok, Err, sym, subst, ap, ◌∙◌}
-use Rattle.std.specs.Global.{Vec}
-use Rattle.osdp_script.specs.Schedule.{steps_left}
+use Rattle.osdp_tool_sim.proofs.Common.{Ok, Err, sym, subst, ap, ◌∙◌, Vec, steps_left, lists_of_all, TellsEach, readers_from}
 use Rattle.osdp_sim.specs.declared.account.Account as declared
-use Rattle.osdp_sim_bus.specs.Runs.{lists_of_all}
-use Rattle.osdp_tool_sim.specs.Several.{TellsEach, readers_from}
 use Rattle.osdp_tool_sim.proofs.Accounts.{each_ok, each_stopped, holds_as}
 use Rattle.osdp_tool_sim.proofs.Ranges.{several_in_range}
 use Rattle.osdp_tool_sim.proofs.Running.{if_ok}

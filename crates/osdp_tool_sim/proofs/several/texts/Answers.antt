@@ -1,6 +1,4 @@
-use Rattle.std.proofs.Common.{◌∙◌, map, string_bytes}
-use Rattle.osdp_sim.specs.Account.{lists_of}
-use Rattle.osdp_tool_sim.specs.AccountText.{texts_from}
+use Rattle.osdp_tool_sim.proofs.Common.{◌∙◌, map, string_bytes, lists_of, texts_from}
 use Rattle.osdp_tool_sim.proofs.Accounts.{texts_more}
 use Rattle.osdp_tool_sim.proofs.several.texts.Goals as goal
 

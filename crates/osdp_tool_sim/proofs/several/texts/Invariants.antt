@@ -1,6 +1,4 @@
-use Rattle.std.proofs.Common.{◌≡◌, ◌+◌, ◌++◌, drop, map, string_bytes}
-use Rattle.osdp_sim.specs.Account.{lists_of}
-use Rattle.osdp_tool_sim.specs.AccountText.{texts_from}
+use Rattle.osdp_tool_sim.proofs.Common.{◌≡◌, ◌+◌, ◌++◌, drop, map, string_bytes, lists_of, texts_from}
 use Rattle.osdp_tool_sim.proofs.several.texts.Given as goal
 
 -- the texts so far, and those that are left

@@ -1,6 +1,5 @@
-use Rattle.std.proofs.Common.{refl}
+use Rattle.osdp_tool_test.proofs.Common.{refl, DeviceFinds, DeviceStops}
 use Rattle.osdp_tool_test.specs.Table.{device_rules, row}
-use Rattle.osdp_tool_test.specs.Tests.{DeviceFinds, DeviceStops}
 use Rattle.osdp_tool_test.proofs.Telling.{tests_by_rows}
 use Rattle.osdp_tool_test.proofs.command.test.Goals as goal
 

@@ -1,6 +1,4 @@
-use Rattle.std.proofs.Common.{inl, refl}
-use Rattle.osdp_tool_test.specs.Lines.{SaidFits, said_words}
-use Rattle.osdp_tool_test.specs.Tests.{after_said, all_entries, model, new_test}
+use Rattle.osdp_tool_test.proofs.Common.{inl, refl, SaidFits, said_words, after_said, all_entries, model, new_test}
 use Rattle.osdp_tool_test.proofs.Telling.{said_ends}
 use Rattle.osdp_tool_test.proofs.command.test_by.Goals as goal
 

@@ -1,5 +1,4 @@
-use Rattle.std.proofs.Common.{◌∷◌, []}
-use Rattle.osdp_tool_test.specs.Rules.{IsWithin}
+use Rattle.osdp_tool_test.proofs.Common.{◌∷◌, [], IsWithin}
 use Rattle.osdp_tool_test.proofs.Parts.{both_some, first_none, rest_none, exchange_parts}
 use Rattle.osdp_tool_test.proofs.exchange.exchange_in.Goals as goal
 

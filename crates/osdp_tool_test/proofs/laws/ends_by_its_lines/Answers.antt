@@ -1,6 +1,4 @@
-use Rattle.osdp_tool_test.specs.Lines.{SaidFits, said_words}
-use Rattle.osdp_tool_test.specs.Table.{device_rules, row}
-use Rattle.osdp_tool_test.specs.Tests.{after_said, all_entries, new_test}
+use Rattle.osdp_tool_test.proofs.Common.{SaidFits, said_words, device_rules, row, after_said, all_entries, new_test}
 use Rattle.osdp_tool_test.proofs.ByRows.{device_by_rows, of_row, plainly}
 use Rattle.osdp_tool_test.proofs.OneReport.{ends_one_way}
 use Rattle.osdp_tool_test.proofs.laws.ends_by_its_lines.Goals as goal

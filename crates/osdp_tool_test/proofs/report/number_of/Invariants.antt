@@ -1,7 +1,4 @@
-use Rattle.std.proofs.Common.{◌≡◌, take}
-use Rattle.std.specs.List.{count_by}
-use Rattle.osdp_tool_test.specs.Entries.{told}
-use Rattle.osdp_tool_test.specs.Report.{has_outcome}
+use Rattle.osdp_tool_test.proofs.Common.{◌≡◌, take, count_by, told, has_outcome}
 use Rattle.osdp_tool_test.proofs.report.number_of.Given as goal
 
 abbrev pub invariant-entries : goal.invariant-entries

@@ -1,6 +1,4 @@
-use Rattle.std.proofs.Common.{◌++◌, ap, string_bytes, ◌∙◌}
-use Rattle.osdp_tool_test.specs.Entries.{told}
-use Rattle.osdp_tool_test.specs.Report.{entry_text}
+use Rattle.osdp_tool_test.proofs.Common.{◌++◌, ap, string_bytes, ◌∙◌, told, entry_text}
 use Rattle.osdp_tool_test.proofs.Along.{flat_map_of, text_end}
 use Rattle.osdp_tool_test.proofs.report.push_entries.Goals as goal
 

@@ -1,6 +1,4 @@
-use Rattle.std.proofs.Common.{◌≡◌, ◌++◌, drop, flat_map, string_bytes}
-use Rattle.osdp_tool_test.specs.Entries.{told}
-use Rattle.osdp_tool_test.specs.Report.{entry_text}
+use Rattle.osdp_tool_test.proofs.Common.{◌≡◌, ◌++◌, drop, flat_map, string_bytes, told, entry_text}
 use Rattle.osdp_tool_test.proofs.report.push_entries.Given as goal
 
 abbrev pub invariant-entries : goal.invariant-entries

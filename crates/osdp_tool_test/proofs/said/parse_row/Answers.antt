@@ -1,7 +1,5 @@
 use Rattle.std.proofs.Common.{Some, None, ap, codes, option_map, refl}
-use Rattle.osdp_msg.proofs.RowTexts.{made_row_read}
-use Rattle.osdp_words.specs.Word.{texts}
-use Rattle.osdp_tool_test.specs.Lines.{SaidFits, asks, device, opens, said_fields, said_name, said_of, skip_of, skips, times}
+use Rattle.osdp_tool_test.proofs.Common.{made_row_read, texts, SaidFits, asks, device, opens, said_fields, said_name, said_of, skip_of, skips, times}
 use Rattle.osdp_tool_test.proofs.Rows.{is_asks, is_device, is_opens, is_skips, is_times}
 use Rattle.osdp_tool_test.proofs.said.parse_row.Goals as goal
 

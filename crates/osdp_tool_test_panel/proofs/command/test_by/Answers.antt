@@ -1,7 +1,4 @@
-use Rattle.std.proofs.Common.{inl, refl}
-use Rattle.osdp_tool_test.proofs.Telling.{said_ends}
-use Rattle.osdp_tool_test_panel.specs.Lines.{SaidFits, said_words}
-use Rattle.osdp_tool_test_panel.specs.Tests.{after_said, entries_of, model, new_test}
+use Rattle.osdp_tool_test_panel.proofs.Common.{inl, refl, said_ends, SaidFits, said_words, after_said, entries_of, model, new_test}
 use Rattle.osdp_tool_test_panel.proofs.command.test_by.Goals as goal
 
 pub returns-in-Ok : goal.returns-in-Ok

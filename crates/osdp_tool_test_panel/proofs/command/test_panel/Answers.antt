@@ -1,7 +1,5 @@
-use Rattle.std.proofs.Common.{refl}
-use Rattle.osdp_tool_test.proofs.Telling.{tests_by_rows}
+use Rattle.osdp_tool_test_panel.proofs.Common.{refl, tests_by_rows, PanelFinds, PanelStops}
 use Rattle.osdp_tool_test_panel.specs.Table.{panel_rules, row}
-use Rattle.osdp_tool_test_panel.specs.Tests.{PanelFinds, PanelStops}
 use Rattle.osdp_tool_test_panel.proofs.command.test_panel.Goals as goal
 
 pub returns : goal.returns

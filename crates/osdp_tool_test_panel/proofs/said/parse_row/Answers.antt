@@ -1,7 +1,4 @@
-use Rattle.std.proofs.Common.{Some, None, ap, codes, option_map, refl}
-use Rattle.osdp_msg.proofs.RowTexts.{made_row_read}
-use Rattle.osdp_words.specs.Word.{texts}
-use Rattle.osdp_tool_test_panel.specs.Lines.{SaidFits, device, said_fields, said_name, said_of, skips}
+use Rattle.osdp_tool_test_panel.proofs.Common.{Some, None, ap, codes, option_map, refl, made_row_read, texts, SaidFits, device, said_fields, said_name, said_of, skips}
 use Rattle.osdp_tool_test_panel.proofs.Rows.{is_device, is_skips}
 use Rattle.osdp_tool_test_panel.proofs.said.parse_row.Goals as goal
 

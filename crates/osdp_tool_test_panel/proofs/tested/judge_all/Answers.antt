@@ -1,5 +1,4 @@
-use Rattle.std.proofs.Common.{◌<◌, ◌≤◌, arith, length, refl}
-use Rattle.osdp_tool_test_panel.specs.Tests.{judged_entry}
+use Rattle.osdp_tool_test_panel.proofs.Common.{◌<◌, ◌≤◌, arith, length, refl, judged_entry}
 use Rattle.osdp_tool_test_panel.proofs.Each.{changed_all, changed_more}
 use Rattle.osdp_tool_test_panel.proofs.tested.judge_all.Goals as goal
 

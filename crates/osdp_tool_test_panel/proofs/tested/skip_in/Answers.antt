@@ -1,6 +1,4 @@
-use Rattle.std.proofs.Common.{◌<◌, ◌≤◌, arith, length, refl}
-use Rattle.osdp_tool_test.specs.Lines.{skip_of}
-use Rattle.osdp_tool_test_panel.specs.Tests.{skipped_entry}
+use Rattle.osdp_tool_test_panel.proofs.Common.{◌<◌, ◌≤◌, arith, length, refl, skip_of, skipped_entry}
 use Rattle.osdp_tool_test_panel.proofs.Each.{changed_all, changed_more}
 use Rattle.osdp_tool_test_panel.proofs.tested.skip_in.Goals as goal
 

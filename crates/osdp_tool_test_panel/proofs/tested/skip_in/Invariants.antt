@@ -1,5 +1,4 @@
-use Rattle.osdp_tool_test.specs.Lines.{skip_of}
-use Rattle.osdp_tool_test_panel.specs.Tests.{skipped_entry}
+use Rattle.osdp_tool_test_panel.proofs.Common.{skip_of, skipped_entry}
 use Rattle.osdp_tool_test_panel.proofs.Each.{Changed}
 use Rattle.osdp_tool_test_panel.proofs.tested.skip_in.Given as goal
 

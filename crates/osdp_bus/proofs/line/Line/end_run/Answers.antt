@@ -1,5 +1,4 @@
-use Rattle.std.proofs.Common.{sym}
-use Rattle.osdp_bus.specs.Private.{devices_of, state_of}
+use Rattle.osdp_bus.proofs.Common.{sym, devices_of, state_of}
 use Rattle.osdp_bus.proofs.Runs.{over_nothing, run_over}
 use Rattle.osdp_bus.proofs.line.Line.end_run.Goals as goal
 

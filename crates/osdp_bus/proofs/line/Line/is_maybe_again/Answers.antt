@@ -1,8 +1,4 @@
-use Rattle.std.proofs.Common.{◌≡◌, ◌∙◌, ◌<◌, Some, ap, length, rules, sym}
-use Rattle.std.specs.Prelude.{slice_get}
-use Rattle.std.proofs.lemmas.Option.{slice_get-get_or}
-use Rattle.osdp_bus.specs.Buses.{is_told_maybe_again}
-use Rattle.osdp_bus.specs.Private.{memories_of}
+use Rattle.osdp_bus.proofs.Common.{◌≡◌, ◌∙◌, ◌<◌, Some, ap, length, rules, sym, slice_get, slice_get-get_or, is_told_maybe_again, memories_of}
 use Rattle.osdp_bus.proofs.Remembering.{judged_there}
 use Rattle.osdp_bus.proofs.line.Line.is_maybe_again.Goals as goal
 

@@ -1,9 +1,4 @@
-use Rattle.std.proofs.Common.{Some, sym, subst, ap, ◌∙◌, arith}
-use Rattle.std.proofs.lemmas.Bool.{eqb-false, eqb-true}
-use Rattle.osdp_bus.specs.Deadlines.{IsDeadline}
-use Rattle.osdp_bus.specs.Entries.{first_from, holds}
-use Rattle.osdp_bus.specs.Private.{state_of}
-use Rattle.osdp_bus.specs.Waits.{IsDueFrom, any_due}
+use Rattle.osdp_bus.proofs.Common.{Some, sym, subst, ap, ◌∙◌, arith, eqb-false, eqb-true, IsDeadline, first_from, holds, state_of, IsDueFrom, any_due}
 use Rattle.osdp_bus.proofs.Waiting.{deadline_free, deadline_held, deadline_now}
 use Rattle.osdp_bus.proofs.line.Line.next_deadline.Goals as goal
 

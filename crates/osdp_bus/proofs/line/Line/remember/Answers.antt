@@ -1,8 +1,6 @@
 use Rattle.std.proofs.Common.{◌≡◌, ◌∙◌, ◌<◌, ◌≤◌, Some, ap, arith, length, rules, slice_set, sym}
-use Rattle.std.specs.Prelude.{slice_get}
-use Rattle.std.proofs.lemmas.Option.{slice_get-get_or}
+use Rattle.osdp_bus.proofs.Common.{slice_get, slice_get-get_or, memories_of, state_of}
 use Rattle.osdp_bus.specs.Machine.{remembered_after}
-use Rattle.osdp_bus.specs.Private.{memories_of, state_of}
 use Rattle.osdp_bus.proofs.Remembering.{nowhere_remembered, remembered_there}
 use Rattle.osdp_bus.proofs.line.Line.remember.Goals as goal
 

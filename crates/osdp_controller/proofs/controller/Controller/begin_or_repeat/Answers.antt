@@ -1,11 +1,4 @@
-use Rattle.std.proofs.Common.{◌≡◌, ◌∙◌, ℕ, List, [], Some, None, false, ap, refl, sym}
-use Rattle.std.specs.Option.{option_copied}
-use Rattle.osdp_controller.specs.declared.session.Session.{Session}
-use Rattle.osdp_controller.specs.Held.{on_its_way}
-use Rattle.osdp_controller.specs.Machine.{is_outstanding}
-use Rattle.osdp_controller.specs.Private.{frame_if, is_over, next_in}
-use Rattle.osdp_controller.specs.Ticking.{Ticked, ticks_in}
-use Rattle.osdp_controller.specs.Waiting.{first_of, session_of}
+use Rattle.osdp_controller.proofs.Common.{◌≡◌, ◌∙◌, ℕ, List, [], Some, None, false, ap, refl, sym, option_copied, Session, on_its_way, is_outstanding, frame_if, is_over, next_in, Ticked, ticks_in, first_of, session_of}
 use Rattle.osdp_controller.proofs.OnItsWay.{ticks_ask}
 use Rattle.osdp_controller.proofs.Waiting.{keeps_beginning, keeps_ticking, machine_ticked, session_ticked, ticks_leave}
 use Rattle.osdp_controller.proofs.controller.Controller.begin_or_repeat.Goals as goal

@@ -1,7 +1,4 @@
-use Rattle.std.proofs.Common.{◌∙◌, ℕ, List, ap, subst, sym}
-use Rattle.osdp_controller.specs.declared.session.Session.{Session}
-use Rattle.osdp_controller.specs.Machine.{IsSession}
-use Rattle.osdp_controller.specs.Waiting.{session_of}
+use Rattle.osdp_controller.proofs.Common.{◌∙◌, ℕ, List, ap, subst, sym, Session, IsSession, session_of}
 use Rattle.osdp_controller.proofs.OnItsWay.{Follows}
 use Rattle.osdp_controller.proofs.Waiting.{after_settling}
 use Rattle.osdp_controller.proofs.controller.Controller.give_up.Goals as goal

@@ -1,7 +1,4 @@
-use Rattle.std.proofs.Common.{◌≡◌, ◌∙◌, true, false, sym}
-use Rattle.std.specs.Prelude.{is_some}
-use Rattle.osdp_controller.specs.Held.{on_its_way, state_in}
-use Rattle.osdp_controller.specs.Waiting.{first_of}
+use Rattle.osdp_controller.proofs.Common.{◌≡◌, ◌∙◌, true, false, sym, is_some, on_its_way, state_in, first_of}
 use Rattle.osdp_controller.proofs.Waiting.{comsets_after, comsets_of_all}
 use Rattle.osdp_controller.proofs.controller.Controller.has_waiting_comset.Goals as goal
 

@@ -1,7 +1,4 @@
-use Rattle.std.proofs.Common.{◌∙◌, ℕ, List, ap, subst, sym}
-use Rattle.osdp_controller.specs.declared.session.Session.{Session}
-use Rattle.osdp_controller.specs.Hearing.{hears}
-use Rattle.osdp_controller.specs.Waiting.{first_of, machine_of, session_of}
+use Rattle.osdp_controller.proofs.Common.{◌∙◌, ℕ, List, ap, subst, sym, Session, hears, first_of, machine_of, session_of}
 use Rattle.osdp_controller.proofs.OnItsWay.{Follows, hears_follows}
 use Rattle.osdp_controller.proofs.Waiting.{after_settling, machine_settled}
 use Rattle.osdp_controller.proofs.controller.Controller.hear.Goals as goal

@@ -1,6 +1,4 @@
-use Rattle.std.proofs.Common.{◌≡◌, ◌+◌, ◌∙◌, ℕ, ap, rules}
-use Rattle.osdp_controller.specs.Machine.{AreSettings}
-use Rattle.osdp_ring.specs.Ring.{empty_ring}
+use Rattle.osdp_controller.proofs.Common.{◌≡◌, ◌+◌, ◌∙◌, ℕ, ap, rules, AreSettings, empty_ring}
 use Rattle.osdp_controller.proofs.Waiting.{new_is}
 use Rattle.osdp_controller.proofs.controller.Controller.new.Goals as goal
 

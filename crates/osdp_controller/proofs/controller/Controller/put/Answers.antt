@@ -1,8 +1,4 @@
-use Rattle.std.proofs.Common.{◌≡◌, ◌<◌, ◌≤◌, ◌∙◌, ap, length, map, subst, sym, arith, rules}
-use Rattle.osdp_msg.specs.Kept.{command_kept}
-use Rattle.osdp_controller.specs.Held.{state_in}
-use Rattle.osdp_controller.specs.Machine.{IsSubmitted}
-use Rattle.osdp_controller.specs.Waiting.{first_of, session_of, waiting_in}
+use Rattle.osdp_controller.proofs.Common.{◌≡◌, ◌<◌, ◌≤◌, ◌∙◌, ap, length, map, subst, sym, arith, rules, command_kept, state_in, IsSubmitted, first_of, session_of, waiting_in}
 use Rattle.osdp_controller.proofs.OnItsWay.{own_bytes}
 use Rattle.osdp_controller.proofs.Fitting.{room_is}
 use Rattle.osdp_controller.proofs.Waiting.{is_command, keeps_put}

@@ -1,7 +1,4 @@
-use Rattle.std.proofs.Common.{◌≡◌, ◌∙◌, true, sym, rules}
-use Rattle.osdp_controller.specs.Held.{state_in}
-use Rattle.osdp_controller.specs.States.{is_closed}
-use Rattle.osdp_controller.specs.Waiting.{first_of}
+use Rattle.osdp_controller.proofs.Common.{◌≡◌, ◌∙◌, true, sym, rules, state_in, is_closed, first_of}
 use Rattle.osdp_controller.proofs.Waiting.{keeps_withdrawn}
 use Rattle.osdp_controller.proofs.controller.Controller.withdraw.Goals as goal
 

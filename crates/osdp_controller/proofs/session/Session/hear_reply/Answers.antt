@@ -1,11 +1,4 @@
-use Rattle.std.proofs.Common.{◌≡◌, ℕ, true, ap, refl, sym, ◌∙◌, rules}
-use Rattle.osdp_controller.specs.declared.meaning.ReplyMeaning.{ReplyMeaning}
-use Rattle.osdp_controller.specs.declared.session.Session.{Session}
-use Rattle.osdp_controller.specs.declared.state.State.{State}
-use Rattle.osdp_controller.specs.declared.state.State.TheVariants.{Waiting, Pausing}
-use Rattle.osdp_controller.specs.Answers.{meaning_of}
-use Rattle.osdp_controller.specs.Hearing.{Heard, hears_in, is_numbered}
-use Rattle.osdp_controller.specs.Private.{numbered_in}
+use Rattle.osdp_controller.proofs.Common.{◌≡◌, ℕ, true, ap, refl, sym, ◌∙◌, rules, ReplyMeaning, Session, State, Waiting, Pausing, meaning_of, Heard, hears_in, is_numbered, numbered_in}
 use Rattle.osdp_controller.proofs.Keeping.{keeps_numbered}
 use Rattle.osdp_controller.proofs.session.Session.hear_reply.Goals as goal
 

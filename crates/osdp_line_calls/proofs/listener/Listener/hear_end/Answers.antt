@@ -1,8 +1,6 @@
 use Rattle.std.proofs.Common.{◌≡◌, ◌++◌, OnOk, refl, string_bytes, subst, sym, true}
 use Rattle.osdp_frame.specs.Held.{decided}
-use Rattle.osdp_frame.specs.Items.{items}
-use Rattle.osdp_frame.specs.Receiving.{IsAllRead}
-use Rattle.osdp_line_calls.specs.Passing.{Listening, passed_item, passed_items}
+use Rattle.osdp_line_calls.proofs.Common.{items, IsAllRead, Listening, passed_item, passed_items}
 use Rattle.osdp_line_calls.proofs.Listening.{end_after, end_text}
 use Rattle.osdp_line_calls.proofs.listener.Listener.hear_end.Goals as goal
 

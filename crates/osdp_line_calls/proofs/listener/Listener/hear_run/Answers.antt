@@ -1,6 +1,5 @@
-use Rattle.std.proofs.Common.{refl, subst, sym}
+use Rattle.osdp_line_calls.proofs.Common.{refl, subst, sym, IsAllRead}
 use Rattle.osdp_frame.specs.Held.{decided}
-use Rattle.osdp_frame.specs.Receiving.{IsAllRead}
 use Rattle.osdp_line_calls.proofs.listener.Listener.hear_run.Goals as goal
 
 pub invariant_of-self : goal.invariant_of-self

@@ -1,7 +1,4 @@
-use Rattle.std.proofs.Common.{string_bytes, subst}
-use Rattle.std.specs.Prelude.{OnOk}
-use Rattle.osdp_line_calls.specs.OrderedLines.{Ends, refuses}
-use Rattle.osdp_line_calls.specs.OrderedPanels.{Called, Comes, Ordered, with_orders}
+use Rattle.osdp_line_calls.proofs.Common.{string_bytes, subst, OnOk, Ends, refuses, Called, Comes, Ordered, with_orders}
 use Rattle.osdp_line_calls.proofs.OrderedCalls.{refused_so}
 use Rattle.osdp_line_calls.proofs.ordered_panel.OrderedPanel.refuse.Goals as goal
 

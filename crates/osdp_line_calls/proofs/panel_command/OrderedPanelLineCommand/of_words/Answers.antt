@@ -1,5 +1,4 @@
-use Rattle.std.proofs.Common.{refl}
-use Rattle.osdp_line_calls.specs.OrderedPanels.{new_ordered}
+use Rattle.osdp_line_calls.proofs.Common.{refl, new_ordered}
 use Rattle.osdp_line_calls.proofs.panel_command.OrderedPanelLineCommand.of_words.Goals as goal
 
 pub returns-in-Err-clause-none : goal.returns-in-Err-clause-none

@@ -1,6 +1,5 @@
-use Rattle.std.proofs.Common.{ap, arith, subst, sym, ◌∙◌}
+use Rattle.osdp_line_calls.proofs.Common.{ap, arith, subst, sym, ◌∙◌, Crc}
 use Rattle.osdp_bus.specs.Settings.{IsBusConfig, default_config}
-use Rattle.osdp_frame.specs.declared.check_kind.CheckKind.TheVariants.{Crc}
 use Rattle.osdp_line_calls.proofs.Ranges.{bus_in_range}
 use Rattle.osdp_line_calls.proofs.panel_command.PanelSettingsConfigured.default_settings.Goals as goal
 

@@ -1,7 +1,6 @@
-use Rattle.std.proofs.Common.{subst}
+use Rattle.osdp_line_calls.proofs.Common.{subst, some_same}
 use Rattle.osdp_line_calls.proofs.Ranges.{set_in_range}
 use Rattle.osdp_line_calls.specs.PanelSettings.{AreInRange}
-use Rattle.osdp_settings.proofs.Reading.{some_same}
 use Rattle.osdp_line_calls.proofs.panel_command.PanelSettingsConfigured.set.Goals as goal
 
 pub returns-clause-range : goal.returns-clause-range

@@ -1,7 +1,5 @@
-use Rattle.std.proofs.Common.{◌≡◌, ap, string_bytes, subst}
+use Rattle.osdp_line_calls.proofs.Common.{◌≡◌, ap, string_bytes, subst, IsDeadline, Session}
 use Rattle.osdp_bus.specs.Buses.{BusState}
-use Rattle.osdp_bus.specs.Deadlines.{IsDeadline}
-use Rattle.osdp_line_calls.specs.PanelSessions.{Session}
 use Rattle.osdp_line_calls.proofs.PanelCalls.{due_written}
 use Rattle.osdp_line_calls.proofs.panel_session.LinePanel.end.Goals as goal
 

@@ -1,5 +1,4 @@
-use Rattle.std.proofs.Common.{refl}
-use Rattle.osdp_line_calls.specs.Runs.{new_device}
+use Rattle.osdp_line_calls.proofs.Common.{refl, new_device}
 use Rattle.osdp_line_calls.proofs.reader_command.LineDeviceLineCommand.of_words.Goals as goal
 
 pub returns-in-Err-clause-none : goal.returns-in-Err-clause-none

@@ -1,6 +1,5 @@
-use Rattle.std.proofs.Common.{refl, sym, subst}
+use Rattle.osdp_line_calls.proofs.Common.{refl, sym, subst, IsAllRead}
 use Rattle.osdp_frame.specs.Held.{decided}
-use Rattle.osdp_frame.specs.Receiving.{IsAllRead}
 use Rattle.osdp_line_calls.proofs.reader_session.LineDevice.new.Goals as goal
 
 pub returns-clause-read : goal.returns-clause-read

@@ -1,7 +1,5 @@
-use Rattle.std.proofs.Common.{refl}
+use Rattle.osdp_line_calls.proofs.Common.{refl, tells_waiting, no_line}
 use Rattle.osdp_line_calls.proofs.ReaderCalls.{comes_then}
-use Rattle.osdp_line_calls.specs.ReaderSessions.{tells_waiting}
-use Rattle.osdp_line_calls.specs.ReaderTexts.{no_line}
 use Rattle.osdp_line_calls.proofs.reader_session.LineDevice.refuse.Goals as goal
 
 pub returns : goal.returns

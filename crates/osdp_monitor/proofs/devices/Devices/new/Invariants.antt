@@ -1,6 +1,4 @@
-use Rattle.std.proofs.Common.{◌≡◌, ◌<◌, ◌≤◌, ℕ, length, vec_capacity}
-use Rattle.osdp_monitor.specs.Known.{nothing_known}
-use Rattle.osdp_monitor.specs.Private.{known_in}
+use Rattle.osdp_monitor.proofs.Common.{◌≡◌, ◌<◌, ◌≤◌, ℕ, length, vec_capacity, nothing_known, known_in}
 use Rattle.osdp_monitor.proofs.devices.Devices.new.Given as goal
 
 abbrev pub invariant-addresses : goal.invariant-addresses

@@ -1,8 +1,4 @@
-use Rattle.std.proofs.Common.{rules, ◌↔◌, Bool, IsTrue, sym, subst}
-use Rattle.osdp_msg.specs.CommandFields.{LedFits, OutputFits, led_word, output_word}
-use Rattle.osdp_msg.specs.ReplyFields.{CapabilityFits, capability_word}
-use Rattle.osdp_refused_words.specs.Slots.{SlotTakes}
-use Rattle.osdp_refused_words.specs.declared.slot.Slot.TheVariants.{Text, Number, Bytes, Output, Led, Capability}
+use Rattle.osdp_refused_words.proofs.Common.{rules, ◌↔◌, Bool, IsTrue, sym, subst, LedFits, OutputFits, led_word, output_word, CapabilityFits, capability_word, SlotTakes, Text, Number, Bytes, Output, Led, Capability}
 use Rattle.osdp_refused_words.proofs.Taking.{read_one, same_slot}
 use Rattle.osdp_refused_words.proofs.slot.Slot.takes.Goals as goal
 

@@ -1,8 +1,4 @@
-use Rattle.std.proofs.Common.{rules, ◌≡◌, None, ap, length, subst, ◌∙◌}
-use Rattle.osdp_words.specs.Reading.{ReadsWords}
-use Rattle.osdp_words.specs.Word.{texts, words_in}
-use Rattle.osdp_script.specs.Drafts.{plan_of}
-use Rattle.osdp_script.specs.Lines.{LineFits, line_words}
+use Rattle.osdp_script.proofs.Common.{rules, ◌≡◌, None, ap, length, subst, ◌∙◌, ReadsWords, texts, words_in, plan_of, LineFits, line_words}
 use Rattle.osdp_script.proofs.Judging.{unread}
 use Rattle.osdp_script.proofs.draft.Draft.take_text.Goals as goal
 

@@ -1,6 +1,5 @@
-use Rattle.std.proofs.Common.{◌++◌, ◌∷◌, [], ap, ◌∙◌}
+use Rattle.osdp_script.proofs.Common.{◌++◌, ◌∷◌, [], ap, ◌∙◌, line_of, own_size}
 use Rattle.osdp_sim.proofs.Keeping.{one_more}
-use Rattle.osdp_script.specs.Kept.{line_of, own_size}
 use Rattle.osdp_script.proofs.kept.KeptLines.add.Goals as goal
 
 pub invariant_of-self-2 : goal.invariant_of-self-2

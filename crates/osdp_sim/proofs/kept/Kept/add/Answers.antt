@@ -1,7 +1,5 @@
-use Rattle.std.proofs.Common.{◌+◌, ◌++◌, ◌∷◌, [], length, ap, ◌∙◌, arith, refl, rules}
-use Rattle.std.specs.Prelude.{vec_capacity, vec_len}
+use Rattle.osdp_sim.proofs.Common.{◌+◌, ◌++◌, ◌∷◌, [], length, ap, ◌∙◌, arith, refl, rules, vec_capacity, vec_len, Keeping}
 use Rattle.osdp_msg.specs.Limits.{most_data}
-use Rattle.osdp_sim.specs.Kept.{Keeping}
 use Rattle.osdp_sim.proofs.Keeping.{one_more, placed}
 use Rattle.osdp_sim.proofs.kept.Kept.add.Goals as goal
 

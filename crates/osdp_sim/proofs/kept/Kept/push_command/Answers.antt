@@ -1,6 +1,4 @@
-use Rattle.std.proofs.Common.{◌++◌, ◌∷◌, [], map, ap, ◌∙◌}
-use Rattle.std.proofs.lemmas.List.{map-append}
-use Rattle.osdp_msg.specs.Kept.{command_kept}
+use Rattle.osdp_sim.proofs.Common.{◌++◌, ◌∷◌, [], map, ap, ◌∙◌, map-append, command_kept}
 use Rattle.osdp_sim.proofs.kept.Kept.push_command.Goals as goal
 
 pub returns : goal.returns

@@ -1,7 +1,4 @@
-use Rattle.std.proofs.Common.{length, map, ap, sym, ◌∙◌}
-use Rattle.std.proofs.lemmas.List.{length-map}
-use Rattle.osdp_msg.specs.Kept.{command_kept, reply_kept}
-use Rattle.osdp_sim.specs.Kept.{commands_of}
+use Rattle.osdp_sim.proofs.Common.{length, map, ap, sym, ◌∙◌, length-map, command_kept, reply_kept, commands_of}
 use Rattle.osdp_sim.proofs.Keeping.{zip_length}
 use Rattle.osdp_sim.proofs.settled.Settled.len.Goals as goal
 

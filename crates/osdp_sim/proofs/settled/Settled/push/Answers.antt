@@ -1,6 +1,4 @@
-use Rattle.std.proofs.Common.{◌++◌, ◌∷◌, [], map, ap, ◌∙◌}
-use Rattle.osdp_msg.specs.Kept.{reply_kept}
-use Rattle.osdp_sim.specs.Kept.{Keeping, commands_of}
+use Rattle.osdp_sim.proofs.Common.{◌++◌, ◌∷◌, [], map, ap, ◌∙◌, reply_kept, Keeping, commands_of}
 use Rattle.osdp_sim.proofs.Keeping.{both_more, each_placed}
 use Rattle.osdp_sim.proofs.settled.Settled.push.Goals as goal
 

@@ -1,7 +1,4 @@
-use Rattle.std.proofs.Common.{refl, subst, sym}
-use Rattle.osdp_frame.specs.Spelling.{spelling}
-use Rattle.osdp_sim.specs.Room.{state_of}
-use Rattle.osdp_sim.specs.State.{AreSent}
+use Rattle.osdp_sim.proofs.Common.{refl, subst, sym, spelling, state_of, AreSent}
 use Rattle.osdp_sim.proofs.Sent.{step_sent}
 use Rattle.osdp_sim.proofs.simulation.SimulationSimulatedLine.take.Goals as goal
 

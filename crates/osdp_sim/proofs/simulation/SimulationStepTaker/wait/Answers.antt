@@ -1,12 +1,5 @@
-use Rattle.std.proofs.Common.{◌≡◌, ℕ, ◌++◌, ◌∷◌, [], ap, rules, sym, ◌∙◌}
-use Rattle.std.proofs.lemmas.List.{append-nil, map-append}
-use Rattle.arrayvec.specs.ArrayVec.{ArrayVec}
-use Rattle.osdp_controller.specs.Ticking.{ticks}
+use Rattle.osdp_sim.proofs.Common.{◌≡◌, ℕ, ◌++◌, ◌∷◌, [], ap, rules, sym, ◌∙◌, append-nil, map-append, ArrayVec, ticks, bytes_of, sent, state_of, SimState, moment_after, waited}
 use Rattle.osdp_sim.specs.Account.{lists_of, with_report}
-use Rattle.osdp_sim.specs.Line.{bytes_of, sent}
-use Rattle.osdp_sim.specs.Room.{state_of}
-use Rattle.osdp_sim.specs.State.{SimState}
-use Rattle.osdp_sim.specs.Steps.{moment_after, waited}
 use Rattle.osdp_sim.specs.declared.simulation.Simulation.{Simulation}
 use Rattle.osdp_sim.proofs.Bursts.{none_sent, written_sent}
 use Rattle.osdp_sim.proofs.simulation.SimulationStepTaker.wait.Goals as goal

@@ -1,8 +1,5 @@
-use Rattle.std.proofs.Common.{ap, arith, length, refl, subst, sym, ◌∙◌}
-use Rattle.std.proofs.lemmas.List.{length-map}
+use Rattle.osdp_sim_bus.proofs.Common.{ap, arith, length, refl, subst, sym, ◌∙◌, length-map, site_of, state_of, AreSent, LineState}
 use Rattle.osdp_frame.specs.Spelling.{spelling}
-use Rattle.osdp_sim_bus.specs.Room.{site_of, state_of}
-use Rattle.osdp_sim_bus.specs.State.{AreSent, LineState}
 use Rattle.osdp_sim_bus.proofs.Counts.{same_many}
 use Rattle.osdp_sim_bus.proofs.Sent.{step_sent}
 use Rattle.osdp_sim_bus.proofs.run.RunSimulatedLine.take.Goals as goal

@@ -1,6 +1,5 @@
 use Rattle.std.proofs.Common.{◌≡◌, ◌<◌, ◌-◌, ◌∙◌, length, rules, slice_set, sym}
-use Rattle.osdp_sim_bus.specs.Room.{sites_of}
-use Rattle.osdp_sim_bus.specs.Steps.{changed_site, site_is_busy}
+use Rattle.osdp_sim_bus.proofs.Common.{sites_of, changed_site, site_is_busy}
 use Rattle.osdp_sim_bus.specs.declared.site.ReaderSite.{ReaderSite}
 use Rattle.osdp_sim_bus.proofs.Places.{changed_there, there_within}
 use Rattle.osdp_sim_bus.proofs.simulation.SimulationStepTaker.set_busy.Goals as goal

@@ -1,7 +1,6 @@
-use Rattle.std.proofs.Common.{◌≡◌, ◌≤◌, arith, ap, inl, inr, rules, ◌∙◌}
+use Rattle.osdp_sim_bus.proofs.Common.{◌≡◌, ◌≤◌, arith, ap, inl, inr, rules, ◌∙◌, room_for}
 use Rattle.std.proofs.lemmas.Bool.Decides.{leb_tells}
 use Rattle.osdp_reader.specs.State.{new_reader}
-use Rattle.osdp_sim.specs.State.{room_for}
 use Rattle.osdp_sim_bus.proofs.Rooms.{room_is}
 use Rattle.osdp_sim_bus.proofs.site.ReaderSite.new.Goals as goal
 

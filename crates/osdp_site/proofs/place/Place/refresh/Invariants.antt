@@ -1,5 +1,4 @@
-use Rattle.std.proofs.Common.{◌≡◌, ◌+◌, drop}
-use Rattle.osdp_site.specs.Acting.{submits}
+use Rattle.osdp_site.proofs.Common.{◌≡◌, ◌+◌, drop, submits}
 use Rattle.osdp_site.proofs.place.Place.refresh.Given as goal
 
 -- what is left is submitted as all that was due is; of the entry nothing but the count of what is done changes

@@ -1,5 +1,4 @@
-use Rattle.std.proofs.Common.{◌≡◌}
-use Rattle.osdp_site.specs.Sites.{Both, acts_first}
+use Rattle.osdp_site.proofs.Common.{◌≡◌, Both, acts_first}
 use Rattle.osdp_site.proofs.site.Site.act.Given as goal
 
 -- the first so many entries have acted

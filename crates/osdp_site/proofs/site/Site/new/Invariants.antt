@@ -1,5 +1,4 @@
-use Rattle.std.proofs.Common.{◌≡◌, ◌≤◌, replicate, vec_capacity}
-use Rattle.osdp_site.specs.Places.{new_place}
+use Rattle.osdp_site.proofs.Common.{◌≡◌, ◌≤◌, replicate, vec_capacity, new_place}
 use Rattle.osdp_site.proofs.site.Site.new.Given as goal
 
 -- so many entries are made, and there is room for the others

@@ -1,5 +1,4 @@
-use Rattle.std.proofs.Common.{◌≡◌, None, drop}
-use Rattle.osdp_site.specs.Sites.{earliest_from}
+use Rattle.osdp_site.proofs.Common.{◌≡◌, None, drop, earliest_from}
 use Rattle.osdp_site.proofs.site.Site.next_deadline.Given as goal
 
 -- what was found and the entries that are left give what all of them do

@@ -1,7 +1,4 @@
-use Rattle.std.proofs.Common.{◌≡◌, ◌∙◌, ◌<◌, ap, sym, Some, length, refl, arith}
-use Rattle.std.proofs.lemmas.Option.{slice_get_read}
-use Rattle.std.specs.Prelude.{slice_set}
-use Rattle.osdp_site.specs.Sites.{SiteState, place_of}
+use Rattle.osdp_site.proofs.Common.{◌≡◌, ◌∙◌, ◌<◌, ap, sym, Some, length, refl, arith, slice_get_read, slice_set, SiteState, place_of}
 use Rattle.osdp_site.proofs.Wanting.{wants_back}
 use Rattle.osdp_site.proofs.site.Site.wants.Goals as goal
 

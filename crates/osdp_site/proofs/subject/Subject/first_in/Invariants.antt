@@ -1,5 +1,4 @@
-use Rattle.std.proofs.Common.{◌≡◌, drop}
-use Rattle.osdp_site.specs.States.{first_about}
+use Rattle.osdp_site.proofs.Common.{◌≡◌, drop, first_about}
 use Rattle.osdp_site.proofs.subject.Subject.first_in.Given as goal
 
 -- the commands that are left give what all of them do

@@ -1,6 +1,4 @@
-use Rattle.std.proofs.Common.{ℕ, None, OnOk, ap, string_bytes, subst, ◌∙◌}
-use Rattle.osdp_frame.specs.Packet.{Packet}
-use Rattle.osdp_test_script.specs.Runs.{Comes, goes_out, packet_of}
+use Rattle.osdp_test_script.proofs.Common.{ℕ, None, OnOk, ap, string_bytes, subst, ◌∙◌, Packet, Comes, goes_out, packet_of}
 use Rattle.osdp_test_script.proofs.run.ScriptRun.order.Goals as goal
 
 pub returns : goal.returns

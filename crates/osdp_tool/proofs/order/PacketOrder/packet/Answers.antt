@@ -1,7 +1,4 @@
-use Rattle.std.proofs.Common.{length, arith, ap, sym, ◌∙◌, subst}
-use Rattle.osdp_frame.specs.Bytes.{AreBytes}
-use Rattle.osdp_frame.specs.Packed.{headed}
-use Rattle.osdp_frame.specs.Packet.{IsPacket}
+use Rattle.osdp_tool.proofs.Common.{length, arith, ap, sym, ◌∙◌, subst, AreBytes, headed, IsPacket}
 use Rattle.osdp_frame.specs.declared.view.Header.{Header}
 use Rattle.osdp_tool.proofs.Orders.{some_if, is_packet}
 use Rattle.osdp_tool.proofs.order.PacketOrder.packet.Goals as goal

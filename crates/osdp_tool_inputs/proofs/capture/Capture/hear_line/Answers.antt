@@ -1,5 +1,4 @@
-use Rattle.std.proofs.Common.{refl, sym, ap, ◌∙◌}
-use Rattle.osdp_tool_times.specs.Captures.{heard_of}
+use Rattle.osdp_tool_inputs.proofs.Common.{refl, sym, ap, ◌∙◌, heard_of}
 use Rattle.osdp_tool_inputs.proofs.Following.{followed_other, followed_run}
 use Rattle.osdp_tool_inputs.proofs.OneByOne.{on_each}
 use Rattle.osdp_tool_inputs.proofs.capture.Capture.hear_line.Goals as goal

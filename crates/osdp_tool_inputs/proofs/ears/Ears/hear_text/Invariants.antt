@@ -1,5 +1,4 @@
-use Rattle.std.proofs.Common.{length}
-use Rattle.osdp_tool_inputs.specs.Echoes.{left_in}
+use Rattle.osdp_tool_inputs.proofs.Common.{length, left_in}
 use Rattle.osdp_tool_inputs.proofs.OneByOne.{IsHearing}
 use Rattle.osdp_tool_inputs.proofs.ears.Ears.hear_text.Given as goal
 

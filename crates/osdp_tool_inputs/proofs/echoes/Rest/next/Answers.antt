@@ -1,6 +1,4 @@
-use Rattle.std.proofs.Common.{◌+◌, length, arith, sym, ap, ◌∙◌}
-use Rattle.osdp_tool_inputs.specs.Echoes.{echoes_below}
-use Rattle.osdp_tool_inputs.specs.declared.echoes.Rest.{Rest}
+use Rattle.osdp_tool_inputs.proofs.Common.{◌+◌, length, arith, sym, ap, ◌∙◌, echoes_below, Rest}
 use Rattle.osdp_tool_inputs.proofs.Echoing.{echo_counts, echo_next, none_next, other_counts, other_next}
 use Rattle.osdp_tool_inputs.proofs.RunPlaces.{after_digits, no_echo_other, went_digits, went_other}
 use Rattle.osdp_tool_inputs.proofs.echoes.Rest.next.Goals as goal

@@ -1,6 +1,4 @@
-use Rattle.std.proofs.Common.{◌≡◌, ◌+◌, ◌∷◌, length, take, rules, sym, ap, ◌∙◌}
-use Rattle.std.proofs.lemmas.List.{take_rest}
-use Rattle.osdp_tool_streams.specs.Cut.{lines_of}
+use Rattle.osdp_tool_inputs.proofs.Common.{◌≡◌, ◌+◌, ◌∷◌, length, take, rules, sym, ap, ◌∙◌, take_rest, lines_of}
 use Rattle.osdp_tool_inputs.proofs.Cutting.{last_next, next_line, no_line}
 use Rattle.osdp_tool_inputs.proofs.lines.Lines.next.Goals as goal
 

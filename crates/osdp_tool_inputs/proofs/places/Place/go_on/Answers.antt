@@ -1,5 +1,4 @@
-use Rattle.std.proofs.Common.{sym, ap, ◌∙◌, arith}
-use Rattle.osdp_tool_inputs.specs.Places.{late_only}
+use Rattle.osdp_tool_inputs.proofs.Common.{sym, ap, ◌∙◌, arith, late_only}
 use Rattle.osdp_tool_inputs.proofs.RunPlaces.{none_past}
 use Rattle.osdp_tool_inputs.proofs.places.Place.go_on.Goals as goal
 

@@ -1,6 +1,4 @@
-use Rattle.std.proofs.Common.{◌≤◌, length}
-use Rattle.osdp_tool_inputs.specs.Echoes.{left_in}
-use Rattle.osdp_tool_inputs.specs.Places.{IsAt}
+use Rattle.osdp_tool_inputs.proofs.Common.{◌≤◌, length, left_in, IsAt}
 use Rattle.osdp_tool_inputs.proofs.places.Place.go_on.Given as goal
 
 -- it comes no further than the run

@@ -1,6 +1,4 @@
-use Rattle.std.proofs.Common.{sym, ap, ◌∙◌, arith}
-use Rattle.osdp_tool_inputs.specs.Places.{late_only}
-use Rattle.osdp_tool_inputs.specs.Times.{run_of}
+use Rattle.osdp_tool_inputs.proofs.Common.{sym, ap, ◌∙◌, arith, late_only, run_of}
 use Rattle.osdp_tool_inputs.proofs.RunPlaces.{none_past, runs_short}
 use Rattle.osdp_tool_inputs.proofs.places.Place.mark_of.Goals as goal
 

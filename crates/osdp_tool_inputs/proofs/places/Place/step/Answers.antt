@@ -1,5 +1,4 @@
-use Rattle.std.proofs.Common.{refl, sym, ◌∙◌, arith}
-use Rattle.std.proofs.lemmas.List.{take_rest}
+use Rattle.osdp_tool_inputs.proofs.Common.{refl, sym, ◌∙◌, arith, take_rest}
 use Rattle.osdp_tool_inputs.proofs.RunPlaces.{at_end, at_run_next, past_last, past_other, past_stamp, run_fits, runs_short}
 use Rattle.osdp_tool_inputs.proofs.places.Place.step.Goals as goal
 

@@ -1,8 +1,4 @@
-use Rattle.std.proofs.Common.{◌≡◌, ◌<◌, ◌∙◌, length, ap, arith}
-use Rattle.osdp_monitor.proofs.Turns.{is_fresh}
-use Rattle.osdp_monitor.specs.Line.{copies_last, nothing_wrong}
-use Rattle.osdp_monitor.specs.Monitors.{knowledge_of}
-use Rattle.osdp_tool_monitor.specs.Counts.{after_packet}
+use Rattle.osdp_tool_monitor.proofs.Common.{◌≡◌, ◌<◌, ◌∙◌, length, ap, arith, is_fresh, copies_last, nothing_wrong, knowledge_of, after_packet}
 use Rattle.osdp_tool_monitor.proofs.Plain.{counts_in_place}
 use Rattle.osdp_tool_monitor.proofs.listener.Listener.count_plain.Goals as goal
 

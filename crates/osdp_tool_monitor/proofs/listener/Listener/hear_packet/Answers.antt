@@ -1,13 +1,6 @@
-use Rattle.std.proofs.Common.{◌≡◌, ◌∙◌, ◌++◌, is_some, sym, ap, string_bytes, append-nil}
-use Rattle.osdp_monitor.specs.declared.found.Found.{Found}
-use Rattle.osdp_monitor.specs.Line.{copies_last, expected_in}
-use Rattle.osdp_monitor.specs.Monitors.{knowledge_of}
+use Rattle.osdp_tool_monitor.proofs.Common.{◌≡◌, ◌∙◌, ◌++◌, is_some, sym, ap, string_bytes, append-nil, Found, copies_last, expected_in, knowledge_of, counts_after, more_if, is_clean, expected_bytes, found_text, told, listening_of, told_in}
 use Rattle.osdp_tool_monitor.proofs.Spelling.{spelled_if}
 use Rattle.osdp_tool_monitor.proofs.Plain.{plain_text, plain_told}
-use Rattle.osdp_tool_monitor.specs.Counts.{counts_after, more_if}
-use Rattle.osdp_tool_monitor.specs.Trail.{is_clean}
-use Rattle.osdp_tool_monitor.specs.Text.{expected_bytes, found_text, told}
-use Rattle.osdp_tool_monitor.specs.Listening.{listening_of, told_in}
 use Rattle.osdp_tool_monitor.proofs.listener.Listener.hear_packet.Goals as goal
 
 pub returns-in-Ok-push_found-clause-text : goal.returns-in-Ok-push_found-clause-text

@@ -1,5 +1,4 @@
-use Rattle.std.proofs.Common.{◌∙◌, ap}
-use Rattle.osdp_tool_monitor.specs.Listening.{ended}
+use Rattle.osdp_tool_monitor.proofs.Common.{◌∙◌, ap, ended}
 use Rattle.osdp_tool_monitor.proofs.Items.{count_step, heard_end, heard_step, text_end, text_step, within_step}
 use Rattle.osdp_tool_monitor.proofs.listener.Listener.hear_run.Goals as goal
 

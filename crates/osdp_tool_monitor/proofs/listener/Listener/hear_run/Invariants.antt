@@ -1,7 +1,4 @@
-use Rattle.std.proofs.Common.{◌≡◌, ◌≤◌, ◌+◌, ◌-◌, ◌*◌, ◌++◌, length, drop, string_bytes}
-use Rattle.osdp_tool_show.specs.Tally.{counted}
-use Rattle.osdp_frame.specs.Items.{reading}
-use Rattle.osdp_tool_monitor.specs.Listening.{heard_items, items_report, listening_of, detail_of}
+use Rattle.osdp_tool_monitor.proofs.Common.{◌≡◌, ◌≤◌, ◌+◌, ◌-◌, ◌*◌, ◌++◌, length, drop, string_bytes, counted, reading, heard_items, items_report, listening_of, detail_of}
 use Rattle.osdp_tool_monitor.proofs.listener.Listener.hear_run.Given as goal
 
 abbrev pub invariant-items : goal.invariant-items

@@ -1,11 +1,6 @@
-use Rattle.std.proofs.Common.{◌+◌, ◌*◌, length, take, arith, IfErr}
-use Rattle.std.proofs.lemmas.List.{length-take}
-use Rattle.osdp_frame.proofs.Head.{AreBytes-take}
-use Rattle.osdp_tool_monitor.specs.Hearing.{hearing_of, load}
-use Rattle.osdp_tool_monitor.specs.Listening.{IsLineFault}
+use Rattle.osdp_tool_monitor.proofs.Common.{◌+◌, ◌*◌, length, take, arith, IfErr, length-take, AreBytes-take, hearing_of, load, IsLineFault, on_err}
 use Rattle.osdp_tool_monitor.proofs.Items.{fault_more}
 use Rattle.osdp_tool_monitor.proofs.OpenRuns.{come_after, come_none, load_came, load_more}
-use Rattle.osdp_tool_streams.proofs.Answered.{on_err}
 use Rattle.osdp_tool_monitor.proofs.open_line.OpenLine.come.Goals as goal
 
 pub pieces-init : goal.pieces-init

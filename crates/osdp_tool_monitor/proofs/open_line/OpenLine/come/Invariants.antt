@@ -1,5 +1,4 @@
-use Rattle.std.proofs.Common.{◌≤◌, ◌-◌, [], ◌∷◌, length, take, string_bytes}
-use Rattle.osdp_tool_monitor.specs.Hearing.{Come, Hears}
+use Rattle.osdp_tool_monitor.proofs.Common.{◌≤◌, ◌-◌, [], ◌∷◌, length, take, string_bytes, Come, Hears}
 use Rattle.osdp_tool_monitor.proofs.open_line.OpenLine.come.Given as goal
 
 abbrev pub invariant-pieces : goal.invariant-pieces

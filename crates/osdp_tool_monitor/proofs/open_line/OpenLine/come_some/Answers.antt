@@ -1,6 +1,4 @@
-use Rattle.std.proofs.Common.{◌<◌, ◌∙◌, take, subst, sym, arith}
-use Rattle.osdp_frame.proofs.Head.{AreBytes-take}
-use Rattle.osdp_frame_laws.proofs.LeftOver.{takes_some}
+use Rattle.osdp_tool_monitor.proofs.Common.{◌<◌, ◌∙◌, take, subst, sym, arith, AreBytes-take, takes_some}
 use Rattle.osdp_tool_monitor.proofs.OpenRuns.{come_drained, pushed_is}
 use Rattle.osdp_tool_monitor.proofs.open_line.OpenLine.come_some.Goals as goal
 

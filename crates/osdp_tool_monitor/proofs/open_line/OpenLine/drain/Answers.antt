@@ -1,10 +1,6 @@
-use Rattle.std.proofs.Common.{sym, string_bytes, IfErr}
-use Rattle.osdp_frame.specs.Shown.{item_of}
+use Rattle.osdp_tool_monitor.proofs.Common.{sym, string_bytes, IfErr, item_of, on_err, hearing_of, load, IsLineFault}
 use Rattle.osdp_tool_monitor.proofs.OpenRuns.{draining_end, draining_long, draining_start, draining_step}
-use Rattle.osdp_tool_streams.proofs.Answered.{on_err}
 use Rattle.osdp_tool_monitor.proofs.Items.{fault_more}
-use Rattle.osdp_tool_monitor.specs.Hearing.{hearing_of, load}
-use Rattle.osdp_tool_monitor.specs.Listening.{IsLineFault}
 use Rattle.osdp_tool_monitor.proofs.open_line.OpenLine.drain.Goals as goal
 
 pub items-init : goal.items-init

@@ -1,8 +1,6 @@
-use Rattle.std.proofs.Common.{[], ◌∷◌, arith, string_bytes}
-use Rattle.osdp_tool_monitor.specs.Hearing.{Hears, RunEnds}
+use Rattle.osdp_tool_monitor.proofs.Common.{[], ◌∷◌, arith, string_bytes, Hears, RunEnds, on_ok}
 use Rattle.osdp_tool_monitor.proofs.Items.{fault_more}
 use Rattle.osdp_tool_monitor.proofs.OpenRuns.{ended_heard, load_ended, load_gapped, on_both, on_each_err}
-use Rattle.osdp_tool_streams.proofs.Answered.{on_ok}
 use Rattle.osdp_tool_monitor.proofs.open_line.OpenLine.end_run.Goals as goal
 
 pub returns-clause-hears : goal.returns-clause-hears

@@ -1,8 +1,5 @@
-use Rattle.std.proofs.Common.{◌+◌, ◌*◌, ap, length}
-use Rattle.osdp_tool_show.specs.Tally.{counted}
-use Rattle.osdp_tool_monitor.specs.Listening.{Listening}
+use Rattle.osdp_tool_monitor.proofs.Common.{◌+◌, ◌*◌, ap, length, counted, Listening, on_ok}
 use Rattle.osdp_tool_monitor.proofs.OpenRuns.{after_table_is, on_both}
-use Rattle.osdp_tool_streams.proofs.Answered.{on_ok}
 use Rattle.osdp_tool_monitor.proofs.open_line.OpenLine.end_table.Goals as goal
 
 pub returns-clause-hears : goal.returns-clause-hears

@@ -1,8 +1,5 @@
-use Rattle.std.proofs.Common.{[], ◌∷◌, refl, arith, string_bytes}
-use Rattle.osdp_tool_monitor.specs.Hearing.{Hears, RunEnds}
-use Rattle.osdp_tool_monitor.specs.Listening.{HearsRun}
+use Rattle.osdp_tool_monitor.proofs.Common.{[], ◌∷◌, refl, arith, string_bytes, Hears, RunEnds, HearsRun, on_ok}
 use Rattle.osdp_tool_monitor.proofs.OpenRuns.{load_ended, run_heard}
-use Rattle.osdp_tool_streams.proofs.Answered.{on_ok}
 use Rattle.osdp_tool_monitor.proofs.open_line.OpenLine.hear_run.Goals as goal
 
 pub returns-clause-hears : goal.returns-clause-hears

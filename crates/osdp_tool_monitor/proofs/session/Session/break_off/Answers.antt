@@ -1,7 +1,4 @@
-use Rattle.std.proofs.Common.{subst, [], ◌∷◌, List, ℕ, string_bytes}
-use Rattle.osdp_tool_streams.specs.Watched.{inner_of, has_failed}
-use Rattle.osdp_tool_monitor.specs.Hearing.{Hears, TableDue}
-use Rattle.osdp_tool_monitor.specs.Reading.{Wrote}
+use Rattle.osdp_tool_monitor.proofs.Common.{subst, [], ◌∷◌, List, ℕ, string_bytes, inner_of, has_failed, Hears, TableDue, Wrote}
 use Rattle.osdp_tool_monitor.proofs.Writing.{events_wrote}
 use Rattle.osdp_tool_monitor.proofs.session.Session.break_off.Goals as goal
 

@@ -1,10 +1,4 @@
-use Rattle.std.proofs.Common.{subst, Bool, Err, List, ℕ, string_bytes}
-use Rattle.osdp_tool_streams.specs.Watched.{inner_of, has_failed}
-use Rattle.osdp_tool_monitor.specs.Hearing.{Hears}
-use Rattle.osdp_tool_streams.proofs.Answered.{on_err}
-use Rattle.osdp_tool_monitor.specs.Events.{end_events}
-use Rattle.osdp_tool_monitor.specs.Reading.{TellsEvents, Wrote}
-use Rattle.osdp_tool_monitor.specs.Session.{cut_of}
+use Rattle.osdp_tool_monitor.proofs.Common.{subst, Bool, Err, List, ℕ, string_bytes, inner_of, has_failed, Hears, on_err, end_events, TellsEvents, Wrote, cut_of}
 use Rattle.osdp_tool_monitor.proofs.Writing.{events_part}
 use Rattle.osdp_tool_monitor.proofs.session.Session.close.Goals as goal
 

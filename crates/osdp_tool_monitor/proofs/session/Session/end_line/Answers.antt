@@ -1,8 +1,4 @@
-use Rattle.std.proofs.Common.{refl, subst, [], ◌∷◌, ◌+◌, ◌*◌, ap, arith, length, IfErr, string_bytes}
-use Rattle.osdp_tool_streams.proofs.Answered.{on_err}
-use Rattle.osdp_tool_monitor.specs.Hearing.{Hears, RunEnds, hearing_of, load}
-use Rattle.osdp_tool_monitor.specs.Listening.{IsLineFault}
-use Rattle.osdp_tool_monitor.specs.Session.{weight}
+use Rattle.osdp_tool_monitor.proofs.Common.{refl, subst, [], ◌∷◌, ◌+◌, ◌*◌, ap, arith, length, IfErr, string_bytes, on_err, Hears, RunEnds, hearing_of, load, IsLineFault, weight}
 use Rattle.osdp_tool_monitor.proofs.Items.{fault_more}
 use Rattle.osdp_tool_monitor.proofs.Weights.{said_within}
 use Rattle.osdp_tool_monitor.proofs.Sessions.{line_broke, line_went}

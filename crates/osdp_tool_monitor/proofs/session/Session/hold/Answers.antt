@@ -1,5 +1,4 @@
-use Rattle.std.proofs.Common.{refl, ap, length, arith, length-append}
-use Rattle.osdp_tool_streams.specs.Line.{kept}
+use Rattle.osdp_tool_monitor.proofs.Common.{refl, ap, length, arith, length-append, kept}
 use Rattle.osdp_tool_monitor.proofs.Sessions.{goes_held}
 use Rattle.osdp_tool_monitor.proofs.Weights.{kept_short}
 use Rattle.osdp_tool_monitor.proofs.session.Session.hold.Goals as goal

@@ -1,8 +1,4 @@
-use Rattle.std.proofs.Common.{◌||◌, ◌∙◌, Bool, false, refl, ap, arith}
-use Rattle.std.proofs.lemmas.List.{length-take}
-use Rattle.osdp_tool_streams.specs.Watched.{inner_of, has_failed}
-use Rattle.osdp_tool_monitor.specs.Reading.{ReadsAll}
-use Rattle.osdp_tool_streams.proofs.Answered.{on_err}
+use Rattle.osdp_tool_monitor.proofs.Common.{◌||◌, ◌∙◌, Bool, false, refl, ap, arith, length-take, inner_of, has_failed, ReadsAll, on_err}
 use Rattle.osdp_tool_monitor.proofs.Pieces.{read_broke_by, read_long, read_none, read_on_by, read_stops}
 use Rattle.osdp_tool_monitor.proofs.session.Session.read_all.Goals as goal
 

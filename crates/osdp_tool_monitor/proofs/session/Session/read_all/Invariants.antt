@@ -1,5 +1,4 @@
-use Rattle.std.proofs.Common.{◌≡◌, false}
-use Rattle.osdp_tool_streams.specs.Watched.{inner_of, has_failed}
+use Rattle.osdp_tool_monitor.proofs.Common.{◌≡◌, false, inner_of, has_failed}
 use Rattle.osdp_tool_monitor.proofs.Pieces.{HasReadMany}
 use Rattle.osdp_tool_monitor.proofs.session.Session.read_all.Given as goal
 

@@ -1,8 +1,4 @@
-use Rattle.std.proofs.Common.{◌++◌, [], ◌∷◌, subst, string_bytes}
-use Rattle.osdp_tool_monitor.specs.Hearing.{Come, Hears}
-use Rattle.osdp_tool_streams.proofs.Answered.{on_ok}
-use Rattle.osdp_tool_monitor.specs.Events.{gap_events}
-use Rattle.osdp_tool_monitor.specs.Session.{Goes, cut_of}
+use Rattle.osdp_tool_monitor.proofs.Common.{◌++◌, [], ◌∷◌, subst, string_bytes, Come, Hears, on_ok, gap_events, Goes, cut_of}
 use Rattle.osdp_tool_monitor.proofs.Sessions.{bytes_came}
 use Rattle.osdp_tool_monitor.proofs.session.Session.take_bytes.Goals as goal
 

@@ -1,5 +1,4 @@
-use Rattle.std.proofs.Common.{◌+◌, ◌-◌, drop, length, arith, length-drop}
-use Rattle.std.proofs.lemmas.List.{length-take}
+use Rattle.osdp_tool_monitor.proofs.Common.{◌+◌, ◌-◌, drop, length, arith, length-drop, length-take}
 use Rattle.osdp_tool_monitor.proofs.Sessions.{lines_broke_by, lines_end_in, lines_start, lines_step_by}
 use Rattle.osdp_tool_monitor.proofs.session.Session.take_lines.Goals as goal
 

@@ -1,6 +1,5 @@
-use Rattle.std.proofs.Common.{◌+◌, ◌-◌, ◌*◌, ◌≤◌, length, string_bytes}
+use Rattle.osdp_tool_monitor.proofs.Common.{◌+◌, ◌-◌, ◌*◌, ◌≤◌, length, string_bytes, weight}
 use Rattle.osdp_tool_monitor.proofs.Sessions.{LinesDone}
-use Rattle.osdp_tool_monitor.specs.Session.{weight}
 use Rattle.osdp_tool_monitor.proofs.session.Session.take_lines.Given as goal
 
 abbrev pub invariant-lines : goal.invariant-lines

@@ -1,6 +1,5 @@
-use Rattle.std.proofs.Common.{◌+◌, ◌*◌, ap, length, ℕ}
+use Rattle.osdp_tool_monitor.proofs.Common.{◌+◌, ◌*◌, ap, length, ℕ, on_ok}
 use Rattle.osdp_tool_monitor.proofs.OpenRuns.{on_both}
-use Rattle.osdp_tool_streams.proofs.Answered.{on_ok}
 use Rattle.osdp_tool_monitor.proofs.Sessions.{table_none, table_tells}
 use Rattle.osdp_tool_monitor.proofs.session.Session.tell_if.Goals as goal
 

@@ -1,9 +1,4 @@
-use Rattle.std.proofs.Common.{subst, Err, List, ℕ, string_bytes}
-use Rattle.osdp_tool_streams.specs.Watched.{inner_of, has_failed}
-use Rattle.osdp_tool_streams.proofs.Answered.{on_err}
-use Rattle.osdp_tool_monitor.specs.Events.{Piece}
-use Rattle.osdp_tool_monitor.specs.Reading.{TellsPiece, Wrote}
-use Rattle.osdp_tool_monitor.specs.Session.{TakesPiece}
+use Rattle.osdp_tool_monitor.proofs.Common.{subst, Err, List, ℕ, string_bytes, inner_of, has_failed, on_err, Piece, TellsPiece, Wrote, TakesPiece}
 use Rattle.osdp_tool_monitor.proofs.Writing.{piece_part}
 use Rattle.osdp_tool_monitor.proofs.session.Session.tell_piece.Goals as goal
 

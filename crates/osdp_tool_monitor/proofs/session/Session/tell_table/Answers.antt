@@ -1,6 +1,5 @@
-use Rattle.std.proofs.Common.{Some, ap, ◌∙◌}
+use Rattle.osdp_tool_monitor.proofs.Common.{Some, ap, ◌∙◌, tabled_after}
 use Rattle.osdp_tool_monitor.proofs.Sessions.{table_went}
-use Rattle.osdp_tool_monitor.specs.Events.{tabled_after}
 use Rattle.osdp_tool_monitor.proofs.session.Session.tell_table.Goals as goal
 
 pub returns-clause-goes : goal.returns-clause-goes

@@ -1,5 +1,4 @@
-use Rattle.std.proofs.Common.{subst, sym}
-use Rattle.osdp_plan.specs.Plans.{IsPlan}
+use Rattle.osdp_tool_plan.proofs.Common.{subst, sym, IsPlan}
 use Rattle.osdp_tool_plan.proofs.Ranges.{default_in_range}
 use Rattle.osdp_tool_plan.proofs.setting.PlannedConfigured.default_settings.Goals as goal
 

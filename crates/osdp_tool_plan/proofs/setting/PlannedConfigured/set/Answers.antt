@@ -1,6 +1,4 @@
-use Rattle.std.proofs.Common.{subst}
-use Rattle.osdp_settings.proofs.Reading.{some_same}
-use Rattle.osdp_tool_plan.specs.Settings.{AreInRange}
+use Rattle.osdp_tool_plan.proofs.Common.{subst, some_same, AreInRange}
 use Rattle.osdp_tool_plan.proofs.Ranges.{set_in_range}
 use Rattle.osdp_tool_plan.proofs.setting.PlannedConfigured.set.Goals as goal
 

@@ -1,5 +1,4 @@
-use Rattle.osdp_tool_streams.specs.Watched.{inner_of, has_failed}
-use Rattle.osdp_tool_show.specs.Machine.{written_or_held}
+use Rattle.osdp_tool_show.proofs.Common.{inner_of, has_failed, written_or_held}
 use Rattle.osdp_tool_show.proofs.Works.{still_step, stopped_at_end}
 use Rattle.osdp_tool_show.proofs.Stopping.{stops_ended}
 use Rattle.osdp_tool_show.proofs.capture.Capture.answer.Goals as goal

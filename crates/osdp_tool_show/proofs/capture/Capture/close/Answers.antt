@@ -1,7 +1,4 @@
-use Rattle.std.proofs.Common.{refl}
-use Rattle.osdp_tool_streams.specs.Watched.{inner_of}
-use Rattle.osdp_tool_show.specs.declared.capture.Capture.{Capture}
-use Rattle.osdp_tool_show.specs.Machine.{written_or_held}
+use Rattle.osdp_tool_show.proofs.Common.{refl, inner_of, Capture, written_or_held}
 use Rattle.osdp_tool_show.proofs.Reports.{on_ok_both}
 use Rattle.osdp_tool_show.proofs.Works.{closed_by}
 use Rattle.osdp_tool_show.proofs.Beginnings.{on_err, on_err_map}

@@ -1,9 +1,4 @@
-use Rattle.std.proofs.Common.{inl, inr, [], ◌∷◌}
-use Rattle.osdp_tool_streams.specs.Watched.{inner_of}
-use Rattle.osdp_tool_streams.specs.Cut.{line_feed}
-use Rattle.osdp_tool_show.specs.Machine.{written_or_held}
-use Rattle.osdp_tool_show.specs.Capture.{TookPiece}
-use Rattle.osdp_tool_show.specs.Works.{EndsLine}
+use Rattle.osdp_tool_show.proofs.Common.{inl, inr, [], ◌∷◌, inner_of, line_feed, written_or_held, TookPiece, EndsLine}
 use Rattle.osdp_tool_show.proofs.Reports.{if_ok_map}
 use Rattle.osdp_tool_show.proofs.Works.{ends_line}
 use Rattle.osdp_tool_show.proofs.Beginnings.{on_err_map}

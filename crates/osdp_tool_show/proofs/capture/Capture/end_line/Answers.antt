@@ -1,10 +1,4 @@
-use Rattle.std.proofs.Common.{refl, ◌≡◌, ◌+◌, ◌++◌, ◌≤◌, ℕ, List, length, length-append, Bool, MatchOption, arith, true, false, [], ◌∷◌}
-use Rattle.osdp_tool_streams.specs.Watched.{inner_of}
-use Rattle.osdp_tool_streams.specs.Cut.{line_feed}
-use Rattle.osdp_tool_streams.specs.Line.{kept, said}
-use Rattle.osdp_tool_streams.proofs.Lengths.{said_short}
-use Rattle.osdp_tool_show.specs.declared.capture.Capture.{Capture}
-use Rattle.osdp_tool_show.specs.Machine.{written_or_held}
+use Rattle.osdp_tool_show.proofs.Common.{refl, ◌≡◌, ◌+◌, ◌++◌, ◌≤◌, ℕ, List, length, length-append, Bool, MatchOption, arith, true, false, [], ◌∷◌, inner_of, line_feed, kept, said, said_short, Capture, written_or_held}
 use Rattle.osdp_tool_show.proofs.Pieces.{fed_bad, fed_joined, fed_apart, holding, length-kept, says_none, says_bytes, took_ended}
 use Rattle.osdp_tool_show.proofs.Stopping.{stops_before, stops_ended_line, stops_line, stops_line_end}
 use Rattle.osdp_tool_show.proofs.Beginnings.{on_err}

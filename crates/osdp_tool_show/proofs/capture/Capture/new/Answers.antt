@@ -1,5 +1,4 @@
-use Rattle.std.proofs.Common.{refl}
-use Rattle.osdp_tool_show.specs.declared.capture.Capture.{Capture}
+use Rattle.osdp_tool_show.proofs.Common.{refl, Capture}
 use Rattle.osdp_tool_show.proofs.Pieces.{begins}
 use Rattle.osdp_tool_show.proofs.capture.Capture.new.Goals as goal
 

@@ -1,5 +1,4 @@
-use Rattle.std.proofs.Common.{rules, ◌∙◌}
-use Rattle.osdp_tool_streams.specs.Watched.{inner_of, has_failed}
+use Rattle.osdp_tool_show.proofs.Common.{rules, ◌∙◌, inner_of, has_failed}
 use Rattle.osdp_tool_show.proofs.Works.{part_at_bad_line, part_in_piece, part_past_limit, read_bad, read_end, read_more, read_past, read_stops, stopped, works_at_bad_line, works_at_end, works_past_limit}
 use Rattle.osdp_tool_show.proofs.capture.Capture.read.Goals as goal
 

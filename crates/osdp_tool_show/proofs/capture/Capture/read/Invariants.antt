@@ -1,6 +1,4 @@
-use Rattle.std.proofs.Common.{◌≡◌}
-use Rattle.osdp_tool_streams.specs.Watched.{inner_of, has_failed}
-use Rattle.osdp_tool_show.specs.Machine.{written_or_held}
+use Rattle.osdp_tool_show.proofs.Common.{◌≡◌, inner_of, has_failed, written_or_held}
 use Rattle.osdp_tool_show.proofs.Works.{HasRead}
 use Rattle.osdp_tool_show.proofs.capture.Capture.read.Given as goal
 

@@ -1,10 +1,4 @@
-use Rattle.std.proofs.Common.{sym, subst, ap, ◌∙◌, arith, ℕ, true, false, List, [], ◌∷◌, ◌++◌, Option, ◌≡◌, ◌+◌, ◌-◌, ◌*◌, ◌^◌, ◌<◌, ◌≤◌, length, take, drop, length-take, length-drop, append-nil, take-append-drop}
-use Rattle.std.proofs.lemmas.List.{take_rest}
-use Rattle.osdp_tool_streams.specs.Watched.{inner_of}
-use Rattle.osdp_tool_streams.specs.Cut.{HasLine, line_feed, IsLine}
-use Rattle.osdp_tool_show.specs.declared.capture.Capture.{Capture}
-use Rattle.osdp_tool_show.specs.Machine.{written_or_held}
-use Rattle.osdp_tool_show.specs.Capture.{load, TookPiece, StopsInPiece}
+use Rattle.osdp_tool_show.proofs.Common.{sym, subst, ap, ◌∙◌, arith, ℕ, true, false, List, [], ◌∷◌, ◌++◌, Option, ◌≡◌, ◌+◌, ◌-◌, ◌*◌, ◌^◌, ◌<◌, ◌≤◌, length, take, drop, length-take, length-drop, append-nil, take-append-drop, take_rest, inner_of, HasLine, line_feed, IsLine, Capture, written_or_held, load, TookPiece, StopsInPiece}
 use Rattle.osdp_tool_show.proofs.Pieces.{took_line, took_rest}
 use Rattle.osdp_tool_show.proofs.Stopping.{stops_before, stops_further, feed_cut}
 use Rattle.osdp_tool_show.proofs.Beginnings.{on_err}

@@ -1,7 +1,4 @@
-use Rattle.std.proofs.Common.{◌≡◌, ◌≤◌, ◌-◌, length, take, true}
-use Rattle.osdp_tool_streams.specs.Watched.{inner_of, has_failed}
-use Rattle.osdp_tool_show.specs.Machine.{written_or_held}
-use Rattle.osdp_tool_show.specs.Capture.{TookPiece}
+use Rattle.osdp_tool_show.proofs.Common.{◌≡◌, ◌≤◌, ◌-◌, length, take, true, inner_of, has_failed, written_or_held, TookPiece}
 use Rattle.osdp_tool_show.proofs.capture.Capture.take_lines.Given as goal
 
 abbrev pub invariant-lines : goal.invariant-lines

@@ -1,7 +1,4 @@
-use Rattle.std.proofs.Common.{refl, rules}
-use Rattle.osdp_tool_streams.specs.Watched.{inner_of}
-use Rattle.osdp_tool_show.specs.Machine.{written_or_held}
-use Rattle.osdp_tool_show.specs.Capture.{TookPart}
+use Rattle.osdp_tool_show.proofs.Common.{refl, rules, inner_of, written_or_held, TookPart}
 use Rattle.osdp_tool_show.proofs.Beginnings.{on_err}
 use Rattle.osdp_tool_show.proofs.Pieces.{took_raw}
 use Rattle.osdp_tool_show.proofs.AfterReads.{stops_written}

@@ -1,8 +1,4 @@
-use Rattle.std.proofs.Common.{string_bytes}
-use Rattle.osdp_tool_show.specs.ToldItems.{end_line}
-use Rattle.osdp_tool_streams.specs.Watched.{inner_of}
-use Rattle.osdp_tool_show.specs.declared.report.Report.{Report}
-use Rattle.osdp_tool_show.specs.Machine.{written_or_held}
+use Rattle.osdp_tool_show.proofs.Common.{string_bytes, end_line, inner_of, Report, written_or_held}
 use Rattle.osdp_tool_show.proofs.Reports.{grown}
 use Rattle.osdp_tool_show.proofs.Beginnings.{on_err_map, stops_all, stops_at_once}
 use Rattle.osdp_tool_show.proofs.report.Report.end.Goals as goal

@@ -1,11 +1,5 @@
-use Rattle.std.proofs.Common.{refl}
-use Rattle.osdp_frame.specs.Shown.{item_of}
-use Rattle.osdp_tool_show.specs.declared.report.Report.{Report}
-use Rattle.osdp_tool_streams.specs.Watched.{inner_of}
+use Rattle.osdp_tool_show.proofs.Common.{refl, item_of, Report, inner_of, [], ◌∷◌, shown_lines, written_or_held}
 use Rattle.osdp_tool_show.proofs.Reports.{tells_one, tells_kept, on_ok_both}
-use Rattle.std.proofs.Common.{[], ◌∷◌}
-use Rattle.osdp_tool_show.specs.ToldItems.{shown_lines}
-use Rattle.osdp_tool_show.specs.Machine.{written_or_held}
 use Rattle.osdp_tool_show.proofs.Beginnings.{on_err_map, stops_all, stops_at_once}
 use Rattle.osdp_tool_show.proofs.report.Report.tell.Goals as goal
 

@@ -1,7 +1,4 @@
-use Rattle.std.proofs.Common.{subst}
-use Rattle.std.specs.Io.KnownBytes.{append_known}
-use Rattle.osdp_tool_streams.specs.Watched.{inner_of}
-use Rattle.osdp_tool_show.specs.Written.{IsBeginning}
+use Rattle.osdp_tool_show.proofs.Common.{subst, append_known, inner_of, IsBeginning}
 use Rattle.osdp_tool_show.proofs.Beginnings.{on_err, begun_write}
 use Rattle.osdp_tool_show.proofs.report.Report.write_out.Goals as goal
 

@@ -1,9 +1,4 @@
-use Rattle.std.proofs.Common.{ℕ, List, ◌∷◌, ◌++◌, ap, string_bytes, sym, ◌∙◌}
-use Rattle.osdp_msg.specs.declared.command.Command.{Command}
-use Rattle.osdp_msg.specs.CommandText.{command_words}
-use Rattle.osdp_msg.specs.Kept.{command_kept}
-use Rattle.osdp_words.specs.Word.{plain}
-use Rattle.osdp_tool_sim.specs.AccountText.{line_text}
+use Rattle.osdp_tool_sim.proofs.Common.{ℕ, List, ◌∷◌, ◌++◌, ap, string_bytes, sym, ◌∙◌, Command, command_words, command_kept, plain, line_text}
 use Rattle.osdp_tool_sim.proofs.Written.{command_is, one_next}
 use Rattle.osdp_tool_sim.proofs.lines.CommandsLeftLinesLeft.push_next.Goals as goal
 

@@ -1,9 +1,4 @@
-use Rattle.std.proofs.Common.{ℕ, List, ◌∷◌, ◌++◌, ap, string_bytes, sym, ◌∙◌}
-use Rattle.osdp_msg.specs.declared.event.Event.{Event}
-use Rattle.osdp_msg.specs.Events.{event_words}
-use Rattle.osdp_msg.specs.Kept.{event_kept}
-use Rattle.osdp_words.specs.Word.{plain}
-use Rattle.osdp_tool_sim.specs.AccountText.{line_text}
+use Rattle.osdp_tool_sim.proofs.Common.{ℕ, List, ◌∷◌, ◌++◌, ap, string_bytes, sym, ◌∙◌, Event, event_words, event_kept, plain, line_text}
 use Rattle.osdp_tool_sim.proofs.Written.{event_is, one_next}
 use Rattle.osdp_tool_sim.proofs.lines.EventsLeftLinesLeft.push_next.Goals as goal
 

@@ -1,5 +1,4 @@
-use Rattle.std.proofs.Common.{◌≡◌, ℕ, List, ◌∷◌, ◌++◌, ap, string_bytes, sym, ◌∙◌}
-use Rattle.osdp_tool_sim.specs.AccountText.{settled_words}
+use Rattle.osdp_tool_sim.proofs.Common.{◌≡◌, ℕ, List, ◌∷◌, ◌++◌, ap, string_bytes, sym, ◌∙◌, settled_words}
 use Rattle.osdp_tool_sim.proofs.Written.{one_split, settled_is}
 use Rattle.osdp_tool_sim.proofs.lines.SettledLeftLinesLeft.push_next.Goals as goal
 
