@@ -1,10 +1,7 @@
 -- Each entry of the table, computed by the division.
-use Rattle.std.proofs.Common.{◌≡◌, ℕ, ◌*◌, ◌/◌, ◌%◌, ◌^◌, ◌<◌, List, [], ◌∷◌, ◌++◌, map, refl, sym, ap, ◌∙◌, zero-add, slice_index, arith}
-use Rattle.std.specs.Int.Bits.{bit_xor}
-use Rattle.std.proofs.lemmas.Nat.{xor_lt}
+use Rattle.osdp_check.proofs.Common.{◌≡◌, ℕ, ◌*◌, ◌/◌, ◌%◌, ◌^◌, ◌<◌, List, [], ◌∷◌, ◌++◌, map, refl, sym, ap, ◌∙◌, zero-add, slice_index, arith, bit_xor, xor_lt, CRC_TABLE}
 use Rattle.std.specs.List.{range_with_len}
 use Rattle.std.proofs.lemmas.List.FromFn.{get_or-map-range_with_len}
-use Rattle.osdp_check.specs.declared.table.TheConstants.{CRC_TABLE}
 use Rattle.osdp_check.specs.Crc.{bits_of, crc, crc_from, dividend_from, remainder}
 use Rattle.osdp_check.proofs.Pieces.{crc_from-byte, crc-push}
 

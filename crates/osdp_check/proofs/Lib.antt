@@ -1,5 +1,6 @@
 -- Lemmas on exclusive or and long division, and what they say of the CRC.
 
+pub mod Common
 pub mod Xor
 pub mod Remainder
 pub mod Pieces

@@ -1,8 +1,5 @@
 -- What the division says of the CRC: it goes piece by piece, and byte by byte through the table.
-use Rattle.std.proofs.Common.{◌≡◌, ℕ, ◌+◌, ◌*◌, ◌/◌, ◌%◌, ◌^◌, ◌<◌, List, [], ◌∷◌, ◌++◌, length, sym, ap, subst, ◌∙◌, arith, zero-add, length-append}
-use Rattle.std.proofs.Math.Nat.{zero-mul, mul_assoc, mul-add, mul-one}
-use Rattle.std.specs.Int.Bits.{bit_xor, xor_assoc, xor_zero_r}
-use Rattle.std.proofs.lemmas.Nat.{pow_pos, pow-add, xor_comm, xor_lt, mul-add-lt, shl_below}
+use Rattle.osdp_check.proofs.Common.{◌≡◌, ℕ, ◌+◌, ◌*◌, ◌/◌, ◌%◌, ◌^◌, ◌<◌, List, [], ◌∷◌, ◌++◌, length, sym, ap, subst, ◌∙◌, arith, zero-add, length-append, zero-mul, mul_assoc, mul-add, mul-one, bit_xor, xor_assoc, xor_zero_r, pow_pos, pow-add, xor_comm, xor_lt, mul-add-lt, shl_below}
 use Rattle.std.proofs.lemmas.List.Elements.{All-head, All-tail, All-nil, All-cons}
 use Rattle.osdp_check.specs.Crc.{bits_of, crc, crc_from, dividend_from, initial, remainder, IsBytes, IsCrc}
 use Rattle.osdp_check.proofs.Xor.{xor_last, xor_twice, xor-shl, xor_parts}

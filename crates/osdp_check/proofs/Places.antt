@@ -1,12 +1,5 @@
 -- Powers of x, and numbers that are moved by so many places.
-use Rattle.std.proofs.Common.{◌≡◌, ℕ, zero, suc, ◌+◌, ◌-◌, ◌*◌, ◌/◌, ◌%◌, ◌^◌, ◌<◌, ◌≤◌, List, [], ◌∷◌, refl, sym, ap, subst, ◌∙◌, arith, zero-add, add-zero, get_or, slice_index, lit<}
-use Rattle.std.proofs.Math.Nat.{pow-le-pow_right, zero-mul, one-mul, mul_assoc, mul_comm, mod-eq_of_lt}
-use Rattle.std.proofs.lemmas.Nat.{pow-add, pow_pos, pow_below, xor_comm, mod_below, shl_below}
-use Rattle.std.proofs.lemmas.Nat.Bits.{and_pow, bit_at-lt}
-use Rattle.std.specs.Int.{bit_at}
-use Rattle.std.specs.Int.Bits.{bit_and, bit_xor, xor_zero_l, xor_zero_r}
-use Rattle.std.proofs.lemmas.Nat.{mod-pow-add}
-use Rattle.osdp_check.specs.declared.table.TheConstants.{CRC_TABLE}
+use Rattle.osdp_check.proofs.Common.{◌≡◌, ℕ, zero, suc, ◌+◌, ◌-◌, ◌*◌, ◌/◌, ◌%◌, ◌^◌, ◌<◌, ◌≤◌, List, [], ◌∷◌, refl, sym, ap, subst, ◌∙◌, arith, zero-add, add-zero, get_or, slice_index, lit<, pow-le-pow_right, zero-mul, one-mul, mul_assoc, mul_comm, mod-eq_of_lt, pow-add, pow_pos, pow_below, xor_comm, mod_below, shl_below, and_pow, bit_at-lt, bit_at, bit_and, bit_xor, xor_zero_l, xor_zero_r, mod-pow-add, CRC_TABLE}
 use Rattle.osdp_check.specs.declared.power_table.TheConstants.{POWERS}
 use Rattle.osdp_check.specs.Crc.{bits_of, crc_from, dividend_from, power, product, remainder}
 use Rattle.osdp_check.proofs.Xor.{xor-shl, xor_parts}

@@ -1,10 +1,5 @@
 -- Long division: it goes bit by bit, and what is left is what the division leaves.
-use Rattle.std.proofs.Common.{◌≡◌, ℕ, zero, suc, ◌+◌, ◌-◌, ◌*◌, ◌/◌, ◌%◌, ◌^◌, ◌<◌, ◌≤◌, refl, sym, ap, subst, ◌∙◌, inl, inr, arith, zero-add, add-zero}
-use Rattle.std.proofs.Math.Nat.{zero-mul, one-mul, suc-add, mul_assoc, mod-eq_of_lt, pow-suc}
-use Rattle.std.specs.Int.{bit_at}
-use Rattle.std.specs.Int.Bits.{bit_xor, xor_self, xor_zero_l, xor_zero_r}
-use Rattle.std.proofs.lemmas.Nat.{pow_pos, pow-add, xor_lt, xor_block, mul-le, pow_below, shr_split, shr_below, mod_below, mul-add-lt}
-use Rattle.std.proofs.lemmas.Nat.Bits.{bit_at_xor, bit_at-lt, bit_at_above, bit_at_lowest, bit_at-pow_same, bit_at-pow_other, bit_at_cat_low, bit_at_cat_high}
+use Rattle.osdp_check.proofs.Common.{◌≡◌, ℕ, zero, suc, ◌+◌, ◌-◌, ◌*◌, ◌/◌, ◌%◌, ◌^◌, ◌<◌, ◌≤◌, refl, sym, ap, subst, ◌∙◌, inl, inr, arith, zero-add, add-zero, zero-mul, one-mul, suc-add, mul_assoc, mod-eq_of_lt, pow-suc, bit_at, bit_xor, xor_self, xor_zero_l, xor_zero_r, pow_pos, pow-add, xor_lt, xor_block, mul-le, pow_below, shr_split, shr_below, mod_below, mul-add-lt, bit_at_xor, bit_at-lt, bit_at_above, bit_at_lowest, bit_at-pow_same, bit_at-pow_other, bit_at_cat_low, bit_at_cat_high}
 use Rattle.std.proofs.lemmas.Bool.{cases_lt}
 use Rattle.osdp_check.specs.Crc.{divisor, remainder, product, IsRemainder}
 use Rattle.osdp_check.proofs.Xor.{xor_last, xor_middle, xor_twice, xor-shl, bit_at-shl, bit_at_xor-mul}

@@ -1,10 +1,5 @@
 -- Exclusive or, and the bits of a number.
-use Rattle.std.proofs.Common.{◌≡◌, ℕ, zero, suc, ◌+◌, ◌-◌, ◌*◌, ◌%◌, ◌^◌, ◌<◌, sym, ap, ◌∙◌, arith, zero-add, add-zero}
-use Rattle.std.proofs.Math.Nat.{zero-mul}
-use Rattle.std.specs.Int.{bit_at}
-use Rattle.std.specs.Int.Bits.{bit_xor, xor_assoc, xor_self, xor_zero_l, xor_zero_r}
-use Rattle.std.proofs.lemmas.Nat.{pow_pos, xor_comm, xor_block}
-use Rattle.std.proofs.lemmas.Nat.Bits.{bit_at_xor, bit_at-lt, bit_at_cat_high}
+use Rattle.osdp_check.proofs.Common.{◌≡◌, ℕ, zero, suc, ◌+◌, ◌-◌, ◌*◌, ◌%◌, ◌^◌, ◌<◌, sym, ap, ◌∙◌, arith, zero-add, add-zero, zero-mul, bit_at, bit_xor, xor_assoc, xor_self, xor_zero_l, xor_zero_r, pow_pos, xor_comm, xor_block, bit_at_xor, bit_at-lt, bit_at_cat_high}
 
 pub xor_last : (a b c : ℕ) → bit_xor (bit_xor a b) c ≡ bit_xor (bit_xor a c) b
 xor_last a b c = xor_assoc a b c ∙ ap (bit_xor a) (xor_comm b c) ∙ sym (xor_assoc a c b)

@@ -1,12 +1,6 @@
 -- What a buffer's fields say of what it holds.
-use Rattle.std.proofs.Common.{◌≡◌, ℕ, ◌+◌, ◌-◌, ◌*◌, ◌/◌, ◌%◌, ◌<◌, ◌≤◌, List, ◌++◌, length, take, drop, get_or, slice_range, refl, sym, ap, subst, ◌∙◌, arith, inl, inr}
-use Rattle.std.proofs.lemmas.Bool.{cases_lt}
-use Rattle.std.proofs.Math.Seq.{take-add}
-use Rattle.std.proofs.lemmas.List.{drop-take, drop-drop, take-take, get_or-take, length-take-le}
+use Rattle.osdp_frame.proofs.Common.{◌≡◌, ℕ, ◌+◌, ◌-◌, ◌*◌, ◌/◌, ◌%◌, ◌<◌, ◌≤◌, List, ◌++◌, length, take, drop, get_or, slice_range, refl, sym, ap, subst, ◌∙◌, arith, inl, inr, cases_lt, take-add, drop-take, drop-drop, take-take, get_or-take, length-take-le, Buffered, IsBuffer, buffered, bytes_of, AreBytes, GoesOver, IsRunning}
 use Rattle.osdp_frame.specs.declared.buffer.Buffer.TheInside.{Inside}
-use Rattle.osdp_frame.specs.Buffered.{Buffered, IsBuffer, buffered, bytes_of}
-use Rattle.osdp_frame.specs.Bytes.{AreBytes}
-use Rattle.osdp_frame.specs.Running.{GoesOver, IsRunning}
 use Rattle.osdp_frame.proofs.Head.{AreBytes-take}
 use Rattle.osdp_frame.proofs.Running.{get_or-slice, slice-same, slice-slice}
 

@@ -1,14 +1,6 @@
 -- What decides the first item is which item stands first.
-use Rattle.std.proofs.Common.{◌≡◌, ◌≢◌, ℕ, ◌<◌, ◌≤◌, Bool, true, false, cond, eqb, ltb, List, [], ◌∷◌, ◌++◌, length, drop, get_or, Option, Some, None, replicate, refl, sym, ap, subst, ◌∙◌, append_assoc, arith, inl, inr, ◌⊎◌}
-use Rattle.std.proofs.lemmas.Bool.{cases_lt, ltb-true, ltb-false, false≢true, eqb-true, eqb-false}
-use Rattle.std.proofs.lemmas.List.{length-append, append-nil, get_or_append_left, get_or_past, length-replicate}
+use Rattle.osdp_frame.proofs.Common.{◌≡◌, ◌≢◌, ℕ, ◌<◌, ◌≤◌, Bool, true, false, cond, eqb, ltb, List, [], ◌∷◌, ◌++◌, length, drop, get_or, Option, Some, None, replicate, refl, sym, ap, subst, ◌∙◌, append_assoc, arith, inl, inr, ◌⊎◌, cases_lt, ltb-true, ltb-false, false≢true, eqb-true, eqb-false, length-append, append-nil, get_or_append_left, get_or_past, length-replicate, TooShort, TooLong, BadCheck, Ended, AreBytes, check_size, Packet, largest, start_of_message, RunItem, PacketItem, SkippedItem, RefusedItem, Begins, count_at, check_at, smallest, IsChecked, HasFault, IsFirstFault, Stands, IsFirst, IsUndecided}
 use Rattle.osdp_frame.specs.declared.fault.FrameFault.{FrameFault}
-use Rattle.osdp_frame.specs.declared.fault.FrameFault.TheVariants.{TooShort, TooLong, BadCheck, Ended}
-use Rattle.osdp_frame.specs.Bytes.{AreBytes}
-use Rattle.osdp_frame.specs.Check.{check_size}
-use Rattle.osdp_frame.specs.Packet.{Packet, largest}
-use Rattle.osdp_frame.specs.Spelling.{start_of_message}
-use Rattle.osdp_frame.specs.Reading.{RunItem, PacketItem, SkippedItem, RefusedItem, Begins, count_at, check_at, smallest, IsChecked, HasFault, IsFirstFault, Stands, IsFirst, IsUndecided}
 use Rattle.osdp_frame.specs.Held.{packet_at, is_checked, begun, decided}
 use Rattle.osdp_frame.proofs.Spelled.{same_beginning}
 use Rattle.osdp_frame.proofs.Head.{Tells-Begins, count_at-append, check_at-append, IsChecked-append, is_checked-Decides, IsHead, Begins-packet_at}

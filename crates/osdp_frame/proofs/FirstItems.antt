@@ -1,18 +1,8 @@
 -- What is kept of the first item is enough to show it.
-use Rattle.std.specs.Prelude.{nat_lt, ◌==◌}
-use Rattle.std.proofs.Common.{◌≡◌, ℕ, ◌-◌, ◌/◌, ◌%◌, ◌≤◌, Bool, false, List, [], ◌∷◌, ◌++◌, length, take, drop, get_or, Option, Some, None, true, cond, ltb, refl, sym, ap, subst, ◌∙◌, arith}
-use Rattle.std.proofs.lemmas.List.{length-drop, take-append-le, drop-append-le, take-append-drop, get_or_append_left, length-append, take_at}
-use Rattle.osdp_frame.specs.declared.first.First.{First}
+use Rattle.osdp_frame.proofs.Common.{nat_lt, ◌==◌, ◌≡◌, ℕ, ◌-◌, ◌/◌, ◌%◌, ◌≤◌, Bool, false, List, [], ◌∷◌, ◌++◌, length, take, drop, get_or, Option, Some, None, true, cond, ltb, refl, sym, ap, subst, ◌∙◌, arith, length-drop, take-append-le, drop-append-le, take-append-drop, get_or_append_left, length-append, take_at, First, AreBytes, check_size, Packet, IsPacket, packet_length, largest, TooShort, TooLong, BadCheck, start_of_message, RunItem, PacketItem, SkippedItem, RefusedItem, Begins, IsFirst, item_size, smallest, count_at, check_at, item_in, item_if, PacketFits, FirstFits}
 use Rattle.osdp_frame.specs.declared.first.First.TheVariants as kept
-use Rattle.osdp_frame.specs.Bytes.{AreBytes}
-use Rattle.osdp_frame.specs.Check.{check_size}
-use Rattle.osdp_frame.specs.Packet.{Packet, IsPacket, packet_length, largest}
-use Rattle.osdp_frame.specs.declared.fault.FrameFault.TheVariants.{TooShort, TooLong, BadCheck}
-use Rattle.osdp_frame.specs.Spelling.{start_of_message}
 use Rattle.osdp_frame.specs.Packed.{packed}
-use Rattle.osdp_frame.specs.Reading.{RunItem, PacketItem, SkippedItem, RefusedItem, Begins, IsFirst, item_size, smallest, count_at, check_at}
 use Rattle.osdp_frame.specs.Held.{begun, by_itself, decided, is_checked, packet_at}
-use Rattle.osdp_frame.specs.First.{item_in, item_if, PacketFits, FirstFits}
 use Rattle.osdp_frame.proofs.Head.{AreBytes-take, count_at-append, check_at-append}
 use Rattle.osdp_frame.proofs.Decided.{decided_first, first_decided, stands_first, decided_more}
 use Rattle.osdp_frame.proofs.Spelled.{length-spelled}

@@ -1,13 +1,6 @@
 -- What a framer's fields say of what it holds.
-use Rattle.std.proofs.Common.{◌≡◌, ℕ, ◌<◌, Bool, true, false, not, ◌&&◌, eqb, ltb, List, length, drop, Some, None, refl, sym, ap, subst, ◌∙◌, arith, inl, inr}
-use Rattle.std.proofs.lemmas.Bool.{cases_lt, le-ltb, lt-ltb}
-use Rattle.std.proofs.lemmas.Bool.Decides.{nat_tests}
-use Rattle.osdp_frame.specs.declared.first.First.{First}
+use Rattle.osdp_frame.proofs.Common.{◌≡◌, ℕ, ◌<◌, Bool, true, false, not, ◌&&◌, eqb, ltb, List, length, drop, Some, None, refl, sym, ap, subst, ◌∙◌, arith, inl, inr, cases_lt, le-ltb, lt-ltb, nat_tests, First, AreBytes, RunItem, item_size, IsFirst, IsUndecided, Held, decided, later, after_first, after_advance, item_in, item_if, FirstFits}
 use Rattle.osdp_frame.specs.declared.framer.Framer.TheInside.{Inside}
-use Rattle.osdp_frame.specs.Bytes.{AreBytes}
-use Rattle.osdp_frame.specs.Reading.{RunItem, item_size, IsFirst, IsUndecided}
-use Rattle.osdp_frame.specs.Held.{Held, decided, later, after_first, after_advance}
-use Rattle.osdp_frame.specs.First.{item_in, item_if, FirstFits}
 use Rattle.osdp_frame.specs.Framed.{held_of, IsFramer}
 use Rattle.osdp_frame.proofs.Decided.{first_decided, undecided_none, undecided_first}
 

@@ -1,20 +1,8 @@
 -- What a packet at the head of bytes says of these bytes.
-use Rattle.std.proofs.Common.{◌≡◌, ℕ, zero, suc, ◌+◌, ◌-◌, ◌*◌, ◌/◌, ◌%◌, ◌<◌, ◌≤◌, Bool, true, false, cond, eqb, ltb, List, [], ◌∷◌, ◌++◌, length, take, drop, get_or, refl, sym, ap, subst, ◌∙◌, append_assoc, arith, inl, inr}
-use Rattle.std.proofs.lemmas.List.{length-append, take_at, drop_at, take-append-le, get_or_append_left, take-append-drop, length-take-le, take-take, get_or-drop, get_or-take, get_or_past, length-take, length-drop}
-use Rattle.std.proofs.lemmas.Bool.{cases_lt}
-use Rattle.std.proofs.lemmas.Bool.Decides.{nat_tests}
+use Rattle.osdp_frame.proofs.Common.{◌≡◌, ℕ, zero, suc, ◌+◌, ◌-◌, ◌*◌, ◌/◌, ◌%◌, ◌<◌, ◌≤◌, Bool, true, false, cond, eqb, ltb, List, [], ◌∷◌, ◌++◌, length, take, drop, get_or, refl, sym, ap, subst, ◌∙◌, append_assoc, arith, inl, inr, length-append, take_at, drop_at, take-append-le, get_or_append_left, take-append-drop, length-take-le, take-take, get_or-drop, get_or-take, get_or_past, length-take, length-drop, cases_lt, nat_tests, between, CheckKind, Sum, Crc, AreBytes, check_of, check_size, Packet, packet_length, largest, Spells, front, control_byte, crc_bit, start_of_message, Begins, count_at, check_at, smallest, IsChecked, packet_at, is_checked}
 use Rattle.std.specs.Bool.{Decides}
-use Rattle.std.specs.List.{between}
 use Rattle.std.proofs.lemmas.Slice.{between_is}
 use Rattle.std.proofs.lemmas.Slice.Eq.{bytes_eq-Decides}
-use Rattle.osdp_frame.specs.declared.check_kind.CheckKind.{CheckKind}
-use Rattle.osdp_frame.specs.declared.check_kind.CheckKind.TheVariants.{Sum, Crc}
-use Rattle.osdp_frame.specs.Bytes.{AreBytes}
-use Rattle.osdp_frame.specs.Check.{check_of, check_size}
-use Rattle.osdp_frame.specs.Packet.{Packet, packet_length, largest}
-use Rattle.osdp_frame.specs.Spelling.{Spells, front, control_byte, crc_bit, start_of_message}
-use Rattle.osdp_frame.specs.Reading.{Begins, count_at, check_at, smallest, IsChecked}
-use Rattle.osdp_frame.specs.Held.{packet_at, is_checked}
 use Rattle.osdp_frame.proofs.Spelled.{length-front, length-checked, length-spelled}
 
 pub AreBytes-drop : (n : ℕ) (bytes : List ℕ) → AreBytes bytes → AreBytes (drop n bytes)

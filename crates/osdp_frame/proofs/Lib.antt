@@ -1,3 +1,4 @@
+pub mod Common
 pub mod Spelled
 pub mod Head
 pub mod Decided

@@ -1,9 +1,6 @@
 -- What holds at all times of what has come on a line.
 use Rattle.std.proofs.Common.{◌≡◌, ℕ, ◌<◌, ◌≤◌, ◌==◌, ◌&&◌, not, Bool, true, false, cond, List, [], ◌∷◌, length, take, drop, Option, Some, None, arith, length-append}
-use Rattle.std.proofs.lemmas.Bool.{false≢true}
-use Rattle.osdp_frame.specs.Bytes.{AreBytes}
-use Rattle.osdp_frame.specs.Reading.{RunItem, item_size}
-use Rattle.osdp_frame.specs.Held.{Held, decided, later, after_first, after_advance, after_push, new_run, taken_count}
+use Rattle.osdp_frame.proofs.Common.{false≢true, AreBytes, RunItem, item_size, Held, decided, later, after_first, after_advance, after_push, new_run, taken_count}
 use Rattle.osdp_frame.specs.Receiving.{IsReceived, Received, after_silence, after_take, after_tick, ends_run, is_silent, new_line, seen}
 use Rattle.osdp_frame.proofs.Head.{AreBytes-append, AreBytes-drop, AreBytes-nil, AreBytes-take}
 

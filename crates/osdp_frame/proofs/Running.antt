@@ -1,15 +1,8 @@
 -- Running checks: what a state is gone over, and what they say of the check of a piece.
-use Rattle.std.proofs.Common.{◌≡◌, ℕ, zero, suc, ◌+◌, ◌-◌, ◌*◌, ◌/◌, ◌%◌, ◌<◌, ◌≤◌, List, [], ◌∷◌, ◌++◌, All, length, take, drop, get_or, slice_range, refl, sym, ap, subst, ◌∙◌, arith}
-use Rattle.std.specs.List.{fold}
-use Rattle.std.proofs.Math.Seq.{take-add}
-use Rattle.std.proofs.lemmas.List.{take-take, get_or_default, get_or-take, get_or-drop, length-take, length-drop, drop-take, drop-drop}
+use Rattle.osdp_frame.proofs.Common.{◌≡◌, ℕ, zero, suc, ◌+◌, ◌-◌, ◌*◌, ◌/◌, ◌%◌, ◌<◌, ◌≤◌, List, [], ◌∷◌, ◌++◌, All, length, take, drop, get_or, slice_range, refl, sym, ap, subst, ◌∙◌, arith, fold, take-add, take-take, get_or_default, get_or-take, get_or-drop, length-take, length-drop, drop-take, drop-drop, sum_from, crc_from, AreBytes, GoesBy, GoesOver, IsRunning}
 use Rattle.std.proofs.lemmas.List.Elements.{All-nil, All-cons}
 use Rattle.std.proofs.lemmas.List.Sums.{fold-append, sum_by-append}
-use Rattle.osdp_check.specs.Checksum.{sum_from}
-use Rattle.osdp_check.specs.Crc.{crc_from}
 use Rattle.osdp_check.proofs.Pieces.{crc_from-append}
-use Rattle.osdp_frame.specs.Bytes.{AreBytes}
-use Rattle.osdp_frame.specs.Running.{GoesBy, GoesOver, IsRunning}
 
 -- ---- pieces
 

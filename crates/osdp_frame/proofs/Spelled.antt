@@ -1,11 +1,5 @@
 -- A packet has one spelling, a spelling is of one packet, and none begins another.
-use Rattle.std.proofs.Common.{◌≡◌, ℕ, ◌+◌, ◌*◌, ◌/◌, ◌%◌, ◌<◌, Bool, true, false, cond, List, ◌++◌, length, take, drop, get_or, refl, sym, ap, subst, ◌∙◌, arith}
-use Rattle.std.proofs.lemmas.List.{length-append, take_at}
-use Rattle.osdp_frame.specs.declared.check_kind.CheckKind.{CheckKind}
-use Rattle.osdp_frame.specs.declared.check_kind.CheckKind.TheVariants.{Sum, Crc}
-use Rattle.osdp_frame.specs.Check.{check_of, check_size}
-use Rattle.osdp_frame.specs.Packet.{Packet, packet_length}
-use Rattle.osdp_frame.specs.Spelling.{Spells, spelling, front, address_byte, control_byte, crc_bit}
+use Rattle.osdp_frame.proofs.Common.{◌≡◌, ℕ, ◌+◌, ◌*◌, ◌/◌, ◌%◌, ◌<◌, Bool, true, false, cond, List, ◌++◌, length, take, drop, get_or, refl, sym, ap, subst, ◌∙◌, arith, length-append, take_at, CheckKind, Sum, Crc, check_of, check_size, Packet, packet_length, Spells, spelling, front, address_byte, control_byte, crc_bit}
 
 pub length-check_of : (check : CheckKind) (bytes : List ℕ) → length (check_of check bytes) ≡ check_size check
 length-check_of Sum bytes = refl

@@ -1,19 +1,9 @@
 -- Each call of a framer reads on in its run.
 use Rattle.std.specs.List.{flat_map}
-use Rattle.std.specs.Prelude.{All, IsTrue, if◌then◌else◌}
-use Rattle.std.proofs.Common.{◌≡◌, ℕ, zero, suc, ◌+◌, ◌<◌, ◌≤◌, Bool, true, false, not, ◌&&◌, eqb, List, [], ◌∷◌, ◌++◌, length, take, drop, Option, Some, None, option_to_list, refl, sym, ap, subst, ◌∙◌, append_assoc, arith}
-use Rattle.std.proofs.lemmas.Bool.{false≢true, eqb-true, eq-eqb}
+use Rattle.osdp_frame_laws.proofs.Common.{All, IsTrue, if◌then◌else◌, ◌≡◌, ℕ, zero, suc, ◌+◌, ◌<◌, ◌≤◌, Bool, true, false, not, ◌&&◌, eqb, List, [], ◌∷◌, ◌++◌, length, take, drop, Option, Some, None, option_to_list, refl, sym, ap, subst, ◌∙◌, append_assoc, arith, false≢true, eqb-true, eq-eqb, length-append, length-drop, append-nil, drop-append-le, drop-drop, length-take-le, AreBytes, largest, RunItem, item_size, total_size, Stands, IsReading, IsFirst, reading, Held, after_gap, after_push, after_first, decided, new_run, taken_count, AreBytes-append, AreBytes-drop, AreBytes-nil, AreBytes-take, first_decided, stands_first, undecided_none, AreBytes-front, undecided_ended}
 use Rattle.std.proofs.lemmas.Bool.Decides.{nat_tests}
-use Rattle.std.proofs.lemmas.List.{length-append, length-drop, append-nil, drop-append-le, drop-drop, length-take-le}
 use Rattle.std.proofs.lemmas.List.Elements.{All-nil, All-cons, All-head, All-tail}
-use Rattle.osdp_frame.specs.Bytes.{AreBytes}
-use Rattle.osdp_frame.specs.Packet.{largest}
-use Rattle.osdp_frame.specs.Reading.{RunItem, item_size, total_size, Stands, IsReading, IsFirst}
-use Rattle.osdp_frame.specs.Items.{reading}
-use Rattle.osdp_frame.specs.Held.{Held, after_gap, after_push, after_first, decided, new_run, taken_count}
 use Rattle.osdp_frame_laws.specs.Calls.{Call, Push, Gap, Advance, IsAfter, IsOfBytes, IsRead, ReadsEachRun, ReadsOn, Run, after_call, after_calls, bytes_taken, empty_run, is_over, items_taken, last_run, run_after, runs_over}
-use Rattle.osdp_frame.proofs.Head.{AreBytes-append, AreBytes-drop, AreBytes-nil, AreBytes-take}
-use Rattle.osdp_frame.proofs.Decided.{first_decided, stands_first, undecided_none, AreBytes-front, undecided_ended}
 use Rattle.osdp_frame_laws.proofs.LeftOver.{total_size-append}
 use Rattle.osdp_frame_laws.proofs.Readings.{is_reading, one_reading, item_size-Stands, sizes_reading, undecided_small}
 

@@ -1,13 +1,8 @@
 -- Runs that come to a receiver piece by piece and are read item by item, whatever is made of the items.
 use Rattle.std.proofs.Common.{◌≡◌, ℕ, ◌+◌, ◌-◌, ◌<◌, ◌≤◌, ◌==◌, ◌&&◌, not, Bool, true, false, List, [], ◌∷◌, ◌++◌, length, take, drop, Some, None, refl, sym, subst, ap, ◌∙◌, arith, append_assoc, append-nil, length-drop, take-append-drop}
 use Rattle.std.proofs.Math.Seq.{drop-drop}
-use Rattle.std.proofs.lemmas.List.{drop_all, take_all}
-use Rattle.osdp_frame.specs.Bytes.{AreBytes}
-use Rattle.osdp_frame.specs.Held.{Held, after_advance, after_first, after_gap, after_push, decided, later, taken_count}
+use Rattle.osdp_frame_laws.proofs.Common.{drop_all, take_all, AreBytes, Held, after_advance, after_first, after_gap, after_push, decided, later, taken_count, RunItem, item_size, total_size, IsReading, IsAllRead, IsReceived, Received, ends_run, AreBytes-append, AreBytes-drop}
 use Rattle.osdp_frame.specs.Items.{items, left_over, rest_of}
-use Rattle.osdp_frame.specs.Reading.{RunItem, item_size, total_size, IsReading}
-use Rattle.osdp_frame.specs.Receiving.{IsAllRead, IsReceived, Received, ends_run}
-use Rattle.osdp_frame.proofs.Head.{AreBytes-append, AreBytes-drop}
 use Rattle.osdp_frame_laws.proofs.LeftOver.{gap_items, left_nothing, left_over-append, left_same, some_ended, takes_some, takes_within}
 use Rattle.osdp_frame_laws.proofs.OneByOne.{items_after, items_on}
 use Rattle.osdp_frame_laws.proofs.Readings.{items_undecided, items-append, is_reading}

@@ -1,18 +1,10 @@
 -- The bytes of a spelling, and its reading.
-use Rattle.std.proofs.Common.{ℕ, zero, suc, ◌+◌, ◌*◌, ◌/◌, ◌%◌, ◌^◌, ◌<◌, ◌≤◌, Bool, true, false, cond, List, [], ◌∷◌, ◌++◌, length, sym, subst, arith}
-use Rattle.std.proofs.lemmas.List.{append-nil, drop_all, get_or_default}
+use Rattle.osdp_frame_laws.proofs.Common.{ℕ, zero, suc, ◌+◌, ◌*◌, ◌/◌, ◌%◌, ◌^◌, ◌<◌, ◌≤◌, Bool, true, false, cond, List, [], ◌∷◌, ◌++◌, length, sym, subst, arith, append-nil, drop_all, get_or_default, Sum, Crc, AreBytes, Packet, IsPacket, packet_length, Spells, front, address_byte, control_byte, crc_bit, PacketItem, IsReading, AreBytes-append, AreBytes-cons, AreBytes-nil, length-spelled}
 use Rattle.osdp_check.specs.Checksum.{checksum}
 use Rattle.osdp_check.specs.Crc.{IsBytes, crc}
 use Rattle.osdp_check.proofs.Pieces.{crc-lt}
 use Rattle.osdp_frame.specs.declared.check_kind.CheckKind.{CheckKind}
-use Rattle.osdp_frame.specs.declared.check_kind.CheckKind.TheVariants.{Sum, Crc}
-use Rattle.osdp_frame.specs.Bytes.{AreBytes}
 use Rattle.osdp_frame.specs.Check.{check_of}
-use Rattle.osdp_frame.specs.Packet.{Packet, IsPacket, packet_length}
-use Rattle.osdp_frame.specs.Spelling.{Spells, front, address_byte, control_byte, crc_bit}
-use Rattle.osdp_frame.specs.Reading.{PacketItem, IsReading}
-use Rattle.osdp_frame.proofs.Head.{AreBytes-append, AreBytes-cons, AreBytes-nil}
-use Rattle.osdp_frame.proofs.Spelled.{length-spelled}
 
 -- the same in the words of the checks
 IsBytes-AreBytes : (bytes : List ℕ) → AreBytes bytes → IsBytes bytes

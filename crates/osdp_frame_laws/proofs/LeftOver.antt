@@ -1,13 +1,6 @@
 -- What is left of a run whose decided items were taken off, and what a framer that holds it takes.
-use Rattle.std.proofs.Common.{◌≡◌, ℕ, ◌+◌, ◌-◌, ◌<◌, ◌≤◌, ◌==◌, ◌&&◌, not, Bool, true, false, cond, min, List, [], ◌∷◌, ◌++◌, length, drop, None, refl, sym, subst, ap, ◌∙◌, arith}
-use Rattle.std.proofs.lemmas.Bool.{ne_eqb}
-use Rattle.std.proofs.lemmas.List.{append-nil, drop-append-le, drop-drop}
-use Rattle.osdp_frame.specs.Bytes.{AreBytes}
-use Rattle.osdp_frame.specs.Reading.{RunItem, item_size, total_size}
-use Rattle.osdp_frame.specs.Held.{Held, decided, later, taken_count}
+use Rattle.osdp_frame_laws.proofs.Common.{◌≡◌, ℕ, ◌+◌, ◌-◌, ◌<◌, ◌≤◌, ◌==◌, ◌&&◌, not, Bool, true, false, cond, min, List, [], ◌∷◌, ◌++◌, length, drop, None, refl, sym, subst, ap, ◌∙◌, arith, ne_eqb, append-nil, drop-append-le, drop-drop, AreBytes, RunItem, item_size, total_size, Held, decided, later, taken_count, AreBytes-drop, AreBytes-front}
 use Rattle.osdp_frame.specs.Items.{items, reading, left_over}
-use Rattle.osdp_frame.proofs.Head.{AreBytes-drop}
-use Rattle.osdp_frame.proofs.Decided.{AreBytes-front}
 use Rattle.osdp_frame_laws.proofs.Readings.{decided_nothing, items_undecided, items-append, undecided_small, sizes_reading, is_reading}
 
 pub items_nothing : (ended : Bool) → items ended [] ≡ []

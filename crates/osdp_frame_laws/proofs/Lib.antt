@@ -1,3 +1,4 @@
+pub mod Common
 pub mod LawsOfSpellings
 pub mod OneByOne
 pub mod Readings

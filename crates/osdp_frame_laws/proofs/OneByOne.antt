@@ -1,11 +1,6 @@
 -- Items taken off one by one.
-use Rattle.std.proofs.Common.{◌≡◌, ℕ, zero, suc, ◌<◌, ◌≤◌, ◌==◌, ◌&&◌, not, Bool, true, false, List, [], ◌∷◌, length, drop, Option, Some, None, refl, sym, ap, ◌∙◌, arith}
-use Rattle.std.specs.Option.{option_map_or}
-use Rattle.std.proofs.lemmas.List.{length-drop}
-use Rattle.std.proofs.lemmas.Bool.{ne_eqb}
-use Rattle.osdp_frame.specs.Held.{Held, after_advance, later, after_first, decided}
+use Rattle.osdp_frame_laws.proofs.Common.{◌≡◌, ℕ, zero, suc, ◌<◌, ◌≤◌, ◌==◌, ◌&&◌, not, Bool, true, false, List, [], ◌∷◌, length, drop, Option, Some, None, refl, sym, ap, ◌∙◌, arith, option_map_or, length-drop, ne_eqb, Held, after_advance, later, after_first, decided, RunItem, item_size}
 use Rattle.osdp_frame.specs.Items.{items, items_within}
-use Rattle.osdp_frame.specs.Reading.{RunItem, item_size}
 use Rattle.osdp_frame_laws.proofs.Readings.{item_size-positive, decided_nothing, items_undecided}
 
 -- a byte or more goes with an item

@@ -1,13 +1,7 @@
 -- Each run has one reading, and it can be read in pieces.
-use Rattle.std.proofs.Common.{◌≡◌, ℕ, zero, suc, ◌+◌, ◌<◌, ◌≤◌, Bool, true, false, List, [], ◌∷◌, ◌++◌, length, drop, Option, Some, None, refl, sym, ap, subst, ◌∙◌, arith, inl, inr}
-use Rattle.std.proofs.lemmas.List.{length-drop, append-nil, drop-append-le, drop-drop}
-use Rattle.std.specs.Option.{option_map_or}
-use Rattle.osdp_frame.specs.Bytes.{AreBytes}
-use Rattle.osdp_frame.specs.Reading.{RunItem, PacketItem, SkippedItem, RefusedItem, item_size, total_size, Stands, IsReading, IsFirst}
+use Rattle.osdp_frame_laws.proofs.Common.{◌≡◌, ℕ, zero, suc, ◌+◌, ◌<◌, ◌≤◌, Bool, true, false, List, [], ◌∷◌, ◌++◌, length, drop, Option, Some, None, refl, sym, ap, subst, ◌∙◌, arith, inl, inr, length-drop, append-nil, drop-append-le, drop-drop, option_map_or, AreBytes, RunItem, PacketItem, SkippedItem, RefusedItem, item_size, total_size, Stands, IsReading, IsFirst, Tells-Begins, AreBytes-drop, AreBytes-front, decided_more, undecided_ended, one_item, first_decided, decided_first, undecided_none, none_undecided, stands_first, WantsMore}
 use Rattle.osdp_frame.specs.Held.{decided}
 use Rattle.osdp_frame.specs.Items.{items, items_within, reading, left_over, Drains}
-use Rattle.osdp_frame.proofs.Head.{Tells-Begins, AreBytes-drop}
-use Rattle.osdp_frame.proofs.Decided.{AreBytes-front, decided_more, undecided_ended, one_item, first_decided, decided_first, undecided_none, none_undecided, stands_first, WantsMore}
 
 pub item_size-positive : (part : RunItem) → 0 < item_size part
 item_size-positive (PacketItem p) = omega arith

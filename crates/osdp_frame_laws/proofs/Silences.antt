@@ -1,8 +1,5 @@
 -- What a silence decides changes once the gap has passed.
-use Rattle.std.proofs.Common.{◌≡◌, ◌∙◌, ap, ℕ, ◌-◌, ◌≤◌, Bool, true, false, cond, max, ◌∷◌, refl, arith}
-use Rattle.std.specs.Prelude.{if◌then◌else◌}
-use Rattle.std.proofs.lemmas.Bool.{le-leb, lt-leb}
-use Rattle.osdp_frame.specs.Receiving.{IsReceived, Received, comes_in, ends_run, ends_silent, is_silent, seen}
+use Rattle.osdp_frame_laws.proofs.Common.{◌≡◌, ◌∙◌, ap, ℕ, ◌-◌, ◌≤◌, Bool, true, false, cond, max, ◌∷◌, refl, arith, if◌then◌else◌, le-leb, lt-leb, IsReceived, Received, comes_in, ends_run, ends_silent, is_silent, seen}
 use Rattle.osdp_frame.specs.Silence.{ChangesAtGap, is_silent_for}
 use Rattle.osdp_frame_laws.specs.Silences.{Changes, SilencesEndRuns}
 

@@ -1,14 +1,6 @@
 -- An input that is read piece by piece, to its end.
-use Rattle.std.proofs.Common.{◌≡◌, ◌≢◌, ℕ, ◌+◌, ◌≤◌, Bool, false, List, [], ◌∷◌, ◌++◌, length, length-append, Option, Result, Ok, Err, IsErrAnd, refl, sym, subst, ap, ◌∙◌, arith, append-nil}
-use Rattle.std.proofs.KnownBytes.{Appends-nil, Appends-trans, Consumes-nil, Consumes-kept, Consumes-trans}
-use Rattle.std.specs.Io.KnownBytes.{Consumes, Keeps}
+use Rattle.osdp_line_answers.proofs.Common.{◌≡◌, ◌≢◌, ℕ, ◌+◌, ◌≤◌, Bool, false, List, [], ◌∷◌, ◌++◌, length, length-append, Option, Result, Ok, Err, IsErrAnd, refl, sym, subst, ap, ◌∙◌, arith, append-nil, Appends-nil, Appends-trans, Consumes-nil, Consumes-kept, Consumes-trans, Consumes, Keeps, ToolFault, TooLong, ReadFailed, WriteFailed, NoMemory, Answering, Speaks, heard, AllAnswered, Ends, SomeAnswered, EndsLine, CarriesOn, HasAnswered, ReadAll, ReadSome, Reads, Step, StopsIn, on_err}
 use Rattle.osdp_tool_streams.specs.Cut.{ended_after, unended_after, ended_lines, last_line, lines_of, unended_line}
-use Rattle.osdp_tool_streams.specs.declared.fault.ToolFault.{ToolFault}
-use Rattle.osdp_tool_streams.specs.declared.fault.ToolFault.TheVariants.{TooLong, ReadFailed, WriteFailed, NoMemory}
-use Rattle.osdp_line_answers.specs.Answers.{Answering, Speaks, heard}
-use Rattle.osdp_line_answers.specs.Ending.{AllAnswered, Ends, SomeAnswered}
-use Rattle.osdp_line_answers.specs.Steps.{EndsLine, CarriesOn, HasAnswered, ReadAll, ReadSome, Reads, Step, StopsIn}
-use Rattle.osdp_tool_streams.proofs.Answered.{on_err}
 use Rattle.osdp_line_answers.proofs.Speaking.{spoke_more}
 use Rattle.osdp_line_answers.proofs.Stopping.{all_written, follows_none, goes_both, more_lines, part_written, stops_further, stops_kept}
 

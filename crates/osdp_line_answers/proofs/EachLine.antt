@@ -1,12 +1,5 @@
 -- What a machine whose answers are given says to an input whose bytes are known.
-use Rattle.std.proofs.Common.{◌≡◌, ◌≤◌, ◌+◌, ℕ, List, [], ◌∷◌, ◌++◌, length, length-append, take, Option, Some, None, Ok, Err, refl, sym, ap, ◌∙◌, arith, append-nil}
-use Rattle.std.specs.Io.KnownBytes.{Consumes, IsAtEnd}
-use Rattle.osdp_tool_streams.specs.Cut.{ended_lines, lines_of}
-use Rattle.osdp_tool_streams.specs.declared.fault.ToolFault.{ToolFault}
-use Rattle.osdp_tool_streams.specs.declared.fault.ToolFault.TheVariants.{NotHex, TooLong, BadWords, BadStep, HoldsPacket, NotQuiet, ReadFailed, WriteFailed, NoMemory}
-use Rattle.osdp_line_answers.specs.Answers.{Speaks, heard}
-use Rattle.osdp_line_answers.specs.Ending.{AllAnswered, SomeAnswered}
-use Rattle.osdp_line_answers.specs.Steps.{most_reads}
+use Rattle.osdp_line_answers.proofs.Common.{◌≡◌, ◌≤◌, ◌+◌, ℕ, List, [], ◌∷◌, ◌++◌, length, length-append, take, Option, Some, None, Ok, Err, refl, sym, ap, ◌∙◌, arith, append-nil, Consumes, IsAtEnd, ended_lines, lines_of, ToolFault, NotHex, TooLong, BadWords, BadStep, HoldsPacket, NotQuiet, ReadFailed, WriteFailed, NoMemory, Speaks, heard, AllAnswered, SomeAnswered, most_reads}
 use Rattle.osdp_line_answers.specs.Laws.{AnswersBy, AnswersEachLine, IsAnsweredInPart, IsAnsweredSoFar, after_lines, answers_to}
 
 -- what was consumed of known bytes is their front

@@ -1,3 +1,4 @@
+pub mod Common
 pub mod Speaking
 pub mod Stopping
 pub mod AnsweringLines

@@ -1,6 +1,5 @@
 -- Lines that are answered in turn.
-use Rattle.std.proofs.Common.{ℕ, List, [], ◌∷◌, ◌++◌, refl, sym, subst, ap, ◌∙◌, append_assoc, append-nil}
-use Rattle.osdp_line_answers.specs.Answers.{Answering, Speaks, heard}
+use Rattle.osdp_line_answers.proofs.Common.{ℕ, List, [], ◌∷◌, ◌++◌, refl, sym, subst, ap, ◌∙◌, append_assoc, append-nil, Answering, Speaks, heard}
 
 -- one line more
 pub spoke_more : {M : Type 0} (answers : Answering M) (first mid last : M) (lines : List (List ℕ)) (line text answer : List ℕ)

@@ -1,16 +1,9 @@
 -- What follows an input, byte by byte.
-use Rattle.std.proofs.Common.{◌≡◌, ◌≢◌, Bool, ℕ, zero, suc, ◌+◌, ◌<◌, ◌≤◌, List, [], ◌∷◌, ◌++◌, length, length-append, length-take, take, Option, Err, refl, sym, subst, ap, ◌∙◌, arith, append_assoc, append-nil}
+use Rattle.osdp_line_answers.proofs.Common.{◌≡◌, ◌≢◌, Bool, ℕ, zero, suc, ◌+◌, ◌<◌, ◌≤◌, List, [], ◌∷◌, ◌++◌, length, length-append, length-take, take, Option, Err, refl, sym, subst, ap, ◌∙◌, arith, append_assoc, append-nil, take_all, Appends-nil, Appends-kept, Appends-trans, Appends, Keeps, ToolFault, WriteFailed, NoMemory, Answering, Speaks, heard, EndsLine, FrontAnswered, CarriesOn, HasAnswered, StopsIn, WroteAnswer, WrotePart}
 use Rattle.std.proofs.Math.Seq.{take-append-add}
-use Rattle.std.proofs.lemmas.List.{take_all}
-use Rattle.std.proofs.KnownBytes.{Appends-nil, Appends-kept, Appends-trans}
-use Rattle.std.specs.Io.KnownBytes.{Appends, Keeps}
 use Rattle.osdp_tool_streams.specs.Cut.{line_feed, ended_after, unended_after, ended_lines, unended_line}
 use Rattle.osdp_tool_streams.proofs.CutLemmas.{ended_after-append}
 use Rattle.osdp_tool_streams.proofs.FormLemmas.{ended_lines-feed, ended_lines-hold, unended_line-feed, unended_line-hold}
-use Rattle.osdp_tool_streams.specs.declared.fault.ToolFault.{ToolFault}
-use Rattle.osdp_tool_streams.specs.declared.fault.ToolFault.TheVariants.{WriteFailed, NoMemory}
-use Rattle.osdp_line_answers.specs.Answers.{Answering, Speaks, heard}
-use Rattle.osdp_line_answers.specs.Steps.{EndsLine, FrontAnswered, CarriesOn, HasAnswered, StopsIn, WroteAnswer, WrotePart}
 use Rattle.osdp_line_answers.proofs.Speaking.{spoke_more}
 
 -- what is kept of what was kept

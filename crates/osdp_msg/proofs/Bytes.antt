@@ -1,11 +1,6 @@
 -- Lists of bytes, byte by byte, and numbers in them.
-use Rattle.std.proofs.Common.{◌≡◌, ◌<◌, ◌≤◌, inl, inr, add-zero, ℕ, zero, suc, ◌+◌, ◌*◌, ◌/◌, ◌%◌, ◌^◌, List, [], ◌∷◌, ◌++◌, length, drop, take, get_or, refl, sym, ap, ◌∙◌, arith}
-use Rattle.std.specs.List.{AllByRecursion}
+use Rattle.osdp_msg.proofs.Common.{◌≡◌, ◌<◌, ◌≤◌, inl, inr, add-zero, ℕ, zero, suc, ◌+◌, ◌*◌, ◌/◌, ◌%◌, ◌^◌, List, [], ◌∷◌, ◌++◌, length, drop, take, get_or, refl, sym, ap, ◌∙◌, arith, AllByRecursion, cases_lt, append-nil, get_or-drop, get_or-take, get_or_past, length-drop, length-take, nil_from_length, IsBytes, little_bytes, little_number}
 use Rattle.std.proofs.Math.Seq.{drop-cons}
-use Rattle.std.proofs.lemmas.Bool.{cases_lt}
-use Rattle.std.proofs.lemmas.List.{append-nil, get_or-drop, get_or-take, get_or_past, length-drop, length-take, nil_from_length}
-use Rattle.hex.specs.Hex.{IsBytes}
-use Rattle.byteorder.specs.Endian.{little_bytes, little_number}
 
 -- k elements from place n on
 abbrev pub cells_from : ℕ → ℕ → List ℕ → List ℕ

@@ -1,16 +1,7 @@
 -- The data of commands, row by row: bytes that are read are spelled so, and what is spelled so is read.
-use Rattle.std.proofs.Common.{◌≡◌, ◌≤◌, ℕ, ◌+◌, ◌-◌, List, [], ◌∷◌, ◌++◌, length, drop, get_or, lit<, refl, sym, ap, ◌∙◌, arith}
-use Rattle.std.proofs.lemmas.List.{drop_at, length-append, length-drop, length-take, take-append-drop, take_at}
-use Rattle.byteorder.specs.Endian.{little_bytes}
-use Rattle.hex.specs.Hex.{IsBytes}
+use Rattle.osdp_msg.proofs.Common.{◌≡◌, ◌≤◌, ℕ, ◌+◌, ◌-◌, List, [], ◌∷◌, ◌++◌, length, drop, get_or, lit<, refl, sym, ap, ◌∙◌, arith, drop_at, length-append, length-drop, length-take, take-append-drop, take_at, little_bytes, IsBytes, Communication, MakerMessage, Text, LedRecord, OutputFits, output_data, output_at, LedFits, led_data, led_at, BuzzerFits, buzzer_data, buzzer_at, TextFits, text_data, text_at, CommunicationFits, communication_data, communication_at, MakerFits, maker_data, maker_at, IsRecord}
 use Rattle.osdp_msg.specs.declared.command_fields.Buzzer.{Buzzer}
-use Rattle.osdp_msg.specs.declared.command_fields.Communication.{Communication}
-use Rattle.osdp_msg.specs.declared.command_fields.MakerMessage.{MakerMessage}
-use Rattle.osdp_msg.specs.declared.command_fields.Text.{Text}
-use Rattle.osdp_msg.specs.declared.leds.LedRecord.{LedRecord}
-use Rattle.osdp_msg.specs.CommandFields.{OutputFits, output_data, output_at, LedFits, led_data, led_at, BuzzerFits, buzzer_data, buzzer_at, TextFits, text_data, text_at, CommunicationFits, communication_data, communication_at, MakerFits, maker_data, maker_at}
 use Rattle.osdp_msg.proofs.Bytes.{IsBytes-append, IsBytes-cells, IsBytes-cons, IsBytes-counted, IsBytes-drop, IsBytes-each, IsBytes-little_2, IsBytes-little_4, IsBytes-take, all_cells, bytes_2, bytes_4, cells, number_2_at, number_2_bound, number_4_at, number_4_bound}
-use Rattle.osdp_msg.specs.Records.{IsRecord}
 
 -- outputs
 

@@ -1,8 +1,5 @@
 -- A command that goes by one of these names is made of a value that is read after it.
-use Rattle.std.proofs.Common.{ℕ, List, codes, refl}
-use Rattle.osdp_words.specs.Word.{Word}
-use Rattle.osdp_msg.specs.declared.command.Command.{Command}
-use Rattle.osdp_msg.specs.declared.command.Command.TheVariants.{Poll, Id, Cap, LocalStatus, InputStatus, OutputStatus, ReaderStatus, Buzzer, Comset}
+use Rattle.osdp_msg.proofs.Common.{ℕ, List, codes, refl, Word, Command, Poll, Id, Cap, LocalStatus, InputStatus, OutputStatus, ReaderStatus, Buzzer, Comset}
 use Rattle.osdp_msg.specs.CommandText.{command_row}
 use Rattle.osdp_msg.proofs.RowTexts.{IsMadeBy, apart}
 

@@ -1,16 +1,8 @@
 -- The table of commands.
-use Rattle.std.proofs.Common.{◌≡◌, ◌<◌, ◌≤◌, ◌+◌, ◌*◌, ◌/◌, ◌%◌, lit<, lit≤, [], ◌∷◌, ◌&&◌, ℕ, true, eqb, leb, List, length, get_or, Option, Some, None, refl, ap, arith}
-use Rattle.std.specs.List.{All, flat_map}
+use Rattle.osdp_msg.proofs.Common.{◌≡◌, ◌<◌, ◌≤◌, ◌+◌, ◌*◌, ◌/◌, ◌%◌, lit<, lit≤, [], ◌∷◌, ◌&&◌, ℕ, true, eqb, leb, List, length, get_or, Option, Some, None, refl, ap, arith, All, flat_map, div-lt_iff_lt-mul, mul-le-mul_left, IsBytes, Command, MsgFault, LedFits, OutputFits, buzzer_at, communication_at, led_at, led_data, maker_at, maker_data, output_at, output_data, text_at, text_data, IsRecord, records_at, refusal}
 use Rattle.std.proofs.lemmas.Nat.{le-div}
-use Rattle.std.proofs.Math.Nat.{div-lt_iff_lt-mul, mul-le-mul_left}
-use Rattle.hex.specs.Hex.{IsBytes}
-use Rattle.osdp_msg.specs.declared.command.Command.{Command}
 use Rattle.osdp_msg.specs.declared.command.Command.TheVariants.{Poll, Id, Cap, LocalStatus, InputStatus, OutputStatus, ReaderStatus, Output, Led, Buzzer, Text, Comset, Maker}
-use Rattle.osdp_msg.specs.declared.fault.MsgFault.{MsgFault}
-use Rattle.osdp_msg.specs.CommandFields.{LedFits, OutputFits, buzzer_at, communication_at, led_at, led_data, maker_at, maker_data, output_at, output_data, text_at, text_data}
 use Rattle.osdp_msg.specs.CommandTable.{CommandFits, IsCommand, command_at, command_code, command_counts_agree, command_data, command_fault, command_length_allowed}
-use Rattle.osdp_msg.specs.Records.{IsRecord, records_at}
-use Rattle.osdp_msg.specs.Refusal.{refusal}
 use Rattle.osdp_msg.proofs.Bytes.{all_cells}
 use Rattle.osdp_msg.proofs.CommandRows.{buzzer_takes, communication_again, communication_fits, communication_takes, leds, maker_again, maker_fits, maker_length, maker_takes, outputs, text_fits, text_takes}
 use Rattle.osdp_msg.proofs.RecordLists.{length-flat_map_size, length-records_from, records_again, records_fit, records_take}

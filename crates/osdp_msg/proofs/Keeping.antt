@@ -1,13 +1,10 @@
 -- Messages are read back from their bytes.
-use Rattle.std.proofs.Common.{◌≡◌, ◌∷◌, Some, refl, ap}
+use Rattle.osdp_msg.proofs.Common.{◌≡◌, ◌∷◌, Some, refl, ap, Command, Reply, command_from, event_from, reply_from}
 use Rattle.std.specs.Result.{result_ok}
-use Rattle.osdp_msg.specs.declared.command.Command.{Command}
 use Rattle.osdp_msg.specs.declared.event.Event.{Event}
 use Rattle.osdp_msg.specs.declared.event.Event.TheVariants as events
-use Rattle.osdp_msg.specs.declared.reply.Reply.{Reply}
 use Rattle.osdp_msg.specs.CommandTable.{CommandFits, command_code, command_data, command_of}
 use Rattle.osdp_msg.specs.Events.{event_in, event_reply}
-use Rattle.osdp_msg.specs.Kept.{command_from, event_from, reply_from}
 use Rattle.osdp_msg.specs.ReplyTable.{ReplyFits, reply_code, reply_data, reply_of}
 use Rattle.osdp_msg.proofs.Commands.{commands}
 use Rattle.osdp_msg.proofs.Replies.{replies}

@@ -1,3 +1,4 @@
+pub mod Common
 pub mod Keeping
 pub mod Bytes
 pub mod RecordLists

@@ -1,26 +1,5 @@
 -- The values of rows, made of the parts of their texts.
-use Rattle.std.proofs.Common.{◌≡◌, ◌↔◌, ◌<◌, ◌≤◌, ◌+◌, ◌/◌, ◌==◌, ◌^◌, ℕ, Bool, true, false, IsTrue, List, [], ◌∷◌, ◌++◌, length, map, get_or, Option, Some, None, refl, sym, ap, subst, ◌∙◌, arith}
-use Rattle.std.specs.Prelude.{nat_le}
-use Rattle.std.specs.Bool.{then_some}
-use Rattle.std.proofs.lemmas.Bool.{eqb-false, eqb-true, le-leb}
-use Rattle.std.proofs.lemmas.List.{append-nil}
-use Rattle.arrayvec.specs.ArrayVec.{ArrayVec}
-use Rattle.hex.specs.Hex.{IsBytes}
-use Rattle.osdp_words.specs.Reading.{ReadsWords, Takes}
-use Rattle.osdp_words.specs.Word.{AllStandFor, Word, bytes, number}
-use Rattle.osdp_words.proofs.Rows.{IsMadeOf, PairAllowed, front_missing, pair_taken, pair_words}
-use Rattle.osdp_msg.specs.declared.command_fields.Communication.{Communication}
-use Rattle.osdp_msg.specs.declared.event_fields.Formatted.{Formatted}
-use Rattle.osdp_msg.specs.declared.event_fields.Keypad.{Keypad}
-use Rattle.osdp_msg.specs.declared.command_fields.MakerMessage.{MakerMessage}
-use Rattle.osdp_msg.specs.declared.reply_fields.Nak.{Nak}
-use Rattle.osdp_msg.specs.declared.reply_fields.PdId.{PdId}
-use Rattle.osdp_msg.specs.declared.command_fields.Text.{Text}
-use Rattle.osdp_msg.specs.CommandFields.{BuzzerFits, buzzer_at, buzzer_data, buzzer_words, CommunicationFits, communication_words, MakerFits, maker_words, TextFits, text_words}
-use Rattle.osdp_msg.specs.NakReasons.{reason_number}
-use Rattle.osdp_msg.specs.Raw.{RawCard, raw_card}
-use Rattle.osdp_msg.specs.ReplyFields.{FormattedFits, formatted_words, KeypadFits, keypad_words, LocalStateFits, local_state_at, local_state_data, local_state_words, NakFits, detail_words, nak_words, PdIdFits, pd_id_words, RawFits, raw_words}
-use Rattle.osdp_msg.specs.ReplyTable.{StatesFit}
+use Rattle.osdp_msg.proofs.Common.{◌≡◌, ◌↔◌, ◌<◌, ◌≤◌, ◌+◌, ◌/◌, ◌==◌, ◌^◌, ℕ, Bool, true, false, IsTrue, List, [], ◌∷◌, ◌++◌, length, map, get_or, Option, Some, None, refl, sym, ap, subst, ◌∙◌, arith, nat_le, then_some, eqb-false, eqb-true, le-leb, append-nil, ArrayVec, IsBytes, ReadsWords, Takes, AllStandFor, Word, bytes, number, IsMadeOf, PairAllowed, front_missing, pair_taken, pair_words, Communication, Formatted, Keypad, MakerMessage, Nak, PdId, Text, BuzzerFits, buzzer_at, buzzer_data, buzzer_words, CommunicationFits, communication_words, MakerFits, maker_words, TextFits, text_words, reason_number, RawCard, raw_card, FormattedFits, formatted_words, KeypadFits, keypad_words, LocalStateFits, local_state_at, local_state_data, local_state_words, NakFits, detail_words, nak_words, PdIdFits, pd_id_words, RawFits, raw_words, StatesFit}
 use Rattle.osdp_msg.proofs.Bytes.{IsBytes-cells, IsBytes-each, all_cells}
 use Rattle.osdp_msg.proofs.CommandRows.{buzzer_spells}
 use Rattle.osdp_msg.proofs.ReplyRows.{local_state_spells, reason_byte}

@@ -1,18 +1,9 @@
 -- Lists of records of one size.
-use Rattle.std.proofs.Common.{◌≡◌, ◌<◌, ◌≤◌, inl, inr, ℕ, zero, suc, ◌+◌, ◌-◌, ◌*◌, ◌/◌, ◌%◌, List, [], ◌∷◌, ◌++◌, length, drop, refl, sym, ap, ◌∙◌, arith}
-use Rattle.std.specs.List.{All, flat_map}
-use Rattle.std.proofs.lemmas.List.{drop_at, length-append, length-drop, nil_from_length}
-use Rattle.std.proofs.lemmas.List.Concat.{flat_map-cons}
-use Rattle.std.proofs.Math.Nat.{add-div_left, div-add-mod, div-lt_iff_lt-mul, mul-div_cancel_left, mul-le-mul_left, mul-mod_right, mul-suc}
-use Rattle.std.proofs.lemmas.Bool.{cases_lt}
-use Rattle.std.proofs.lemmas.List.Elements.{All-cons, All-head, All-nil, All-tail}
-use Rattle.hex.specs.Hex.{IsBytes}
+use Rattle.osdp_msg.proofs.Common.{◌≡◌, ◌<◌, ◌≤◌, inl, inr, ℕ, zero, suc, ◌+◌, ◌-◌, ◌*◌, ◌/◌, ◌%◌, List, [], ◌∷◌, ◌++◌, length, drop, refl, sym, ap, ◌∙◌, arith, All, flat_map, drop_at, length-append, length-drop, nil_from_length, flat_map-cons, add-div_left, div-add-mod, div-lt_iff_lt-mul, mul-div_cancel_left, mul-le-mul_left, mul-mod_right, mul-suc, cases_lt, All-cons, All-head, All-nil, All-tail, IsBytes, AreWhole, IsRecord, records_at, records_from}
 use Rattle.osdp_msg.specs.declared.lent.Lent.{Lent}
 use Rattle.osdp_msg.specs.declared.lent.Lent.TheVariants as lent
 use Rattle.osdp_msg.specs.Lending.{AreAtMost, lent_records}
 use Rattle.osdp_msg.proofs.Bytes.{IsBytes-append, IsBytes-drop, IsBytes-nil}
-use Rattle.osdp_msg.specs.ListedCommands.{AreWhole}
-use Rattle.osdp_msg.specs.Records.{IsRecord, records_at, records_from}
 
 -- a list of records of one size
 pub length-flat_map_size : {R : Type 0} (spelled : R → List ℕ) (size : ℕ) → ((r : R) → length (spelled r) ≡ size)

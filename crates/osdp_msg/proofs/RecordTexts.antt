@@ -1,11 +1,5 @@
 -- Records read from words, one word for each.
-use Rattle.std.proofs.Common.{◌≡◌, ◌<◌, ◌≤◌, ℕ, zero, suc, List, [], ◌∷◌, ◌++◌, length, map, get_or, Option, Some, None, refl, sym, ap, subst, ◌∙◌, append_assoc, arith}
-use Rattle.std.specs.Prelude.{IfSome, option_map}
-use Rattle.std.specs.List.{All}
-use Rattle.std.proofs.lemmas.List.{append-nil, length-append, map_push}
-use Rattle.std.proofs.lemmas.List.Elements.{All-head, All-nil, All-push, All-tail}
-use Rattle.osdp_words.specs.Reading.{Reads, ReadsWords}
-use Rattle.osdp_words.specs.Word.{AllStandFor, AreWithin, StandsFor, Word}
+use Rattle.osdp_msg.proofs.Common.{◌≡◌, ◌<◌, ◌≤◌, ℕ, zero, suc, List, [], ◌∷◌, ◌++◌, length, map, get_or, Option, Some, None, refl, sym, ap, subst, ◌∙◌, append_assoc, arith, IfSome, option_map, All, append-nil, length-append, map_push, All-head, All-nil, All-push, All-tail, Reads, ReadsWords, AllStandFor, AreWithin, StandsFor, Word}
 
 -- ---- a record of one word
 

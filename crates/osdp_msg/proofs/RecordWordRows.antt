@@ -1,10 +1,6 @@
 -- The records of texts, made of the numbers of their words.
-use Rattle.std.proofs.Common.{◌<◌, ◌≤◌, ◌+◌, ℕ, List, [], ◌∷◌, length, get_or, lit<, refl, sym, ap, arith}
-use Rattle.osdp_words.specs.Word.{AreWithin, numbers}
-use Rattle.osdp_msg.specs.declared.leds.LedRecord.{LedRecord}
+use Rattle.osdp_msg.proofs.Common.{◌<◌, ◌≤◌, ◌+◌, ℕ, List, [], ◌∷◌, length, get_or, lit<, refl, sym, ap, arith, AreWithin, numbers, LedRecord, LedFits, OutputFits, led_at, led_word, output_word, CapabilityFits, capability_at, capability_data, capability_word}
 use Rattle.osdp_msg.specs.declared.outputs.OutputRecord.{OutputRecord}
-use Rattle.osdp_msg.specs.CommandFields.{LedFits, OutputFits, led_at, led_word, output_word}
-use Rattle.osdp_msg.specs.ReplyFields.{CapabilityFits, capability_at, capability_data, capability_word}
 use Rattle.osdp_msg.proofs.Bytes.{IsBytes-each, all_cells, cells_from}
 use Rattle.osdp_msg.proofs.RecordTexts.{IsMadeOfWord, within_at, within_length}
 

@@ -1,17 +1,7 @@
 -- The table of replies.
-use Rattle.std.proofs.Common.{◌≡◌, ◌+◌, ◌*◌, ◌/◌, ◌%◌, ◌++◌, ℕ, true, eqb, List, [], ◌∷◌, length, get_or, drop, Some, None, refl, sym, ap, ◌∙◌, arith}
-use Rattle.std.specs.List.{flat_map}
-use Rattle.std.proofs.lemmas.Bool.{eq-eqb}
-use Rattle.std.proofs.Math.Nat.{mul-mod_right}
-use Rattle.byteorder.specs.Endian.{little_bytes, little_number}
-use Rattle.hex.specs.Hex.{IsBytes}
+use Rattle.osdp_msg.proofs.Common.{◌≡◌, ◌+◌, ◌*◌, ◌/◌, ◌%◌, ◌++◌, ℕ, true, eqb, List, [], ◌∷◌, length, get_or, drop, Some, None, refl, sym, ap, ◌∙◌, arith, flat_map, eq-eqb, mul-mod_right, little_bytes, little_number, IsBytes, Reply, communication_at, maker_at, maker_data, records_at, refusal, CapabilityFits, capability_at, capability_data, formatted_at, formatted_data, keypad_at, keypad_data, local_state_at, nak_at, nak_data, pd_id_at, raw_at, raw_data}
 use Rattle.osdp_msg.specs.declared.capability.Capability.{Capability}
-use Rattle.osdp_msg.specs.declared.reply.Reply.{Reply}
 use Rattle.osdp_msg.specs.declared.reply.Reply.TheVariants.{Ack, Nak, PdId, PdCap, LocalState, Inputs, Outputs, Readers, Raw, Formatted, Keypad, Com, Busy, MakerReply}
-use Rattle.osdp_msg.specs.CommandFields.{communication_at, maker_at, maker_data}
-use Rattle.osdp_msg.specs.Records.{records_at}
-use Rattle.osdp_msg.specs.Refusal.{refusal}
-use Rattle.osdp_msg.specs.ReplyFields.{CapabilityFits, capability_at, capability_data, formatted_at, formatted_data, keypad_at, keypad_data, local_state_at, nak_at, nak_data, pd_id_at, raw_at, raw_data}
 use Rattle.osdp_msg.specs.ReplyTable.{IsReply, ReplyFits, StatesFit, reply_at, reply_code, reply_counts_agree, reply_data, reply_fault, reply_length_allowed}
 use Rattle.osdp_msg.proofs.Bytes.{bytes_2}
 use Rattle.osdp_msg.proofs.CommandRows.{communication_again, communication_fits, communication_takes, maker_again, maker_fits, maker_length, maker_takes}

@@ -1,23 +1,10 @@
 -- The data of replies, row by row: bytes that are read are spelled so, and what is spelled so is read.
-use Rattle.std.proofs.Common.{◌≡◌, ◌<◌, ◌≤◌, ℕ, ◌+◌, ◌-◌, ◌/◌, ◌≢◌, inl, inr, false, eqb, List, [], ◌∷◌, ◌++◌, length, drop, take, get_or, lit<, lit≤, refl, sym, ap, ◌∙◌, arith}
-use Rattle.std.specs.List.{AllByRecursion}
-use Rattle.std.proofs.lemmas.Bool.{cases_lt, eqb-false, ne_eqb}
-use Rattle.std.proofs.lemmas.List.{length-drop, length-take, take_at}
-use Rattle.byteorder.specs.Endian.{little_bytes, little_number}
-use Rattle.hex.specs.Hex.{IsBytes}
+use Rattle.osdp_msg.proofs.Common.{◌≡◌, ◌<◌, ◌≤◌, ℕ, ◌+◌, ◌-◌, ◌/◌, ◌≢◌, inl, inr, false, eqb, List, [], ◌∷◌, ◌++◌, length, drop, take, get_or, lit<, lit≤, refl, sym, ap, ◌∙◌, arith, AllByRecursion, cases_lt, eqb-false, ne_eqb, length-drop, length-take, take_at, little_bytes, little_number, IsBytes, Formatted, Keypad, Nak, PdId, ReasonFits, reason_number, reason_of, RawCard, NakFits, nak_data, nak_at, PdIdFits, pd_id_data, pd_id_at, CapabilityFits, capability_data, capability_at, LocalStateFits, local_state_data, local_state_at, RawFits, raw_data, raw_at, FormattedFits, formatted_data, formatted_at, KeypadFits, keypad_data, keypad_at, IsRecord}
 use Rattle.osdp_msg.specs.declared.nak.NakReason.{NakReason}
 use Rattle.osdp_msg.specs.declared.nak.NakReason.TheVariants.{Other}
-use Rattle.osdp_msg.specs.declared.event_fields.Formatted.{Formatted}
-use Rattle.osdp_msg.specs.declared.event_fields.Keypad.{Keypad}
 use Rattle.osdp_msg.specs.declared.reply_fields.LocalState.{LocalState}
-use Rattle.osdp_msg.specs.declared.reply_fields.Nak.{Nak}
-use Rattle.osdp_msg.specs.declared.reply_fields.PdId.{PdId}
-use Rattle.osdp_msg.specs.NakReasons.{ReasonFits, reason_number, reason_of}
 use Rattle.osdp_msg.specs.OtherReasons.{IsOtherReason}
-use Rattle.osdp_msg.specs.Raw.{RawCard}
-use Rattle.osdp_msg.specs.ReplyFields.{NakFits, nak_data, nak_at, PdIdFits, pd_id_data, pd_id_at, CapabilityFits, capability_data, capability_at, LocalStateFits, local_state_data, local_state_at, RawFits, raw_data, raw_at, FormattedFits, formatted_data, formatted_at, KeypadFits, keypad_data, keypad_at}
 use Rattle.osdp_msg.proofs.Bytes.{IsBytes-append, IsBytes-cons, IsBytes-counted, IsBytes-drop, IsBytes-each, IsBytes-little_2, IsBytes-little_4, IsBytes-take, all_cells, bytes_2, bytes_4, cells, number_2_at, number_2_bound, number_4_at, number_4_bound}
-use Rattle.osdp_msg.specs.Records.{IsRecord}
 use Rattle.osdp_msg.proofs.Table.{by_codes}
 
 -- reasons

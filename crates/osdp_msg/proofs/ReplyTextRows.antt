@@ -1,8 +1,5 @@
 -- A reply that goes by one of these names is made of a value that is read after it.
-use Rattle.std.proofs.Common.{ℕ, List, codes, refl}
-use Rattle.osdp_words.specs.Word.{Word}
-use Rattle.osdp_msg.specs.declared.reply.Reply.{Reply}
-use Rattle.osdp_msg.specs.declared.reply.Reply.TheVariants.{Ack, LocalState, Com, Busy}
+use Rattle.osdp_msg.proofs.Common.{ℕ, List, codes, refl, Word, Reply, Ack, LocalState, Com, Busy}
 use Rattle.osdp_msg.specs.ReplyText.{reply_row}
 use Rattle.osdp_msg.proofs.RowTexts.{IsMadeBy, apart}
 

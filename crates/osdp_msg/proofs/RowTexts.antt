@@ -1,9 +1,5 @@
 -- A row of texts: a name, and the words of the fields after it.
-use Rattle.std.proofs.Common.{◌≡◌, ℕ, Bool, true, false, ◌&&◌, eqb, List, [], ◌∷◌, Option, Some, None, refl, sym, ap, subst, ◌∙◌}
-use Rattle.std.specs.Prelude.{IfSome, option_map}
-use Rattle.std.proofs.lemmas.Bool.{eq-eqb, true≢false}
-use Rattle.osdp_words.specs.Reading.{ReadsWords}
-use Rattle.osdp_words.specs.Word.{AllStandFor, Word, plain}
+use Rattle.osdp_msg.proofs.Common.{◌≡◌, ℕ, Bool, true, false, ◌&&◌, eqb, List, [], ◌∷◌, Option, Some, None, refl, sym, ap, subst, ◌∙◌, IfSome, option_map, eq-eqb, true≢false, ReadsWords, AllStandFor, Word, plain}
 
 -- two texts, character by character
 abbrev pub same : List ℕ → List ℕ → Bool

@@ -1,18 +1,8 @@
 -- What follows for a table of messages from two facts on its rows.
-use Rattle.std.proofs.Common.{◌≡◌, ◌↔◌, ◌≤◌, ◌<◌, arith, ℕ, Bool, true, false, not, ◌||◌, cond, eqb, ltb, leb, ◌&&◌, ◌+◌, ◌-◌, ◌%◌, List, [], ◌∷◌, length, Option, Some, None, Result, Ok, Err, ◌*◌, refl, sym, ap, subst, ◌∙◌}
-use Rattle.std.specs.Bool.{then_some}
-use Rattle.std.specs.List.{AllByRecursion}
-use Rattle.std.proofs.lemmas.Bool.{eq-eqb, eqb-true, leb-true, le-leb, le-ltb, ltb-false}
-use Rattle.std.proofs.lemmas.List.{nil_from_length}
-use Rattle.std.proofs.Math.Nat.{mul-le-mul_left, mul-mod_right}
-use Rattle.osdp_msg.specs.declared.fault.MsgFault.{MsgFault}
+use Rattle.osdp_msg.proofs.Common.{◌≡◌, ◌↔◌, ◌≤◌, ◌<◌, arith, ℕ, Bool, true, false, not, ◌||◌, cond, eqb, ltb, leb, ◌&&◌, ◌+◌, ◌-◌, ◌%◌, List, [], ◌∷◌, length, Option, Some, None, Result, Ok, Err, ◌*◌, refl, sym, ap, subst, ◌∙◌, then_some, AllByRecursion, eq-eqb, eqb-true, leb-true, le-leb, le-ltb, ltb-false, nil_from_length, mul-le-mul_left, mul-mod_right, MsgFault, HasLength, refusal, unless_fault, IfOk, IfErr, IsBytes}
 use Rattle.osdp_msg.specs.declared.fault.MsgFault.TheVariants.{Length, Count}
 use Rattle.osdp_msg.specs.Limits.{most_data}
-use Rattle.osdp_msg.specs.ListedCommands.{HasLength}
 use Rattle.osdp_msg.specs.Messages.{IsMessage}
-use Rattle.osdp_msg.specs.Refusal.{refusal, unless_fault}
-use Rattle.std.specs.Prelude.{IfOk, IfErr}
-use Rattle.hex.specs.Hex.{IsBytes}
 
 -- a code takes data without a fault: they stand for the value at them
 abbrev pub Takes : {M : Type 0} → (ℕ → List ℕ → M → Type 0) → (ℕ → List ℕ → Option MsgFault) → (ℕ → List ℕ → M) → ℕ → Type 0

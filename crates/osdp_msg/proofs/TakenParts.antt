@@ -1,13 +1,5 @@
 -- Values read from words: what each part takes, put together.
-use Rattle.std.proofs.Common.{◌≡◌, ◌↔◌, ◌<◌, ◌≤◌, ℕ, Bool, true, false, IsTrue, List, [], ◌∷◌, length, map, Option, Some, None, refl, sym, ap, subst, ◌∙◌, arith}
-use Rattle.std.specs.Bool.{then_some}
-use Rattle.std.proofs.lemmas.Bool.{le-leb}
-use Rattle.std.specs.Prelude.{IfSome, nat_le, option_map}
-use Rattle.arrayvec.specs.ArrayVec.{ArrayVec, array_vec_len}
-use Rattle.hex.specs.Hex.{IsBytes}
-use Rattle.osdp_words.specs.Reading.{ReadsWords, Takes}
-use Rattle.osdp_words.specs.Word.{AllStandFor, Word, bytes, number}
-use Rattle.osdp_words.proofs.Rows.{IsMadeOf, all_read, front_missing, made_taken, more_left, none_read, pair_taken, pair_words, PairAllowed}
+use Rattle.osdp_msg.proofs.Common.{◌≡◌, ◌↔◌, ◌<◌, ◌≤◌, ℕ, Bool, true, false, IsTrue, List, [], ◌∷◌, length, map, Option, Some, None, refl, sym, ap, subst, ◌∙◌, arith, then_some, le-leb, IfSome, nat_le, option_map, ArrayVec, array_vec_len, IsBytes, ReadsWords, Takes, AllStandFor, Word, bytes, number, IsMadeOf, all_read, front_missing, made_taken, more_left, none_read, pair_taken, pair_words, PairAllowed}
 
 -- ---- the parts
 

@@ -1,8 +1,5 @@
 -- Texts of records.
-use Rattle.std.proofs.Common.{◌≡◌, ℕ, List, [], ◌∷◌, ◌++◌, codes, map, refl, sym, ap, ◌∙◌}
-use Rattle.std.specs.List.{flat_map}
-use Rattle.std.proofs.lemmas.List.Concat.{flat_map-cons}
-use Rattle.osdp_words.specs.Word.{Word, printed}
+use Rattle.osdp_msg.proofs.Common.{◌≡◌, ℕ, List, [], ◌∷◌, ◌++◌, codes, map, refl, sym, ap, ◌∙◌, flat_map, flat_map-cons, Word, printed}
 
 -- each record's word after a space
 pub flat_map-words : {R : Type 0} (word : R → Word) (rs : List R)

@@ -1,10 +1,6 @@
 -- Rows that are cut into strings.
-use Rattle.std.proofs.Common.{◌≡◌, ◌+◌, ◌-◌, ◌<◌, ◌≤◌, ◌&&◌, Bool, true, false, ltb, leb, ℕ, zero, suc, List, [], ◌∷◌, ◌++◌, length, take, drop, Some, None, refl, sym, ap, ◌∙◌, arith}
+use Rattle.osdp_ring.proofs.Common.{◌≡◌, ◌+◌, ◌-◌, ◌<◌, ◌≤◌, ◌&&◌, Bool, true, false, ltb, leb, ℕ, zero, suc, List, [], ◌∷◌, ◌++◌, length, take, drop, Some, None, refl, sym, ap, ◌∙◌, arith, drop-append-le, drop-take, drop_at, length-drop, length-take, take-append-le, slice_get, leb-true, ltb-true, begins, cut, has_first, sum_of, total}
 use Rattle.std.proofs.Math.Seq.{take-length}
-use Rattle.std.proofs.lemmas.List.{drop-append-le, drop-take, drop_at, length-drop, length-take, take-append-le}
-use Rattle.std.specs.Prelude.{slice_get}
-use Rattle.std.proofs.lemmas.Bool.{leb-true, ltb-true}
-use Rattle.osdp_ring.specs.Ring.{begins, cut, has_first, sum_of, total}
 
 zero-add : (k : ℕ) → 0 + k ≡ k
 zero-add k = omega arith

@@ -1,10 +1,5 @@
 -- The settings that were read, and the first words that are none.
-use Rattle.std.proofs.Common.{◌≡◌, ◌∙◌, ℕ, List, [], ◌∷◌, ◌++◌, Option, Some, None, refl, sym, ap, subst, append_assoc}
-use Rattle.std.specs.Prelude.{option_and_then}
-use Rattle.osdp_words.specs.Reading.{ReadsWords}
-use Rattle.osdp_words.specs.Word.{AllStandFor, Word}
-use Rattle.osdp_settings.specs.Settings.{Entry, Give, SettingFits, after, setting_words}
-use Rattle.osdp_settings.specs.Wrong.{Begin}
+use Rattle.osdp_settings.proofs.Common.{◌≡◌, ◌∙◌, ℕ, List, [], ◌∷◌, ◌++◌, Option, Some, None, refl, sym, ap, subst, append_assoc, option_and_then, ReadsWords, AllStandFor, Word, Entry, Give, SettingFits, after, setting_words, Begin}
 use Rattle.osdp_settings.proofs.Reading.{Stands, more_set, some_same, stands_first}
 
 -- what is known of the words that were read, and of those that are left

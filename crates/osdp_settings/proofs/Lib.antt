@@ -1,3 +1,4 @@
+pub mod Common
 mod FirstWrong
 pub mod Reading
 mod Once

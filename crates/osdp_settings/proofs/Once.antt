@@ -1,14 +1,9 @@
 -- One thing is told of words.
-use Rattle.std.proofs.Common.{◌≡◌, ◌∙◌, ℕ, List, [], ◌∷◌, ◌++◌, Option, Some, None, refl, sym, ap}
-use Rattle.std.specs.Prelude.{option_and_then}
+use Rattle.osdp_settings.proofs.Common.{◌≡◌, ◌∙◌, ℕ, List, [], ◌∷◌, ◌++◌, Option, Some, None, refl, sym, ap, option_and_then, ReadsWords, AllStandFor, Entry, Give, Make, ReadsSettings, SettingFits, after, setting_words, Begin, IsWrong}
 use Rattle.std.proofs.lemmas.List.{append-nil}
-use Rattle.osdp_words.specs.Reading.{ReadsWords}
-use Rattle.osdp_words.specs.Word.{AllStandFor}
 use Rattle.osdp_settings.specs.declared.wrong.WrongSetting.{WrongSetting}
 use Rattle.osdp_settings.specs.declared.wrong.WrongSetting.TheVariants.{NoValue, NoSetting, OneTooMany}
 use Rattle.osdp_settings.specs.Laws.{AreAlike, AreReadBy, AreToldOnce, TellsOnce}
-use Rattle.osdp_settings.specs.Settings.{Entry, Give, Make, ReadsSettings, SettingFits, after, setting_words}
-use Rattle.osdp_settings.specs.Wrong.{Begin, IsWrong}
 use Rattle.osdp_settings.proofs.Reading.{some_same}
 
 -- what words come to, one name and value after the other

@@ -1,10 +1,6 @@
 -- Settings that are read one after the other.
-use Rattle.std.proofs.Common.{◌≡◌, ℕ, List, [], ◌∷◌, Option, Some, None, refl, sym, ap, subst, ◌∙◌}
+use Rattle.osdp_settings.proofs.Common.{◌≡◌, ℕ, List, [], ◌∷◌, Option, Some, None, refl, sym, ap, subst, ◌∙◌, option_and_then, ReadsWords, Word, Entry, Give, ReadsSettings, SettingFits, after, setting_words}
 use Rattle.std.specs.Option.{unwrap_or}
-use Rattle.std.specs.Prelude.{option_and_then}
-use Rattle.osdp_words.specs.Reading.{ReadsWords}
-use Rattle.osdp_words.specs.Word.{Word}
-use Rattle.osdp_settings.specs.Settings.{Entry, Give, ReadsSettings, SettingFits, after, setting_words}
 
 pub some_same : {A : Type 0} (a b : A) → Some a ≡ Some b → a ≡ b
 some_same a b e = ap (λ o. unwrap_or o a) e

@@ -1,7 +1,5 @@
 -- Members, one after the other.
-use Rattle.std.proofs.Common.{◌≡◌, ℕ, ◌+◌, ◌<◌, ◌≤◌, List, [], ◌∷◌, ◌++◌, Bor, length, get_or, drop, refl, sym, ap, ◌∙◌, append_assoc, append-nil}
-use Rattle.std.proofs.lemmas.List.{drop_all, drop_more}
-use Rattle.osdp_words.specs.Word.{texts}
+use Rattle.osdp_tool_objects.proofs.Common.{◌≡◌, ℕ, ◌+◌, ◌<◌, ◌≤◌, List, [], ◌∷◌, ◌++◌, Bor, length, get_or, drop, refl, sym, ap, ◌∙◌, append_assoc, append-nil, drop_all, drop_more, texts}
 use Rattle.osdp_tool_objects.specs.Members.{columns, counts, member}
 
 columns_cons : (name number : List ℕ) (names numbers : List (List ℕ)) → columns (name ∷ names) (number ∷ numbers) ≡ member name number ++ columns names numbers

@@ -1,15 +1,8 @@
 -- The lines that end in bytes, one after the other.
-use Rattle.std.proofs.Common.{◌≡◌, ℕ, ◌+◌, ◌-◌, ◌≤◌, List, [], ◌∷◌, ◌++◌, length, take, drop, Result, Ok, Err, OnOk, refl, sym, subst, ap, ◌∙◌, arith, append_assoc, append-nil, length-drop}
-use Rattle.std.specs.Prelude.{if◌then◌else◌, is_ok}
-use Rattle.std.proofs.lemmas.List.{take_rest}
+use Rattle.osdp_tool_objects.proofs.Common.{◌≡◌, ℕ, ◌+◌, ◌-◌, ◌≤◌, List, [], ◌∷◌, ◌++◌, length, take, drop, Result, Ok, Err, OnOk, refl, sym, subst, ap, ◌∙◌, arith, append_assoc, append-nil, length-drop, if◌then◌else◌, is_ok, take_rest, drop-drop, HasLine, IsLine, ended_after, line_feed, unended_after, ended_after-append, ended_after-feed, ended_after-line, unended_after-feed, unended_after-line, held_after, objects_of, written_after, PiecesGiveTheSame}
 use Rattle.std.proofs.lemmas.Grind.{flat_map-append}
-use Rattle.std.proofs.Math.Seq.{drop-drop}
-use Rattle.osdp_tool_streams.specs.Cut.{HasLine, IsLine, ended_after, line_feed, unended_after}
-use Rattle.osdp_tool_streams.proofs.CutLemmas.{ended_after-append, ended_after-feed, ended_after-line, unended_after-feed, unended_after-line}
 use Rattle.osdp_tool_captures.proofs.Cutting.{line_cut}
 use Rattle.osdp_tool_objects.specs.Objects.{object_of}
-use Rattle.osdp_tool_objects.specs.Streams.{held_after, objects_of, written_after}
-use Rattle.osdp_tool_objects.specs.Laws.{PiecesGiveTheSame}
 
 -- what is written so far, and what is held, by the bytes to come
 pub record AreWritten (bytes : List ℕ) (at : ℕ) (held now before text : List ℕ) : Type 0 where

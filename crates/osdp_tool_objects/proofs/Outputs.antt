@@ -1,19 +1,12 @@
 -- What an output of lines has taken, and what was written for it.
-use Rattle.std.proofs.Common.{◌≡◌, ◌&&◌, ◌+◌, ◌-◌, ◌≤◌, inl, inr, not, ℕ, Bool, true, false, List, [], ◌++◌, Option, None, Some, length, get_or, take, drop, refl, sym, subst, ap, ◌∙◌, arith, append_assoc, append-nil, length-append}
-use Rattle.std.specs.Io.KnownBytes.{Appends}
+use Rattle.osdp_tool_objects.proofs.Common.{◌≡◌, ◌&&◌, ◌+◌, ◌-◌, ◌≤◌, inl, inr, not, ℕ, Bool, true, false, List, [], ◌++◌, Option, None, Some, length, get_or, take, drop, refl, sym, subst, ap, ◌∙◌, arith, append_assoc, append-nil, length-append, Appends, length-take-le, drop-append_seam, take-append-add, take-append_seam, has_failed, inner_of, unended_after-append, WritesTheirObjects, IsNew, fault_of, lines_taken, output_of, start_of}
 use Rattle.std.specs.Str.{bytes_eq}
 use Rattle.std.proofs.KnownBytes.{Appends-kept, Appends-nil, Appends-trans}
 use Rattle.std.proofs.lemmas.Bool.{and_from, cases_Bool}
-use Rattle.std.proofs.lemmas.List.{length-take-le}
 use Rattle.std.proofs.lemmas.Slice.Eq.{bytes_eq-Decides}
-use Rattle.std.proofs.Math.Seq.{drop-append_seam, take-append-add, take-append_seam}
 use Rattle.osdp_tool_streams.specs.Cut.{ended_after, unended_after}
-use Rattle.osdp_tool_streams.specs.Watched.{has_failed, inner_of}
 use Rattle.osdp_tool_streams.specs.declared.fault.ToolFault.{ToolFault}
 use Rattle.osdp_tool_streams.specs.declared.fault.ToolFault.TheVariants.{NoMemory, WriteFailed}
-use Rattle.osdp_tool_streams.proofs.CutLemmas.{unended_after-append}
-use Rattle.osdp_tool_objects.specs.Laws.{WritesTheirObjects}
-use Rattle.osdp_tool_objects.specs.Outputs.{IsNew, fault_of, lines_taken, output_of, start_of}
 use Rattle.osdp_tool_objects.specs.Streams.{StopsWriting, Writes, has_appended, has_appended_part, held_after, is_written, marked, noted, taken_so, written_after}
 use Rattle.osdp_tool_objects.specs.declared.stream.Objects.{Objects}
 use Rattle.osdp_tool_objects.proofs.Lines.{pieces_written}

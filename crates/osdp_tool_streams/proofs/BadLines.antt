@@ -1,10 +1,6 @@
 -- The first bad line.
-use Rattle.std.proofs.Common.{◌≡◌, ℕ, ◌+◌, List, [], ◌∷◌, ◌++◌, length, Option, Some, None, refl, ap, ◌∙◌, arith}
-use Rattle.std.specs.List.{AllByRecursion}
-use Rattle.std.specs.Option.{option_map_or}
-use Rattle.osdp_tool_streams.specs.Line.{line_bytes}
+use Rattle.osdp_tool_streams.proofs.Common.{◌≡◌, ℕ, ◌+◌, List, [], ◌∷◌, ◌++◌, length, Option, Some, None, refl, ap, ◌∙◌, arith, AllByRecursion, option_map_or, line_bytes, IsGood, IsFirstBad}
 use Rattle.osdp_tool_streams.specs.Runs.{bad_line}
-use Rattle.osdp_tool_streams.specs.Laws.{IsGood, IsFirstBad}
 use Rattle.osdp_tool_streams.proofs.RunsLemmas.{bad_line-append}
 
 -- where all are good none is bad

@@ -1,14 +1,6 @@
 -- Each input has a cut, and what lines say is bytes.
-use Rattle.std.proofs.Common.{◌≡◌, ◌≢◌, ℕ, ◌==◌, cond, Bool, true, false, List, [], ◌∷◌, ◌++◌, Option, Some, None, Result, Ok, Err, refl, sym, subst, ap, ◌∙◌, arith, append_assoc, append-nil}
-use Rattle.std.proofs.lemmas.Bool.{eqb-true, eqb-false}
-use Rattle.std.specs.List.{AllByRecursion, flat_map}
-use Rattle.std.specs.Option.{option_map_or}
-use Rattle.std.specs.Result.{result_ok}
-use Rattle.hex.specs.Hex.{IsBytes, decode_of}
-use Rattle.hex.specs.declared.error.FromHexError.{FromHexError}
-use Rattle.hex.proofs.HexLemmas.{decode_of-ok}
+use Rattle.osdp_tool_streams.proofs.Common.{◌≡◌, ◌≢◌, ℕ, ◌==◌, cond, Bool, true, false, List, [], ◌∷◌, ◌++◌, Option, Some, None, Result, Ok, Err, refl, sym, subst, ap, ◌∙◌, arith, append_assoc, append-nil, eqb-true, eqb-false, AllByRecursion, flat_map, option_map_or, result_ok, IsBytes, decode_of, FromHexError, decode_of-ok, line_bytes, said, kept}
 use Rattle.osdp_tool_streams.specs.Cut.{line_feed, ended_after, unended_after, ended_lines, unended_line, IsLine, IsCut}
-use Rattle.osdp_tool_streams.specs.Line.{line_bytes, said, kept}
 use Rattle.osdp_tool_streams.specs.Runs.{good_front}
 
 IsLine-append : (line : List ℕ) (b : ℕ) → IsLine line → b ≢ line_feed → IsLine (line ++ b ∷ [])

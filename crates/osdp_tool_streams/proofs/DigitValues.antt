@@ -1,12 +1,6 @@
 -- The values of digits, and bytes of two of them.
-use Rattle.std.proofs.Common.{◌≡◌, ◌⊎◌, inl, inr, ℕ, ◌+◌, ◌*◌, ◌%◌, ◌<◌, ◌≤◌, List, [], ◌∷◌, length, slice_index, slice_index_or, slice_set, Option, Some, None, Result, Ok, Err, MatchResult, MatchOption, true, false, refl, sym, subst, ap, ◌∙◌, arith}
-use Rattle.std.proofs.lemmas.Bool.{cases_lt}
-use Rattle.std.proofs.lemmas.List.{get_or-set_same, get_or-set_other}
-use Rattle.std.specs.Result.{result_ok}
+use Rattle.osdp_tool_streams.proofs.Common.{◌≡◌, ◌⊎◌, inl, inr, ℕ, ◌+◌, ◌*◌, ◌%◌, ◌<◌, ◌≤◌, List, [], ◌∷◌, length, slice_index, slice_index_or, slice_set, Option, Some, None, Result, Ok, Err, MatchResult, MatchOption, true, false, refl, sym, subst, ap, ◌∙◌, arith, cases_lt, get_or-set_same, get_or-set_other, result_ok, FromHexError, decode_of-even, value_or_none}
 use Rattle.hex.specs.Hex.{decode_of, decode_pairs, decode_sized, digit_or_error, hex_digit_value, ◌>>=◌}
-use Rattle.hex.specs.declared.error.FromHexError.{FromHexError}
-use Rattle.hex.proofs.HexLemmas.{decode_of-even}
-use Rattle.osdp_tool_streams.specs.Digits.{value_or_none}
 
 -- a digit after a zero
 decoded : (c : ℕ) → decode_sized (48 ∷ c ∷ []) 1 ≡ (digit_or_error c 1 (hex_digit_value c) >>= (λ v. Ok (v ∷ [])))

@@ -1,12 +1,7 @@
 -- The runs of an input, step by step: part of a line, a line feed, the end.
-use Rattle.std.proofs.Common.{◌≡◌, ℕ, ◌+◌, List, [], ◌∷◌, ◌++◌, length, Some, None, refl, sym, ap, ◌∙◌, arith, append_assoc, append-nil, ◌⊎◌, inl, inr}
+use Rattle.osdp_tool_streams.proofs.Common.{◌≡◌, ℕ, ◌+◌, List, [], ◌∷◌, ◌++◌, length, Some, None, refl, sym, ap, ◌∙◌, arith, append_assoc, append-nil, ◌⊎◌, inl, inr, concat, option_map_or, Form, Raw, Joined, Apart, line_bytes, kept}
 use Rattle.std.proofs.lemmas.List.Elements.{filter-append}
-use Rattle.std.specs.List.{concat}
-use Rattle.std.specs.Option.{option_map_or}
-use Rattle.osdp_tool_streams.specs.declared.form.Form.{Form}
-use Rattle.osdp_tool_streams.specs.declared.form.Form.TheVariants.{Raw, Joined, Apart}
 use Rattle.osdp_tool_streams.specs.Cut.{ended_after, unended_after, line_feed, ended_lines, unended_line, last_line, IsLine}
-use Rattle.osdp_tool_streams.specs.Line.{line_bytes, kept}
 use Rattle.osdp_tool_streams.specs.Runs.{good_front, bad_line, with_bytes, runs_of, ended_runs, open_run, first_bad, first_bad_ended, closed_runs}
 use Rattle.osdp_tool_streams.proofs.CutLemmas.{ended_after-line, unended_after-line, ended_after-append, unended_after-append, ended_after-feed, unended_after-feed}
 use Rattle.osdp_tool_streams.proofs.RunsLemmas.{good_front-append, bad_line-append, good_front-stays, bad_line-stays}

@@ -1,15 +1,5 @@
 -- The runs of an input have no more bytes than it has.
-use Rattle.std.proofs.Common.{◌≡◌, ℕ, ◌+◌, ◌≤◌, ◌==◌, cond, not, Bool, true, false, List, [], ◌∷◌, ◌++◌, length, Option, Some, None, refl, ap, arith, length-append}
-use Rattle.std.specs.Prelude.{filter}
-use Rattle.std.specs.List.{concat, flat_map}
-use Rattle.std.specs.Option.{option_map_or}
-use Rattle.std.specs.Result.{result_ok}
-use Rattle.hex.specs.Hex.{decode_of}
-use Rattle.hex.proofs.HexLemmas.{decode_of-ok}
-use Rattle.osdp_tool_streams.specs.declared.form.Form.{Form}
-use Rattle.osdp_tool_streams.specs.declared.form.Form.TheVariants.{Raw, Joined, Apart}
-use Rattle.osdp_tool_streams.specs.Cut.{ended_lines, last_line, line_feed, lines_of, unended_line}
-use Rattle.osdp_tool_streams.specs.Line.{is_blank, kept, line_bytes, said}
+use Rattle.osdp_tool_streams.proofs.Common.{◌≡◌, ℕ, ◌+◌, ◌≤◌, ◌==◌, cond, not, Bool, true, false, List, [], ◌∷◌, ◌++◌, length, Option, Some, None, refl, ap, arith, length-append, filter, concat, flat_map, option_map_or, result_ok, decode_of, decode_of-ok, Form, Raw, Joined, Apart, ended_lines, last_line, line_feed, lines_of, unended_line, is_blank, kept, line_bytes, said}
 use Rattle.osdp_tool_streams.specs.Runs.{good_front, runs_of, with_bytes}
 use Rattle.osdp_tool_streams.proofs.Bytes.{is_cut, result_some}
 

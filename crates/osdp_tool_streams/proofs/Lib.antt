@@ -1,3 +1,4 @@
+pub mod Common
 pub mod TransferLemmas
 pub mod WatchedLemmas
 pub mod CutLemmas

@@ -1,7 +1,5 @@
 -- The lines above the first bad one, from piece to piece.
-use Rattle.std.proofs.Common.{◌≡◌, ℕ, ◌+◌, List, [], ◌∷◌, ◌++◌, length, Option, Some, None, refl, ap, ◌∙◌, arith}
-use Rattle.std.specs.Option.{option_map_or}
-use Rattle.osdp_tool_streams.specs.Line.{line_bytes}
+use Rattle.osdp_tool_streams.proofs.Common.{◌≡◌, ℕ, ◌+◌, List, [], ◌∷◌, ◌++◌, length, Option, Some, None, refl, ap, ◌∙◌, arith, option_map_or, line_bytes}
 use Rattle.osdp_tool_streams.specs.Runs.{good_front, bad_line}
 
 -- after lines that are all good the next ones count

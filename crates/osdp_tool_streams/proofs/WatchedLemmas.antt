@@ -1,9 +1,6 @@
 -- How a watched stream comes to have failed.
-use Rattle.std.proofs.Common.{◌≡◌, ◌↔◌, ◌||◌, ◌⊎◌, zero, suc, Bool, true, false, List, [], ◌∷◌, refl, sym, inl, inr, arith, ◌∙◌}
-use Rattle.std.specs.Prelude.{map}
-use Rattle.std.specs.List.{Contains}
+use Rattle.osdp_tool_streams.proofs.Common.{◌≡◌, ◌↔◌, ◌||◌, ◌⊎◌, zero, suc, Bool, true, false, List, [], ◌∷◌, refl, sym, inl, inr, arith, ◌∙◌, map, Contains, Call, FailedBySomeCall, WentThrough, has_failed, is_failed_call}
 use Rattle.osdp_tool_streams.specs.declared.watch.Watched.{Watched}
-use Rattle.osdp_tool_streams.specs.Watched.{Call, FailedBySomeCall, WentThrough, has_failed, is_failed_call}
 
 either_failed : (before now after : Bool) → after ≡ (before || now) → after ≡ true → (before ≡ true) ⊎ (now ≡ true)
 either_failed true now after is failed = inl refl

@@ -1,8 +1,5 @@
 -- Lines all of whose characters count.
-use Rattle.std.proofs.Common.{◌≡◌, inl, inr, ℕ, cond, not, true, false, List, [], ◌∷◌, ◌++◌, length, Bool, Option, Some, None, MatchOption, refl, sym, subst, ap, ◌∙◌, arith}
-use Rattle.hex.specs.Hex.{hex_digit_value}
-use Rattle.osdp_tool_streams.specs.Line.{is_blank, kept, said}
-use Rattle.osdp_tool_streams.specs.Laws.{IsComment, SpellsBytes}
+use Rattle.osdp_tool_streams.proofs.Common.{◌≡◌, inl, inr, ℕ, cond, not, true, false, List, [], ◌∷◌, ◌++◌, length, Bool, Option, Some, None, MatchOption, refl, sym, subst, ap, ◌∙◌, arith, hex_digit_value, is_blank, kept, said, IsComment, SpellsBytes}
 use Rattle.osdp_tool_streams.proofs.Spelled.{said_is, is_said}
 
 -- a digit is no blank

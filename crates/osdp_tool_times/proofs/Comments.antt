@@ -1,19 +1,10 @@
 -- Comments that are read where they stand.
-use Rattle.std.proofs.Common.{◌≡◌, ℕ, ◌+◌, ◌-◌, ◌≤◌, ◌==◌, inl, inr, Bool, true, false, cond, List, [], ◌∷◌, ◌++◌, codes, Option, None, Some, length, take, drop, refl, sym, ap, ◌∙◌, arith, length-append}
+use Rattle.osdp_tool_times.proofs.Common.{◌≡◌, ℕ, ◌+◌, ◌-◌, ◌≤◌, ◌==◌, inl, inr, Bool, true, false, cond, List, [], ◌∷◌, ◌++◌, codes, Option, None, Some, length, take, drop, refl, sym, ap, ◌∙◌, arith, length-append, cases_Bool, drop_all, take_all, kept, kept-append, Heard, after_line, from_start, item_after, item_told, line_told, moment_or, run_after, start_in, Times, Nothing, TellsEachWay, before_way, ends_so, moment_in, stamp_in, way_length}
 use Rattle.std.proofs.Math.Seq.{drop-append-add, take-append_seam}
 use Rattle.std.specs.Cmp.Lexicographic.{pointwise}
-use Rattle.std.proofs.lemmas.Bool.{cases_Bool}
-use Rattle.std.proofs.lemmas.List.{drop_all, take_all}
 use Rattle.std.proofs.lemmas.Bool.Decides.{Decides-eqb}
 use Rattle.std.proofs.lemmas.Slice.Eq.{ends_is}
 use Rattle.osdp_frame.specs.Held.{by_itself, decided}
-use Rattle.osdp_tool_streams.specs.Line.{kept}
-use Rattle.osdp_tool_streams.proofs.FormLemmas.{kept-append}
-use Rattle.osdp_tool_times.specs.Captures.{Heard, after_line, from_start, item_after, item_told, line_told, moment_or, run_after, start_in}
-use Rattle.osdp_tool_times.specs.declared.table.Times.{Times}
-use Rattle.osdp_tool_times.specs.declared.waits.Told.TheVariants.{Nothing}
-use Rattle.osdp_tool_times.specs.MomentLaws.{TellsEachWay}
-use Rattle.osdp_tool_times.specs.Moments.{before_way, ends_so, moment_in, stamp_in, way_length}
 
 -- what the last of some characters are tells whether all of them end so
 ends_last : (front last end : List ℕ) → length end ≤ length last → ends_so (front ++ last) end ≡ ends_so last end

@@ -1,10 +1,6 @@
 -- Packets that are answered before the panel sends its next one.
-use Rattle.std.proofs.Common.{◌≡◌, ◌≢◌, ◌≤◌, ◌-◌, ℕ, Bool, cond, List, [], ◌∷◌, Some, None, refl, sym, ap, ◌∙◌}
-use Rattle.std.proofs.lemmas.Bool.{eq-eqb, le-leb, ne_eqb}
+use Rattle.osdp_tool_times.proofs.Common.{◌≡◌, ◌≢◌, ◌≤◌, ◌-◌, ℕ, Bool, cond, List, [], ◌∷◌, Some, None, refl, sym, ap, ◌∙◌, eq-eqb, le-leb, ne_eqb, after_reply, after_sent, in_time, no_waits, told_reply, Sent, InTime, Late, Nothing}
 use Rattle.osdp_tool_times.specs.Laws.{Exchange, NeverTellsLate, TellsLate, after_exchanges, sent}
-use Rattle.osdp_tool_times.specs.Waits.{after_reply, after_sent, in_time, no_waits, told_reply}
-use Rattle.osdp_tool_times.specs.declared.waits.Sent.{Sent}
-use Rattle.osdp_tool_times.specs.declared.waits.Told.TheVariants.{InTime, Late, Nothing}
 use Rattle.osdp_tool_times.specs.declared.waits.Waits.{Waits}
 
 -- a packet after which nothing is owed but its answer

@@ -1,11 +1,6 @@
 -- Answers that are said to come before the last packet was sent.
-use Rattle.std.proofs.Common.{◌≡◌, ◌<◌, ◌-◌, ◌&&◌, ℕ, Bool, true, false, cond, leb, Option, None, Some, refl}
-use Rattle.std.proofs.lemmas.Bool.{lt-leb}
-use Rattle.osdp_tool_times.specs.Laws.{TellsNothingBefore}
-use Rattle.osdp_tool_times.specs.Waits.{in_time, is_copied, is_of_last, is_of_older, late, late_from}
-use Rattle.osdp_tool_times.specs.declared.waits.Sent.{Sent}
+use Rattle.osdp_tool_times.proofs.Common.{◌≡◌, ◌<◌, ◌-◌, ◌&&◌, ℕ, Bool, true, false, cond, leb, Option, None, Some, refl, lt-leb, TellsNothingBefore, in_time, is_copied, is_of_last, is_of_older, late, late_from, Sent, Late, Nothing}
 use Rattle.osdp_tool_times.specs.declared.waits.Told.{Told}
-use Rattle.osdp_tool_times.specs.declared.waits.Told.TheVariants.{Late, Nothing}
 
 either : (c : Bool) (one other : Told) → one ≡ Nothing → other ≡ Nothing → cond c one other ≡ Nothing
 either true one other first second = first

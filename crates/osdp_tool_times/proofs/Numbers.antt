@@ -1,7 +1,5 @@
 -- Numbers that go on with digits.
-use Rattle.std.proofs.Common.{◌≡◌, ℕ, ◌+◌, ◌≤◌, ◌<◌, List, [], ◌∷◌, length, drop, Option, Some, None, refl, sym, ap, ◌∙◌}
-use Rattle.std.proofs.lemmas.List.{at_drop_more, drop_all}
-use Rattle.std.specs.Prelude.{get_or, option_and_then}
+use Rattle.osdp_tool_times.proofs.Common.{◌≡◌, ℕ, ◌+◌, ◌≤◌, ◌<◌, List, [], ◌∷◌, length, drop, Option, Some, None, refl, sym, ap, ◌∙◌, at_drop_more, drop_all, get_or, option_and_then}
 use Rattle.osdp_tool_times.specs.Moments.{next_number, number_from}
 
 pub more : (n b : ℕ) (digits : List ℕ) → number_from n (b ∷ digits) ≡ option_and_then (λ next. number_from next digits) (next_number n b)

@@ -1,15 +1,7 @@
 -- Stamps that are plain: digits, a point, and three digits.
 use Rattle.std.proofs.Common.{◌≡◌, ℕ, ◌+◌, ◌-◌, ◌*◌, ◌^◌, ◌≤◌, ◌<◌, ◌==◌, ◌⊎◌, ◌&&◌, not, zero, suc, Bool, true, false, nat_le, nat_lt, cond, inl, inr, List, [], ◌∷◌, ◌++◌, Option, None, Some, IfSome, length, take, drop, get_or, refl, sym, ap, ◌∙◌, arith, take-append-drop}
 use Rattle.std.specs.List.{AllByRecursion}
-use Rattle.std.specs.Prelude.{option_and_then}
-use Rattle.std.proofs.lemmas.Bool.{cases_Bool, eqb-true, leb-true, ne_eqb}
-use Rattle.std.proofs.lemmas.List.{drop_more, get_or-take, length-drop, length-take}
-use Rattle.memchr.specs.Find.{is_byte}
-use Rattle.memchr.proofs.lemmas.ValueLemmas.{IsFirstByte-value}
-use Rattle.osdp_tool_streams.specs.Line.{is_blank, kept}
-use Rattle.osdp_tool_streams.proofs.FormLemmas.{kept-append}
-use Rattle.osdp_tool_times.specs.Captures.{from_start, start_in}
-use Rattle.osdp_tool_times.specs.Moments.{has_date, is_decimal, milliseconds, next_number, moment_of_day, number_from, point_in, seconds_in, stamp_in, thousandths}
+use Rattle.osdp_tool_times.proofs.Common.{option_and_then, cases_Bool, eqb-true, leb-true, ne_eqb, drop_more, get_or-take, length-drop, length-take, is_byte, IsFirstByte-value, is_blank, kept, kept-append, from_start, start_in, has_date, is_decimal, milliseconds, next_number, moment_of_day, number_from, point_in, seconds_in, stamp_in, thousandths}
 use Rattle.osdp_tool_times.proofs.Numbers.{more}
 
 -- all of them are digits

@@ -1,9 +1,7 @@
 -- Devices that fall silent, and devices that restart.
-use Rattle.std.proofs.Common.{arith, ◌≡◌, ◌≤◌, ◌<◌, ◌⊎◌, inl, inr, ◌+◌, ◌-◌, ◌*◌, ◌/◌, ◌^◌, ℕ, zero, suc, Bool, true, false, not, Some, cond, refl, sym, subst, ap, ◌∙◌}
+use Rattle.osdp_tool_times.proofs.Common.{arith, ◌≡◌, ◌≤◌, ◌<◌, ◌⊎◌, inl, inr, ◌+◌, ◌-◌, ◌*◌, ◌/◌, ◌^◌, ℕ, zero, suc, Bool, true, false, not, Some, cond, refl, sym, subst, ap, ◌∙◌, cases_Bool, cond-false, cond-true, le-leb, lt-leb, lt-ltb, ltb-false, ltb-true, ne_eqb, one_more}
 use Rattle.std.specs.Prelude.{◌==◌, ◌||◌, nat_lt, is_some}
-use Rattle.std.proofs.lemmas.Bool.{cases_Bool, cond-false, cond-true, le-leb, lt-leb, lt-ltb, ltb-false, ltb-true, ne_eqb}
 use Rattle.std.proofs.Math.Nat.{mul-div_cancel_left}
-use Rattle.osdp_tool_times.specs.Numbers.{one_more}
 use Rattle.osdp_tool_times.specs.Presence.{after_answer, is_offline, online_since, rounded}
 use Rattle.osdp_tool_times.specs.PresenceLaws.{CountsARowOnce, CountsRestarts, TellsOffline, TellsOnline, after_packets, after_restarts, falls_silent}
 use Rattle.osdp_tool_times.specs.declared.presence.Presence.{Presence}

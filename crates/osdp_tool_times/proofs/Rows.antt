@@ -1,8 +1,7 @@
 -- What is printed of the devices, one after the other.
 use Rattle.std.proofs.Common.{◌≡◌, ℕ, ◌+◌, ◌<◌, ◌≤◌, List, [], ◌∷◌, ◌++◌, length, get_or, drop, refl, sym, ◌∙◌, ap, append_assoc, append-nil}
-use Rattle.std.proofs.lemmas.List.{drop_all, drop_more}
+use Rattle.osdp_tool_times.proofs.Common.{drop_all, drop_more, Times}
 use Rattle.osdp_tool_times.specs.Text.{all_from}
-use Rattle.osdp_tool_times.specs.declared.table.Times.{Times}
 
 module _ (printed : ℕ → Times → List ℕ) where
   all_cons : (k : ℕ) (t : Times) (times : List Times) → all_from printed k (t ∷ times) ≡ printed k t ++ all_from printed (k + 1) times

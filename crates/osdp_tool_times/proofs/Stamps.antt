@@ -1,7 +1,6 @@
 -- Stamps of each form.
-use Rattle.std.proofs.Common.{refl}
+use Rattle.osdp_tool_times.proofs.Common.{refl, TellsDays, TellsSeconds}
 use Rattle.memchr.specs.Find.{first_of, places_from}
-use Rattle.osdp_tool_times.specs.MomentLaws.{TellsDays, TellsSeconds}
 use Rattle.osdp_tool_times.specs.Moments.{number_from}
 
 pub tells_seconds : TellsSeconds

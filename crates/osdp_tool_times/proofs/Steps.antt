@@ -1,10 +1,7 @@
 -- The step of a rank.
-use Rattle.std.proofs.Common.{◌≡◌, ℕ, suc, ◌+◌, ◌-◌, ◌*◌, ◌≤◌, ◌<◌, ◌⊎◌, inl, inr, Bool, true, false, cond, List, [], ◌∷◌, length, drop, take, sum, subst, refl, sym, ap, ◌∙◌, arith}
-use Rattle.std.proofs.lemmas.Bool.{le-leb, leb-false, leb-true, lt-leb}
-use Rattle.std.proofs.lemmas.List.{at_drop_more, drop_all}
+use Rattle.osdp_tool_times.proofs.Common.{◌≡◌, ℕ, suc, ◌+◌, ◌-◌, ◌*◌, ◌≤◌, ◌<◌, ◌⊎◌, inl, inr, Bool, true, false, cond, List, [], ◌∷◌, length, drop, take, sum, subst, refl, sym, ap, ◌∙◌, arith, le-leb, leb-false, leb-true, lt-leb, at_drop_more, drop_all, one_more}
 use Rattle.std.proofs.lemmas.List.Sums.{sum_by-cons}
 use Rattle.std.specs.Prelude.{get_or, nat_le}
-use Rattle.osdp_tool_times.specs.Numbers.{one_more}
 use Rattle.osdp_tool_times.specs.Times.{below, step_at}
 use Rattle.osdp_tool_times.specs.TimesLaws.{CountsThoseBelow, TellsTheLongest}
 

@@ -1,18 +1,11 @@
 -- The pieces of a line between spaces, one after the other, and the words among them.
 use Rattle.std.proofs.Common.{lit<, ◌≡◌, ◌<◌, ℕ, arith, Bool, true, false, List, [], ◌∷◌, ◌++◌, filter, length, Bor, Option, Some, None, cond, eqb, not, refl, sym, ap, subst, ◌∙◌, append_assoc, append-nil}
-use Rattle.std.proofs.lemmas.List.{map-append}
-use Rattle.std.proofs.lemmas.List.Elements.{All-from_get_or}
-use Rattle.std.proofs.lemmas.List.Splits.{slice_split_first, slice_split_none}
+use Rattle.osdp_words.proofs.Common.{map-append, All-from_get_or, slice_split_first, slice_split_none, after_first, before_first, position_or_len, slice_split, MatchOption, IsTrue, ◌↔◌, split_has_more, split_pattern, split_steps, split_text, YieldsList-from_str_split, texts, words_in}
 use Rattle.std.proofs.lemmas.List.Sums.{fails_before_first}
 use Rattle.std.proofs.lemmas.Str.Pattern.{IsSplitOnceResult, split_once_first}
-use Rattle.std.specs.List.{after_first, before_first, position_or_len, slice_split}
-use Rattle.std.specs.Prelude.{MatchOption, IsTrue, ◌↔◌}
-use Rattle.std.specs.Str.Iter.{split_has_more, split_pattern, split_steps, split_text}
 use Rattle.std.specs.Str.Pattern.{FindsChar}
 use Rattle.std.specs.declared.str.Split.{Split}
 use Rattle.std.proofs.lemmas.Iterator.{YieldsList}
-use Rattle.std.proofs.lemmas.Iterator.Splits.{YieldsList-from_str_split}
-use Rattle.osdp_words.specs.Word.{texts, words_in}
 
 -- those that have characters
 abbrev some_characters : List (List ℕ) → List (List ℕ)

@@ -1,14 +1,5 @@
 -- Decimal words: what std's `parse` reads, once signs and leading zeros are kept out.
-use Rattle.std.proofs.Common.{◌≡◌, ℕ, ◌<◌, ◌^◌, ◌⊎◌, inl, inr, List, [], ◌∷◌, length, get_or, None, Result, Ok, Err, sym, ap, ◌∙◌, arith}
-use Rattle.std.proofs.lemmas.Str.Parse.{IsNumeralModel, numerals_by_value, tells_digits, parse_plain}
-use Rattle.std.proofs.lemmas.Fmt.{decimal-digits_value, decimal_digit, first_decimal, parse-decimal}
-use Rattle.std.proofs.lemmas.Bool.{cases_eq, cases_lt}
-use Rattle.std.specs.Fmt.{decimal}
-use Rattle.std.specs.Result.{result_ok}
-use Rattle.std.specs.Str.Parse.{AllDigits, ParsesUnsigned, digits_value}
-use Rattle.std.specs.Prelude.{IfSome}
-use Rattle.osdp_words.specs.Reading.{Reads}
-use Rattle.osdp_words.specs.Word.{number}
+use Rattle.osdp_words.proofs.Common.{◌≡◌, ℕ, ◌<◌, ◌^◌, ◌⊎◌, inl, inr, List, [], ◌∷◌, length, get_or, None, Result, Ok, Err, sym, ap, ◌∙◌, arith, IsNumeralModel, numerals_by_value, tells_digits, parse_plain, decimal-digits_value, decimal_digit, first_decimal, parse-decimal, cases_eq, cases_lt, decimal, result_ok, AllDigits, ParsesUnsigned, digits_value, IfSome, Reads, number}
 
 own : IsNumeralModel (AllDigits 10) (digits_value 10)
 own = numerals_by_value (AllDigits 10) tells_digits

@@ -1,16 +1,6 @@
 -- Hexadecimal digits in either case: a text decodes to bytes just where it is their digits in upper case.
-use Rattle.std.proofs.Common.{◌≡◌, ℕ, zero, suc, ◌+◌, ◌*◌, ◌/◌, ◌%◌, ◌-◌, ◌<◌, ◌^◌, ◌==◌, ◌&&◌, Bool, true, false, inl, inr, List, [], ◌∷◌, ◌++◌, length, get_or, take, slice_index, Option, Some, None, Result, Ok, Err, refl, sym, ap, ◌∙◌, arith}
-use Rattle.std.proofs.lemmas.Bool.{and_parts, cases_lt, eqb-true}
-use Rattle.std.proofs.lemmas.Bool.Decides.{nat_tests}
-use Rattle.std.proofs.lemmas.Fmt.{hex_byte}
-use Rattle.std.proofs.lemmas.List.{take_more}
-use Rattle.std.specs.Char.{to_ascii_uppercase}
-use Rattle.std.specs.Fmt.{digit_glyph, digits, format_spec, padded_integral}
-use Rattle.std.specs.Str.{str_to_ascii_uppercase}
-use Rattle.std.specs.Result.{result_ok, result_unwrap_or}
+use Rattle.osdp_words.proofs.Common.{◌≡◌, ℕ, zero, suc, ◌+◌, ◌*◌, ◌/◌, ◌%◌, ◌-◌, ◌<◌, ◌^◌, ◌==◌, ◌&&◌, Bool, true, false, inl, inr, List, [], ◌∷◌, ◌++◌, length, get_or, take, slice_index, Option, Some, None, Result, Ok, Err, refl, sym, ap, ◌∙◌, arith, and_parts, cases_lt, eqb-true, nat_tests, hex_byte, take_more, to_ascii_uppercase, digit_glyph, digits, format_spec, padded_integral, str_to_ascii_uppercase, result_ok, result_unwrap_or, FromHexError, cons_byte, decode_pairs-ok_pair}
 use Rattle.hex.specs.Hex.{IsBytes, decode_pairs, digit_or_error, encode_upper, encode_with, hex_digit_value, pair_value, upper_digits, value_at, ◌>>=◌}
-use Rattle.hex.specs.declared.error.FromHexError.{FromHexError}
-use Rattle.hex.proofs.Pairs.{cons_byte, decode_pairs-ok_pair}
 
 -- the digits of the table are those that std prints
 abbrev same_glyphs : ℕ → Bool

@@ -1,20 +1,7 @@
 -- Hexadecimal words: for which bytes a text stands, as the decoder answers it.
-use Rattle.std.proofs.Common.{◌≡◌, ℕ, ◌+◌, ◌*◌, ◌/◌, ◌<◌, ◌≤◌, inl, inr, Bool, true, false, List, [], ◌∷◌, ◌++◌, length, codes, Option, Some, None, Result, Ok, Err, refl, sym, ap, ◌∙◌, arith}
-use Rattle.std.proofs.lemmas.Bool.{cases_lt}
-use Rattle.std.proofs.lemmas.List.{length-map, nil_from_length}
+use Rattle.osdp_words.proofs.Common.{◌≡◌, ℕ, ◌+◌, ◌*◌, ◌/◌, ◌<◌, ◌≤◌, inl, inr, Bool, true, false, List, [], ◌∷◌, ◌++◌, length, codes, Option, Some, None, Result, Ok, Err, refl, sym, ap, ◌∙◌, arith, cases_lt, length-map, nil_from_length, then_some, to_ascii_uppercase, IsOk, OnOk, is_err, is_ok, result_ok, str_to_ascii_uppercase, IsBytes, decode_sized, encode_upper, upper_digits, FromHexError, decode_of-even, decode_of-ok, decode_sized-ok, decode_sized-twice, length-encode_with, decode_sized-pairs, ArrayVec, array_vec_len, Reads, StandsFor, bytes}
 use Rattle.std.specs.Prelude.{IfSome, ◌⊎◌, ◌↔◌, MatchResult, option_map}
-use Rattle.std.specs.Bool.{then_some}
-use Rattle.std.specs.Char.{to_ascii_uppercase}
-use Rattle.std.specs.Result.{IsOk, OnOk, is_err, is_ok, result_ok}
-use Rattle.std.specs.Str.{str_to_ascii_uppercase}
-use Rattle.hex.specs.Hex.{IsBytes, decode_sized, encode_upper, upper_digits}
-use Rattle.hex.specs.declared.error.FromHexError.{FromHexError}
-use Rattle.hex.proofs.HexLemmas.{decode_of-even, decode_of-ok, decode_sized-ok, decode_sized-twice, length-encode_with}
-use Rattle.hex.proofs.Pairs.{decode_sized-pairs}
 use Rattle.hex.proofs.OnLiterals.{hex_on_literals}
-use Rattle.arrayvec.specs.ArrayVec.{ArrayVec, array_vec_len}
-use Rattle.osdp_words.specs.Reading.{Reads}
-use Rattle.osdp_words.specs.Word.{StandsFor, bytes}
 use Rattle.osdp_words.proofs.HexDigits.{digits_from_pairs, pairs_from_digits}
 
 -- one byte or more are written by their digits

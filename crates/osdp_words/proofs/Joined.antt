@@ -1,11 +1,5 @@
 -- What is joined by a byte that its pieces lack splits into them again.
-use Rattle.std.proofs.Common.{◌≡◌, ℕ, false, List, [], ◌∷◌, ◌++◌, get_or, eq-eqb, eqb, map, refl, sym, ap, ◌∙◌}
-use Rattle.std.proofs.lemmas.Bool.{ne_eqb}
-use Rattle.std.proofs.lemmas.List.{append-nil}
-use Rattle.std.proofs.lemmas.List.Elements.{All-from_get_or}
-use Rattle.std.proofs.lemmas.List.Splits.{join_with_byte-slice_split, slice_split_at, slice_split_none}
-use Rattle.std.specs.List.{All, AllByRecursion, join_by, join_with_byte, slice_split}
-use Rattle.std.specs.Str.Iter.{LacksByte}
+use Rattle.osdp_words.proofs.Common.{◌≡◌, ℕ, false, List, [], ◌∷◌, ◌++◌, get_or, eq-eqb, eqb, map, refl, sym, ap, ◌∙◌, ne_eqb, append-nil, All-from_get_or, join_with_byte-slice_split, slice_split_at, slice_split_none, All, AllByRecursion, join_by, join_with_byte, slice_split, LacksByte}
 
 -- the pieces between the bytes c
 abbrev pub pieces : ℕ → List ℕ → List (List ℕ)

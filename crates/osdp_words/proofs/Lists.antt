@@ -1,9 +1,5 @@
 -- For callers: lists of values that have a word each, as records have, taken one after another to a text's end.
-use Rattle.std.proofs.Common.{◌≡◌, ℕ, ◌+◌, ◌<◌, ◌≤◌, List, [], ◌∷◌, ◌++◌, map, Some, refl, sym, ap, ◌∙◌}
-use Rattle.std.proofs.lemmas.List.{append_assoc}
-use Rattle.std.specs.List.{AllByRecursion}
-use Rattle.osdp_words.specs.Reading.{Takes}
-use Rattle.osdp_words.specs.Word.{AllStandFor, StandsFor, Word}
+use Rattle.osdp_words.proofs.Common.{◌≡◌, ℕ, ◌+◌, ◌<◌, ◌≤◌, List, [], ◌∷◌, ◌++◌, map, Some, refl, sym, ap, ◌∙◌, append_assoc, AllByRecursion, Takes, AllStandFor, StandsFor, Word}
 
 -- one value alone has the word for which a given one stands
 abbrev pub HasOneValue : {A : Type 0} → (A → Word) → (A → Type 0) → Type 0

@@ -1,17 +1,5 @@
 -- Record words: the numbers read so far, next to the pieces between the colons.
-use Rattle.std.proofs.Common.{◌≡◌, ℕ, suc, ◌+◌, ◌<◌, ◌≤◌, ◌^◌, ◌⊎◌, inl, inr, List, [], ◌∷◌, length, get_or, eqb, eq-eqb, true, false, set, map, Some, None, refl, sym, ap, ◌∙◌, arith, below_more, ◌≢◌}
-use Rattle.std.proofs.lemmas.Bool.{cases_eq, ne_eqb}
-use Rattle.std.proofs.lemmas.Fmt.{decimal_injective, digits_decimal}
-use Rattle.std.proofs.lemmas.List.{get_or-map, get_or-set_other, get_or-set_same, get_or_read, length-map, length-set}
-use Rattle.std.proofs.lemmas.List.Elements.{AllZip-get_or, length_all_zip}
-use Rattle.std.proofs.lemmas.Str.Parse.{IsNumeralModel, not_in_digits, numerals_by_value, tells_digits}
-use Rattle.std.specs.Bool.{then_some}
-use Rattle.std.specs.Fmt.{decimal}
-use Rattle.std.specs.List.{AllByRecursion}
-use Rattle.std.specs.Str.Iter.{LacksByte}
-use Rattle.std.specs.Str.Parse.{AllDigits, digits_value}
-use Rattle.osdp_words.specs.Reading.{Reads}
-use Rattle.osdp_words.specs.Word.{AreWithin, StandsFor, number, numbers}
+use Rattle.osdp_words.proofs.Common.{◌≡◌, ℕ, suc, ◌+◌, ◌<◌, ◌≤◌, ◌^◌, ◌⊎◌, inl, inr, List, [], ◌∷◌, length, get_or, eqb, eq-eqb, true, false, set, map, Some, None, refl, sym, ap, ◌∙◌, arith, below_more, ◌≢◌, cases_eq, ne_eqb, decimal_injective, digits_decimal, get_or-map, get_or-set_other, get_or-set_same, get_or_read, length-map, length-set, AllZip-get_or, length_all_zip, IsNumeralModel, not_in_digits, numerals_by_value, tells_digits, then_some, decimal, AllByRecursion, LacksByte, AllDigits, digits_value, Reads, AreWithin, StandsFor, number, numbers}
 use Rattle.osdp_words.proofs.Joined.{from_pieces, pieces, pieces-join_by}
 
 -- the numbers of the first pieces

@@ -1,9 +1,5 @@
 -- For callers: the values of several words, put together of what was taken for their parts.
-use Rattle.std.proofs.Common.{◌≡◌, ℕ, ◌<◌, List, [], ◌∷◌, ◌++◌, Option, Some, None, refl, sym, ap, subst, ◌∙◌}
-use Rattle.std.proofs.lemmas.List.{append-nil, append_assoc}
-use Rattle.std.specs.Prelude.{IfSome, ◌↔◌, option_map}
-use Rattle.osdp_words.specs.Reading.{ReadsWords, Takes}
-use Rattle.osdp_words.specs.Word.{AllStandFor, Word}
+use Rattle.osdp_words.proofs.Common.{◌≡◌, ℕ, ◌<◌, List, [], ◌∷◌, ◌++◌, Option, Some, None, refl, sym, ap, subst, ◌∙◌, append-nil, append_assoc, IfSome, ◌↔◌, option_map, ReadsWords, Takes, AllStandFor, Word}
 
 -- ---- lists of words
 

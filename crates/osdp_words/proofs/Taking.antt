@@ -1,12 +1,5 @@
 -- Words taken from the front, one value after another.
-use Rattle.std.proofs.Common.{◌≡◌, ℕ, zero, suc, ◌+◌, ◌<◌, ◌≤◌, ◌^◌, List, [], ◌∷◌, ◌++◌, length, get_or, take, drop, map, Option, Some, None, refl, sym, ap, subst, ◌∙◌, arith}
-use Rattle.std.proofs.lemmas.Fmt.{decimal_injective}
-use Rattle.std.proofs.lemmas.List.{drop_all, drop_more, take_all}
-use Rattle.std.specs.List.{AllByRecursion}
-use Rattle.std.specs.Prelude.{IfSome}
-use Rattle.hex.specs.Hex.{IsBytes}
-use Rattle.osdp_words.specs.Reading.{Reads, Takes}
-use Rattle.osdp_words.specs.Word.{AllStandFor, StandsFor, Word, number}
+use Rattle.osdp_words.proofs.Common.{◌≡◌, ℕ, zero, suc, ◌+◌, ◌<◌, ◌≤◌, ◌^◌, List, [], ◌∷◌, ◌++◌, length, get_or, take, drop, map, Option, Some, None, refl, sym, ap, subst, ◌∙◌, arith, decimal_injective, drop_all, drop_more, take_all, AllByRecursion, IfSome, IsBytes, Reads, Takes, AllStandFor, StandsFor, Word, number}
 use Rattle.osdp_words.proofs.Lists.{HasTakenAll}
 
 -- ---- a word

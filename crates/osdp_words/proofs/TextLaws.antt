@@ -1,14 +1,7 @@
 -- The laws of texts and of reading.
-use Rattle.std.proofs.Common.{◌≡◌, ◌≢◌, ℕ, suc, ◌<◌, List, [], ◌∷◌, length, map, slice_index, codes, Option, Some, None, refl, sym, ap, ◌∙◌, arith, lit<}
+use Rattle.osdp_words.proofs.Common.{◌≡◌, ◌≢◌, ℕ, suc, ◌<◌, List, [], ◌∷◌, length, map, slice_index, codes, Option, Some, None, refl, sym, ap, ◌∙◌, arith, lit<, AllByRecursion, AllZip, nat_tests, digit_glyph, LacksByte, HasOneList, HasOneResult, JoinsBySpaces, PartsAtSpaces, Reads, AllStandFor, AreWithin, AreWords, IsSameSort, IsWord, StandsFor, Word, bytes, number, numbers, plain, printed, text_of}
 use Rattle.std.specs.Prelude.{◌/◌, ◌%◌, true}
-use Rattle.std.specs.List.{AllByRecursion, AllZip}
-use Rattle.std.proofs.lemmas.Bool.Decides.{nat_tests}
-use Rattle.std.specs.Fmt.{digit_glyph}
-use Rattle.std.specs.Str.Iter.{LacksByte}
 use Rattle.hex.specs.Hex.{IsBytes, encode_upper, encode_with, upper_digits}
-use Rattle.osdp_words.specs.Laws.{HasOneList, HasOneResult, JoinsBySpaces, PartsAtSpaces}
-use Rattle.osdp_words.specs.Reading.{Reads}
-use Rattle.osdp_words.specs.Word.{AllStandFor, AreWithin, AreWords, IsSameSort, IsWord, StandsFor, Word, bytes, number, numbers, plain, printed, text_of}
 use Rattle.osdp_words.proofs.HexDigits.{upper_digit}
 use Rattle.osdp_words.proofs.Joined.{join_by-is, pieces, pieces-join_by}
 use Rattle.osdp_words.proofs.WordLaws.{has_one_word, lacks-cons, stands_for_itself}

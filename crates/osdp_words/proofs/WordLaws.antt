@@ -1,19 +1,5 @@
 -- The laws of words.
-use Rattle.std.proofs.Common.{◌≡◌, ◌≢◌, ℕ, zero, suc, ◌<◌, ◌^◌, ◌⊎◌, inl, inr, lit<, List, [], ◌∷◌, ◌++◌, length, get_or, map, Result, Ok, refl, sym, ap, ◌∙◌, arith, length-append}
-use Rattle.std.proofs.lemmas.Fmt.{decimal-digits_value, decimal_digit, decimal_is_IsNumeral, decimal_nonempty, first_decimal}
-use Rattle.std.proofs.lemmas.Bool.{cases_eq}
-use Rattle.std.proofs.lemmas.List.Elements.{All-append, All-from_get_or}
-use Rattle.std.proofs.lemmas.Str.Parse.{IsNumeralModel, numerals_by_value, tells_digits}
-use Rattle.std.specs.Fmt.{decimal}
-use Rattle.std.specs.List.{All, AllByRecursion, flat_map}
-use Rattle.std.specs.Result.{result_unwrap_or}
-use Rattle.std.specs.Str.Iter.{LacksByte}
-use Rattle.std.specs.Str.Parse.{AllDigits, digits_value}
-use Rattle.hex.specs.Hex.{IsBytes, decode_pairs, encode_upper, upper_digits}
-use Rattle.hex.specs.declared.error.FromHexError.{FromHexError}
-use Rattle.hex.proofs.HexLemmas.{IsDigits-upper_digits, decode_of-even, decode_of-ok, decode_pairs-encode_with}
-use Rattle.osdp_words.specs.Laws.{AreAllWords, HasOneWord, IsDecimal, IsDecoded, PartsAtColons, StandsForItself}
-use Rattle.osdp_words.specs.Word.{AllStandFor, StandsFor, bytes, number, plain}
+use Rattle.osdp_words.proofs.Common.{◌≡◌, ◌≢◌, ℕ, zero, suc, ◌<◌, ◌^◌, ◌⊎◌, inl, inr, lit<, List, [], ◌∷◌, ◌++◌, length, get_or, map, Result, Ok, refl, sym, ap, ◌∙◌, arith, length-append, decimal-digits_value, decimal_digit, decimal_is_IsNumeral, decimal_nonempty, first_decimal, cases_eq, All-append, All-from_get_or, IsNumeralModel, numerals_by_value, tells_digits, decimal, All, AllByRecursion, flat_map, result_unwrap_or, LacksByte, AllDigits, digits_value, IsBytes, decode_pairs, encode_upper, upper_digits, FromHexError, IsDigits-upper_digits, decode_of-even, decode_of-ok, decode_pairs-encode_with, AreAllWords, HasOneWord, IsDecimal, IsDecoded, PartsAtColons, StandsForItself, AllStandFor, StandsFor, bytes, number, plain}
 use Rattle.osdp_words.proofs.HexDigits.{digits_from_pairs, pairs_from_digits}
 use Rattle.osdp_words.proofs.HexWords.{digits_that_stand, length_of_digits, no_digits, stands_by_digits}
 use Rattle.osdp_words.proofs.Joined.{from_pieces, pieces, pieces-join_by}

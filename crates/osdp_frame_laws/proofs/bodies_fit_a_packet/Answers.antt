@@ -1,8 +1,4 @@
-use Rattle.std.proofs.Common.{ℕ, arith, lit<, refl, List, false}
-use Rattle.osdp_frame.specs.declared.check_kind.CheckKind.TheVariants.{Sum}
-use Rattle.osdp_frame.specs.Packet.{Packet}
-use Rattle.osdp_frame.specs.Spelling.{Spells}
-use Rattle.osdp_frame.proofs.Spelled.{length-spelled}
+use Rattle.osdp_frame_laws.proofs.Common.{ℕ, arith, lit<, refl, List, false, Sum, Packet, Spells, length-spelled}
 use Rattle.osdp_frame_laws.proofs.bodies_fit_a_packet.Goals as goal
 
 -- the packet that a body stands in, with a checksum

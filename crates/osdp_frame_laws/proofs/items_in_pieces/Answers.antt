@@ -1,6 +1,4 @@
-use Rattle.std.proofs.Common.{false}
-use Rattle.osdp_frame.specs.Items.{left_over}
-use Rattle.osdp_frame.proofs.Decided.{undecided_none}
+use Rattle.osdp_frame_laws.proofs.Common.{false, left_over, undecided_none}
 use Rattle.osdp_frame_laws.proofs.Readings.{items-append, left_undecided}
 use Rattle.osdp_frame_laws.proofs.items_in_pieces.Goals as goal
 

@@ -1,5 +1,4 @@
-use Rattle.std.proofs.Common.{refl}
-use Rattle.osdp_frame.specs.Held.{after_advance}
+use Rattle.osdp_frame_laws.proofs.Common.{refl, after_advance}
 use Rattle.osdp_frame_laws.proofs.OneByOne.{fewer_held, items_on}
 use Rattle.osdp_frame_laws.proofs.Readings.{items_undecided}
 use Rattle.osdp_frame_laws.proofs.items_one_by_one.Goals as goal

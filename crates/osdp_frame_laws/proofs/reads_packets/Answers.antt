@@ -1,6 +1,5 @@
-use Rattle.std.proofs.Common.{[], ◌∷◌, ap, refl}
+use Rattle.osdp_frame_laws.proofs.Common.{[], ◌∷◌, ap, refl, PacketItem}
 use Rattle.osdp_frame.specs.Items.{items, reading, whole_packets}
-use Rattle.osdp_frame.specs.Reading.{PacketItem}
 use Rattle.osdp_frame_laws.proofs.reads_packets.Goals as goal
 
 pub returns-clause-none : goal.returns-clause-none

@@ -1,5 +1,4 @@
-use Rattle.std.proofs.Common.{subst, sym}
-use Rattle.osdp_check.specs.Crc.{IsCrc}
+use Rattle.osdp_check.proofs.Common.{subst, sym, IsCrc}
 use Rattle.osdp_check.proofs.Pieces.{one_crc, IsCrc-crc}
 use Rattle.osdp_check.proofs.laws.one_crc.Goals as goal
 

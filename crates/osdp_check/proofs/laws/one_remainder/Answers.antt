@@ -1,5 +1,4 @@
-use Rattle.std.proofs.Common.{subst, sym}
-use Rattle.osdp_check.specs.Crc.{IsRemainder}
+use Rattle.osdp_check.proofs.Common.{subst, sym, IsRemainder}
 use Rattle.osdp_check.proofs.Remainder.{one_remainder, IsRemainder-remainder}
 use Rattle.osdp_check.proofs.laws.one_remainder.Goals as goal
 

@@ -1,5 +1,4 @@
-use Rattle.std.proofs.Common.{ap, ◌∙◌, ◌%◌, ◌^◌}
-use Rattle.std.specs.Int.Bits.{bit_xor}
+use Rattle.osdp_check.proofs.Common.{ap, ◌∙◌, ◌%◌, ◌^◌, bit_xor}
 use Rattle.osdp_check.proofs.Places.{moved_by, halves_divided}
 use Rattle.osdp_check.proofs.powers.divided.Goals as goal
 

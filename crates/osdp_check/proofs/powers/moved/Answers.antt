@@ -1,5 +1,4 @@
-use Rattle.std.proofs.Common.{ap, ◌∙◌, ◌*◌}
-use Rattle.osdp_check.specs.Crc.{product, remainder}
+use Rattle.osdp_check.proofs.Common.{ap, ◌∙◌, ◌*◌, product, remainder}
 use Rattle.osdp_check.proofs.Places.{power_entry, product_moved}
 use Rattle.osdp_check.proofs.powers.moved.Goals as goal
 

@@ -1,6 +1,5 @@
 use Rattle.std.proofs.Common.{refl, ap, arith, ◌∙◌, ◌*◌, ◌^◌, bit_and}
-use Rattle.std.proofs.lemmas.Nat.{one_shl}
-use Rattle.std.specs.Int.Bits.{bit_xor}
+use Rattle.osdp_check.proofs.Common.{one_shl, bit_xor}
 use Rattle.osdp_check.specs.Crc.{product}
 use Rattle.osdp_check.proofs.Places.{product_more}
 use Rattle.osdp_check.proofs.powers.multiplied.Goals as goal

@@ -1,5 +1,4 @@
-use Rattle.std.proofs.Common.{◌≡◌}
-use Rattle.osdp_check.specs.Crc.{product}
+use Rattle.osdp_check.proofs.Common.{◌≡◌, product}
 use Rattle.osdp_check.proofs.powers.multiplied.Given as goal
 
 abbrev pub invariant-loop-place : goal.invariant-loop-place

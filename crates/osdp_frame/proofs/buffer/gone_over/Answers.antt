@@ -1,6 +1,4 @@
-use Rattle.std.proofs.Common.{take, get_or, subst, sym, rules}
-use Rattle.std.proofs.lemmas.List.{take_more}
-use Rattle.osdp_frame.specs.Running.{GoesOver}
+use Rattle.osdp_frame.proofs.Common.{take, get_or, subst, sym, rules, take_more, GoesOver}
 use Rattle.osdp_frame.proofs.Running.{goes_on}
 use Rattle.osdp_frame.proofs.buffer.gone_over.Goals as goal
 

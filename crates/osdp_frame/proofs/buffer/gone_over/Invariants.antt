@@ -1,5 +1,4 @@
-use Rattle.std.proofs.Common.{take}
-use Rattle.osdp_frame.specs.Running.{GoesOver}
+use Rattle.osdp_frame.proofs.Common.{take, GoesOver}
 use Rattle.osdp_frame.proofs.buffer.gone_over.Given as goal
 
 abbrev pub invariant-loop-byte : goal.invariant-loop-byte

@@ -1,5 +1,4 @@
-use Rattle.std.proofs.Common.{◌≡◌, ◌+◌, take}
-use Rattle.osdp_frame.specs.Running.{IsRunning}
+use Rattle.osdp_frame.proofs.Common.{◌≡◌, ◌+◌, take, IsRunning}
 use Rattle.osdp_frame.proofs.buffer.run_on.Given as goal
 
 abbrev pub invariant-loop-number : goal.invariant-loop-number

@@ -1,6 +1,4 @@
-use Rattle.std.proofs.Common.{◌≡◌, subst, take, false}
-use Rattle.osdp_frame.specs.First.{item_if, FirstFits}
-use Rattle.osdp_frame.specs.Held.{decided}
+use Rattle.osdp_frame.proofs.Common.{◌≡◌, subst, take, false, item_if, FirstFits, decided}
 use Rattle.osdp_frame.proofs.FirstItems.{item_if-more, FirstFits-more}
 use Rattle.osdp_frame.proofs.framer.decided_again.Goals as goal
 

@@ -1,8 +1,4 @@
-use Rattle.std.proofs.Common.{◌≡◌, ◌-◌, ◌∙◌, List, [], ℕ, Some, drop, length, take, ap, sym, subst, true, arith}
-use Rattle.std.proofs.lemmas.List.{take_rest, length-drop}
-use Rattle.osdp_frame.specs.First.{item_in}
-use Rattle.osdp_frame.specs.Reading.{Stands}
-use Rattle.osdp_frame.specs.Shown.{item_read}
+use Rattle.osdp_frame.proofs.Common.{◌≡◌, ◌-◌, ◌∙◌, List, [], ℕ, Some, drop, length, take, ap, sym, subst, true, arith, take_rest, length-drop, item_in, Stands, item_read}
 use Rattle.osdp_frame.proofs.Decided.{first_decided, stands_first, undecided_none, undecided_ended}
 use Rattle.osdp_frame.proofs.read.read_at.Goals as goal
 

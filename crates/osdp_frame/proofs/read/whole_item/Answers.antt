@@ -1,7 +1,4 @@
-use Rattle.std.proofs.Common.{◌≡◌, ◌∙◌, Some, ap, sym, inl, inr}
-use Rattle.osdp_frame.specs.First.{item_in}
-use Rattle.osdp_frame.specs.Held.{by_itself}
-use Rattle.osdp_frame.specs.Shown.{item_of}
+use Rattle.osdp_frame.proofs.Common.{◌≡◌, ◌∙◌, Some, ap, sym, inl, inr, item_in, by_itself, item_of}
 use Rattle.osdp_frame.proofs.FirstItems.{first_by_itself}
 use Rattle.osdp_frame.proofs.read.whole_item.Goals as goal
 

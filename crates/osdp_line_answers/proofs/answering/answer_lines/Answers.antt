@@ -1,8 +1,4 @@
-use Rattle.std.proofs.Common.{rules, arith, eqb-true, Err, ◌≡◌, ◌≢◌, [], List, ℕ, ◌∙◌, sym, subst}
-use Rattle.osdp_tool_streams.specs.Watched.{inner_of, has_failed}
-use Rattle.osdp_line_answers.specs.Ending.{Ends}
-use Rattle.osdp_line_answers.specs.Steps.{EndsLine, Reads}
-use Rattle.osdp_tool_streams.proofs.Answered.{on_err}
+use Rattle.osdp_line_answers.proofs.Common.{rules, arith, eqb-true, Err, ◌≡◌, ◌≢◌, [], List, ℕ, ◌∙◌, sym, subst, inner_of, has_failed, Ends, EndsLine, Reads, on_err}
 use Rattle.osdp_line_answers.proofs.AnsweringLines.{all_none, ends_empty, ends_last, ends_stopped, nothing, some_none}
 use Rattle.osdp_line_answers.proofs.answering.answer_lines.Goals as goal
 

@@ -1,7 +1,4 @@
-use Rattle.std.proofs.Common.{◌∙◌, ◌||◌, Bool, false, true, Err, ap, sym, subst, arith}
-use Rattle.osdp_tool_streams.specs.Watched.{inner_of, has_failed}
-use Rattle.osdp_line_answers.specs.Steps.{Reads}
-use Rattle.osdp_tool_streams.proofs.Answered.{on_err}
+use Rattle.osdp_line_answers.proofs.Common.{◌∙◌, ◌||◌, Bool, false, true, Err, ap, sym, subst, arith, inner_of, has_failed, Reads, on_err}
 use Rattle.osdp_line_answers.proofs.AnsweringLines.{read_kept, read_more, reads_stop}
 use Rattle.osdp_line_answers.proofs.answering.read_lines.Goals as goal
 

@@ -1,6 +1,4 @@
-use Rattle.std.proofs.Common.{◌≡◌, ◌≤◌, false, length}
-use Rattle.osdp_tool_streams.specs.Watched.{inner_of, has_failed}
-use Rattle.osdp_line_answers.specs.Steps.{ReadAll}
+use Rattle.osdp_line_answers.proofs.Common.{◌≡◌, ◌≤◌, false, length, inner_of, has_failed, ReadAll}
 use Rattle.osdp_line_answers.proofs.answering.read_lines.Given as goal
 
 -- the pieces before this one, of a byte or more each

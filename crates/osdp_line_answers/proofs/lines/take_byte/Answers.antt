@@ -1,9 +1,4 @@
-use Rattle.std.proofs.Common.{[], ◌∷◌, IfErr, sym, subst}
-use Rattle.std.proofs.KnownBytes.{Keeps-refl}
-use Rattle.osdp_tool_streams.specs.Cut.{line_feed}
-use Rattle.osdp_tool_streams.specs.Watched.{inner_of, has_failed}
-use Rattle.osdp_line_answers.specs.Steps.{CarriesOn, StopsIn, WroteAnswer}
-use Rattle.osdp_tool_streams.proofs.Answered.{on_each_err, on_err, on_ok}
+use Rattle.osdp_line_answers.proofs.Common.{[], ◌∷◌, IfErr, sym, subst, Keeps-refl, line_feed, inner_of, has_failed, CarriesOn, StopsIn, WroteAnswer, on_each_err, on_err, on_ok}
 use Rattle.osdp_line_answers.proofs.Stopping.{ends, holds, stops_before, stops_ending}
 use Rattle.osdp_line_answers.proofs.lines.take_byte.Goals as goal
 

@@ -1,8 +1,4 @@
-use Rattle.std.proofs.Common.{◌+◌, IfErr, take, drop, take-append-drop, sym, subst, ◌∙◌, arith}
-use Rattle.std.proofs.lemmas.List.{take_more}
-use Rattle.osdp_tool_streams.specs.Watched.{inner_of}
-use Rattle.osdp_line_answers.specs.Steps.{CarriesOn, StopsIn}
-use Rattle.osdp_tool_streams.proofs.Answered.{on_err}
+use Rattle.osdp_line_answers.proofs.Common.{◌+◌, IfErr, take, drop, take-append-drop, sym, subst, ◌∙◌, arith, take_more, inner_of, CarriesOn, StopsIn, on_err}
 use Rattle.osdp_line_answers.proofs.Stopping.{goes_both, stops_early, stops_further}
 use Rattle.osdp_line_answers.proofs.lines.take_piece.Goals as goal
 

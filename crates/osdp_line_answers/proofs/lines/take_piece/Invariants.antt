@@ -1,6 +1,4 @@
-use Rattle.std.proofs.Common.{◌≡◌, take}
-use Rattle.osdp_tool_streams.specs.Watched.{inner_of, has_failed}
-use Rattle.osdp_line_answers.specs.Steps.{CarriesOn}
+use Rattle.osdp_line_answers.proofs.Common.{◌≡◌, take, inner_of, has_failed, CarriesOn}
 use Rattle.osdp_line_answers.proofs.lines.take_piece.Given as goal
 
 -- the bytes before this one

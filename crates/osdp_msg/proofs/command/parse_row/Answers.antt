@@ -1,6 +1,4 @@
-use Rattle.std.proofs.Common.{None, Some, codes, refl}
-use Rattle.osdp_msg.specs.declared.command.Command.TheVariants.{Poll, Id, Cap, LocalStatus, InputStatus, OutputStatus, ReaderStatus, Buzzer, Comset}
-use Rattle.osdp_msg.specs.CommandTable.{CommandFits}
+use Rattle.osdp_msg.proofs.Common.{None, Some, codes, refl, Poll, Id, Cap, LocalStatus, InputStatus, OutputStatus, ReaderStatus, Buzzer, Comset, CommandFits}
 use Rattle.osdp_msg.proofs.CommandTextRows.{bare_by_names, command_fields, command_name, made_by_names}
 use Rattle.osdp_msg.proofs.RowTexts.{made_row_read}
 use Rattle.osdp_msg.proofs.command.parse_row.Goals as goal

@@ -1,7 +1,4 @@
-use Rattle.std.proofs.Common.{◌∷◌, [], ℕ}
-use Rattle.arrayvec.specs.ArrayVec.{ArrayVec}
-use Rattle.osdp_words.specs.Word.{bytes}
-use Rattle.osdp_msg.specs.ReplyTable.{StatesFit}
+use Rattle.osdp_msg.proofs.Common.{◌∷◌, [], ℕ, ArrayVec, bytes, StatesFit}
 use Rattle.osdp_msg.proofs.ParsedRows.{states_made}
 use Rattle.osdp_msg.proofs.TakenParts.{IsList, list_words, one_missing, one_whole}
 use Rattle.osdp_msg.proofs.parsing.parse_states.Goals as goal

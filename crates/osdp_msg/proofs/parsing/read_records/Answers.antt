@@ -1,7 +1,5 @@
-use Rattle.std.proofs.Common.{◌≡◌, ◌*◌, ◌++◌, ◌∷◌, [], ℕ, length, sym, ap, ◌∙◌, Some, List, arith}
-use Rattle.std.proofs.lemmas.List.{flat_map_more, length-append}
+use Rattle.osdp_msg.proofs.Common.{◌≡◌, ◌*◌, ◌++◌, ◌∷◌, [], ℕ, length, sym, ap, ◌∙◌, Some, List, arith, flat_map_more, length-append, records_at}
 use Rattle.osdp_msg.proofs.RecordLists.{put_full, put_length, put_more, put_room, put_whole, records_again}
-use Rattle.osdp_msg.specs.Records.{records_at}
 use Rattle.osdp_msg.proofs.RecordTexts.{parsed_all, parsed_full, parsed_more, parsed_none, parsed_stuck}
 use Rattle.osdp_msg.proofs.parsing.read_records.Goals as goal
 

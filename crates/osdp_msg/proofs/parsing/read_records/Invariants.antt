@@ -1,5 +1,4 @@
-use Rattle.std.proofs.Common.{◌≡◌, ◌≤◌, List, length}
-use Rattle.std.specs.List.{flat_map}
+use Rattle.osdp_msg.proofs.Common.{◌≡◌, ◌≤◌, List, length, flat_map}
 use Rattle.osdp_msg.proofs.RecordTexts.{Parsed}
 use Rattle.osdp_msg.proofs.parsing.read_records.Given as goal
 

@@ -1,6 +1,4 @@
-use Rattle.std.proofs.Common.{◌≡◌, ◌≤◌, ℕ, List, Some, length, ap, sym, subst, ◌∙◌, arith}
-use Rattle.arrayvec.specs.ArrayVec.{ArrayVec}
-use Rattle.osdp_words.specs.Reading.{Takes}
+use Rattle.osdp_msg.proofs.Common.{◌≡◌, ◌≤◌, ℕ, List, Some, length, ap, sym, subst, ◌∙◌, arith, ArrayVec, Takes}
 use Rattle.osdp_msg.proofs.TakenParts.{IsList, list_words, narrowed, none_narrowed, too_long}
 use Rattle.osdp_msg.proofs.parsing.take_list.Goals as goal
 

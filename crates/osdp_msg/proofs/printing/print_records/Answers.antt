@@ -1,8 +1,5 @@
-use Rattle.std.proofs.Common.{◌≡◌, ◌++◌, ◌∷◌, [], List, ℕ, ap, sym, refl, ◌∙◌, append_assoc, rules}
-use Rattle.std.specs.List.{flat_map}
+use Rattle.osdp_msg.proofs.Common.{◌≡◌, ◌++◌, ◌∷◌, [], List, ℕ, ap, sym, refl, ◌∙◌, append_assoc, rules, flat_map, append-nil, flat_map_more, printed}
 use Rattle.std.proofs.Output.{has_written_append, has_written_of_eq}
-use Rattle.std.proofs.lemmas.List.{append-nil, flat_map_more}
-use Rattle.osdp_words.specs.Word.{printed}
 use Rattle.osdp_msg.proofs.Texts.{flat_map-words}
 use Rattle.osdp_msg.proofs.printing.print_records.Goals as goal
 

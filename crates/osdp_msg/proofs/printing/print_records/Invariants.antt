@@ -1,7 +1,5 @@
-use Rattle.std.proofs.Common.{◌≡◌, ◌++◌, ◌∷◌, List, length}
+use Rattle.osdp_msg.proofs.Common.{◌≡◌, ◌++◌, ◌∷◌, List, length, flat_map, printed}
 use Rattle.std.specs.Fmt.{HasWritten, IsPlainFormatter}
-use Rattle.std.specs.List.{flat_map}
-use Rattle.osdp_words.specs.Word.{printed}
 use Rattle.osdp_msg.proofs.printing.print_records.Given as goal
 
 abbrev pub invariant-records : goal.invariant-records

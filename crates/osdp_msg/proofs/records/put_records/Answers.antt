@@ -1,6 +1,4 @@
-use Rattle.std.proofs.Common.{◌≡◌, ◌∷◌, ◌*◌, ℕ, suc, [], take, ap, ◌∙◌, length, subst, arith}
-use Rattle.std.proofs.lemmas.List.{flat_map_more, length-take, take_more}
-use Rattle.std.proofs.lemmas.List.Elements.{All-more}
+use Rattle.osdp_msg.proofs.Common.{◌≡◌, ◌∷◌, ◌*◌, ℕ, suc, [], take, ap, ◌∙◌, length, subst, arith, flat_map_more, length-take, take_more, All-more}
 use Rattle.osdp_msg.proofs.RecordLists.{length-flat_map_size, spelling_room}
 use Rattle.osdp_msg.proofs.records.put_records.Goals as goal
 

@@ -1,5 +1,4 @@
-use Rattle.std.proofs.Common.{◌≡◌, ◌∷◌, take}
-use Rattle.std.specs.List.{All, flat_map}
+use Rattle.osdp_msg.proofs.Common.{◌≡◌, ◌∷◌, take, All, flat_map}
 use Rattle.osdp_msg.proofs.records.put_records.Given as goal
 
 abbrev pub invariant-loop-record : goal.invariant-loop-record

@@ -1,6 +1,4 @@
-use Rattle.std.proofs.Common.{None, Some, codes, refl}
-use Rattle.osdp_msg.specs.declared.reply.Reply.TheVariants.{Ack, LocalState, Com, Busy}
-use Rattle.osdp_msg.specs.ReplyTable.{ReplyFits}
+use Rattle.osdp_msg.proofs.Common.{None, Some, codes, refl, Ack, LocalState, Com, Busy, ReplyFits}
 use Rattle.osdp_msg.proofs.ReplyTextRows.{bare_by_names, made_by_names, reply_fields, reply_name}
 use Rattle.osdp_msg.proofs.RowTexts.{made_row_read}
 use Rattle.osdp_msg.proofs.reply.parse_row.Goals as goal

@@ -1,5 +1,4 @@
-use Rattle.std.proofs.Common.{◌+◌, ◌/◌, drop, length, slice_index, true, arith}
-use Rattle.byteorder.specs.Endian.{little_number}
+use Rattle.osdp_msg.proofs.Common.{◌+◌, ◌/◌, drop, length, slice_index, true, arith, little_number}
 use Rattle.osdp_msg.proofs.Replies.{row_passes}
 use Rattle.osdp_msg.proofs.Table.{any_length, counted, counted_length, exactly, has_length, multiple}
 use Rattle.osdp_msg.proofs.reply.value_at.Goals as goal

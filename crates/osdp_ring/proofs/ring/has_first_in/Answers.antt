@@ -1,5 +1,4 @@
-use Rattle.std.proofs.Common.{◌≡◌, ◌≤◌, ◌∙◌, Some, None, length, refl, sym, arith, rules}
-use Rattle.std.specs.Prelude.{slice_get}
+use Rattle.osdp_ring.proofs.Common.{◌≡◌, ◌≤◌, ◌∙◌, Some, None, length, refl, sym, arith, rules, slice_get}
 use Rattle.std.proofs.lemmas.Option.{slice_get_past}
 use Rattle.osdp_ring.proofs.Cuts.{none_begins, one_begins, one_does_not, size_within, sizes_left}
 use Rattle.osdp_ring.proofs.ring.has_first_in.Goals as goal

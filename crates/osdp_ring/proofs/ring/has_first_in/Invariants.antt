@@ -1,5 +1,4 @@
-use Rattle.std.proofs.Common.{◌≡◌, drop, length}
-use Rattle.osdp_ring.specs.Ring.{cut, has_first, sum_of}
+use Rattle.osdp_ring.proofs.Common.{◌≡◌, drop, length, cut, has_first, sum_of}
 use Rattle.osdp_ring.proofs.ring.has_first_in.Given as goal
 
 -- the strings that are left tell what all of them do

@@ -1,6 +1,4 @@
-use Rattle.std.proofs.Common.{refl, sym}
-use Rattle.osdp_words.specs.Word.{texts}
-use Rattle.osdp_settings.specs.Settings.{SettingFits, setting_words}
+use Rattle.osdp_settings.proofs.Common.{refl, sym, texts, SettingFits, setting_words}
 use Rattle.osdp_settings.proofs.FirstWrong.{begin_alone, begin_two, known_at_first, known_more, none_stands}
 use Rattle.osdp_settings.proofs.Reading.{no_value, none_left, none_put, none_read}
 use Rattle.osdp_settings.proofs.settings.read_settings.Goals as goal

@@ -1,6 +1,4 @@
-use Rattle.std.proofs.Common.{length}
-use Rattle.osdp_words.specs.Word.{texts}
-use Rattle.osdp_settings.specs.Settings.{SettingFits, setting_words}
+use Rattle.osdp_settings.proofs.Common.{length, texts, SettingFits, setting_words}
 use Rattle.osdp_settings.proofs.FirstWrong.{Known}
 use Rattle.osdp_settings.proofs.settings.read_settings.Given as goal
 

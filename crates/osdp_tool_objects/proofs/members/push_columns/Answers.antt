@@ -1,5 +1,4 @@
-use Rattle.std.proofs.Common.{drop}
-use Rattle.osdp_words.specs.Word.{texts}
+use Rattle.osdp_tool_objects.proofs.Common.{drop, texts}
 use Rattle.osdp_tool_objects.proofs.Counts.{column_step, columns_end, columns_stop}
 use Rattle.osdp_tool_objects.proofs.members.push_columns.Goals as goal
 

@@ -1,6 +1,4 @@
-use Rattle.std.proofs.Common.{◌≡◌, ◌++◌, drop}
-use Rattle.osdp_words.specs.Word.{texts}
-use Rattle.osdp_tool_objects.specs.Members.{columns}
+use Rattle.osdp_tool_objects.proofs.Common.{◌≡◌, ◌++◌, drop, texts, columns}
 use Rattle.osdp_tool_objects.proofs.members.push_columns.Given as goal
 
 -- the members so far, and those to come

@@ -1,5 +1,4 @@
-use Rattle.std.proofs.Common.{◌≡◌, ◌++◌, length}
-use Rattle.osdp_tool_objects.specs.Members.{counts}
+use Rattle.osdp_tool_objects.proofs.Common.{◌≡◌, ◌++◌, length, counts}
 use Rattle.osdp_tool_objects.proofs.members.push_counts.Given as goal
 
 -- the members so far, and those to come

@@ -1,5 +1,4 @@
-use Rattle.std.proofs.Common.{◌≡◌, ◌++◌, OnOk, subst}
-use Rattle.osdp_tool_objects.specs.Members.{columns}
+use Rattle.osdp_tool_objects.proofs.Common.{◌≡◌, ◌++◌, OnOk, subst, columns}
 use Rattle.osdp_tool_objects.proofs.object.push_numbers.Goals as goal
 
 pub returns : goal.returns

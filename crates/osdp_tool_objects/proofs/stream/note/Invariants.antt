@@ -1,5 +1,4 @@
-use Rattle.std.proofs.Common.{◌≡◌, ◌++◌, drop}
-use Rattle.osdp_tool_objects.specs.Streams.{noted}
+use Rattle.osdp_tool_objects.proofs.Common.{◌≡◌, ◌++◌, drop, noted}
 use Rattle.osdp_tool_objects.proofs.stream.note.Given as goal
 
 -- what was noted so far, and what is to come

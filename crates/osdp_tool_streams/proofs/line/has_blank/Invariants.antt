@@ -1,5 +1,4 @@
-use Rattle.std.proofs.Common.{◌≡◌, false, take}
-use Rattle.osdp_tool_streams.specs.Line.{kept}
+use Rattle.osdp_tool_streams.proofs.Common.{◌≡◌, false, take, kept}
 use Rattle.osdp_tool_streams.proofs.line.has_blank.Given as goal
 
 -- what was looked at is kept whole, where no blank was found

@@ -1,5 +1,4 @@
-use Rattle.std.proofs.Common.{◌≡◌, ◌++◌, drop}
-use Rattle.osdp_tool_streams.specs.Line.{kept}
+use Rattle.osdp_tool_streams.proofs.Common.{◌≡◌, ◌++◌, drop, kept}
 use Rattle.osdp_tool_streams.proofs.line.keep_each.Given as goal
 
 -- what is kept and what is to come are the whole

@@ -1,6 +1,4 @@
-use Rattle.std.proofs.Common.{length, take, ◌-◌, ◌≡◌, ◌≤◌}
-use Rattle.std.specs.Io.KnownBytes.{Appends}
-use Rattle.osdp_tool_streams.specs.Watched.{inner_of, has_failed}
+use Rattle.osdp_tool_streams.proofs.Common.{length, take, ◌-◌, ◌≡◌, ◌≤◌, Appends, inner_of, has_failed}
 use Rattle.osdp_tool_streams.proofs.transfer.write_out.Given as goal
 
 -- what is done has been taken, in order, and no write of it failed

@@ -1,7 +1,4 @@
-use Rattle.std.proofs.Common.{◌++◌, sym, ap, ◌∙◌, arith, take}
-use Rattle.std.proofs.lemmas.Bool.{ne_eqb}
-use Rattle.osdp_tool_streams.specs.Line.{kept}
-use Rattle.osdp_tool_times.specs.Moments.{moment_in, stamp_in}
+use Rattle.osdp_tool_times.proofs.Common.{◌++◌, sym, ap, ◌∙◌, arith, take, ne_eqb, kept, moment_in, stamp_in}
 use Rattle.osdp_tool_times.proofs.Comments.{moment_of_comment}
 use Rattle.osdp_tool_times.proofs.moment.comment_moment.Goals as goal
 

@@ -1,5 +1,4 @@
-use Rattle.std.proofs.Common.{◌≡◌, drop}
-use Rattle.osdp_tool_times.specs.Moments.{number_from}
+use Rattle.osdp_tool_times.proofs.Common.{◌≡◌, drop, number_from}
 use Rattle.osdp_tool_times.proofs.moment.number_from.Given as goal
 
 -- the digits to come

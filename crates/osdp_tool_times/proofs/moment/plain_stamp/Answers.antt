@@ -1,6 +1,4 @@
-use Rattle.std.proofs.Common.{◌≡◌, ◌+◌, length, take, sym, ap, ◌∙◌, arith}
-use Rattle.std.proofs.lemmas.List.{take_rest}
-use Rattle.osdp_tool_times.specs.Moments.{milliseconds}
+use Rattle.osdp_tool_times.proofs.Common.{◌≡◌, ◌+◌, length, take, sym, ap, ◌∙◌, arith, take_rest, milliseconds}
 use Rattle.osdp_tool_times.proofs.Plain.{if_plain}
 use Rattle.osdp_tool_times.proofs.moment.plain_stamp.Goals as goal
 

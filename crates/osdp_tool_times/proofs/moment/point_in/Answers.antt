@@ -1,5 +1,4 @@
-use Rattle.memchr.specs.Find.{is_byte}
-use Rattle.memchr.proofs.lemmas.ValueLemmas.{IsFirstByte-value}
+use Rattle.osdp_tool_times.proofs.Common.{is_byte, IsFirstByte-value}
 use Rattle.osdp_tool_times.proofs.moment.point_in.Goals as goal
 
 pub returns-clause-value : goal.returns-clause-value

@@ -1,6 +1,4 @@
-use Rattle.std.proofs.Common.{sym}
-use Rattle.std.proofs.lemmas.Option.{get_or_from_slice_get}
-use Rattle.osdp_tool_times.specs.Text.{device_objects}
+use Rattle.osdp_tool_times.proofs.Common.{sym, get_or_from_slice_get, device_objects}
 use Rattle.osdp_tool_times.proofs.Rows.{all_end, all_step}
 use Rattle.osdp_tool_times.proofs.object.push_objects.Goals as goal
 

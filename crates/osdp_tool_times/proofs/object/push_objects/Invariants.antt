@@ -1,5 +1,4 @@
-use Rattle.std.proofs.Common.{◌≡◌, ◌++◌, drop, string_bytes}
-use Rattle.osdp_tool_times.specs.Text.{all_from, device_objects}
+use Rattle.osdp_tool_times.proofs.Common.{◌≡◌, ◌++◌, drop, string_bytes, all_from, device_objects}
 use Rattle.osdp_tool_times.proofs.object.push_objects.Given as goal
 
 abbrev pub invariant-devices : goal.invariant-devices

@@ -1,5 +1,4 @@
-use Rattle.std.proofs.Common.{◌≡◌, ◌≤◌, ◌+◌, ◌-◌, length, drop}
-use Rattle.osdp_tool_times.specs.Times.{step_at}
+use Rattle.osdp_tool_times.proofs.Common.{◌≡◌, ◌≤◌, ◌+◌, ◌-◌, length, drop, step_at}
 use Rattle.osdp_tool_times.proofs.table.step_at.Given as goal
 
 abbrev pub invariant-steps : goal.invariant-steps

@@ -1,6 +1,4 @@
-use Rattle.std.proofs.Common.{arith, sym, ◌∙◌}
-use Rattle.std.proofs.lemmas.Bool.{false≢true}
-use Rattle.std.proofs.lemmas.Grind.{common_steps}
+use Rattle.osdp_words.proofs.Common.{arith, sym, ◌∙◌, false≢true, common_steps}
 use Rattle.std.proofs.lemmas.Slice.Eq.{bytes_eq-Decides}
 use Rattle.osdp_words.proofs.HexWords.{extended, no_room_reads, none_reads, refused_reads, taken_reads, was_decoded, was_refused}
 use Rattle.osdp_words.proofs.byte_lists.read_byte_list.Goals as goal

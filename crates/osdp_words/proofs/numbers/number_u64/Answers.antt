@@ -1,5 +1,4 @@
-use Rattle.std.proofs.Common.{sym, ◌∙◌}
-use Rattle.std.proofs.lemmas.Bool.{false≢true}
+use Rattle.osdp_words.proofs.Common.{sym, ◌∙◌, false≢true}
 use Rattle.osdp_words.proofs.Decimal.{none_read, number_read}
 use Rattle.osdp_words.proofs.numbers.number_u64.Goals as goal
 

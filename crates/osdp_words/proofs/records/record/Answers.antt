@@ -1,7 +1,5 @@
-use Rattle.std.proofs.Common.{arith, lit<}
+use Rattle.osdp_words.proofs.Common.{arith, lit<, length_push, YieldsList-from_str_split}
 use Rattle.std.proofs.lemmas.Iterator.Consumers.{YieldsList-turn, YieldsList-end}
-use Rattle.std.proofs.lemmas.List.{length_push}
-use Rattle.std.proofs.lemmas.Iterator.Splits.{YieldsList-from_str_split}
 use Rattle.osdp_words.proofs.RecordWords.{count_differs, part_past, part_unread, reads_more, record_done}
 use Rattle.osdp_words.proofs.records.record.Goals as goal
 

@@ -1,5 +1,4 @@
-use Rattle.std.proofs.Common.{sym, ◌∙◌}
-use Rattle.osdp_words.specs.Word.{texts, words_in}
+use Rattle.osdp_words.proofs.Common.{sym, ◌∙◌, texts, words_in}
 use Rattle.osdp_words.proofs.Cutting.{all_taken, lent_begun, lent_taken, passed}
 use Rattle.osdp_words.proofs.splitting.all_words_in.Goals as goal
 

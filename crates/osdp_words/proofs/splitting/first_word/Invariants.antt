@@ -1,7 +1,6 @@
-use Rattle.std.proofs.Common.{◌≡◌, length}
+use Rattle.osdp_words.proofs.Common.{◌≡◌, length, words_in}
 use denote.Text.{Utf8}
 use denote.Shadow.{shadow}
-use Rattle.osdp_words.specs.Word.{words_in}
 use Rattle.osdp_words.proofs.splitting.first_word.Given as goal
 
 abbrev pub invariant-parts : goal.invariant-parts

@@ -1,5 +1,4 @@
-use Rattle.std.proofs.Common.{rules, ◌∙◌, ◌∷◌, [], ap}
-use Rattle.osdp_check.specs.Crc.{crc_from}
+use Rattle.osdp_check.proofs.Common.{rules, ◌∙◌, ◌∷◌, [], ap, crc_from}
 use Rattle.osdp_check.proofs.Entries.{crc_step, table_step}
 use Rattle.osdp_check.proofs.crc.Crc16Check.add.Goals as goal
 

@@ -1,7 +1,4 @@
-use Rattle.std.proofs.Common.{◌≡◌, ◌*◌, ◌^◌, ◌∙◌, ◌<◌, ◌/◌, ◌%◌, ◌∷◌, [], take, ap, sym, arith, rules}
-use Rattle.std.proofs.lemmas.Nat.{xor_lt}
-use Rattle.std.specs.Int.Bits.{bit_xor}
-use Rattle.osdp_check.specs.Crc.{crc, crc_from, initial, remainder}
+use Rattle.osdp_check.proofs.Common.{◌≡◌, ◌*◌, ◌^◌, ◌∙◌, ◌<◌, ◌/◌, ◌%◌, ◌∷◌, [], take, ap, sym, arith, rules, xor_lt, bit_xor, crc, crc_from, initial, remainder}
 use Rattle.osdp_check.proofs.Pieces.{crc_since}
 use Rattle.osdp_check.proofs.crc.Crc16Check.spell_since.Goals as goal
 

@@ -1,8 +1,4 @@
-use Rattle.std.proofs.Common.{◌≡◌, ◌-◌, ◌+◌, ◌/◌, ◌≤◌, length, drop, ap, ◌∙◌, arith}
-use Rattle.osdp_check.specs.Checksum.{sum_from}
-use Rattle.osdp_check.specs.Crc.{crc_from}
-use Rattle.osdp_frame.specs.Buffered.{Buffered}
-use Rattle.osdp_frame.specs.Running.{GoesBy}
+use Rattle.osdp_frame.proofs.Common.{◌≡◌, ◌-◌, ◌+◌, ◌/◌, ◌≤◌, length, drop, ap, ◌∙◌, arith, sum_from, crc_from, Buffered, GoesBy}
 use Rattle.osdp_frame.proofs.Buffering.{slice_after, run_after}
 use Rattle.osdp_frame.proofs.Running.{length-slice}
 use Rattle.osdp_frame.proofs.buffer.Buffer.advance.Goals as goal

@@ -1,9 +1,4 @@
-use Rattle.std.proofs.Common.{◌/◌, ◌<◌, length, take, ap, sym, ◌∙◌, rules}
-use Rattle.osdp_check.specs.Checksum.{sum_from}
-use Rattle.osdp_check.specs.Crc.{crc_from}
-use Rattle.osdp_frame.specs.Buffered.{Buffered}
-use Rattle.osdp_frame.specs.Check.{check_of}
-use Rattle.osdp_frame.specs.declared.check_kind.CheckKind.TheVariants.{Sum, Crc}
+use Rattle.osdp_frame.proofs.Common.{◌/◌, ◌<◌, length, take, ap, sym, ◌∙◌, rules, sum_from, crc_from, Buffered, check_of, Sum, Crc}
 use Rattle.osdp_frame.proofs.Buffering.{front_of}
 use Rattle.osdp_frame.proofs.Running.{state_since, sum_joins, crc_joins}
 use Rattle.osdp_frame.proofs.buffer.Buffer.check.Goals as goal

@@ -1,8 +1,4 @@
-use Rattle.std.proofs.Common.{◌≡◌, ◌+◌, ◌-◌, ◌*◌, ◌/◌, ◌≤◌, ◌++◌, length, slice_range, ap, ◌∙◌, arith}
-use Rattle.osdp_check.specs.Checksum.{sum_from}
-use Rattle.osdp_check.specs.Crc.{crc_from}
-use Rattle.osdp_frame.specs.Buffered.{Buffered}
-use Rattle.osdp_frame.specs.Running.{GoesBy}
+use Rattle.osdp_frame.proofs.Common.{◌≡◌, ◌+◌, ◌-◌, ◌*◌, ◌/◌, ◌≤◌, ◌++◌, length, slice_range, ap, ◌∙◌, arith, sum_from, crc_from, Buffered, GoesBy}
 use Rattle.osdp_frame.proofs.Buffering.{held_moved, written_after, run_moved, run_written}
 use Rattle.osdp_frame.proofs.Running.{length-slice}
 use Rattle.osdp_frame.proofs.buffer.Buffer.push.Goals as goal

@@ -1,6 +1,4 @@
-use Rattle.std.proofs.Common.{arith, ◌∙◌, ap, sym, Some}
-use Rattle.osdp_frame.specs.Held.{packet_at}
-use Rattle.osdp_frame.specs.First.{item_in}
+use Rattle.osdp_frame.proofs.Common.{arith, ◌∙◌, ap, sym, Some, packet_at, item_in}
 use Rattle.osdp_frame.proofs.FirstItems.{packet_decided}
 use Rattle.osdp_frame.proofs.first.First.shown.Goals as goal
 

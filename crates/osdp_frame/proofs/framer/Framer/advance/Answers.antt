@@ -1,5 +1,4 @@
-use Rattle.std.proofs.Common.{◌≡◌, ℕ, List, ◌&&◌, Bool, ap, sym, ◌∙◌, ltb, length}
-use Rattle.osdp_frame.specs.Buffered.{Buffered}
+use Rattle.osdp_frame.proofs.Common.{◌≡◌, ℕ, List, ◌&&◌, Bool, ap, sym, ◌∙◌, ltb, length, Buffered}
 use Rattle.osdp_frame.proofs.Framing.{advanced, kept_fits}
 use Rattle.osdp_frame.proofs.framer.Framer.advance.Goals.{then-self, else-self}
 use Rattle.osdp_frame.proofs.framer.Framer.advance.Goals as goal

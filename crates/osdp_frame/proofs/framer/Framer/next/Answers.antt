@@ -1,7 +1,4 @@
-use Rattle.std.proofs.Common.{sym, refl, subst, ap, ◌∙◌}
-use Rattle.std.specs.Prelude.{IsNone}
-use Rattle.osdp_frame.specs.First.{item_in}
-use Rattle.osdp_frame.specs.Shown.{item_of}
+use Rattle.osdp_frame.proofs.Common.{sym, refl, subst, ap, ◌∙◌, IsNone, item_in, item_of}
 use Rattle.osdp_frame.proofs.Framing.{shown_first, shown_none, shown_some}
 use Rattle.osdp_frame.proofs.framer.Framer.next.Goals as goal
 

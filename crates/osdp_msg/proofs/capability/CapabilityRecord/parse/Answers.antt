@@ -1,6 +1,4 @@
-use Rattle.std.proofs.Common.{refl}
-use Rattle.osdp_words.specs.Word.{AreWithin, numbers}
-use Rattle.osdp_msg.specs.ReplyFields.{CapabilityFits, capability_at, capability_data, capability_word}
+use Rattle.osdp_msg.proofs.Common.{refl, AreWithin, numbers, CapabilityFits, capability_at, capability_data, capability_word}
 use Rattle.osdp_msg.proofs.RecordTexts.{word_made}
 use Rattle.osdp_msg.proofs.RecordWordRows.{capability_limits, capability_made}
 use Rattle.osdp_msg.proofs.capability.CapabilityRecord.parse.Goals as goal

@@ -1,7 +1,4 @@
-use Rattle.std.proofs.Common.{ap, ◌∙◌}
-use Rattle.std.specs.Prelude.{unwrap_or}
-use Rattle.osdp_msg.specs.declared.command.Command.TheVariants.{Poll}
-use Rattle.osdp_msg.specs.Kept.{command_kept}
+use Rattle.osdp_msg.proofs.Common.{ap, ◌∙◌, unwrap_or, Poll, command_kept}
 use Rattle.osdp_msg.proofs.Keeping.{command_back}
 use Rattle.osdp_msg.proofs.command.Command.write_into.Goals as goal
 

@@ -1,5 +1,4 @@
-use Rattle.std.proofs.Common.{refl}
-use Rattle.osdp_msg.specs.CommandFields.{BuzzerFits, buzzer_at, buzzer_data, buzzer_words}
+use Rattle.osdp_msg.proofs.Common.{refl, BuzzerFits, buzzer_at, buzzer_data, buzzer_words}
 use Rattle.osdp_msg.proofs.ParsedRows.{buzzer_made}
 use Rattle.osdp_msg.proofs.TakenParts.{AreNumbers, made_read, numbers_words}
 use Rattle.osdp_msg.proofs.command_fields.Buzzer.parse.Goals as goal

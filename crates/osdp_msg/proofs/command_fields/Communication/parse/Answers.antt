@@ -1,5 +1,4 @@
-use Rattle.std.proofs.Common.{◌^◌}
-use Rattle.osdp_msg.specs.CommandFields.{CommunicationFits, communication_words}
+use Rattle.osdp_msg.proofs.Common.{◌^◌, CommunicationFits, communication_words}
 use Rattle.osdp_msg.proofs.ParsedRows.{communication_from, communication_made, communication_parts}
 use Rattle.osdp_msg.proofs.TakenParts.{IsBelow, number_words, two_no_back, two_no_front, two_whole}
 use Rattle.osdp_msg.proofs.command_fields.Communication.parse.Goals as goal

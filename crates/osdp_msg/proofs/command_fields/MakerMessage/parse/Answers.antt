@@ -1,5 +1,4 @@
-use Rattle.std.proofs.Common.{refl, ◌∙◌}
-use Rattle.osdp_msg.specs.CommandFields.{MakerFits, maker_words}
+use Rattle.osdp_msg.proofs.Common.{refl, ◌∙◌, MakerFits, maker_words}
 use Rattle.osdp_msg.proofs.ParsedRows.{maker_from, maker_made, maker_parts}
 use Rattle.osdp_msg.proofs.TakenParts.{IsVendor, IsList, list_words, vendor_words, two_no_back, two_no_front, two_whole, within}
 use Rattle.osdp_msg.proofs.command_fields.MakerMessage.parse.Goals as goal

@@ -1,5 +1,4 @@
-use Rattle.std.proofs.Common.{refl, ◌∙◌}
-use Rattle.osdp_msg.specs.CommandFields.{TextFits, text_words}
+use Rattle.osdp_msg.proofs.Common.{refl, ◌∙◌, TextFits, text_words}
 use Rattle.osdp_msg.proofs.ParsedRows.{text_from, text_made, text_parts}
 use Rattle.osdp_msg.proofs.TakenParts.{AreNumbers, IsList, list_words, numbers_words, two_no_back, two_no_front, two_whole, within}
 use Rattle.osdp_msg.proofs.command_fields.Text.parse.Goals as goal

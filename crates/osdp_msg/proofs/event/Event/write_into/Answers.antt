@@ -1,8 +1,5 @@
-use Rattle.std.proofs.Common.{ap, subst, [], ◌∷◌, ◌∙◌}
-use Rattle.std.specs.Prelude.{unwrap_or}
-use Rattle.osdp_msg.specs.ReplyTable.{ReplyFits, reply_code, reply_data}
+use Rattle.osdp_msg.proofs.Common.{ap, subst, [], ◌∷◌, ◌∙◌, unwrap_or, ReplyFits, reply_code, reply_data, event_kept}
 use Rattle.osdp_msg.specs.declared.event.Event.TheVariants.{Inputs}
-use Rattle.osdp_msg.specs.Kept.{event_kept}
 use Rattle.osdp_msg.proofs.Keeping.{event_back}
 use Rattle.osdp_msg.proofs.event.Event.write_into.Goals as goal
 

@@ -1,5 +1,4 @@
-use Rattle.std.proofs.Common.{refl, ◌∙◌}
-use Rattle.osdp_msg.specs.ReplyFields.{FormattedFits, formatted_words}
+use Rattle.osdp_msg.proofs.Common.{refl, ◌∙◌, FormattedFits, formatted_words}
 use Rattle.osdp_msg.proofs.ParsedRows.{formatted_from, formatted_made, formatted_parts}
 use Rattle.osdp_msg.proofs.TakenParts.{AreNumbers, IsList, list_words, numbers_words, two_no_back, two_no_front, two_whole, within}
 use Rattle.osdp_msg.proofs.event_fields.Formatted.parse.Goals as goal

@@ -1,5 +1,4 @@
-use Rattle.std.proofs.Common.{◌^◌, refl, ◌∙◌}
-use Rattle.osdp_msg.specs.ReplyFields.{KeypadFits, keypad_words}
+use Rattle.osdp_msg.proofs.Common.{◌^◌, refl, ◌∙◌, KeypadFits, keypad_words}
 use Rattle.osdp_msg.proofs.ParsedRows.{keypad_from, keypad_made, keypad_parts}
 use Rattle.osdp_msg.proofs.TakenParts.{IsBelow, IsList, list_words, number_words, two_no_back, two_no_front, two_whole, within}
 use Rattle.osdp_msg.proofs.event_fields.Keypad.parse.Goals as goal

@@ -1,6 +1,4 @@
-use Rattle.std.proofs.Common.{refl}
-use Rattle.osdp_words.specs.Word.{AreWithin, numbers}
-use Rattle.osdp_msg.specs.CommandFields.{LedFits, led_word}
+use Rattle.osdp_msg.proofs.Common.{refl, AreWithin, numbers, LedFits, led_word}
 use Rattle.osdp_msg.proofs.RecordTexts.{word_made}
 use Rattle.osdp_msg.proofs.RecordWordRows.{led_from, led_limits, led_made, led_numbers}
 use Rattle.osdp_msg.proofs.leds.LedRecordRecord.parse.Goals as goal

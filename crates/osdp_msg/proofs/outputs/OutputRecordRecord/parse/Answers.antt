@@ -1,6 +1,4 @@
-use Rattle.std.proofs.Common.{refl}
-use Rattle.osdp_words.specs.Word.{AreWithin, numbers}
-use Rattle.osdp_msg.specs.CommandFields.{OutputFits, output_word}
+use Rattle.osdp_msg.proofs.Common.{refl, AreWithin, numbers, OutputFits, output_word}
 use Rattle.osdp_msg.proofs.RecordTexts.{word_made}
 use Rattle.osdp_msg.proofs.RecordWordRows.{output_from, output_limits, output_made, output_numbers}
 use Rattle.osdp_msg.proofs.outputs.OutputRecordRecord.parse.Goals as goal

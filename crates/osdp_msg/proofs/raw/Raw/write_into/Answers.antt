@@ -1,5 +1,4 @@
-use Rattle.std.proofs.Common.{subst}
-use Rattle.osdp_msg.specs.ReplyFields.{RawFits}
+use Rattle.osdp_msg.proofs.Common.{subst, RawFits}
 use Rattle.osdp_msg.proofs.raw.Raw.write_into.Goals as goal
 
 pub returns-clause-fits : goal.returns-clause-fits

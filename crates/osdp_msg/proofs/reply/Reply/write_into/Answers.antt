@@ -1,7 +1,4 @@
-use Rattle.std.proofs.Common.{ap, ◌∙◌}
-use Rattle.std.specs.Prelude.{unwrap_or}
-use Rattle.osdp_msg.specs.declared.reply.Reply.TheVariants.{Ack}
-use Rattle.osdp_msg.specs.Kept.{reply_kept}
+use Rattle.osdp_msg.proofs.Common.{ap, ◌∙◌, unwrap_or, Ack, reply_kept}
 use Rattle.osdp_msg.proofs.Keeping.{reply_back}
 use Rattle.osdp_msg.proofs.reply.Reply.write_into.Goals as goal
 

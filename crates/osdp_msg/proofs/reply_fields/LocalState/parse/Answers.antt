@@ -1,5 +1,4 @@
-use Rattle.std.proofs.Common.{refl}
-use Rattle.osdp_msg.specs.ReplyFields.{LocalStateFits, local_state_at, local_state_data, local_state_words}
+use Rattle.osdp_msg.proofs.Common.{refl, LocalStateFits, local_state_at, local_state_data, local_state_words}
 use Rattle.osdp_msg.proofs.ParsedRows.{local_state_made}
 use Rattle.osdp_msg.proofs.TakenParts.{AreNumbers, made_read, numbers_words}
 use Rattle.osdp_msg.proofs.reply_fields.LocalState.parse.Goals as goal

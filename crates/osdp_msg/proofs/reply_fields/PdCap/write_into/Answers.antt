@@ -1,5 +1,4 @@
-use Rattle.std.proofs.Common.{lit<}
-use Rattle.osdp_msg.specs.ReplyFields.{capability_at}
+use Rattle.osdp_msg.proofs.Common.{lit<, capability_at}
 use Rattle.osdp_msg.proofs.RecordLists.{lent_few}
 use Rattle.osdp_msg.proofs.reply_fields.PdCap.write_into.Goals as goal
 

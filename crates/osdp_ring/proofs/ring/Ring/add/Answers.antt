@@ -1,6 +1,4 @@
-use Rattle.std.proofs.Common.{◌≡◌, ◌-◌, ◌+◌, ◌++◌, ℕ, List, length, drop, ap, sym, ◌∙◌, arith, refl, length-append}
-use Rattle.std.proofs.lemmas.List.{drop-append-le, length-drop}
-use Rattle.osdp_ring.specs.Ring.{cut, sum_of, total}
+use Rattle.osdp_ring.proofs.Common.{◌≡◌, ◌-◌, ◌+◌, ◌++◌, ℕ, List, length, drop, ap, sym, ◌∙◌, arith, refl, length-append, drop-append-le, length-drop, cut, sum_of, total}
 use Rattle.osdp_ring.proofs.Cuts.{cut_length, cut_more, fitting, room_of, sum_more}
 use Rattle.osdp_ring.proofs.ring.Ring.add.Goals as goal
 

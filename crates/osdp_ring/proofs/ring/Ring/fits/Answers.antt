@@ -1,7 +1,5 @@
-use Rattle.std.proofs.Common.{◌<◌, ◌≤◌, length, drop, sym, ◌∙◌, arith, refl}
-use Rattle.std.proofs.lemmas.Bool.{lt-ltb, le-ltb}
+use Rattle.osdp_ring.proofs.Common.{◌<◌, ◌≤◌, length, drop, sym, ◌∙◌, arith, refl, lt-ltb, le-ltb, cut}
 use Rattle.osdp_ring.proofs.Cuts.{cut_length}
-use Rattle.osdp_ring.specs.Ring.{cut}
 use Rattle.osdp_ring.proofs.ring.Ring.fits.Goals as goal
 
 pub returns-then-len-capacity : goal.returns-then-len-capacity

@@ -1,6 +1,4 @@
-use Rattle.std.proofs.Common.{◌≡◌, drop, Some, None, sym, ◌∙◌, refl, rules}
-use Rattle.std.proofs.lemmas.List.{length-drop}
-use Rattle.std.specs.Prelude.{slice_get}
+use Rattle.osdp_ring.proofs.Common.{◌≡◌, drop, Some, None, sym, ◌∙◌, refl, rules, length-drop, slice_get}
 use Rattle.osdp_ring.proofs.Cuts.{first_cut, first_none, first_within}
 use Rattle.osdp_ring.proofs.ring.Ring.front.Goals as goal
 

@@ -1,6 +1,4 @@
-use Rattle.std.proofs.Common.{◌≡◌, drop, Some, None, sym, ◌∙◌, refl, rules}
-use Rattle.std.proofs.lemmas.List.{length-drop}
-use Rattle.std.specs.Prelude.{slice_get}
+use Rattle.osdp_ring.proofs.Common.{◌≡◌, drop, Some, None, sym, ◌∙◌, refl, rules, length-drop, slice_get}
 use Rattle.osdp_ring.proofs.Cuts.{first_within, none_after, rest_cut, sizes_left}
 use Rattle.osdp_ring.proofs.ring.Ring.has_first_after_front.Goals as goal
 

@@ -1,7 +1,4 @@
-use Rattle.std.proofs.Common.{◌≡◌, ◌+◌, ◌≤◌, ◌<◌, drop, length, Some, sym, ◌∙◌, refl, rules, arith}
-use Rattle.std.proofs.lemmas.List.{length-drop}
-use Rattle.std.specs.Prelude.{slice_get}
-use Rattle.osdp_ring.specs.Ring.{cut}
+use Rattle.osdp_ring.proofs.Common.{◌≡◌, ◌+◌, ◌≤◌, ◌<◌, drop, length, Some, sym, ◌∙◌, refl, rules, arith, length-drop, slice_get, cut}
 use Rattle.osdp_ring.proofs.Cuts.{cut_length, drop_without, short_same, two_within, without_second}
 use Rattle.osdp_ring.proofs.ring.Ring.pop_second.Goals as goal
 

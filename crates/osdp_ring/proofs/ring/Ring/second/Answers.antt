@@ -1,6 +1,4 @@
-use Rattle.std.proofs.Common.{◌≡◌, drop, Some, None, sym, ◌∙◌, refl, rules, arith}
-use Rattle.std.proofs.lemmas.List.{length-drop}
-use Rattle.std.specs.Prelude.{slice_get}
+use Rattle.osdp_ring.proofs.Common.{◌≡◌, drop, Some, None, sym, ◌∙◌, refl, rules, arith, length-drop, slice_get}
 use Rattle.osdp_ring.proofs.Cuts.{none_second, second_cut, second_none, second_within}
 use Rattle.osdp_ring.proofs.ring.Ring.second.Goals as goal
 

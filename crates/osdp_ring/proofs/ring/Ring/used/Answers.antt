@@ -1,5 +1,4 @@
-use Rattle.std.proofs.Common.{drop, sym, ◌∙◌, arith}
-use Rattle.std.proofs.lemmas.List.{length-drop}
+use Rattle.osdp_ring.proofs.Common.{drop, sym, ◌∙◌, arith, length-drop}
 use Rattle.osdp_ring.proofs.Cuts.{cut_total}
 use Rattle.osdp_ring.proofs.ring.Ring.used.Goals as goal
 

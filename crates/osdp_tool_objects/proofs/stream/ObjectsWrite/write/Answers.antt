@@ -1,10 +1,4 @@
-use Rattle.std.proofs.Common.{◌≡◌, ◌++◌, ◌∙◌, false, Option, None, Some, length, refl, sym, subst, arith}
-use Rattle.std.specs.Prelude.{is_some}
-use Rattle.std.specs.Io.KnownBytes.{Appends}
-use Rattle.std.proofs.lemmas.List.{take_all}
-use Rattle.osdp_tool_streams.specs.Watched.{has_failed, inner_of}
-use Rattle.osdp_tool_objects.specs.Outputs.{lines_taken, output_of, start_of}
-use Rattle.osdp_tool_objects.specs.Streams.{is_written, noted, taken_so}
+use Rattle.osdp_tool_objects.proofs.Common.{◌≡◌, ◌++◌, ◌∙◌, false, Option, None, Some, length, refl, sym, subst, arith, is_some, Appends, take_all, has_failed, inner_of, lines_taken, output_of, start_of, is_written, noted, taken_so}
 use Rattle.osdp_tool_objects.proofs.Outputs.{took_all, took_part}
 use Rattle.osdp_tool_objects.proofs.stream.ObjectsWrite.write.Goals as goal
 

@@ -1,5 +1,4 @@
-use Rattle.std.proofs.Common.{refl, ◌∙◌, arith}
-use Rattle.std.proofs.lemmas.List.{length-set}
+use Rattle.osdp_tool_streams.proofs.Common.{refl, ◌∙◌, arith, length-set}
 use Rattle.osdp_tool_streams.proofs.DigitValues.{value_set}
 use Rattle.osdp_tool_streams.proofs.digits.Digits.new.Goals as goal
 

@@ -1,6 +1,4 @@
-use Rattle.std.proofs.Common.{◌≡◌, ◌<◌, ℕ, length, slice_index}
-use Rattle.hex.specs.Hex.{hex_digit_value}
-use Rattle.osdp_tool_streams.specs.Digits.{value_or_none}
+use Rattle.osdp_tool_streams.proofs.Common.{◌≡◌, ◌<◌, ℕ, length, slice_index, hex_digit_value, value_or_none}
 use Rattle.osdp_tool_streams.proofs.digits.Digits.new.Given as goal
 
 abbrev pub invariant-characters : goal.invariant-characters

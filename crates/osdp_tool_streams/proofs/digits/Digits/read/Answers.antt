@@ -1,5 +1,4 @@
-use Rattle.std.proofs.Common.{◌*◌, length, arith}
-use Rattle.hex.proofs.Pairs.{decode_step, decode_done, decode_err}
+use Rattle.osdp_tool_streams.proofs.Common.{◌*◌, length, arith, decode_step, decode_done, decode_err}
 use Rattle.osdp_tool_streams.proofs.DigitValues.{pair_ok, pair_err, read_all, read_none}
 use Rattle.osdp_tool_streams.proofs.digits.Digits.read.Goals as goal
 

@@ -1,6 +1,4 @@
-use Rattle.std.proofs.Common.{◌≡◌, ◌*◌, take, drop}
-use Rattle.hex.specs.Hex.{decode_pairs}
-use Rattle.hex.proofs.Pairs.{prepend}
+use Rattle.osdp_tool_streams.proofs.Common.{◌≡◌, ◌*◌, take, drop, decode_pairs, prepend}
 use Rattle.osdp_tool_streams.proofs.digits.Digits.read.Given as goal
 
 abbrev pub invariant-pairs : goal.invariant-pairs

@@ -1,7 +1,4 @@
-use Rattle.std.proofs.Common.{◌≤◌}
-use Rattle.arrayvec.specs.ArrayVec.{array_vec_len}
-use Rattle.hex.specs.Hex.{IsBytes}
-use Rattle.osdp_words.specs.Word.{bytes}
+use Rattle.osdp_words.proofs.Common.{◌≤◌, array_vec_len, IsBytes, bytes}
 use Rattle.osdp_words.proofs.Taking.{one_taken}
 use Rattle.osdp_words.proofs.fields.Fields.byte_list.Goals as goal
 

@@ -1,5 +1,4 @@
-use Rattle.std.proofs.Common.{◌<◌, ◌^◌}
-use Rattle.osdp_words.specs.Word.{number}
+use Rattle.osdp_words.proofs.Common.{◌<◌, ◌^◌, number}
 use Rattle.osdp_words.proofs.Taking.{one_taken}
 use Rattle.osdp_words.proofs.fields.Fields.number_u32.Goals as goal
 

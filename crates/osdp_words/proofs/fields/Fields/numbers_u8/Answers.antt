@@ -1,7 +1,5 @@
 use Rattle.std.proofs.Common.{◌≡◌, ◌<◌, ◌^◌, length, take, ◌∙◌, arith, length-set}
-use Rattle.std.proofs.lemmas.Grind.{common_steps}
-use Rattle.std.proofs.lemmas.List.{length-take, take_all, take_more_set}
-use Rattle.osdp_words.specs.Word.{number}
+use Rattle.osdp_words.proofs.Common.{common_steps, length-take, take_all, take_more_set, number}
 use Rattle.osdp_words.proofs.Lists.{nothing_taken, one_more}
 use Rattle.osdp_words.proofs.Taking.{all_taken, one_missing}
 use Rattle.osdp_words.proofs.fields.Fields.numbers_u8.Goals as goal

@@ -1,6 +1,4 @@
-use Rattle.std.proofs.Common.{◌≡◌, length}
-use Rattle.hex.specs.Hex.{IsBytes}
-use Rattle.osdp_words.specs.Word.{bytes}
+use Rattle.osdp_words.proofs.Common.{◌≡◌, length, IsBytes, bytes}
 use Rattle.osdp_words.proofs.Taking.{one_taken}
 use Rattle.osdp_words.proofs.fields.Fields.vendor.Goals as goal
 

@@ -1,6 +1,4 @@
-use Rattle.std.proofs.Common.{take}
-use Rattle.std.specs.Fmt.{HasWritten, IsPlainFormatter}
-use Rattle.hex.specs.Hex.{encode_upper}
+use Rattle.osdp_words.proofs.Common.{take, HasWritten, IsPlainFormatter, encode_upper}
 use Rattle.osdp_words.proofs.printing.ByteListDisplay.fmt.Given as goal
 
 abbrev pub invariant-loop-byte : goal.invariant-loop-byte

@@ -1,6 +1,4 @@
-use Rattle.std.proofs.Common.{take, ◌∷◌}
-use Rattle.std.specs.Fmt.{HasWritten, IsPlainFormatter, decimal}
-use Rattle.std.specs.List.{flat_map}
+use Rattle.osdp_words.proofs.Common.{take, ◌∷◌, HasWritten, IsPlainFormatter, decimal, flat_map}
 use Rattle.osdp_words.proofs.printing.RecordDisplay.fmt.Given as goal
 
 abbrev pub invariant-loop-number : goal.invariant-loop-number
