@@ -279,8 +279,9 @@ def of_crate(crate):
 
 
 class Asking:
-    def __init__(self, tools, crate, budget, log, copies):
-        self.tools, self.crate, self.budget, self.log, self.copies = tools, crate, budget, log, copies
+    def __init__(self, tools, crate, budget, log, copies, proved=None):
+        """Of a log of a check, which gives the functions of a crate that it has as proved, these aren't proved again without any edit."""
+        self.tools, self.crate, self.budget, self.log, self.copies, self.proved = tools, crate, budget, log, copies, proved
         self.crates, self.stages, _ = ASKED[crate]
         self.results = {}
 
@@ -298,15 +299,18 @@ class Asking:
         copy = self.tools.Copy(reached)
         try:
             self.chain = Chain(copy, crates, self.budget)
-            # what is asked must be proved without any edit
-            said = self.chain.ask([None], laws)
-            if said is None:
-                return waiting
-            if not variants.is_proved(said[0]):
-                self.tools.stop(f"{self.crate}: not proved without any edit, so no edit shows anything:\n{said[0][-2000:]}")
-            return self.stage(waiting, laws, is_last)
+            return self.stage(waiting, laws, is_last) if self.are_proved(laws) else waiting
         finally:
             copy.remove()
+
+    def are_proved(self, laws):
+        """Whether what is asked is proved without any edit: stops where it isn't, and says no at the end of the budget."""
+        if self.proved and all(rest in self.proved(crate) for crate, _, rest in (it.partition("::") for it in laws)):
+            return True
+        said = self.chain.ask([None], laws)
+        if said is not None and not variants.is_proved(said[0]):
+            self.tools.stop(f"{self.crate}: not proved without any edit, so no edit shows anything:\n{said[0][-2000:]}")
+        return said is not None
 
     def stage(self, waiting, laws, is_last):
         left = []
@@ -385,7 +389,7 @@ def drawn(wanted, most, seed):
     return {crate: order.sample(wanted[crate], min(most, len(wanted[crate])))}
 
 
-def main(tools, words, budget, log, copies, most=None, seed="0"):
+def main(tools, words, budget, log, copies, most=None, seed="0", proved=None):
     """Tries the premises of these crates, or those that a word names, or all, or so many of one of the crates; prints what came of each, and how many of each result there were."""
     is_list = "--list" in words
     named = [it.partition("/")[::2] for it in words if it.partition("/")[0] in ASKED] or [(it, "") for it in ASKED]
@@ -396,7 +400,7 @@ def main(tools, words, budget, log, copies, most=None, seed="0"):
             print(it.name())
         if not is_list:
             left = [it for it in edits if log.key(it) not in log.results]
-            asking = Asking(tools, crate, budget, log, copies or 8)
+            asking = Asking(tools, crate, budget, log, copies or 8, proved)
             if left:
                 asking.run(left)
         counts = [log.results.get(log.key(it), "not asked") for it in edits]

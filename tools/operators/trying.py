@@ -208,7 +208,7 @@ def main(tools, words):
     budget = Budget(60 * float(given["--minutes"]) if given["--minutes"] else None)
     copies, variants.JOBS[:] = given["--copies"] and int(given["--copies"]), [given["--jobs"]]
     if kind == "--premises":
-        return premises.main(tools, words, budget, log, copies, most, seed)
+        return premises.main(tools, words, budget, log, copies, most, seed, given["--proved"] and functools.partial(proved_in, given["--proved"]))
     if kind == "--asked":
         return chains.main(tools, words, budget, log, copies)
     only, is_wide, asks_runs, is_left = "--list" in words, "--wide" in words, "--runs" in words, "--left" in words
