@@ -1,6 +1,6 @@
 """Copies of several crates, of which each stands on the one before, that one run of the prover checks together: an edit of any of them in each copy.
 
-A law is so asked of an edit of a definition far below it, and nothing else is proved."""
+A law is so asked of an edit of a definition far below it, and of a bug the function that it changes. Nothing else is proved."""
 import os
 import re
 import shutil
@@ -46,7 +46,8 @@ class Chain(Variants):
             it.write(self.own.sub(rf"\g<1>{name}", text))
 
     def ask(self, edits, laws):
-        """Asks these laws of each edit, in a copy of its own; returns what was said of each, or None at the end of the budget."""
+        """Asks these laws of each edit, or of each its own, in a copy of its own; returns what was said of each, or None at the end of the budget."""
+        asks = [laws.get(it, ()) for it in edits] if isinstance(laws, dict) else [laws] * len(edits)
         self.make(len(edits))
         names, written = self.names[:len(edits)], []
         for name, edit in zip(names, edits):
@@ -58,7 +59,7 @@ class Chain(Variants):
             for crate in self.crates:
                 uses = ",".join(it + name if it in self.crates else it for it in self.uses[crate])
                 words += ["--lib", f"{crate}{name}:{uses}=../{crate}{name}/src/lib.rt"]
-        words += [it for name in names for law in laws for it in ("--only", law.replace("::", f"{name}::", 1))]
+        words += [it for name, own in zip(names, asks) for law in own for it in ("--only", law.replace("::", f"{name}::", 1))]
         said = ran(["rt", "check", "--jobs", "1", *words], self.room, self.budget)
         for name, path in written:
             self.write(name, path, generated.read(path))
@@ -84,15 +85,31 @@ def crates_of(tools, edit):
     return tuple(it for it in tools.USES if it in reached and (it in first or first & {*tools.below(it)}))
 
 
-def main(tools, words, budget, log, copies):
-    """Asks of kept edits the laws alone that are to refuse them, several edits in a run. Returns 1 where one is let through, or shows nothing."""
-    waiting, failed = {}, 0
+def main(tools, words, budget, log, copies, proved=None):
+    """Asks of kept edits the laws alone that are to refuse them, and of bugs the functions that they change, where a log gives the functions of a crate that are
+    proved without any. Several edits are in a run. Returns 1 where one is let through, or shows nothing."""
+    waiting, bugs, failed = {}, {}, 0
     for edit in [it for found in tools.wanted(words).values() for it in found]:
+        if log.key(edit) in log.results:
+            continue
         if edit.refused_by and all(kind == "law" for _, _, kind in edit.targets()):
-            if log.key(edit) not in log.results:
-                waiting.setdefault(crates_of(tools, edit), []).append(edit)
+            waiting.setdefault(crates_of(tools, edit), []).append(edit)
+        elif not edit.refused_by and proved:
+            bugs.setdefault(edit.crate, []).append(edit)
         else:
-            print(f"{edit.label()}: not asked: no law is to refuse it")
+            print(f"{edit.label()}: not asked: {'a log is to say what is proved' if not edit.refused_by else 'no law is to refuse it'}")
+    for crate, edits in bugs.items():
+        copy = tools.Copy({crate, *tools.below(crate)})
+        try:
+            chain = Chain(copy, (crate,), budget)
+            asks = {it: [f"{crate}::{name}" for name in changed_by(it, proved(crate))] for it in edits}
+            for edit in [it for it in edits if not asks[it]]:
+                print(f"{edit.label()}: not asked: it changes more than one function, or one that the log doesn't have")
+            left = [it for it in edits if asks[it]]
+            for at in range(0, len(left), copies or 6):
+                failed += asked_bugs(tools, chain, left[at:at + (copies or 6)], asks, log)
+        finally:
+            copy.remove()
     for crates, edits in waiting.items():
         copy = tools.Copy({crates[-1], *tools.below(crates[-1])})
         try:
@@ -102,6 +119,37 @@ def main(tools, words, budget, log, copies):
         finally:
             copy.remove()
     return 1 if failed else 0
+
+
+def changed_by(edit, functions):
+    """Returns the names, of those that a check gives, of the one function that a bug changes; none where it changes more."""
+    found = edit.function()
+    if not found:
+        return []
+    module, name = os.path.basename(found[0]).removesuffix(".rt"), found[3]
+    named = [it for it in functions if it.rpartition("::")[2] == name]
+    return [it for it in named if module in ("lib", "main") or module in it.split("::")] or named
+
+
+def asked_bugs(tools, chain, edits, asks, log):
+    """Asks of each bug the function that it changes, and tells what refused."""
+    saids = chain.ask(edits, asks)
+    if saids is None:
+        return len(edits)
+    if not is_reached(saids[0]) and len(edits) > 1:
+        half = len(edits) // 2
+        return asked_bugs(tools, chain, edits[:half], asks, log) + asked_bugs(tools, chain, edits[half:], asks, log)
+    failed = 0
+    for edit, said in zip(edits, saids):
+        refused = [it for it in re.findall(r"^fn (\S+): (?:not proved|no proof)", said, re.M) if it in asks[edit]]
+        try:
+            why = tools.refusal(said, [it.split("/", 2)[2] for it in edit.texts()]) if refused else "NOT REFUSED: its function is still proved"
+        except tools.Bad as it:
+            refused, why = [], str(it)
+        failed += not refused
+        log.add(edit, "refused" if refused else "failed", why)
+        print(f"{edit.label()}: {'refused at' if refused else 'FAILED:'} {why}", flush=True)
+    return failed
 
 
 def asked(tools, chain, edits, log):

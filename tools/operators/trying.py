@@ -210,7 +210,7 @@ def main(tools, words):
     if kind == "--premises":
         return premises.main(tools, words, budget, log, copies, most, seed, given["--proved"] and functools.partial(proved_in, given["--proved"]))
     if kind == "--asked":
-        return chains.main(tools, words, budget, log, copies)
+        return chains.main(tools, words, budget, log, copies, given["--proved"] and functools.partial(proved_in, given["--proved"]))
     only, is_wide, asks_runs, is_left = "--list" in words, "--wide" in words, "--runs" in words, "--left" in words
     kind = next((it for it in streams.KINDS if it in words), None)
     words = [it.strip("/").removeprefix("crates/") for it in words if it not in ("--list", "--wide", "--runs", "--left", *streams.KINDS)]
