@@ -217,7 +217,8 @@ def ctrl_c():
             with Line() as line:
                 script = line.start(line.panel_end, 9600, *words, stderr=subprocess.PIPE)
                 asks(line.run(lambda: script.lines), f"Ctrl-C: {words} doesn't begin")
-                os.write(line.panel_end.end, said)
+                if words != ["find"]:  # it would end where it hears another panel
+                    os.write(line.panel_end.end, said)
                 line.rests(0.6)
                 found = line.stops(script)
                 asks(found == status and tells(script, wanted)(), f"Ctrl-C: {words}: status {found}: {script.lines}")
