@@ -113,8 +113,3 @@ fn main(rt: HostRuntime) -> io::Result<()> {
     }
     Ok(())
 }
-
-#[test]
-fn a_door_does_not_stand_open(rt: HostRuntime) {
-    assert!(rt; may_be_done(0, 5) && may_be_done(1, 1) && !may_be_done(0, 2) && !may_be_done(2, 5));
-}
