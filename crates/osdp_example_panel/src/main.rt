@@ -89,10 +89,3 @@ fn main(rt: HostRuntime) -> io::Result<()> {
     }
     Ok(())
 }
-
-#[test]
-fn two_cards_open(rt: HostRuntime) {
-    let enters = |bytes: &[u8]| Raw::new(0, 0, 26, bytes).as_ref().is_some_and(may_enter);
-    assert!(rt; enters(&[0x12, 0x34, 0x56, 0x40]) && enters(&[0x65, 0x43, 0x21, 0x80]));
-    assert!(rt; !enters(&[0x12, 0x34, 0x56, 0x80]));
-}
