@@ -87,38 +87,47 @@ def crates_of(tools, edit):
 
 def main(tools, words, budget, log, copies, proved=None):
     """Asks of kept edits the laws alone that are to refuse them, and of bugs the functions that they change, where a log gives the functions of a crate that are
-    proved without any. Several edits are in a run. Returns 1 where one is let through, or shows nothing."""
+    proved without any. Several edits are in a run. Returns 1 where one is let through, or shows nothing, and where a bug can't be asked."""
+    waiting, bugs, failed = sorted_out(tools, words, log, proved)
+    for crate, edits in bugs.items():
+        asks = {it: [f"{crate}::{name}" for name in changed_by(it, proved(crate))] for it in edits}
+        for edit in [it for it in edits if not asks[it]]:
+            print(f"{edit.label()}: FAILED: it changes more than one function, or one that the log doesn't have as proved", flush=True)
+            failed += 1
+        failed += in_runs(tools, (crate,), [it for it in edits if asks[it]], budget, copies, lambda chain, some: asked_bugs(tools, chain, some, asks, log))
+    for crates, edits in waiting.items():
+        failed += in_runs(tools, crates, edits, budget, copies, lambda chain, some: asked(tools, chain, some, log))
+    return 1 if failed else 0
+
+
+def sorted_out(tools, words, log, proved):
+    """Returns the edits that laws are to refuse, by the crates that they are asked in; the bugs, by their crate; and how many bugs can't be asked."""
     waiting, bugs, failed = {}, {}, 0
     for edit in [it for found in tools.wanted(words).values() for it in found]:
         if log.key(edit) in log.results:
             continue
         if edit.refused_by and all(kind == "law" for _, _, kind in edit.targets()):
             waiting.setdefault(crates_of(tools, edit), []).append(edit)
-        elif not edit.refused_by and proved:
+        elif edit.refused_by:
+            print(f"{edit.label()}: not asked: no law is to refuse it")
+        elif proved:
             bugs.setdefault(edit.crate, []).append(edit)
         else:
-            print(f"{edit.label()}: not asked: {'a log is to say what is proved' if not edit.refused_by else 'no law is to refuse it'}")
-    for crate, edits in bugs.items():
-        copy = tools.Copy({crate, *tools.below(crate)})
-        try:
-            chain = Chain(copy, (crate,), budget)
-            asks = {it: [f"{crate}::{name}" for name in changed_by(it, proved(crate))] for it in edits}
-            for edit in [it for it in edits if not asks[it]]:
-                print(f"{edit.label()}: not asked: it changes more than one function, or one that the log doesn't have")
-            left = [it for it in edits if asks[it]]
-            for at in range(0, len(left), copies or 6):
-                failed += asked_bugs(tools, chain, left[at:at + (copies or 6)], asks, log)
-        finally:
-            copy.remove()
-    for crates, edits in waiting.items():
-        copy = tools.Copy({crates[-1], *tools.below(crates[-1])})
-        try:
-            chain = Chain(copy, crates, budget)
-            for at in range(0, len(edits), copies or 6):
-                failed += asked(tools, chain, edits[at:at + (copies or 6)], log)
-        finally:
-            copy.remove()
-    return 1 if failed else 0
+            print(f"{edit.label()}: FAILED: a bug is asked by the log of a check alone, with --proved")
+            failed += 1
+    return waiting, bugs, failed
+
+
+def in_runs(tools, crates, edits, budget, copies, ask):
+    """Asks edits in copies of these crates, so many in a run, and returns how many fail."""
+    if not edits:
+        return 0
+    copy = tools.Copy({crates[-1], *tools.below(crates[-1])})
+    try:
+        chain, most = Chain(copy, crates, budget), copies or 6
+        return sum(ask(chain, edits[at:at + most]) for at in range(0, len(edits), most))
+    finally:
+        copy.remove()
 
 
 def changed_by(edit, functions):
