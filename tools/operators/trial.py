@@ -50,12 +50,24 @@ def citing(crate):
         # a record is cited by what takes or gives one, also where the clauses don't name it
         for name, types in re.findall(r"^ *(?:abbrev |unfoldable )?pub ([^\W\d][\w'-]*) : (.*)$", text, re.M):
             definitions.setdefault(name, set()).update(re.findall(r"[^\W\d][\w'-]*", types))
+    kept = invariants(crate)
     for path in generated.paths_of(crate, "src"):
         text = generated.read(path)
         for unit in generated.parsed(path).units:
             if unit.kind == "fn":
-                functions.append((path, unit, set(re.findall(r"[^\W\d][\w'-]*", text[unit.head:unit.start])), set(re.findall(r"\w+", text[unit.start:unit.end]))))
+                contract = set(re.findall(r"[^\W\d][\w'-]*", text[unit.head:unit.start])) | kept.get(unit.owner, set())
+                functions.append((path, unit, contract, set(re.findall(r"\w+", text[unit.start:unit.end]))))
     return definitions, functions
+
+
+def invariants(crate):
+    """Returns the words of the invariant of each type of a crate, which each of its methods takes and keeps."""
+    found = {}
+    for path in generated.paths_of(crate, "src"):
+        for name, body in re.findall(r"^impl(?:<[^{]*?>)? Model for (\w+)[^{]*\{\n(.*?)^\}", generated.read(path), re.M | re.S):
+            for said in re.findall(r"ghost invariant = \{(.*?)\};", body, re.S):
+                found.setdefault(name, set()).update(re.findall(r"[^\W\d][\w'-]*", said))
+    return found
 
 
 @functools.cache

@@ -185,9 +185,10 @@ def sample(tools, words):
         if budget.left() <= 0:
             break
         one = Budget(max(share, min(120, budget.left())))
-        # what the gate has proved just before isn't proved again without any edit
-        counts = try_crate(tools, crate, 40, seed, one, proved=proved if proved and proved_in(proved, crate) else None)
-        failed += counts.get(SURVIVED, 0) if known_equal(crate)[1] else 0
+        # of a crate that was tried whole, what was tried then; and what the gate has proved just before isn't proved again without any edit
+        is_whole = known_equal(crate)[1]
+        counts = try_crate(tools, crate, 40, seed, one, not is_whole, is_left=is_whole, proved=proved if proved and proved_in(proved, crate) else None)
+        failed += counts.get(SURVIVED, 0) if is_whole else 0
     print(f"{len(crates)} crates changed; {failed} edits survived in those whose edits were all tried")
     return 1 if failed else 0
 
