@@ -6,7 +6,7 @@ import sys
 TOP = os.path.dirname(os.path.dirname(os.path.realpath(__file__)))
 sys.dont_write_bytecode = True
 sys.path.insert(0, f"{TOP}/tools")
-from operators import code_operators, code_special, contracts, definition_operators, definitions, donors, generated, items, lawless, pairs, pinned, premises, shadows, short, spelling, typed, variants, whole  # noqa: E402
+from operators import code_operators, code_special, contracts, definition_operators, definitions, donors, generated, items, lawless, pairs, pinned, premises, shadows, short, spelling, trial, typed, variants, whole  # noqa: E402
 from operators.facts import Facts  # noqa: E402
 
 CODE = """/// Whether a < b.
@@ -244,6 +244,7 @@ def main():
     one = next((it for line, it in made.items() if "HasLongestText ReplyFits reply_text 5730" in line), None)
     assert one and contracts.made(one.path, one.text(), items.File(one.text()), ("osdp_msg",)) is not None, "a law's contract isn't changed"
 
+    assert "IsRing" in trial.invariants("osdp_ring")["Ring"], "what a type's invariant says reaches none of its methods"
     assert not list(premises.missing()), f"premises.py names what isn't there: {list(premises.missing())}"
     found = {it.name(): it for it in premises.of_crate("osdp_calls")}
     told = found["specs/Premises.antt InRange (SetHandler)"].texts()["crates/osdp_calls/specs/Premises.antt"]
