@@ -1,9 +1,11 @@
 #!/usr/bin/env python3
 """`osdp-port .. test script` against `osdp-port .. reader 5` over two pseudo terminals: the report of examples/site.acceptance is examples/site.report, also where
-it is judged once more from its trace. A bad script sends nothing, and tells line and word. Takes the path of the program."""
+it is judged once more from its trace. A bad script sends nothing, and tells line and word. A test that is ended before its end, and one whose port is gone, isn't well.
+Takes the path of the program."""
 import os
 import pty
 import select
+import signal
 import subprocess
 import sys
 import tempfile
@@ -23,9 +25,15 @@ expcet ACK
 send OUT 0:2:0
 send OUT 1
 expect ACK
+ready
+  heard 1 2 none
 """
 WRONG = ("line 3, expcet ACK: no line begins with expcet", "line 4, send OUT 0:2:0: no may above it allows this command",
-         "line 5, send OUT 1: word 3 cannot be 1", "line 6, expect ACK: nothing was sent above it")
+         "line 5, send OUT 1: word 3 cannot be 1", "line 6, expect ACK: nothing was sent above it",
+         "line 7, ready: no line of a script begins so, since osdp-port writes it", "line 8, heard 1 2 none: no line of a script begins so, since osdp-port writes it")
+FROM_WINDOWS = "\ufeffdevice 5\r\n# a\x0bb\u2028c\r\nsend ID 0\r\nexpect PDID\r\n"  # of which `osdp` counts four lines
+LEFT = "what is left of the test wasn't done"
+CUT_OFF = (["test", "script", "SCRIPT"], ["test", "device", "5"], ["test", "panel", "6"])
 WORDS = ((["test", "script"], "word 4, script: device ADDRESS, as device 5, panel ADDRESS, or script FILE"), (["test", "script", "a", "b"], "word 6, b: nothing more stands there"),
          (["--may", "out:0", "test", "script", "a"], "--may is no option of test script: a line of the script says it"),
          (["--tap", "test", "script", "a"], "--tap is no option of test script: a line of the script says it"))
@@ -72,6 +80,39 @@ def runs(program, path, device, trace):
     return out, status
 
 
+def cut_off(program, script, words, is_pulled):
+    """A test that nobody answers is ended by Ctrl-C, or its port is pulled: the status isn't 0, and what it says last tells why."""
+    end, port = pty.openpty()
+    tty.setraw(port)
+    name = os.ttyname(port)
+    done = subprocess.Popen([*PORT, name, "9600", *(str(script) if word == "SCRIPT" else word for word in words), "--osdp", program], stdout=subprocess.PIPE, stderr=subprocess.PIPE, text=True)
+    done.stderr.readline()  # that this script has the port open too
+    time.sleep(1)
+    if is_pulled:
+        os.close(end)
+    else:
+        done.send_signal(signal.SIGINT)
+    out, said = done.communicate(timeout=30)
+    os.close(port)
+    wanted = (3, f"osdp-port: {name} is gone: {LEFT}") if is_pulled else (1, f"osdp-port: stopped: {LEFT}")
+    if (done.returncode, said.splitlines()[-1]) != wanted or "broken 0" not in out:
+        tell(f"{' '.join(words)}, {'pulled' if is_pulled else 'stopped'}: status {done.returncode}", said, out)
+    if not is_pulled:
+        os.close(end)
+
+
+def nobody(program):
+    """A test of a device that isn't there ends soon, and isn't well."""
+    end, port = pty.openpty()
+    tty.setraw(port)
+    done = subprocess.run([*PORT, os.ttyname(port), "9600", "test", "device", "5", "--osdp", program], capture_output=True, text=True, timeout=120)
+    said = done.stderr.splitlines()
+    if done.returncode != 1 or said[-2:] != [f"osdp-port: device 5 doesn't answer: osdp-port {os.ttyname(port)} 9600 find", f"osdp-port: stopped: {LEFT}"]:
+        tell(f"nobody: status {done.returncode}", done.stdout, *said)
+    os.close(end)
+    os.close(port)
+
+
 def main():
     program = str(Path(sys.argv[1]).resolve())
     for end in (end for pair in ENDS for end in pair):
@@ -96,13 +137,22 @@ def main():
         wanted = [f"osdp-port: {work / 'bad'}: {each}" for each in WRONG]
         if (out, status, runs.notes, carry.count) != ("", 2, wanted, before):
             tell(f"a bad script: status {status}, {carry.count - before} bytes", out, *runs.notes)
+        (work / "windows").write_text(FROM_WINDOWS, newline="")
+        out, status = runs(program, work / "windows", device, work / "trace")
+        if (out, status) != ("line 4 ok: expect PDID\nok 1 broken 0 unclear 0\n", 0):
+            tell(f"a script with another system's lines: status {status}", out, *runs.notes)
     finally:
         device.kill()
+    (work / "waits").write_text("device 5\nwait 60000\nsend ID 0\nexpect PDID\n")
+    for words in CUT_OFF:
+        for is_pulled in (False, True):
+            cut_off(program, work / "waits", words, is_pulled)
+    nobody(program)
     for words, why in WORDS:
         done = subprocess.run([*PORT, "/dev/null", "9600", *words], capture_output=True, text=True)
         if done.returncode != 2 or not done.stderr.startswith(f"osdp-port: {why}"):
             tell(" ".join(words), done.stderr)
-    print(f"acceptance: {report.splitlines()[-1]}, {len(WRONG)} bad lines, {faults} faults")
+    print(f"acceptance: {report.splitlines()[-1]}, {len(WRONG)} bad lines, {2 * len(CUT_OFF)} tests cut off, {faults} faults")
     return 1 if faults else 0
 
 

@@ -2,11 +2,12 @@
 import functools
 import os
 import sys
+import types
 
 TOP = os.path.dirname(os.path.dirname(os.path.realpath(__file__)))
 sys.dont_write_bytecode = True
 sys.path.insert(0, f"{TOP}/tools")
-from operators import code_operators, code_special, contracts, definition_operators, definitions, donors, generated, items, lawless, pairs, pinned, premises, shadows, short, spelling, trial, typed, variants, whole  # noqa: E402
+from operators import code_operators, code_special, contracts, definition_operators, definitions, donors, generated, items, lawless, pairs, pinned, premises, shadows, short, spelling, trial, trying, typed, variants, whole  # noqa: E402
 from operators.facts import Facts  # noqa: E402
 
 CODE = """/// Whether a < b.
@@ -158,6 +159,17 @@ def untyped(path, name, old, new):
     return typed.why_untyped(generated.Generated(path, unit, "", start, start + len(old), new), below(path.split("/")[1]))
 
 
+def samples_are_parts():
+    """What stands in `EQUAL` was taken from the whole list: so a sample takes the same edit of several that mean the same, whatever is drawn first."""
+    def drawn(most, seed, is_left):
+        edits, same = trying.chosen("osdp_ring", types.SimpleNamespace(below=below), most, seed, False, is_left)
+        return {(it.path, it.start, it.end, it.new) for it in edits + same}
+    every, some = drawn(None, 0, False), drawn(100, 0, True)
+    more = (some | drawn(100, 0, False)) - every
+    assert not more, f"a sample has what the whole list hasn't: {min(more)}"
+    assert drawn(80, 0, True) < some, "a larger sample doesn't hold the smaller one"
+
+
 def types_are_told():
     """What can't be read isn't drawn, and nothing that can be is left out: no definition of the tree is told to have no type."""
     for path in generated.all_paths("specs"):
@@ -266,6 +278,7 @@ def main():
 
     assert same("a < 1", "a == 0", "(a) <= 0") and same("let _ = a; f(b)", "f((b))") and same("!(a == b)", "b != a"), "one meaning has two forms"
     assert same("a < 1 && b == 2", "b == 2 && a == 0") and not same("f(a) && g(b)", "g(b) && f(a)"), "the order tells where something is done, and there alone"
+    samples_are_parts()
     types_are_told()
     assert not same("a < 1", "a < 2") and not same("f(a, b)", "f(b, a)") and not same("if a { f(); }", "f();"), "two meanings have one form"
     return 0

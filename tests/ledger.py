@@ -3,8 +3,8 @@
     ledger.py PROGRAM
 
 The machines are `osdp panel` and `osdp reader`, by lines, in simulated time. This script is the line: in each direction bursts are lost, damaged, come twice and
-are held back, and keep their order. It orders, withdraws, queues events, makes readers busy, and takes the power of either end, at random. The ledger below is
-written from the table of its steps alone: each step that is read off the lines must be allowed where it happens. Then the same runs are made with one premise
+are held back, and keep their order; in each third run it is cut for nine seconds, first for answers alone, so that old events leave their devices, taken back or in doubt. It orders,
+withdraws, queues events, makes readers busy, and takes the power of either end, at random. The ledger below is written from the table of its steps alone: each step that is read off the lines must be allowed where it happens. Then the same runs are made with one premise
 left out, and a step that isn't allowed must come: so the premises say something, and the check can fail."""
 import heapq
 import random
@@ -15,6 +15,8 @@ from pathlib import Path
 
 PROGRAM = str(Path(sys.argv[1]).resolve())
 RUNS, RUNS_TO_BREAK, SPAN = 120, 60, 9_000  # runs with all premises; at most with one left out; milliseconds of each
+CUT, EXPIRE = (3_000, 12_500), 300  # from when to when the line is cut, so that devices are offline; how old their events become then
+DEAF = 700  # for how long of that devices still hear
 QUIET, HELD = 400, 150  # how long a panel waits before an opening; how long the line holds a burst back: twice that is less
 ID, POLL, NAK, BUSY, EVENTS = 0x61, 0x60, 0x41, 0x79, (0x50, 0x51, 0x53)
 ORDERS = ("OUT 0:2:0", "OUT 0:5:30", "OUT 9:2:0", "BUZ 0 2 1 1 1", "LSTAT", "OSTAT")
@@ -34,6 +36,7 @@ class Ledger:
         self.ahead, self.cards = [], []  # (place, text), the oldest first
         self.is_open, self.acted, self.in_doubt = False, None, None
         self.offered, self.is_reported = None, False
+        self.shown = 0  # the place before which all cards stand that were ever offered
 
     def ask(self, holds, step):
         if not holds:
@@ -83,6 +86,7 @@ class Ledger:
         free = self.acted is None and (self.offered is None or self.is_reported)
         self.ask(free and self.cards and self.cards[0][1] == text and self.offered != self.cards[0], f"offer {text}")
         self.offered, self.is_reported = self.cards[0], False
+        self.shown = self.offered[0] + 1
 
     def report(self, text):
         holds = self.is_open and self.offered is not None and not self.is_reported and self.offered[1] == text
@@ -91,6 +95,15 @@ class Ledger:
 
     def leave(self):
         self.ask(self.cards and self.offered == self.cards[0] and self.is_reported, "leave")
+        self.cards.pop(0)
+
+    def withdraw_event(self, text):
+        never = [card for card in self.cards if card[0] >= self.shown]
+        self.ask(never and never[0][1] == text, f"withdraw event {text}")
+        self.cards.remove(never[0])
+
+    def lapse(self, text):
+        self.ask(self.cards and self.cards[0][1] == text and self.cards[0][0] < self.shown, f"lapse {text}")
         self.cards.pop(0)
 
     def restart_device(self):
@@ -139,6 +152,7 @@ class Line:
     """A panel, two devices, and the line between them, for one run."""
 
     def __init__(self, seed, held=HELD, keeps_order=True, addresses=ADDRESSES):
+        self.cut, self.span = (CUT, SPAN + CUT[1] - CUT[0]) if seed % 3 == 0 else ((SPAN, SPAN), SPAN)
         self.chance, self.held, self.keeps_order, self.addresses = random.Random(seed), held, keeps_order, addresses
         self.now, self.count, self.coming, self.arrived, self.due = 0, 0, [], Counter(), None
         self.ledgers, self.steps = [Ledger() for _ in ADDRESSES], Counter()
@@ -149,7 +163,7 @@ class Line:
         self.new_panel()
 
     def device(self, i):
-        made = Machine("reader", "address", str(self.addresses[i]))
+        made = Machine("reader", "address", str(self.addresses[i]), "expire", str(EXPIRE))
         made.call(self.now, "outputs 00")
         return made
 
@@ -166,7 +180,8 @@ class Line:
     def send(self, way, burst):
         """What becomes of a burst: it is lost, its check is damaged, it comes twice, or once; each time after a while, and in its order."""
         fate = self.chance.random()
-        if fate < 0.08:
+        is_cut = self.cut[0] + (DEAF if way == "out" else 0) <= self.now < self.cut[1]
+        if fate < 0.08 or is_cut:
             return
         burst = burst[:-1] + bytes([burst[-1] ^ 0x55]) if fate < 0.14 else burst
         for _ in range(2 if fate > 0.94 else 1):
@@ -215,13 +230,25 @@ class Line:
         elif word not in ("opened", "answered"):
             raise Broken(f"the panel says {word} {text}")
 
+    def tells(self, i, line):
+        """A device is called, and the events that were too old are noted: what else it says, and how many events wait."""
+        told, waiting = self.devices[i].call(self.now, line)
+        for word, rest in told:
+            if word == "withdrawn":
+                self.step(i, "withdraw_event", rest)
+            elif word == "in":
+                self.step(i, "lapse", rest.partition(" ")[2])
+        others = [it for it in told if it[0] not in ("withdrawn", "in")]
+        self.waiting[i] -= len(told) - len(others)
+        return others, int(waiting)
+
     def hears(self, i, burst):
         """A device is given a burst, and what it says is noted."""
-        told, waiting = self.devices[i].call(self.now, f"bytes {burst.hex().upper()}")
+        told, waiting = self.tells(i, f"bytes {burst.hex().upper()}")
         asked, answer = burst[5] if burst[1] == self.addresses[i] else None, None
-        if int(waiting) < self.waiting[i]:
+        if waiting < self.waiting[i]:
             self.step(i, "leave")
-        self.waiting[i] = int(waiting)
+        self.waiting[i] = waiting
         for word, rest in told:
             if word == "send":
                 answer = bytes.fromhex(rest)
@@ -244,14 +271,14 @@ class Line:
                 self.step(i, "submit", text)
         elif what < 0.82:
             text = self.chance.choice(CARDS)
-            told, waiting = self.devices[i].call(self.now, f"event {text}")
+            told, waiting = self.tells(i, f"event {text}")
             if not told:
-                self.waiting[i] = int(waiting)
+                self.waiting[i] = waiting
                 self.step(i, "queue", text)
         elif what < 0.90:
             self.asks(f"withdraw {i + 1}")
         elif what < 0.96:
-            self.devices[i].call(self.now, f"busy {self.chance.choice(('on', 'off', 'off'))}")
+            self.tells(i, f"busy {self.chance.choice(('on', 'off', 'off'))}")
         elif what < 0.98:
             self.devices[i].end()
             self.devices[i], self.last[i], self.waiting[i] = self.device(i), None, 0
@@ -266,7 +293,7 @@ class Line:
     def run(self):
         """Runs for a while. At each moment bursts come first, then what the programs do, then what is due."""
         does = 0
-        while self.now < SPAN:
+        while self.now < self.span:
             moments = [does, *self.begins.values(), *([] if self.due is None else [self.due]), *(it[0] for it in self.coming[:1])]
             self.now = max(self.now, min(moments))
             while self.coming and self.coming[0][0] <= self.now:
@@ -281,7 +308,7 @@ class Line:
                 self.asks(f"begin {i + 1}")
             if does <= self.now:
                 self.does()
-                does = self.now + self.chance.randrange(1, 120)
+                does = self.now + self.chance.randrange(1, 1200 if self.cut[0] <= self.now < self.cut[1] else 120)
             while self.due is not None and self.due <= self.now:
                 self.asks("tick")
 

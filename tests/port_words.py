@@ -4,7 +4,9 @@ import fcntl
 import os
 import random
 import re
+import select
 import shutil
+import signal
 import socket
 import subprocess
 import sys
@@ -215,10 +217,39 @@ def bad_lines():
         panel.process.stdin.close()
         asks(line.run(has(reader, "taken LED 0:0:0:0:0:0:0:0:1:1:0:2:0")), "lines: the last order isn't done")
         asks(sum("refused line" in each for each in panel.lines) == 3, f"lines: {panel.lines[-6:]}")
-        for said, told in (("card 17 4386", "event RAW 0 1 26 88889100"), ("keys 12#", "event KEYPAD 0 313223"), ("nonsense", "refused osdp doesn't read this line"), ("bytes 00", "refused bytes 00")):
+        for said, told in (("card 17 4386", "event RAW 0 1 26 88889100"), ("keys 12#", "event KEYPAD 0 313223"), ("nonsense", "refused osdp doesn't read this line"), ("keys " + "1" * 256, "at most 255 keys"), ("bytes 00", "refused bytes 00")):
             reader.say(said)
             asks(line.run(tells(reader, told), 10), f"lines: {said}: {reader.lines[-2:]}")
         asks(line.run(lambda: tells(panel, "facility 17 number 4386")() and tells(panel, "keys 12#")()), f"lines: the card is told as {panel.lines[-2:]}")
+        for event in ("RAW 0 0 0 none", "KEYPAD 0 none"):  # a card without bits, and no keys
+            reader.say(f"event {event}")
+            asks(line.run(tells(panel, f"event 5 {event}"), 10), f"lines: {event} is told as {panel.lines[-2:]}")
 
 
-PARTS = (over_the_network, bad_words, any_words, no_permission, bad_lines)
+def closed_ends():
+    """Where standard input, output or errors are closed the port doesn't take their place: nothing but packets goes out. A trace that can't be written ends with a status."""
+    for words, ends, status in (("panel 5", "<&- >&- 2>&-", 3), ("panel 5", "<&- >&-", 3), ("panel 5", "<&- 2>&-", 1), ("monitor", "<&- >&- 2>&-", 3), ("trace /dev/full", "2>&-", 3)):
+        terminal, came, until = Terminal(), b"", time.monotonic() + 30
+        done = subprocess.Popen(["sh", "-c", f'exec "$0" --osdp "$1" "$2" 9600 {words} {ends}', PORT, port_line.osdp, terminal.path], stdout=subprocess.DEVNULL)
+        while done.poll() is None and came.count(b"S\x05") < 4 and time.monotonic() < until:  # the fourth opening ID comes after a lost session
+            os.write(terminal.end, b"\xff")
+            if select.select([terminal.end], [], [], 0.1)[0]:
+                came += os.read(terminal.end, 65536)
+        if done.poll() is None:
+            done.send_signal(signal.SIGINT)
+        asks(done.wait(20) == status and b"osdp" not in came and b"pts" not in came, f"closed ends {words} {ends}: status {done.returncode}, on the line {came[:200]!r}")
+        terminal.close()
+
+
+def falls_silent():
+    """A reader loses its power within a session: nothing comes any more, and the advice says no other thing."""
+    with Line() as line:
+        reader, panel = line.reader(0, 5), line.panel("5")
+        asks(line.run(opened(panel, 5)), "falls silent: the session doesn't open")
+        line.rests(0.5)  # POLLs are answered
+        reader.process.kill()
+        asks(line.run(tells(panel, "advice: device 5 doesn't answer: its power"), 20), f"falls silent: no advice: {panel.lines[-5:]}")
+        asks(not any("bytes come" in each for each in panel.lines), f"falls silent: nothing comes, and the advice is {panel.lines[-5:]}")
+
+
+PARTS = (over_the_network, bad_words, any_words, no_permission, bad_lines, closed_ends, falls_silent)

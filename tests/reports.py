@@ -7,8 +7,10 @@ import html
 import json
 import random
 import re
+import signal
 import subprocess
 import sys
+import time
 from collections import Counter
 from datetime import datetime, timedelta, timezone
 from html.parser import HTMLParser
@@ -314,6 +316,37 @@ def looks_at_accused():
     is_whole("empty", report(""))
 
 
+def ends_with(what, status, why, capture, *words, **ends):
+    """How it ends: its status, and what it says first on standard error."""
+    done = subprocess.run([TOP / "port/osdp-report", *(words if "--osdp" in words else ["--osdp", PROGRAM, *words])], **{"input": capture, "capture_output": True, **ends})
+    asks(what, (status, True), (done.returncode, done.stderr.startswith(why.encode()) and (b"Traceback" not in done.stderr)))
+    return done.stdout
+
+
+def looks_at_odd():
+    """Stamps that are no text or numbers of any length, a carriage return within a line, a system with another alphabet; and words, programs and ends that aren't there."""
+    command, answer = packet(5, 0, POLL).hex().encode(), packet(5, 0, ACK, b"", True).hex().encode()
+    for stamps in (b"\xff\xfe", "M\u00e4rz".encode("latin-1"), b"9" * 400, b"9" * 5000 + b":00:00", b"a\x0bb\x1cc\xc2\x85d"):
+        page = ends_with(f"the stamp {stamps[:20]}", 0, "", b"# %b out\n%b\n# %b in\n%b\n" % (stamps, command, stamps, answer))
+        asks(f"the row of the stamp {stamps[:20]}", ["1", "1"], row(page.decode(), 5)[:2])
+    page = ends_with("an alphabet", 0, "", "# M\u00e4rz out\n".encode() + command + "\n# M\u00e4rz in\n".encode() + answer, env={"LC_ALL": "C", "PYTHONIOENCODING": "latin-1", "PATH": "/usr/bin:/bin"})
+    asks("the page is UTF-8", True, "M\u00e4rz" in page.decode(errors="replace"))
+    echo = b"# 1 out\n%b\r%b\n# 2 in\n%b\n# 3 in\n%b\n" % (command[:6], command[6:], command, answer)
+    asks("an echo of a line with a carriage return", True, b"1 runs that came in" in ends_with("a carriage return", 0, "", echo))
+    ends_with("no number", 2, "osdp-report: --rate is followed by ", b"", "--rate")
+    ends_with("no program", 127, "osdp-report: the program can't be started: /nowhere/osdp", b"", "--osdp", "/nowhere/osdp")
+    asks("help after a word", True, b"usage: osdp-report" in ends_with("help", 0, "", b"", "file", "--help"))
+    for end, why in (("<&-", "the capture can't be read: standard input is closed"), ("< /dev/null >&-", "the page can't be written: standard output is closed")):
+        done = subprocess.run(["sh", "-c", f'"$0" --osdp "$1" {end}', TOP / "port/osdp-report", PROGRAM], capture_output=True)
+        asks(f"its end {end}", (3, f"osdp-report: {why}\n"), (done.returncode, done.stderr.decode()))
+    waits = subprocess.Popen([TOP / "port/osdp-report", "--osdp", PROGRAM], stdin=subprocess.PIPE, stdout=subprocess.PIPE, stderr=subprocess.PIPE)
+    waits.stdin.write(command)
+    waits.stdin.flush()
+    time.sleep(1)
+    waits.send_signal(signal.SIGINT)
+    asks("Ctrl-C", (-signal.SIGINT, b""), (waits.wait(10), waits.stderr.read()))
+
+
 for loss in (0, 1, 5):
     for number, echo in enumerate(WAYS):
         for seed in (number, number + len(WAYS)):
@@ -322,6 +355,7 @@ for loss in (0, 1, 5):
     looks_at_restarts(loss)
 looks_at_accused()
 looks_at_objects()
+looks_at_odd()
 for name in dict.fromkeys(name for name, _ in counts):
     print(f"{name}: {', '.join(f'{of} {counts[name, of]}' for of in ('pages', 'found', 'falsely told'))}")
 print(f"reports: {faults} faults")

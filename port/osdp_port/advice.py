@@ -12,7 +12,7 @@ class Advice:
         self.sent_before = {}  # the last packet to each address
         self.repeats = {}  # of the last packets to each address, whether they were repeats
         self.came_since = 0  # bytes since the last packet went out, without its echo
-        self.has_come = {}  # bytes that came after packets to each address, since its session was begun
+        self.has_come = {}  # bytes that came after the last new packet to each address and its repeats
         self.told = set()
         self.last, self.address, self.echo = b"", None, 0
 
@@ -23,7 +23,10 @@ class Advice:
 
     def sent(self, burst):
         address = burst[1] & 0x7F
-        self.repeats.setdefault(address, deque(maxlen=OFTEN)).append(self.sent_before.get(address) == burst)
+        is_repeat = self.sent_before.get(address) == burst
+        self.repeats.setdefault(address, deque(maxlen=OFTEN)).append(is_repeat)
+        if not is_repeat:
+            self.has_come[address] = 0  # the packet before was answered
         self.sent_before[address], self.last, self.address = burst, burst, address
 
     def came(self, read):
@@ -48,7 +51,7 @@ class Advice:
             address = int(words[1])
             self.told -= {each for each in self.told if each[0] == address}
             self.has_come[address] = 0
-        elif words[0] == "lost" and len(words) == 3:
+        elif words[0] == "lost" and len(words) == 3 and self.port.is_there:
             self.is_lost(int(words[1]), words[2])
         elif words[:2] == ["passed", "over"] or words[0] == "answered":
             self.is_refused(words[-2:], words[2] if words[0] == "passed" else words[1])

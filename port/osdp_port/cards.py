@@ -1,9 +1,14 @@
 """Cards as a person reads them: their bits, and facility and number where 26 bits and their parity say so."""
 
 
+def bytes_of(digits):
+    """The bytes that digits of a text stand for, of which there may be none."""
+    return b"" if digits == "none" else bytes.fromhex(digits)
+
+
 def bits_of(count, digits):
     """The bits of a card, as many as it has."""
-    every = "".join(f"{byte:08b}" for byte in bytes.fromhex(digits))
+    every = "".join(f"{byte:08b}" for byte in bytes_of(digits))
     return every[:count]
 
 
@@ -19,9 +24,9 @@ def shown(words):
     if words[:1] == ["RAW"] and len(words) == 5:
         bits = bits_of(int(words[3]), words[4])
         both = facility_and_number(bits)
-        return f" bits {bits}" + (f" facility {both[0]} number {both[1]}" if both else "")
+        return (f" bits {bits}" if bits else "") + (f" facility {both[0]} number {both[1]}" if both else "")
     if words[:1] == ["KEYPAD"] and len(words) == 3:
-        keys = bytes.fromhex(words[2])
+        keys = bytes_of(words[2])
         return f" keys {keys.decode()}" if keys and all(0x21 <= key < 0x7F for key in keys) else ""
     return ""
 

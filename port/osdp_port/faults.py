@@ -1,5 +1,5 @@
 """How the program ends: its statuses, and the sentence that says why."""
-BAD_WORDS, FAILED, NO_PROGRAM = 2, 3, 127  # statuses
+MET, BAD_WORDS, FAILED, NO_PROGRAM = 1, 2, 3, 127  # statuses
 INTERRUPTED = 130  # Ctrl-C
 
 

@@ -17,13 +17,13 @@ REACH = 200  # so many items before an answer are looked at
 
 
 def seconds(stamp):
-    """The moment that a stamp tells, in seconds: a date and a time, a time of the day, or a number. None where it tells none."""
+    """The moment that a stamp tells, in seconds: a date and a time, a time of the day, or a number of 15 digits at most. None where it tells none."""
     if stamp is None:
         return None
     text = stamp.strip().strip("[]()")
-    if re.fullmatch(r"\d+(\.\d+)?", text):
+    if re.fullmatch(r"[0-9]{1,15}(\.[0-9]+)?", text):
         return float(text)
-    found = re.search(r"(\d+):(\d\d):(\d\d(?:[.,]\d+)?)", text)
+    found = re.search(r"(?<![0-9])([0-9]{1,9}):([0-9]{2}):([0-9]{2}(?:[.,][0-9]+)?)", text)
     if found is None:
         return None
     day = re.search(r"(\d{4})-(\d\d)-(\d\d)", text)

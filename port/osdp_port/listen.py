@@ -3,6 +3,7 @@ import json
 import re
 
 from .console import stamp, wait_for
+from .faults import FAILED
 from .live import HEADS, Live, is_other, is_terminal
 from .program import Stream
 from .shown import Shown
@@ -11,9 +12,9 @@ from .trace import Bursts, Trace, digits, osdpcap
 LOOK = 0.02  # seconds after which a burst is looked at again
 
 
-def until_stopped(port, console, takes):
-    """Hands on what comes, until Ctrl-C."""
-    while not console.stops:
+def until_stopped(port, console, takes, goes_on=lambda: True):
+    """Hands on what comes, until Ctrl-C, or until it can't be taken any more."""
+    while not console.stops and goes_on():
         wait_for(port, console, LOOK if port.is_there else 0.1, lines=False)
         port.comes_back()
         takes(port.read())
@@ -30,10 +31,10 @@ def show(words, port, console, osdp):
 def trace(words, port, console, _):
     file = Trace(words.rest[0], words.get("--size", 10) * 1000000, console.note, osdpcap if words.get("--osdpcap") else digits, lambda: port.rate)
     bursts = Bursts(file.takes, "trace" if words.get("--osdpcap") else "in")
-    until_stopped(port, console, bursts.came)
+    until_stopped(port, console, bursts.came, lambda: file.file is not None)
     bursts.flush()
     console.say(file.ended())
-    return 0
+    return FAILED if file.file is None else 0
 
 
 class Monitor(Stream):

@@ -3,7 +3,7 @@ import time
 
 from .console import wait_for
 from .panel_tricks import NUMBERED, TRICKS
-from .testing import Judge, allowed, crc, packet
+from .testing import Judge, allowed, crc, packet, status_of
 
 GAP = 0.05  # seconds of silence after which bytes without a packet are passed over
 TRIES = 2  # as many tricks are played again, for each, at most, whose answers were lost
@@ -293,8 +293,9 @@ class Player:
 
 def test_panel(words, port, console, osdp):
     """Is the device at an address, and tests the panel that asks it. The status: that of `osdp test panel`."""
-    judge = Judge(osdp, ["test", "panel", *(["--tap"] if words.get("--tap") else [])], console)
+    may = allowed(words)
     kept = open(words.get("--trace"), "w", encoding="ascii") if words.get("--trace") else None
+    judge = Judge(osdp, ["test", "panel", *(["--tap"] if words.get("--tap") else [])], console)
 
     def write(line):
         judge.write(line.encode() + b"\n")
@@ -302,9 +303,9 @@ def test_panel(words, port, console, osdp):
             kept.write(line + "\n")
     try:
         console.note(f"device {words.rest[1]} waits for its panel; give it an order now (an output, an LED), or rule 22 is unclear")
-        may = allowed(words.get("--may", "").split(",") if words.get("--may") else [])
         Player(port, console, Device(int(words.rest[1]), may, write), write).goes()
     finally:
         if kept:
             kept.close()
-    return judge.ends()
+    is_cut_off = bool(console.stops) or not port.is_there
+    return status_of(port, console, is_cut_off, judge.ends())

@@ -25,8 +25,8 @@ def call_of(line):
             raise Refused("a card is its facility, 0 to 255, and its number, 0 to 65535: card 17 4386")
         return f"event {raw_of(*map(int, words[1:]))}"
     if words[:1] == ["keys"]:
-        if len(words) != 2:
-            raise Refused("keys is followed by one word: keys 123#")
+        if len(words) != 2 or len(words[1]) > 255:
+            raise Refused("keys is followed by one word of at most 255 keys: keys 123#")
         return f"event KEYPAD 0 {words[1].encode().hex().upper()}"
     if words[:1] and words[0] in OWN:
         raise Refused(f"word 1, {words[0]}: this call is made here; {COULD}")

@@ -5,7 +5,7 @@ import subprocess
 import sys
 
 from . import VERSION
-from .faults import BAD_WORDS, FAILED, Stop
+from .faults import BAD_WORDS, FAILED, NO_PROGRAM, Stop
 from .figures import Figures, Packet, seconds
 from .program import PROGRAM_FAULTS, find_program
 from .report_lines import lines
@@ -29,6 +29,7 @@ accusation with its packets; where the capture has moments, also packets, damage
 It is 0 where the page is written, 2 at bad words, 3 where something can't be read.
 """
 FORMS = ("--hex", "--osdpcap", "--stamped", "--raw")
+FOLLOWED = {"--rate": "a number of bits a second", "--osdp": "the path of osdp"}
 SHOWN = re.compile(r"^(?:-|(.+?) +(in|out|trace)) (\d+):(\d+) (cmd|reply|skip|refused)(.*)$")
 HEAD = re.compile(r"^ (\d+) seq (\d) (sum|crc)\S*(?: \S+=\S+)? (.*)$")
 
@@ -50,9 +51,11 @@ def words_of(words):
             form = word
         elif word == "--json":
             writes = lines
-        elif word == "--rate" and rest:
+        elif word in FOLLOWED and not rest:
+            raise Stop(f"{word} is followed by {FOLLOWED[word]}; try: osdp-report --help", BAD_WORDS)
+        elif word == "--rate":
             rate = rate_of(rest.pop(0))
-        elif word == "--osdp" and rest:
+        elif word == "--osdp":
             given = rest.pop(0)
         elif file is None and not word.startswith("--"):
             file = word
@@ -65,6 +68,8 @@ def read(file):
     """The bytes of the capture."""
     try:
         if file in (None, "-"):
+            if sys.stdin is None:
+                raise Stop("the capture can't be read: standard input is closed")
             return sys.stdin.buffer.read()
         with open(file, "rb") as opened:
             return opened.read()
@@ -74,17 +79,20 @@ def read(file):
 
 def run(program, words, capture):
     """What the program prints of a capture."""
-    done = subprocess.run([program, *words], input=capture, capture_output=True)
+    try:
+        done = subprocess.run([program, *words], input=capture, capture_output=True)
+    except OSError:
+        raise Stop(f"the program can't be started: {program}", NO_PROGRAM) from None
     if done.returncode in PROGRAM_FAULTS or done.returncode < 0:
         raise Stop(done.stderr.decode(errors="replace").strip() or "the program osdp has failed")
-    return done.stdout.decode()
+    return done.stdout.decode(errors="replace")  # a stamp of a capture has any bytes
 
 
 def shown(program, form, capture):
     """The packets, skipped bytes and refused bytes of a capture, in their order."""
     times = [] if form == "--raw" else ["--times"]
     packets = []
-    for line in run(program, ["show", form, *times], capture).splitlines():
+    for line in run(program, ["show", form, *times], capture).split("\n"):
         found = SHOWN.match(line if times else f"- {line}")
         if found is None:
             continue
@@ -93,6 +101,11 @@ def shown(program, form, capture):
         address, sequence, check, text = head.groups() if head else (None, None, None, rest.strip())
         packets.append(Packet(seconds(stamp), stamp, way, int(number), int(place), kind, None if address is None else int(address), sequence, check, text))
     return packets
+
+
+def lines_of(capture):
+    """The lines of a capture, as `osdp` counts them: a line feed alone ends one."""
+    return re.findall(rb"[^\n]*\n|[^\n]+", capture)
 
 
 def burst_of(form, line):
@@ -116,7 +129,7 @@ def without_echo(form, capture, packets):
         return capture, 0
     ways = {packet.run: packet.way for packet in packets}
     kept, number, before, echoes = [], 0, None, 0
-    for line in capture.splitlines(keepends=True):
+    for line in lines_of(capture):
         burst = burst_of(form, line)
         if burst is None:
             kept.append(line)
@@ -133,7 +146,7 @@ def without_echo(form, capture, packets):
 
 def sizes_of(form, capture):
     """How many bytes each run has; none of a capture of bytes, which has no moments."""
-    bursts = [] if form == "--raw" else (burst_of(form, line) for line in capture.splitlines())
+    bursts = [] if form == "--raw" else (burst_of(form, line) for line in lines_of(capture))
     return [len(burst) // 2 for burst in bursts if burst is not None]
 
 
@@ -152,8 +165,16 @@ def report(program, form, writes, rate, capture):
     return writes(Figures(packets, told, echoes, sizes_of(form, capture), {rate} if rate else rates_of(form, capture)))
 
 
+def write(text):
+    """Writes the page, whose bytes are UTF-8 as its head says, whatever the system's are."""
+    if sys.stdout is None:
+        raise Stop("the page can't be written: standard output is closed")
+    sys.stdout.buffer.write(text.encode(errors="replace"))
+    sys.stdout.flush()
+
+
 def main(words):
-    if words[:1] in (["--help"], ["-h"], ["help"]):
+    if words[:1] == ["help"] or "--help" in words or "-h" in words:
         print(HELP, end="")
         return 0
     if words[:1] == ["--version"]:
@@ -161,8 +182,7 @@ def main(words):
         return 0
     try:
         form, writes, rate, given, file = words_of(words)
-        sys.stdout.write(report(find_program(given), form, writes, rate, read(file)))
-        sys.stdout.flush()
+        write(report(find_program(given), form, writes, rate, read(file)))
     except Stop as stop:
         print(f"osdp-report: {stop.why}", file=sys.stderr)
         return stop.status

@@ -1,12 +1,11 @@
 """`test script`: runs a script of one's own. `osdp test script` says what is sent, and judges what is heard."""
-import time
-
-from .console import wait_for, write_all
+from .console import write_all
 from .faults import BAD_WORDS, Stop
 from .program import Lines
-from .testing import ANSWER, Player
+from .testing import ANSWER, Player, status_of
 
 LONGEST = 4000  # how many bytes of what was heard are handed over at most
+OWN = ("heard", "ready")  # the lines that are written here, and don't stand in a script
 
 
 class Script(Lines):
@@ -34,18 +33,26 @@ class Script(Lines):
 
 
 def lines_of(path):
-    """The lines of a script."""
+    """The lines of a script, as `osdp` counts them: only the end of a line ends one."""
     try:
-        with open(path, encoding="utf-8") as file:
-            return file.read().splitlines()
+        with open(path, encoding="utf-8-sig") as file:
+            return file.read().removesuffix("\n").split("\n")
     except UnicodeDecodeError:
         raise Stop(f"{path} is no text", BAD_WORDS) from None
+
+
+def is_own(line):
+    """Whether a line is one that is written here: in a script it would be taken for an answer of the line, or for the end of one of the program."""
+    return line.split()[:1] in ([word] for word in OWN)
 
 
 def refusals(osdp, path, lines):
     """What is wrong with the lines, found before anything is sent."""
     script, found = Script(osdp, ["test", "script"], quiet=True), []
     for number, line in enumerate(lines, 1):
+        if is_own(line):
+            found.append(f"{path}: line {number}, {line.strip()}: no line of a script begins so, since osdp-port writes it")
+            continue
         why = [answer.partition(" refused: ")[2] for answer in script.call(line) if " refused: " in answer]
         found += [f"{path}: line {number}, {line.strip()}: {each}" for each in why]
     script.ends()
@@ -62,11 +69,6 @@ class Runner:
         self.keep(line)
         return self.script.call(line)
 
-    def pauses(self, milliseconds):
-        until = time.monotonic() + milliseconds / 1000
-        while time.monotonic() < until and not self.console.stops:
-            wait_for(self.player.port, self.console, min(0.1, max(0.0, until - time.monotonic())), lines=False)
-
     def sends(self, digits):
         """The line that tells what was heard of these bytes."""
         moment = self.player.moment()
@@ -82,7 +84,7 @@ class Runner:
             if verb == "send":
                 answer += self.calls(self.sends(rest))
             elif verb == "wait":
-                self.pauses(int(rest))
+                self.player.pauses(int(rest))
             else:
                 self.console.raw(said)
 
@@ -106,7 +108,8 @@ def run(words, port, console, osdp):
     finally:
         if kept:
             kept.close()
+    is_cut_off = bool(console.stops) or not port.is_there
     rest, status = runner.script.ends()
     for line in rest:
         console.raw(line)
-    return status
+    return status_of(port, console, is_cut_off, status)

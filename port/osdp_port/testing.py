@@ -3,11 +3,12 @@ import time
 
 from .accused import Beside, accused
 from .console import wait_for
-from .faults import BAD_WORDS, Stop
+from .faults import BAD_WORDS, MET, Stop, is_number
 from .program import Stream
 from .scenarios import NAMES, SCENARIOS
 
 TRIES = 3  # how often a packet is sent while nothing is heard
+FIRST = 3  # rules after which a device that has said nothing isn't there: both checks were tried
 ANSWER = 1.0  # seconds that an answer is waited for
 QUIET = 0.3  # .. where none is expected
 GAP = 0.03  # seconds of silence after which an answer is over
@@ -98,11 +99,18 @@ class Player:
 
     def __init__(self, port, console, address, may, write, check="crc"):
         self.port, self.console, self.address, self.may, self.write, self.check = port, console, address, may, write, check
-        self.caps = None
+        self.caps, self.is_silent = None, True
         self.start = time.monotonic()
 
     def moment(self):
         return int((time.monotonic() - self.start) * 1000)
+
+    def pauses(self, milliseconds):
+        """Says nothing for so long, or until the test ends. What comes meanwhile answers nothing."""
+        until = time.monotonic() + milliseconds / 1000
+        while time.monotonic() < until and self.port.is_there and not self.console.stops:
+            wait_for(self.port, self.console, min(0.1, max(0.0, until - time.monotonic())), lines=False)
+            self.port.read()
 
     def hears(self, sent, wait, gap=GAP):
         """Sends bytes. The bytes that came after them, without their echo, and after how many milliseconds."""
@@ -134,6 +142,7 @@ class Player:
             moment = self.moment()
             heard, delay = self.hears(sent, ANSWER if is_answered else QUIET, gap)
             self.write(f"{verb}s {rule} {moment} {sent.hex().upper()} {delay} {heard.hex().upper() or 'none'}")
+            self.is_silent = self.is_silent and not heard
             if heard and heard.lstrip(b"\xFF")[5:6] != b"\x79":
                 break
         return heard
@@ -174,7 +183,7 @@ class Player:
 
     def step(self, rule, words):
         if words[0] == "wait":
-            time.sleep(int(words[1]) / 1000)
+            self.pauses(int(words[1]))
             return
         if words[0] == "times":
             self.write(f"times {rule}")
@@ -203,19 +212,30 @@ class Player:
 
     def goes(self):
         self.write(f"device {self.address}")
-        for rule in SCENARIOS:
+        for at, rule in enumerate(SCENARIOS):
+            if at == FIRST and self.is_silent:
+                return
             self.plays(rule)
 
 
 def allowed(words):
     """What --may allows: names, and the number of an output."""
     may = {}
-    for word in words:
+    for word in words.get("--may").split(",") if words.get("--may") else []:
         name, _, number = word.partition(":")
-        if name not in ALLOWS or (name == "out" and not (number.isdigit() and int(number) < 256)) or (name != "out" and number):
+        if name not in ALLOWS or (name == "out" and not is_number(number, 0, 255)) or (name != "out" and number):
             raise Stop(f"--may {word}: one of {', '.join(ALLOWS)}, with out:N", BAD_WORDS)
         may[name] = int(number or 0)
     return may
+
+
+def status_of(port, console, is_cut_off, status):
+    """The status of a test. One that was ended before its end has shown nothing of what is left, so it isn't well, and says so."""
+    if is_cut_off and not port.is_there:
+        raise Stop(f"{port.path} is gone: what is left of the test wasn't done")
+    if is_cut_off:
+        console.note("stopped: what is left of the test wasn't done")
+    return status or (MET if is_cut_off else 0)
 
 
 class Judge(Stream):
@@ -239,8 +259,9 @@ class Accusing(Judge):
 
 def test(words, port, console, osdp):
     """Tests the device at an address. The status: that of `osdp test`."""
-    judge, lines, address = Accusing(osdp, bool(words.get("--tap")), console), [], int(words.rest[1])
+    may, lines, address = allowed(words), [], int(words.rest[1])
     kept = open(words.get("--trace"), "w", encoding="ascii") if words.get("--trace") else None
+    judge = Accusing(osdp, bool(words.get("--tap")), console)
 
     def write(line):
         judge.write(line.encode() + b"\n")
@@ -248,10 +269,13 @@ def test(words, port, console, osdp):
         if kept:
             kept.write(line + "\n")
     try:
-        Player(port, console, address, allowed(words.get("--may", "").split(",") if words.get("--may") else []), write,
-               "sum" if words.get("--sum") else "crc").goes()
+        player = Player(port, console, address, may, write, "sum" if words.get("--sum") else "crc")
+        player.goes()
     finally:
         if kept:
             kept.close()
+    is_cut_off = bool(console.stops) or not port.is_there or player.is_silent
+    if player.is_silent and port.is_there and not console.stops:
+        console.note(f"device {address} doesn't answer: osdp-port {port.path} {port.rate} find")
     judge.beside.said = accused([osdp], address, lines)
-    return judge.ends()
+    return status_of(port, console, is_cut_off, judge.ends())

@@ -184,6 +184,15 @@ class Unit:
         self.__dict__.update(more)
 
 
+class Module:
+    """A module within a file, and the types of what it takes, but for what isn't named where it is used."""
+
+    def __init__(self, indent, text):
+        self.indent, self.params, self.takes = indent, params_of(text), taken_by(text)
+
+
+# a type that a definition without arguments stands for
+ALIAS = re.compile(r"(?:ℕ|Bool|List|Option)\b[^→×≡:]*")
 HEAD = re.compile(r"^(\s*)(?:(?:abbrev |unfoldable |opaque )?(?:pub )?)?(\S+)")
 SIGNED = re.compile(r"^(\s*)(?:abbrev |unfoldable )?(?:pub )?([^\s:({]+) : (.*)$", re.S)
 
@@ -195,6 +204,7 @@ class File:
         self.text, self.units, self.unread = text, [], []
         self.types, self.fields, self.constructors = {}, {}, {}
         self.record_params, self.module_params = {}, {}
+        self.record_types, self.aliases, self.within, self.open = {}, {}, {}, ()
         self.record = None
         for start, end in self.entries():
             self.entry(start, end)
@@ -225,9 +235,11 @@ class File:
 
     def entry(self, start, end):
         text = self.text[start:end]
-        words = text.split()
+        words, indent = text.split(), len(text) - len(text.lstrip())
+        self.open = tuple(it for it in self.open if it.indent < indent)
         if words[0] == "module":
             self.module_params.update(params_of(text))
+            self.open += (Module(indent, text),) if "where" in words else ()
         if words[0] in ("use", "module", "open", "unfolding"):
             return
         if "data" in words[:2]:
@@ -237,11 +249,15 @@ class File:
             signed = SIGNED.match(text)
             if signed:
                 self.types[signed[2]] = " ".join(plain_words(signed[3]))
+                self.within[signed[2]] = self.open
             return
         if words[:2] == ["pub", "record"] or words[0] == "record" and "where" in words:
             self.record = words[words.index("record") + 1]
             self.fields.setdefault(self.record, {})
             self.record_params[self.record] = params_of(text)
+            if kind := re.search(r": (Type \d)\s+where", text):
+                self.record_types[self.record] = taking(text, kind[1])
+                self.within[self.record] = self.open
             return
         colon = re.match(r"(\s*)pub (\S+)((?: \S+)*?) : ", text)
         if colon and self.record:
@@ -265,7 +281,11 @@ class File:
         for i, it in enumerate(all_tokens):
             depth += (it.text in CLOSE) - (it.text in CLOSE.values())
             if it.text == "=" and depth == 0:
-                self.unit(all_tokens[0].text, "clause", it.end, end, all_tokens[1:i], "")
+                name = all_tokens[0].text
+                self.unit(name, "clause", it.end, end, all_tokens[1:i], "")
+                value = " ".join(plain_words(self.text[it.end:end]))
+                if i == 1 and not self.open and self.types.get(name) == "Type 0" and ALIAS.fullmatch(value):
+                    self.aliases[name] = value
                 return
 
     def unit(self, name, kind, start, end, patterns, returns):
@@ -281,7 +301,12 @@ class File:
         except (Unread, KeyError, RecursionError) as why:
             self.unread.append((name, str(why)))
             tree = None
-        self.units.append(Unit(name, kind, tree, start, end, patterns=patterns, returns=returns))
+        self.units.append(Unit(name, kind, tree, start, end, patterns=patterns, returns=returns, within=self.open))
+
+    def seen(self, name, within=()):
+        """Returns the type of a definition or a record as it is seen within these modules: from without, what its own modules take stands before."""
+        kind = self.types.get(name) or self.record_types.get(name, "")
+        return " → ".join([*(it for module in self.within.get(name, ()) if module not in within for it in module.takes), kind]) if kind else ""
 
 
 def depth_of(text, found):
@@ -298,6 +323,19 @@ def params_of(text):
     for names, kind in re.findall(r"[({]([^(){}:]+) : ((?:[^(){}]|\([^()]*\))+)[)}]", text.partition(" where")[0]):
         found.update({it: " ".join(kind.split()) for it in names.split()})
     return found
+
+
+def taken_by(text):
+    """Returns the types of what the head of a record or a module takes, but for what isn't named where it is used."""
+    found = []
+    for names, kind in re.findall(r"\(([^(){}:]+) : ((?:[^(){}]|\([^()]*\))+)\)", text.partition(" where")[0]):
+        kind = " ".join(kind.split())
+        found += [f"({kind})" if "→" in kind else kind] * len(names.split())
+    return found
+
+
+def taking(text, kind):
+    return " → ".join([*taken_by(text), kind])
 
 
 def plain_words(text):

@@ -35,18 +35,17 @@ ASKED = {
     ),
     "osdp_link_laws": (
         ("osdp_link_laws", "osdp_link_ledger", "osdp_shared_line", "osdp_line_ledger"),
-        (("osdp_link_laws::asked::fitting_is_exact", "osdp_link_laws::asked::leaving_is_exact", "osdp_link_laws::asked::each_is_asked", "osdp_link_laws::asked::lapsing_asked_is_exact", "osdp_link_laws::asked::readers_hear_on"),
+        (("osdp_link_laws::asked::fitting_is_exact", "osdp_link_laws::asked::leaving_is_exact", "osdp_link_laws::asked::each_is_asked", "osdp_link_laws::asked::readers_hear_on"),
          ("osdp_shared_line::first_rounds::rounds_happen", "osdp_shared_line::promises::each_refuses_no_number", "osdp_shared_line::each_is_a_link", "osdp_link_laws::refuses_no_number"),
-         ("osdp_line_ledger::each_acts_by_one_handler", "osdp_line_ledger::each_ordinary_ends_told", "osdp_shared_line::progress::each_comes_through", "osdp_link_laws::comes_through",
-          "osdp_link_laws::lapses::holds_once_with_lapses")),
+         ("osdp_line_ledger::each_acts_by_one_handler", "osdp_line_ledger::each_ordinary_ends_told", "osdp_shared_line::progress::each_comes_through", "osdp_link_laws::comes_through")),
         {"Headline": ("MaySubmit", "SaysWhatFits", "SaysWhatFitsIf", "MoveFits", "MovesFit", "Begins"), "Addresses": ("SetsNoOther",), "OneHandler": ("KeepsHandler", "KeepsDevice", "KeepHandler"),
-         "Ordinary": ("IsOrdinary", "IsSteady"), "Refusals": ("KeepsReader", "IsNoRefusal"), "Lapses": ("KeepsSession", "KeepSession"), "LapsingRuns": ("LeavesRoom", "LapsingFits", "AllFit"),
+         "Ordinary": ("IsOrdinary", "IsSteady"), "Refusals": ("KeepsReader", "IsNoRefusal"),
          "Progress": ("IsClear", "AreClear", "SetsNoAddress", "NoComset", "HearsOn", "AreDue", "AreLate")},
     ),
     "osdp_calls_instance": (
         ("osdp_calls_instance",),
         (("osdp_calls_instance::laws_speak_of_programs", "osdp_calls_instance::run_keeps_rule", "osdp_calls_instance::stands_on_calls"), ("osdp_calls_instance::calls_for_c_are_calls", "osdp_calls_instance::lines_are_calls", "osdp_calls_instance::run_keeps_order")),
-        {"CPrograms": ("c_panel", "c_device"), "LinePrograms": ("IsWithdrawn", "PanelLineFits", "DeviceLineFits"), "OwnCalls": ("OwnFits", "FitsAt", "AllFit"), "SimulatedOrder": ("IsOrdered", "AllOrdered", "IsTaken", "AllRuled"),
+        {"CPrograms": ("c_panel", "c_device"), "LinePrograms": ("PanelLineFits", "DeviceLineFits"), "OwnCalls": ("OwnFits", "FitsAt", "AllFit"), "SimulatedOrder": ("IsOrdered", "AllOrdered", "IsTaken", "AllRuled"),
          "SimulatedBus": ("sim_panel", "BurstFits", "HandsBytes"), "SimulatedPremises": ("OrdersNoComset", "HandsShort")},
     ),
     "osdp_entry_numbers": (

@@ -33,38 +33,56 @@ def known_equal(crate):
     return found, is_whole
 
 
+class Firsts:
+    """Tells of each edit of a list whether it is the first of its unit that means what it means, and has a type as far as is seen. So a sample takes of several edits of one meaning
+    the one that the whole list has. A unit is read once an edit of it is asked for."""
+
+    def __init__(self, edits, below):
+        self.below, self.units, self.found = below, {}, {}
+        for it in edits:
+            self.units.setdefault((it.path, it.unit.start), []).append(it)
+
+    def has(self, edit):
+        place = (edit.path, edit.unit.start)
+        if place not in self.found:
+            meanings = generated.Meanings()
+            self.found[place] = {it for it in self.units[place] if meanings.is_new(it)}
+        return edit in self.found[place] and not typed.why_untyped(edit, self.below)
+
+
 def chosen(crate, tools, most, seed, is_wide=True, is_left=False):
     """Returns edits of a crate: all, or so many, each kind of operator alike; and those among them that are known to be equal. Of those that no contract decides
-    so many are taken that each is as likely as each other, and the first of them stay the same where more are wanted. What is seen to have no type is left out."""
+    so many are taken that each is as likely as each other, and the first of them stay the same where more are wanted. What is seen to have no type is left out.
+    A sample is a part of the whole list."""
     below = tuple(tools.below(crate))
     edits = generated.all_of(crate, below, is_wide)
-    meanings = generated.Meanings()
-
-    def is_taken(edit):
-        return meanings.is_new(edit) and not typed.why_untyped(edit, below)
-
-    equal, _ = known_equal(crate)
     if is_left:
         edits = [it for it in edits if not whole.is_decided(it)]
+    firsts = Firsts(edits, below)
     if most is None:
-        edits = [it for it in edits if is_taken(it)]
+        edits = [it for it in edits if firsts.has(it)]
     elif is_left:
         random.Random(f"{seed} {crate}").shuffle(edits)
-        edits = list(itertools.islice((it for it in edits if is_taken(it)), most))
+        edits = list(itertools.islice((it for it in edits if firsts.has(it)), most))
     else:
-        order = random.Random(f"{seed} {crate}")
-        kinds = {}
-        for it in edits:
-            kinds.setdefault((it.is_definition(), it.operator), []).append(it)
-        for it in kinds.values():
-            order.shuffle(it)
-        edits = []
-        while len(edits) < most and any(kinds.values()):
-            for it in list(kinds.values()):
-                if it and len(edits) < most and is_taken(one := it.pop()):
-                    edits.append(one)
+        edits = of_each_kind(edits, firsts, most, random.Random(f"{seed} {crate}"))
+    equal, _ = known_equal(crate)
     same = [it for it in edits if key_of(it) in equal]
     return [it for it in edits if it not in same], same
+
+
+def of_each_kind(edits, firsts, most, order):
+    """Draws so many edits, each kind of operator alike."""
+    kinds, found = {}, []
+    for it in edits:
+        kinds.setdefault((it.is_definition(), it.operator), []).append(it)
+    for it in kinds.values():
+        order.shuffle(it)
+    while len(found) < most and any(kinds.values()):
+        for it in list(kinds.values()):
+            if it and len(found) < most and firsts.has(one := it.pop()):
+                found.append(one)
+    return found
 
 
 class Log:
@@ -125,7 +143,9 @@ def try_crate(tools, crate, most, seed, budget, is_wide=True, kind=None, asks_ru
         try:
             of_crate = variants.Variants(copy, crate, budget)
             trial = Trial(tools, copy, crate, budget, of_crate, asks_runs=asks_runs, log=log)
-            why = trial.prove(copies or copies_for(crate, left), left, most is not None, proved and functools.partial(proved_in, proved))
+            # a log that has nothing of the crate, as where its proofs were kept, would have nobody asked
+            is_told = proved and proved_in(proved, crate)
+            why = trial.prove(copies or copies_for(crate, left), left, most is not None, functools.partial(proved_in, proved) if is_told else None)
             if why:
                 why = f"{crate}: not proved without any edit, so no edit shows anything:\n{why[-2000:]}"
                 if budget.seconds is None:
@@ -187,7 +207,7 @@ def sample(tools, words):
         one = Budget(max(share, min(120, budget.left())))
         # of a crate that was tried whole, what was tried then; and what the gate has proved just before isn't proved again without any edit
         is_whole = known_equal(crate)[1]
-        counts = try_crate(tools, crate, 40, seed, one, not is_whole, is_left=is_whole, proved=proved if proved and proved_in(proved, crate) else None)
+        counts = try_crate(tools, crate, 40, seed, one, not is_whole, is_left=is_whole, proved=proved)
         failed += counts.get(SURVIVED, 0) if is_whole else 0
     print(f"{len(crates)} crates changed; {failed} edits survived in those whose edits were all tried")
     return 1 if failed else 0

@@ -56,6 +56,12 @@ def bare(kind):
     return kind
 
 
+def bracketed(kinds):
+    """Returns the types that are named where something is used, each in brackets where it is a function's, and what is answered."""
+    kinds = [it for it in kinds if not it.startswith("{")]
+    return [*(f"({it})" if "→" in it and bare(it) == it else it for it in kinds[:-1]), *kinds[-1:]]
+
+
 def inner(kind):
     """Returns the type of what an `Option` or a list holds."""
     return bare(bare(kind).partition(" ")[2])
@@ -95,12 +101,16 @@ class Typing(Maker):
         tree = reader.term()
         if reader.at != len(reader.all):
             raise Unread("more")
-        unit = Unit(old.name, old.kind, tree, 0, len(self.edited), patterns=old.patterns, returns=old.returns)
+        unit = Unit(old.name, old.kind, tree, 0, len(self.edited), patterns=old.patterns, returns=old.returns, within=old.within)
         super().__init__(self.edited, unit, file, generated.definition_facts(crate, below), {})
         self.owned, self.cases = owners(crate, below)
         self.head_line = edit.text()
         # a pattern without names binds none
         self.kinds = {name: kind for name, kind in self.kinds.items() if name not in WORDS}
+        # two modules of a file may take the same name
+        for name, kind in [it for module in old.within for it in module.params.items()]:
+            if self.kinds.get(name) == file.module_params.get(name):
+                self.kinds[name] = kind
         self.patterned()
 
     # ---- names
@@ -146,8 +156,8 @@ class Typing(Maker):
     def declared(self, name):
         """Returns the type of a name as its module declares it, or nothing where that isn't sure."""
         prefix, _, last = name.rpartition(".")
-        if not prefix and last in self.file.types:
-            return "" if self.file.module_params else self.file.types[last]
+        if not prefix and (last in self.file.types or last in self.file.record_types):
+            return self.file.seen(last, self.unit.within)
         if not prefix and (own := [it for it in self.file.constructors.values() if last in it]):
             return own[0][last]
         modules = self.taken().get(prefix or last, ())
@@ -164,9 +174,18 @@ class Typing(Maker):
             payload = self.facts.code.payload(words[-2], name)
             return " → ".join([*(of_code(it) or "_" for it in payload), words[-2]])
         file = self.facts.modules.get(module)
-        # what a module takes stands before what its definitions take, outside it
-        kinds = [file.types, *file.constructors.values()] if file and not file.module_params else ()
-        return next((it[name] for it in kinds if name in it), "")
+        if file is None or file.seen(name):
+            return file.seen(name) if file else ""
+        return next((it[name] for it in file.constructors.values() if name in it), "") if not file.module_params else ""
+
+    def unaliased(self, kind):
+        """Returns the type for which a definition without arguments stands."""
+        word = bare(kind)
+        if not re.fullmatch(r"[A-Z]\w*", word):
+            return kind
+        files = [self.file] if word in self.file.types else [self.facts.modules.get(it) for it in self.taken().get(word, ())]
+        found = [it.aliases[word] for it in files if it and word in it.aliases]
+        return found[0] if len(found) == 1 else kind
 
     # ---- types
 
@@ -183,7 +202,10 @@ class Typing(Maker):
             for it in rest:
                 kind = self.field_of(kind, it)
             return kind
-        return WORDS.get(node.text) or self.declared(node.text)
+        # what the clause binds itself is another thing than what is declared
+        if first in self.local:
+            return ""
+        return WORDS.get(node.text) or " → ".join(bracketed(split_arrows(self.declared(node.text))))
 
     def kind_of_literal(self, node):
         return "ℕ"
@@ -225,14 +247,19 @@ class Typing(Maker):
         return "_ → _" if len(explicit) < len(kinds) - 1 else ""
 
     def is_solid(self, kind):
+        kind = self.unaliased(kind)
         return outer(kind) in SOLID or outer(kind) in self.owned or outer(kind) in self.cases
 
     def differ(self, kind, wanted):
         """Whether two types are known not to be one."""
         if not self.is_solid(kind) or not self.is_solid(wanted):
             return False
+        kind, wanted = self.unaliased(kind), self.unaliased(wanted)
         if outer(kind) != outer(wanted):
             return True
+        if outer(kind) == FUNCTION:
+            ours, theirs = ([one for one in split_arrows(bare(it)) if not one.startswith("{")] for it in (kind, wanted))
+            return len(ours) == len(theirs) and any(self.differ(*it) for it in zip(ours, theirs))
         return outer(kind) in ("Option", "List") and self.differ(inner(kind), inner(wanted))
 
     def look(self, node, wanted):
@@ -300,7 +327,8 @@ class Typing(Maker):
         yield node.inner, ""
 
     def whole(self):
-        self.names = self.bound() | self.given()
+        self.local = self.bound()
+        self.names = self.local | self.given()
         returns = self.unit.returns if self.unit.kind == "field" else self.returns
         self.look(self.unit.tree, "" if "→" in returns else returns)
 
