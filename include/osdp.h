@@ -55,11 +55,12 @@
  * - Bursts go out at once, whole and in their order: else the other end reads a packet that was not said, or none.
  * - A machine that isn't freed is leaked.
  *
- * What is promised of a line, where both ends are these machines and one panel speaks: in each session orders are taken once and
- * in order, each settled with the answer that the device gave, and events are told once and in order, but those that a restart of
- * the device threw away. No order that the panel accepted is taken twice. That holds of any calls, at any moments, however bytes
- * are cut. docs/HEADLINE.md has it, its premises under "What is asked", and what a program does for each: above all a quiet wait
- * of more than twice as long as a packet takes at most until it is read, and a rule for addresses, which docs/PROTOCOL.md has.
+ * What is promised of a line, where both ends are these machines and one panel speaks: in each session orders are taken once
+ * and in order, each settled with the answer that the device gave, and events are told once and in order, but those that a
+ * restart of the device threw away, and those that its program withdrew or let lapse. No order that the panel accepted is taken
+ * twice. That holds of any calls, at any moments, however bytes are cut. docs/HEADLINE.md has it, its premises under "What is
+ * asked", and what a program does for each: above all a quiet wait of more than twice as long as a packet takes at most until
+ * it is read, and a rule for addresses, which docs/PROTOCOL.md has.
  */
 #ifndef OSDP_H
 #define OSDP_H
@@ -1083,13 +1084,16 @@ struct osdp_answer {
  *     size_t at = 0, taken;
  *     while (osdp_device_step(&device, bytes + at, length - at, now, &taken, &answer) == OSDP_OK) {
  *         at += taken;
- *         .. answer.burst is written ..
  *         if (answer.order == OSDP_ORDER_PENDING && .. the lock is jammed ..) {
  *             osdp_device_answer_refused(&device, OSDP_NAK_RECORD_NOT_PROCESSED);
  *         }
  *         if (answer.order == OSDP_ORDER_ONCE) {
- *             .. answer.command is done ..
+ *             .. answer.command is done: before the burst, so that what was answered was done ..
  *         }
+ *         if (answer.moved) {
+ *             .. answer.address and answer.baud_rate are kept ..
+ *         }
+ *         .. answer.burst is written ..
  *         if (at == length && answer.kind == OSDP_SAID_NONE) {
  *             break;
  *         }

@@ -58,6 +58,7 @@ module _ {H : Type 0} where
   IsUsual (link.SetHandler handler) = ⊥
   IsUsual link.Withdraw = ⊥
   IsUsual link.WithdrawEvent = ⊥
+  IsUsual link.LapseEvent = ⊥
   IsUsual (link.Retarget address) = ⊥
   IsUsual (link.RestartReader config handler room) = ⊥
   IsUsual (link.RestartController config room) = ⊥
@@ -69,6 +70,7 @@ module _ {H : Type 0} where
   usual_steady (link.SetHandler handler) usual = absurd usual
   usual_steady link.Withdraw usual = absurd usual
   usual_steady link.WithdrawEvent usual = absurd usual
+  usual_steady link.LapseEvent usual = absurd usual
   usual_steady (link.Retarget address) usual = absurd usual
   usual_steady (link.RestartReader config handler room) usual = absurd usual
   usual_steady (link.RestartController config room) usual = absurd usual
@@ -79,7 +81,7 @@ module _ {H : Type 0} where
   pub are_steady : (ms : List (Move H)) → Each IsUsual ms → Each IsSteady ms
   are_steady ms usual = each_map IsUsual IsSteady usual_steady ms usual
 
-  -- .. of moves in which nobody restarts, nothing is withdrawn and no address is set
+  -- .. of moves in which nobody restarts, nothing is withdrawn or lapses, and no address is set
   abbrev pub reserved_after : Move H → Link H → Option ℕ → Option ℕ
   reserved_after (Submit command) l reserved = accepted_for (submit_refusal command l.controller) command reserved
   reserved_after move l reserved = freed_by (told_by move l) reserved

@@ -1,21 +1,22 @@
--- What a bus sees to by itself: where nobody restarts, nothing is withdrawn and no address is set but by COMSETs, no address is given where
--- another device may come.
+-- What a bus sees to by itself: where nobody restarts, nothing is withdrawn or lapses, and no address is set but by COMSETs, no address is given
+-- where another device may come.
 use Rattle.std.specs.Prelude.{◌≡◌, ℕ, All, List, [], ◌∷◌, Some, None}
 use Rattle.osdp_msg.specs.CommandTable.{CommandFits}
 use Rattle.osdp_msg.specs.declared.command.Command.{Command}
 use Rattle.osdp_reader.specs.declared.handler.Answer.{Answer}
 use Rattle.osdp_link_laws.specs.Headline.{SaysWhatFitsIf}
 use Rattle.osdp_shared_line.specs.Addresses.{IsSetUp, NetMovesFit, in_front}
-use Rattle.osdp_shared_line.specs.Line.{LoseToPanel, LoseToReader, Net, NetMove, Queue, Reopen, RestartPanel, RestartReader, Retarget, SetBusy, SetHandler, Site, Submit, Tick, ToPanel, ToReader, Withdraw, WithdrawEvent, after_net, site_at}
+use Rattle.osdp_shared_line.specs.Line.{LoseToPanel, LoseToReader, Net, NetMove, Queue, Reopen, RestartPanel, RestartReader, Retarget, SetBusy, SetHandler, Site, Submit, Tick, ToPanel, ToReader, Withdraw, LapseEvent, WithdrawEvent, after_net, site_at}
 use Rattle.osdp_shared_line.specs.Views.{OpensQuietly}
 
 module _ {H : Type 0} where
-  -- a move of a schedule: nothing is withdrawn, no address is set but by a COMSET, nobody restarts, no device is changed, and nothing is lost
-  -- out of the middle
+  -- a move of a schedule: nothing is withdrawn or lapses, no address is set but by a COMSET, nobody restarts, no device is changed, and nothing is
+  -- lost out of the middle
   abbrev pub IsScheduled : NetMove H → Type 0
   IsScheduled (SetHandler k handler) = ⊥
   IsScheduled (Withdraw k) = ⊥
   IsScheduled (WithdrawEvent k) = ⊥
+  IsScheduled (LapseEvent k) = ⊥
   IsScheduled (Retarget k address) = ⊥
   IsScheduled (LoseToReader k place) = ⊥
   IsScheduled (LoseToPanel place) = ⊥

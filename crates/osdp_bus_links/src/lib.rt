@@ -22,8 +22,8 @@ pub fn calls_are_moves<H: Handler>()
     osdp_controller_laws::endings_are_told();
 }
 
-/// Where nobody restarts, nothing is withdrawn and no address is set but by COMSETs, the bus sees to addresses by itself: each device is at
-/// its controller's address or at the one that is kept for its COMSET, and goes to no other. So no COMSET that is accepted gives an address
+/// Where nobody restarts, nothing is withdrawn or lapses, and no address is set but by COMSETs, the bus sees to addresses by itself: each device
+/// is at its controller's address or at the one that is kept for its COMSET, and goes to no other. So no COMSET that is accepted gives an address
 /// at which another device is or may come, and nothing is left to ask of the program.
 pub fn bus_suffices<H: Handler>()
     ensures { BusSuffices H.answer_of H.after }

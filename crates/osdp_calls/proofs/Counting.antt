@@ -1,7 +1,7 @@
 -- What the moves of a net hand to the link of a site, one after another, is what the moves of that link do.
 use Rattle.osdp_calls.proofs.Common.{◌≡◌, ℕ, Bool, cond, List, [], ◌∷◌, ◌++◌, Option, Some, None, refl, sym, subst, ap, ◌∙◌, append_assoc, ◌==◌, option_map, option_to_list, Packet, Command, Answer, Delivered, Delivery, Link, Lost, Move, Repeated, after_move, both, Each, IsSetUp, NetMoveFits, NetMovesFit, NobodyElseHears, moves_at, moves_of, EachMoveIsItsOwn, HeardByOwn, OpensQuietly, front_to_panel, lost, move_of, one_if, other_reply, own_front, own_place, own_reply, sees, view, fits_first, net_more}
 use Rattle.osdp_link_laws.specs.Link as link
-use Rattle.osdp_shared_line.specs.Line.{LoseToPanel, LoseToReader, Net, NetMove, Queue, Reopen, RestartPanel, RestartReader, Retarget, SetBusy, SetHandler, Site, Submit, Tick, ToPanel, ToReader, Withdraw, WithdrawEvent, address_of, after_net, is_retarget_refused, run, site_at}
+use Rattle.osdp_shared_line.specs.Line.{LoseToPanel, LoseToReader, Net, NetMove, Queue, Reopen, RestartPanel, RestartReader, Retarget, SetBusy, SetHandler, Site, Submit, Tick, ToPanel, ToReader, Withdraw, LapseEvent, WithdrawEvent, address_of, after_net, is_retarget_refused, run, site_at}
 
 module _ {H : Type 0} where
   -- ---- moves that give no command and no event
@@ -56,6 +56,7 @@ module _ {H : Type 0} where
   each_none k s (SetHandler i handler) n none = one_none i k (link.SetHandler handler) tt
   each_none k s (Withdraw i) n none = one_none i k link.Withdraw tt
   each_none k s (WithdrawEvent i) n none = one_none i k link.WithdrawEvent tt
+  each_none k s (LapseEvent i) n none = one_none i k link.LapseEvent tt
   each_none k s (Retarget i address) n none =
       both (Each LinkGivesNone) (is_retarget_refused i address s n.sites) [] (one_if i k (link.Retarget address)) tt (one_none i k (link.Retarget address) tt)
   each_none k s (Tick i now) n none = one_none i k (link.Tick now) tt

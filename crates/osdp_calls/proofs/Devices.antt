@@ -1,7 +1,7 @@
 -- Each call of a device is a list of moves of its site.
-use Rattle.osdp_calls.proofs.Common.{◌≡◌, ◌≤◌, ℕ, Bool, true, false, cond, List, [], ◌∷◌, ◌++◌, length, All, Option, Some, None, IfSome, refl, sym, subst, ap, ◌∙◌, ◌==◌, ReplyFits, Command, Event, Entry, Received, items_of, next_told, Repeated, unless_full, each_append, each_map, each_of, Each, Answer, lacks_room, Net, NetMove, Queue, Site, ToReader, after_net, changed, left_by, link_of, site_at, at_changed, some_same, queued_at, SubmitEvent, after_next, answers, by_device, changes_at, first_answered, last_of, on_station, queues, read_up_to, reply_to, withdraws_event, Burst, InUse, Station, is_past_for_device, NextInOrder, NextInRange}
+use Rattle.osdp_calls.proofs.Common.{◌≡◌, ◌≤◌, ℕ, Bool, true, false, cond, List, [], ◌∷◌, ◌++◌, length, All, Option, Some, None, IfSome, refl, sym, subst, ap, ◌∙◌, ◌==◌, ReplyFits, Command, Event, Entry, Received, items_of, next_told, Repeated, unless_full, each_append, each_map, each_of, Each, Answer, lacks_room, Net, NetMove, Queue, Site, ToReader, after_net, changed, left_by, link_of, site_at, at_changed, some_same, queued_at, SubmitEvent, after_next, answers, by_device, changes_at, first_answered, last_of, on_station, queues, read_up_to, reply_to, lapses_event, withdraws_event, Burst, InUse, Station, is_past_for_device, NextInOrder, NextInRange}
 use Rattle.osdp_link_laws.specs.Link as link
-use Rattle.osdp_reader.specs.State.{ReaderState, after_set_handler, after_submit, after_withdraw_event}
+use Rattle.osdp_reader.specs.State.{ReaderState, after_lapse_event, after_set_handler, after_submit, after_withdraw_event}
 use Rattle.osdp_reader.specs.Table.{hears}
 use Rattle.osdp_shared_line.specs.Line as line
 use Rattle.osdp_calls.specs.Calls as calls
@@ -69,6 +69,15 @@ module _ {H : Type 0} (answer_of : H → Command → Answer) (after : H → Comm
       (both_change k withdraws_event (line.calls answer_of after link.WithdrawEvent) l n h
       (λ d t s is. read_so is (ap after_withdraw_event is.reader)
       (λ i. link.event_withdrawn (is.reader i).queue (is.account i)) is.stored))
+
+  -- the front lapses, where it was ever offered
+  pub lapsing_event : (k : ℕ) (l : InUse H) (n : Net H) → IsNetOf l n
+      → StepsTo answer_of after (calls.LapseEvent k) l n (on_station k lapses_event l)
+  lapsing_event k l n h =
+      by_own answer_of after (calls.LapseEvent k) (line.LapseEvent k) l n (on_station k lapses_event l) (λ j. refl) (λ j. refl) tt refl refl tt
+      (both_change k lapses_event (line.calls answer_of after link.LapseEvent) l n h
+      (λ d t s is. read_so is (ap after_lapse_event is.reader)
+      (λ i. link.event_lapsed (is.reader i).queue (is.account i)) is.stored))
 
   -- what has come on a line is nothing to the net
   line_is : (k : ℕ) (change : Station H → Received) (l : InUse H) (n : Net H) → IsNetOf l n → IsNetOf (on_station k (λ t. record t { line = change t }) l) n

@@ -1,5 +1,5 @@
 -- A call of one end leaves the others as they are.
-use Rattle.osdp_calls.proofs.Common.{◌≡◌, ℕ, zero, suc, Bool, true, false, cond, List, [], ◌∷◌, ◌++◌, map, Option, Some, None, refl, sym, subst, ap, ◌∙◌, ◌==◌, Command, Event, Packet, BusState, new_bus, bus_ticks, Entry, each_of, Each, passed, after_silence, after_take, after_tick, after_set_busy, after_set_handler, Answer, lacks_room, site_at, some_same, Call, NewDevice, NewPanel, Next, OfPanel, Pending, SetBusy, SetHandler, Silence, Step, SubmitEvent, Take, TickDevice, after_call, after_calls, after_next, all_forget, asked_at, begins_with, begun_of, change_at, changes_at, forgets, last_of, made_anew, nexts, noted, panel_says, queues, said_at, WithdrawEvent, withdraws_event, BusIsReached, CanStand, GoByTheirOwn, IsThatOfABus, OneExchange, Held, KeepsPanel, device_after, device_after_all, held_by, is_of_device, one_panel_call, panel_calls, takes_event, InUse, Station, PanelTurnsByCalls, panel_turn_calls}
+use Rattle.osdp_calls.proofs.Common.{◌≡◌, ℕ, zero, suc, Bool, true, false, cond, List, [], ◌∷◌, ◌++◌, map, Option, Some, None, refl, sym, subst, ap, ◌∙◌, ◌==◌, Command, Event, Packet, BusState, new_bus, bus_ticks, Entry, each_of, Each, passed, after_silence, after_take, after_tick, after_set_busy, after_set_handler, Answer, lacks_room, site_at, some_same, Call, NewDevice, NewPanel, Next, OfPanel, Pending, SetBusy, SetHandler, Silence, Step, SubmitEvent, Take, TickDevice, after_call, after_calls, after_next, all_forget, asked_at, begins_with, begun_of, change_at, changes_at, forgets, last_of, made_anew, nexts, noted, panel_says, queues, said_at, LapseEvent, WithdrawEvent, lapses_event, withdraws_event, BusIsReached, CanStand, GoByTheirOwn, IsThatOfABus, OneExchange, Held, KeepsPanel, device_after, device_after_all, held_by, is_of_device, one_panel_call, panel_calls, takes_event, InUse, Station, PanelTurnsByCalls, panel_turn_calls}
 use Rattle.osdp_bus_laws.specs.Calls as bus
 use Rattle.osdp_bus_laws.specs.Exchanges.{HasOneExchange}
 use Rattle.osdp_calls.proofs.Places.{Stays, as_before, panel_so, station_so}
@@ -74,6 +74,8 @@ module _ {H : Type 0} where
         device_keeps k i (λ t. record t { reader = after_set_handler handler t.reader }) (device_after answer_of after (SetHandler i handler)) d l.stations (λ t. refl) is
     step_keeps k (WithdrawEvent i) places d l is =
         device_keeps k i withdraws_event (device_after answer_of after (WithdrawEvent i)) d l.stations (λ t. refl) is
+    step_keeps k (LapseEvent i) places d l is =
+        device_keeps k i lapses_event (device_after answer_of after (LapseEvent i)) d l.stations (λ t. refl) is
     step_keeps k (Take i bytes now) places d l is =
         device_keeps k i (λ t. record t { line = after_take bytes now t.line }) (device_after answer_of after (Take i bytes now)) d l.stations (λ t. refl) is
     step_keeps k (TickDevice i now) places d l is =

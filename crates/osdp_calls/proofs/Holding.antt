@@ -1,12 +1,12 @@
 -- Every list of calls that keep the premises is a list of moves of a net, so what holds of each site holds of each entry.
-use Rattle.osdp_calls.proofs.Common.{◌≡◌, ℕ, List, [], ◌∷◌, ◌++◌, Some, refl, sym, subst, ap, ◌∙◌, inl, inr, Command, device_of, Entry, passed, after_silence, after_take, after_tick, Link, Move, queued, submitted, each_append, each_map, each_of, Each, ReaderState, Answer, NetMovesFit, NoTwoAreTogether, Net, NetMove, RestartPanel, Site, after_net, run, site_at, accepted_by, all_accepted, all_queued, queued_by, Call, Next, NewDevice, NewPanel, OfPanel, Pending, SetBusy, SetHandler, Silence, Step, SubmitEvent, Take, TickDevice, after_call, after_calls, read_by, WithdrawEvent, InUse, Station, fits_both, net_more}
+use Rattle.osdp_calls.proofs.Common.{◌≡◌, ℕ, List, [], ◌∷◌, ◌++◌, Some, refl, sym, subst, ap, ◌∙◌, inl, inr, Command, device_of, Entry, passed, after_silence, after_take, after_tick, Link, Move, queued, submitted, each_append, each_map, each_of, Each, ReaderState, Answer, NetMovesFit, NoTwoAreTogether, Net, NetMove, RestartPanel, Site, after_net, run, site_at, accepted_by, all_accepted, all_queued, queued_by, Call, Next, NewDevice, NewPanel, OfPanel, Pending, SetBusy, SetHandler, Silence, Step, SubmitEvent, Take, TickDevice, after_call, after_calls, read_by, LapseEvent, WithdrawEvent, InUse, Station, fits_both, net_more}
 use Rattle.osdp_bus_laws.specs.Calls as bus
 use Rattle.osdp_link_laws.specs.Link as link
 use Rattle.osdp_link_laws.specs.Sessions as sessions
 use Rattle.osdp_calls.specs.Premises.{Addresses, AllKeep, InOrder, InRange, IsSetUp, QuietOpening}
 use Rattle.osdp_calls.specs.Promises.{CallsKeepApart}
 use Rattle.osdp_calls.proofs.Counting.{counted, in_net, in_net_more}
-use Rattle.osdp_calls.proofs.Devices.{handling, lines_change, next_still, nexting, queueing, withdrawing_event}
+use Rattle.osdp_calls.proofs.Devices.{handling, lapsing_event, lines_change, next_still, nexting, queueing, withdrawing_event}
 use Rattle.osdp_calls.proofs.Lasting.{call_keeps}
 use Rattle.osdp_calls.proofs.Matching.{IsOurs}
 use Rattle.osdp_calls.proofs.Orders.{beginning, retargeting, submitting, withdrawing}
@@ -74,6 +74,7 @@ module _ {H : Type 0} (answer_of : H → Command → Answer) (after : H → Comm
       device_reads (SetBusy k busy) (after_call answer_of after (SetBusy k busy) places l) l n (λ j. refl) (λ j. refl) (busying answer_of after k busy l n h)
   one_call (SetHandler k handler) places l n h order quiet addresses range = handling answer_of after k handler l n h
   one_call (WithdrawEvent k) places l n h order quiet addresses range = withdrawing_event answer_of after k l n h
+  one_call (LapseEvent k) places l n h order quiet addresses range = lapsing_event answer_of after k l n h
   one_call (Take k bytes now) places l n h order quiet addresses range =
       device_reads (Take k bytes now) (after_call answer_of after (Take k bytes now) places l) l n (λ j. refl) (λ j. refl)
       (lines_change answer_of after k (λ t. after_take bytes now t.line) l n h)

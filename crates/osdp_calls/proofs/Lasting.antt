@@ -1,5 +1,5 @@
 -- Stations stay, whatever is called.
-use Rattle.osdp_calls.proofs.Common.{◌≡◌, ℕ, zero, suc, List, [], ◌∷◌, Option, Some, None, refl, ◌∙◌, is_some, Packet, Command, Report, BusState, device_of, begin_refusal_at, changed_unless, submit_refusal_at, withdrawal_at, bus_ticks, Entry, BusFault, told_in, Answer, site_at, Call, NewDevice, NewPanel, Next, OfPanel, Pending, SetBusy, SetHandler, Silence, SubmitEvent, Take, TickDevice, WithdrawEvent, after_call, after_next, all_forget, all_hear, asked_at, begins_session, begins_with, begun_of, change_at, changes_at, hears_of, last_of, nexts, noted, panel_says, said_at, takes_back, waiting_of, withdrawn, Step, after_calls, InUse, Station}
+use Rattle.osdp_calls.proofs.Common.{◌≡◌, ℕ, zero, suc, List, [], ◌∷◌, Option, Some, None, refl, ◌∙◌, is_some, Packet, Command, Report, BusState, device_of, begin_refusal_at, changed_unless, submit_refusal_at, withdrawal_at, bus_ticks, Entry, BusFault, told_in, Answer, site_at, Call, NewDevice, NewPanel, Next, OfPanel, Pending, SetBusy, SetHandler, Silence, SubmitEvent, Take, TickDevice, LapseEvent, WithdrawEvent, after_call, after_next, all_forget, all_hear, asked_at, begins_session, begins_with, begun_of, change_at, changes_at, hears_of, last_of, nexts, noted, panel_says, said_at, takes_back, waiting_of, withdrawn, Step, after_calls, InUse, Station}
 use Rattle.osdp_bus_laws.specs.Calls as bus
 use Rattle.osdp_calls.proofs.Matching.{changed_some}
 
@@ -63,6 +63,7 @@ module _ {H : Type 0} (k : ℕ) where
     call_keeps (SetBusy i busy) places l = change_keeps i _ l.stations
     call_keeps (SetHandler i handler) places l = change_keeps i _ l.stations
     call_keeps (WithdrawEvent i) places l = change_keeps i _ l.stations
+    call_keeps (LapseEvent i) places l = change_keeps i _ l.stations
     call_keeps (Take i bytes now) places l = change_keeps i _ l.stations
     call_keeps (TickDevice i now) places l = change_keeps i _ l.stations
     call_keeps (Silence i now) places l = change_keeps i _ l.stations

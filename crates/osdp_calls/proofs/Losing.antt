@@ -1,7 +1,7 @@
 -- What a list of moves of a net comes to, and what is lost on the line.
 use Rattle.osdp_calls.proofs.Common.{◌≡◌, ℕ, zero, suc, Bool, true, false, cond, List, [], ◌∷◌, ◌++◌, length, Some, refl, sym, subst, ap, ◌∙◌, append_assoc, Packet, Command, Answer, lost_at, each_append, Each, NetMoveFits, NetMovesFit, at_changed, Burst, those, fits_both, net_more}
 use Rattle.osdp_shared_line.specs.Line as line
-use Rattle.osdp_shared_line.specs.Line.{LoseToPanel, LoseToReader, Net, NetMove, Queue, Reopen, RestartPanel, RestartReader, Retarget, SetHandler, Site, Submit, ToPanel, Withdraw, WithdrawEvent, after_net, changed, run, site_at}
+use Rattle.osdp_shared_line.specs.Line.{LoseToPanel, LoseToReader, Net, NetMove, Queue, Reopen, RestartPanel, RestartReader, Retarget, SetHandler, Site, Submit, ToPanel, Withdraw, LapseEvent, WithdrawEvent, after_net, changed, run, site_at}
 use Rattle.osdp_link_laws.proofs.Doing.{lost_there}
 
 -- ---- a list without some of it
@@ -28,13 +28,14 @@ changed_twice k new old [] = refl
 changed_twice zero new old (x ∷ xs) = refl
 changed_twice (suc k) new old (x ∷ xs) = ap (λ l. x ∷ l) (changed_twice k new old xs)
 
--- a move that gives no command and no event, sets no handler, takes nothing back and restarts nobody
+-- a move that gives no command and no event, sets no handler, takes nothing back, lets no event lapse and restarts nobody
 abbrev pub IsPlain : {H : Type 0} → NetMove H → Type 0
 IsPlain (Submit k command) = ⊥
 IsPlain (Queue k event) = ⊥
 IsPlain (SetHandler k handler) = ⊥
 IsPlain (Withdraw k) = ⊥
 IsPlain (WithdrawEvent k) = ⊥
+IsPlain (LapseEvent k) = ⊥
 IsPlain (RestartReader k config handler room) = ⊥
 IsPlain (RestartPanel settings) = ⊥
 IsPlain _ = Unit {0}

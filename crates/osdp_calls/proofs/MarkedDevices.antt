@@ -1,12 +1,23 @@
 -- Calls of devices tell nothing of events: after each call, and after a call of the panel.
-use Rattle.osdp_calls.proofs.Common.{◌≡◌, ℕ, Bool, true, false, List, [], ◌∷◌, map, Option, Some, None, refl, sym, subst, ap, Packet, Command, Poll, Event, Reply, Report, BusState, Entry, told_in, passed, items_of, after_silence, after_take, after_tick, Account, front_of, taken, taken_command, after_set_busy, after_set_handler, Answer, Kind, lacks_room, site_at, Call, NewDevice, NewPanel, Next, OfPanel, Pending, SetBusy, SetHandler, Silence, SubmitEvent, Take, TickDevice, WithdrawEvent, after_call, after_next, after_panel, answers, change_at, first_answered, last_of, made_anew, nexts, noted, queues, read_up_to, withdraws_event, KeepsPanel, InUse, Station}
+use Rattle.osdp_calls.proofs.Common.{◌≡◌, ℕ, Bool, true, false, List, [], ◌∷◌, ◌++◌, length, map, not, ◌-◌, ◌&&◌, both, Option, Some, None, refl, sym, subst, ap, Packet, Command, Poll, Event, Reply, Report, BusState, Entry, told_in, passed, items_of, after_silence, after_take, after_tick, Account, front_of, taken, taken_command, after_set_busy, after_set_handler, Answer, Kind, lacks_room, site_at, Call, NewDevice, NewPanel, Next, OfPanel, Pending, SetBusy, SetHandler, Silence, SubmitEvent, Take, TickDevice, LapseEvent, WithdrawEvent, after_call, after_next, after_panel, answers, change_at, first_answered, last_of, made_anew, nexts, noted, queues, read_up_to, lapses_event, withdraws_event, KeepsPanel, InUse, Station}
+use Rattle.std.specs.Prelude.{take}
 use Rattle.osdp_bus_laws.specs.Calls as bus
+use Rattle.osdp_link_laws.specs.Link.{event_lapsed, is_offered_here, lost_at}
+use Rattle.osdp_reader.specs.Queue.{Queue as EventQueue}
 use Rattle.osdp_reader.specs.Table.{hears, kind_of}
 use Rattle.osdp_reader.specs.declared.kind.Kind.TheVariants as kinds
 use Rattle.osdp_calls.proofs.Ends.{next_bus, next_stations, said_bus}
 use Rattle.osdp_calls.proofs.Marking.{Agrees, Told, next}
 use Rattle.osdp_calls.proofs.Places.{those}
 use Rattle.osdp_calls.proofs.Marked.{Stands, Tells, call_tells, reported_in, station_changes, tells_as}
+
+-- an event that lapses leaves all of an account but what is kept and what is thrown away
+pub lapsed_keeps : {A : Type 0} (part : Account → A) (q : EventQueue) (a : Account)
+    → part (record a { kept = lost_at (length a.kept - length q.events) a.kept; thrown_away = a.thrown_away ++ take 1 q.events }) ≡ part a
+    → part (event_lapsed q a) ≡ part a
+lapsed_keeps part q a same =
+    both (λ (x : Account). part x ≡ part a) (q.ever_offered && not (is_offered_here q a))
+    (record a { kept = lost_at (length a.kept - length q.events) a.kept; thrown_away = a.thrown_away ++ take 1 q.events }) a same refl
 
 -- what is taken, and what is said to it, is no report
 command_reports : (c : Command) (said : Option Reply) (front : List Event) (a : Account) → (taken_command c said front a).reported ≡ a.reported
@@ -29,6 +40,10 @@ module _ {H : Type 0} where
     stands_same change same x d t h =
         let s = same t in
         subst (λ (q : Option ℕ × List (List Event)). Agrees n d.controller.session.state q.0 q.1 x) (λ i. (sym s.0 i, sym s.1 i)) h
+
+    lapsed_same : (t : Station H) → reported_in (lapses_event t) ≡ reported_in t
+    lapsed_same t =
+        ap (λ es. es ∷ map (λ (a : Account). a.reported) t.earlier) (lapsed_keeps (λ a. a.reported) t.reader.queue t.account refl)
 
     queues_same : (full : Bool) (event : Event) (t : Station H) → ((queues full event t).begun ≡ t.begun) × (reported_in (queues full event t) ≡ reported_in t)
     queues_same true event t = (refl, refl)
@@ -72,6 +87,7 @@ module _ {H : Type 0} where
       step_tells (SetHandler i handler) places l x keeps is =
           of_device i (λ t. record t { reader = after_set_handler handler t.reader }) l x (λ t. (refl, refl)) is
       step_tells (WithdrawEvent i) places l x keeps is = of_device i withdraws_event l x (λ t. (refl, refl)) is
+      step_tells (LapseEvent i) places l x keeps is = of_device i lapses_event l x (λ t. (refl, lapsed_same t)) is
       step_tells (Take i bytes now) places l x keeps is =
           of_device i (λ t. record t { line = after_take bytes now t.line }) l x (λ t. (refl, refl)) is
       step_tells (TickDevice i now) places l x keeps is = of_device i (λ t. record t { line = after_tick now t.line }) l x (λ t. (refl, refl)) is

@@ -1,5 +1,5 @@
 -- What a device reads: what stands before it is lost to it, and what it reads stays in front of it and may be read again.
-use Rattle.osdp_calls.proofs.Common.{◌≡◌, ◌≤◌, ◌<◌, ℕ, zero, suc, ◌+◌, not, Bool, true, false, cond, List, [], ◌∷◌, ◌++◌, length, Option, Some, None, IfSome, refl, sym, subst, ap, ◌∙◌, arith, append-nil, append_assoc, inl, inr, option_to_list, Packet, ReplyFits, Command, speaks, Repeated, each_append, Each, ReaderState, Answer, in_front, Net, NetMove, Site, ToReader, after_net, changed, left_by, link_of, run, site_at, tagged, at_changed, some_same, answers, by_device, first_answered, last_of, reply_to, Burst, InUse, Opening, Station, ahead_of_device, is_past_for_device, AreInOrder, at_length, net_more}
+use Rattle.osdp_calls.proofs.Common.{◌≡◌, ◌≤◌, ℕ, zero, suc, ◌+◌, not, Bool, true, false, cond, List, [], ◌∷◌, ◌++◌, length, Option, Some, None, IfSome, refl, sym, subst, ap, ◌∙◌, arith, append-nil, append_assoc, inl, inr, option_to_list, Packet, ReplyFits, Command, speaks, Repeated, each_append, Each, ReaderState, Answer, in_front, Net, NetMove, Site, ToReader, after_net, changed, left_by, link_of, run, site_at, tagged, at_changed, some_same, answers, by_device, first_answered, last_of, reply_to, Burst, InUse, Opening, Station, ahead_of_device, is_past_for_device, AreInOrder, at_length, net_more}
 use Rattle.osdp_link_laws.specs.Headline.{SaysWhatFitsIf}
 use Rattle.osdp_link_laws.specs.Link as link
 use Rattle.osdp_reader.specs.Table.{hears, kind_of}

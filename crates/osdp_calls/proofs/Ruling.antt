@@ -1,6 +1,6 @@
 -- So programs that keep to the rule keep the premise on addresses, over every list of calls.
 use Rattle.std.proofs.Common.{◌≡◌, ℕ, zero, suc, Bool, true, false, List, [], ◌∷◌, length, map, Option, Some, None, refl, sym, subst, ap, ◌∙◌, inl, inr, ◌++◌, is_some, ◌≤◌}
-use Rattle.osdp_calls.proofs.Common.{Packet, Command, Event, Room, State, Closed, device_of, BusConfig, Entry, passed, Received, after_silence, after_take, after_tick, items_of, ReadsWhatIsAsked, Each, ReaderState, after_set_busy, after_set_handler, ReaderConfig, Answer, lacks_room, IsSetUp, NetMovesFit, NobodyElseHears, Net, NetMove, RestartPanel, RestartReader, after_net, site_at, KeepRule, Note, RuleSuffices, no_notes, noted_at, Call, Next, NewDevice, NewPanel, OfPanel, Pending, SetBusy, SetHandler, Silence, Step, SubmitEvent, Take, TickDevice, after_call, after_next, answers, begun_of, first_answered, made_anew, nexts, on_station, queues, read_up_to, WithdrawEvent, withdraws_event, InUse, Station, InOrder, InRange, QuietOpening, AllKeepRule, CallsRuleSuffices, KeepsRule, first_note, first_notes, noted_of, notes_after, some_same, each_map}
+use Rattle.osdp_calls.proofs.Common.{Packet, Command, Event, Room, State, Closed, device_of, BusConfig, Entry, passed, Received, after_silence, after_take, after_tick, items_of, ReadsWhatIsAsked, Each, ReaderState, after_set_busy, after_set_handler, ReaderConfig, Answer, lacks_room, IsSetUp, NetMovesFit, NobodyElseHears, Net, NetMove, RestartPanel, RestartReader, after_net, site_at, KeepRule, Note, RuleSuffices, no_notes, noted_at, Call, Next, NewDevice, NewPanel, OfPanel, Pending, SetBusy, SetHandler, Silence, Step, SubmitEvent, Take, TickDevice, after_call, after_next, answers, begun_of, first_answered, made_anew, nexts, on_station, queues, read_up_to, LapseEvent, WithdrawEvent, lapses_event, withdraws_event, InUse, Station, InOrder, InRange, QuietOpening, AllKeepRule, CallsRuleSuffices, KeepsRule, first_note, first_notes, noted_of, notes_after, some_same, each_map}
 use Rattle.osdp_bus.specs.Entries as devices
 use Rattle.osdp_bus_laws.specs.Calls as panel
 use Rattle.osdp_shared_line.specs.Line as line
@@ -184,6 +184,8 @@ module _ {H : Type 0} where
           let s = steps_to (SetHandler k handler) places order quiet rule range in reader_ruled (SetHandler k handler) k (after_set_handler handler) (λ j d. refl) s (subst (Each IsStill) (sym s.made) (tt, tt))
       call_ruled (WithdrawEvent k) places order quiet rule range =
           station_ruled (WithdrawEvent k) k withdraws_event (λ t. refl) (λ j d. refl) (steps_to (WithdrawEvent k) places order quiet rule range) (λ s. subst (Each IsStill) (sym s.made) (tt, tt))
+      call_ruled (LapseEvent k) places order quiet rule range =
+          station_ruled (LapseEvent k) k lapses_event (λ t. refl) (λ j d. refl) (steps_to (LapseEvent k) places order quiet rule range) (λ s. subst (Each IsStill) (sym s.made) (tt, tt))
       call_ruled (Take k bytes now) places order quiet rule range =
           let s = steps_to (Take k bytes now) places order quiet rule range in line_ruled (Take k bytes now) k (after_take bytes now) (λ j d. refl) s (subst (Each IsStill) (sym s.made) tt)
       call_ruled (TickDevice k now) places order quiet rule range =

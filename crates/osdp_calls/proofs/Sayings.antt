@@ -1,5 +1,5 @@
 -- What goes out at a call is what is said.
-use Rattle.std.proofs.Common.{◌≡◌, ◌||◌, ℕ, Bool, true, false, cond, List, [], ◌∷◌, ◌++◌, map, Option, Some, None, refl, sym, subst, ap, ◌∙◌, append-nil, append_assoc, is_some}
+use Rattle.std.proofs.Common.{◌≡◌, ℕ, Bool, true, false, cond, List, [], ◌∷◌, ◌++◌, map, Option, Some, None, refl, sym, subst, ap, ◌∙◌, append-nil, append_assoc, is_some}
 use Rattle.std.specs.Option.{option_map}
 use Rattle.osdp_calls.proofs.Common.{option_to_list, whole_packets, Packet, RunItem, PacketItem, SkippedItem, RefusedItem, Command, Poll, Event, Reply, new_bus, after_add, changed_unless, new_device, BusTicked, bus_ticks, BusConfig, but_poll, said_to, speaks, taken_by, items_of, Account, front_of, taken, taken_command, each_all, each_of, both, Each, ReaderState, Answer, Kind, after_next, answers, asked_at, by_device, first_answered, panel_says, read_up_to, reply_to, said_for, Burst, InUse, Station, bus_with, site_at}
 use Rattle.osdp_bus_laws.specs.Calls as bus

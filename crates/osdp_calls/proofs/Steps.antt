@@ -19,6 +19,7 @@ module _ {H : Type 0} where
   IsOf call (line.SetHandler k handler) = call ≡ calls.SetHandler k handler
   IsOf call (Withdraw k) = call ≡ OfPanel (bus.Withdraw k)
   IsOf call (line.WithdrawEvent k) = call ≡ calls.WithdrawEvent k
+  IsOf call (line.LapseEvent k) = call ≡ calls.LapseEvent k
   IsOf call (RestartReader k config handler room) = (gap : ℕ) × (call ≡ NewDevice k config handler room gap)
   IsOf call (RestartPanel settings) = (config : BusConfig) × (addresses : List ℕ) × (call ≡ NewPanel config addresses)
   IsOf call _ = Unit {0}
@@ -48,6 +49,7 @@ module _ {H : Type 0} where
   device_moves (calls.SetBusy k busy) = SetBusy k busy ∷ []
   device_moves (calls.SetHandler k handler) = line.SetHandler k handler ∷ []
   device_moves (calls.WithdrawEvent k) = line.WithdrawEvent k ∷ []
+  device_moves (calls.LapseEvent k) = line.LapseEvent k ∷ []
   device_moves (NewDevice k config handler room gap) = RestartReader k config handler room ∷ []
   device_moves _ = []
 
@@ -66,6 +68,7 @@ module _ {H : Type 0} where
   plain_of call (line.SetHandler k handler) plain = absurd plain
   plain_of call (Withdraw k) plain = absurd plain
   plain_of call (line.WithdrawEvent k) plain = absurd plain
+  plain_of call (line.LapseEvent k) plain = absurd plain
   plain_of call (RestartReader k config handler room) plain = absurd plain
   plain_of call (RestartPanel settings) plain = absurd plain
   plain_of call _ plain = tt

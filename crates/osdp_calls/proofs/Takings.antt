@@ -1,5 +1,5 @@
 -- What a panel's program takes of an entry's events, each with its mark, is what was told of the entry, and that is what its sessions have reported.
-use Rattle.osdp_calls.proofs.Common.{◌≡◌, ◌≢◌, ℕ, suc, Bool, true, false, cond, List, [], ◌∷◌, ◌++◌, length, map, Option, Some, None, refl, sym, subst, ap, ◌∙◌, inl, inr, arith, append_assoc, eqb_tells, ◌==◌, option_to_list, Command, Event, Report, BusState, device_of, is_told_maybe_again, new_bus, bytes_eq, event_bytes, Remembered, may_be_again, memory_at, nothing_yet, remembers, IsBusConfig, BusConfig, Entry, TellsEachOnce, taken_along, told_along, told_in, Account, each_of, is_false, is_true, Each, Answer, site_at, some_same, Call, NewDevice, NewPanel, Next, OfPanel, Pending, SetBusy, SetHandler, Silence, Step, SubmitEvent, Take, TickDevice, WithdrawEvent, after_call, after_calls, KeepsPanel, one_panel_call, panel_calls, InUse, Station, bus_with, CallsMarkRepeats, MarksWhatIsToldAgain, all_reported, all_taken, event_of, event_waiting, is_equal_to, last_event, marked, marked_in, taken_in, unmarked, NoneRefused}
+use Rattle.osdp_calls.proofs.Common.{◌≡◌, ◌≢◌, ℕ, suc, Bool, true, false, cond, List, [], ◌∷◌, ◌++◌, length, map, Option, Some, None, refl, sym, subst, ap, ◌∙◌, inl, inr, arith, append_assoc, eqb_tells, ◌==◌, option_to_list, Command, Event, Report, BusState, device_of, is_told_maybe_again, new_bus, bytes_eq, event_bytes, Remembered, may_be_again, memory_at, nothing_yet, remembers, IsBusConfig, BusConfig, Entry, TellsEachOnce, taken_along, told_along, told_in, Account, each_of, is_false, is_true, Each, Answer, site_at, some_same, Call, NewDevice, NewPanel, Next, OfPanel, Pending, SetBusy, SetHandler, Silence, Step, SubmitEvent, Take, TickDevice, LapseEvent, WithdrawEvent, after_call, after_calls, KeepsPanel, one_panel_call, panel_calls, InUse, Station, bus_with, CallsMarkRepeats, MarksWhatIsToldAgain, all_reported, all_taken, event_of, event_waiting, is_equal_to, last_event, marked, marked_in, taken_in, unmarked, NoneRefused}
 use Rattle.std.proofs.lemmas.List.{append-nil}
 use Rattle.osdp_controller.specs.declared.report.Report.TheVariants as report
 use Rattle.std.proofs.lemmas.Slice.Eq.{bytes_eq-Decides}
@@ -195,6 +195,7 @@ module _ {H : Type 0} (answer_of : H → Command → Answer) (after : H → Comm
   one_taken (SetBusy i busy) l x same = sym (append-nil x.marks)
   one_taken (SetHandler i handler) l x same = sym (append-nil x.marks)
   one_taken (WithdrawEvent i) l x same = sym (append-nil x.marks)
+  one_taken (LapseEvent i) l x same = sym (append-nil x.marks)
   one_taken (Take i bytes now) l x same = sym (append-nil x.marks)
   one_taken (TickDevice i now) l x same = sym (append-nil x.marks)
   one_taken (Silence i now) l x same = sym (append-nil x.marks)

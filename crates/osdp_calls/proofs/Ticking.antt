@@ -1,5 +1,5 @@
 -- A tick of one of the bus's controllers: what it says goes to every device. Where a session was to begin, it begins with that.
-use Rattle.osdp_calls.proofs.Common.{◌≡◌, ◌≢◌, ℕ, zero, suc, ◌+◌, Bool, true, false, cond, List, [], ◌∷◌, ◌++◌, length, Option, Some, None, IfSome, refl, sym, subst, ap, ◌∙◌, arith, append-nil, Packet, next_sequence, Command, Machine, after_begin, begin_refusal, frame_of, is_closed, Ticked, ticks, ticks_in, OpeningExchange, Polling, Session, State, Closed, Quiet, Idle, Waiting, Pausing, waiting_after, reserved_after, ticks_at, ticks_with, Entry, told_at, told_by_device, told_by_ticking, after_report, both, each_all, each_append, tick_so, Each, Answer, Net, NetMove, Reopen, Site, Tick, address_of, after_net, changed, is_told, run, site_at, tagged, IsQuiet, at_changed, some_same, all_hear, begins_session, begins_with, begun_of, change_at, changes_at, panel_says, said_for, waiting_of, InUse, Opening, Station}
+use Rattle.osdp_calls.proofs.Common.{◌≡◌, ◌≢◌, ℕ, ◌+◌, Bool, true, false, cond, List, [], ◌∷◌, ◌++◌, length, Option, Some, None, IfSome, refl, sym, subst, ap, ◌∙◌, arith, append-nil, Packet, next_sequence, Command, Machine, after_begin, begin_refusal, frame_of, is_closed, Ticked, ticks, ticks_in, OpeningExchange, Polling, Session, State, Closed, Quiet, Idle, Waiting, Pausing, waiting_after, reserved_after, ticks_at, ticks_with, Entry, told_at, told_by_device, told_by_ticking, after_report, both, each_all, each_append, tick_so, Each, Answer, Net, NetMove, Reopen, Site, Tick, address_of, after_net, changed, is_told, run, site_at, tagged, IsQuiet, at_changed, some_same, all_hear, begins_session, begins_with, begun_of, change_at, changes_at, panel_says, said_for, waiting_of, InUse, Opening, Station}
 use Rattle.std.specs.Prelude.{map, nat_le, nat_lt, option_to_list, slice_get, slice_set}
 use Rattle.osdp_controller.specs.Sessions as clocks
 use Rattle.osdp_controller.specs.Ticking as ticking

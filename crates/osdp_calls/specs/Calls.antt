@@ -22,9 +22,9 @@ use Rattle.osdp_device.specs.Deciding.{passed}
 use Rattle.osdp_frame.specs.Receiving.{after_silence, after_take, after_tick, new_line}
 use Rattle.osdp_device.specs.Saying.{speaks}
 use Rattle.osdp_device.specs.Telling.{items_of, next_told}
-use Rattle.osdp_link_laws.specs.Link.{Withdrawn, event_withdrawn, front_of, new_account, reader_restarted, taken, after_report}
+use Rattle.osdp_link_laws.specs.Link.{Withdrawn, event_lapsed, event_withdrawn, front_of, new_account, reader_restarted, taken, after_report}
 use Rattle.osdp_link_laws.specs.Link as link
-use Rattle.osdp_reader.specs.State.{ReaderState, after_set_busy, after_set_handler, after_submit, after_withdraw_event, new_reader}
+use Rattle.osdp_reader.specs.State.{ReaderState, after_lapse_event, after_set_busy, after_set_handler, after_submit, after_withdraw_event, new_reader}
 use Rattle.osdp_reader.specs.Table.{hears, kind_of}
 use Rattle.osdp_reader.specs.declared.config.ReaderConfig.{ReaderConfig}
 use Rattle.osdp_reader.specs.declared.handler.Answer.{Answer}
@@ -41,6 +41,7 @@ pub data Call (H : Type 0) : Type 0 where
   SetBusy : ℕ → Bool → Call H
   SetHandler : ℕ → H → Call H
   WithdrawEvent : ℕ → Call H
+  LapseEvent : ℕ → Call H
   Take : ℕ → List ℕ → ℕ → Call H
   TickDevice : ℕ → ℕ → Call H
   Silence : ℕ → ℕ → Call H
@@ -219,6 +220,10 @@ module _ {H : Type 0} where
   abbrev pub withdraws_event : Station H → Station H
   withdraws_event t = record t { reader = after_withdraw_event t.reader; account = event_withdrawn t.reader.queue t.account }
 
+  -- the front goes, where it was ever offered
+  abbrev pub lapses_event : Station H → Station H
+  lapses_event t = record t { reader = after_lapse_event t.reader; account = event_lapsed t.reader.queue t.account }
+
   -- a device with nothing taken, nothing stored and no event, the same or another
   abbrev pub made_anew : ReaderConfig → H → Room → ℕ → Station H → Station H
   made_anew config handler room gap t = record t {
@@ -283,6 +288,7 @@ module _ {H : Type 0} where
     after_call (SetBusy k busy) places l = on_station k (λ t. record t { reader = after_set_busy busy t.reader }) l
     after_call (SetHandler k handler) places l = on_station k (λ t. record t { reader = after_set_handler handler t.reader }) l
     after_call (WithdrawEvent k) places l = on_station k withdraws_event l
+    after_call (LapseEvent k) places l = on_station k lapses_event l
     after_call (Take k bytes now) places l = on_station k (λ t. record t { line = after_take bytes now t.line }) l
     after_call (TickDevice k now) places l = on_station k (λ t. record t { line = after_tick now t.line }) l
     after_call (Silence k now) places l = on_station k (λ t. record t { line = after_silence now t.line }) l

@@ -10,11 +10,11 @@ use Rattle.osdp_bus_laws.specs.Exchanges.{HasOneExchange}
 use Rattle.osdp_device.specs.Deciding.{passed}
 use Rattle.osdp_frame.specs.Receiving.{Received, after_silence, after_take, after_tick, new_line}
 use Rattle.osdp_device.specs.Telling.{next_told}
-use Rattle.osdp_reader.specs.State.{ReaderState, after_set_busy, after_set_handler, after_submit, after_withdraw_event, new_reader}
+use Rattle.osdp_reader.specs.State.{ReaderState, after_lapse_event, after_set_busy, after_set_handler, after_submit, after_withdraw_event, new_reader}
 use Rattle.osdp_reader.specs.declared.handler.Answer.{Answer}
 use Rattle.osdp_reader.specs.Queue.{lacks_room}
 use Rattle.osdp_shared_line.specs.Line.{site_at}
-use Rattle.osdp_calls.specs.Calls.{Call, NewDevice, NewPanel, Next, OfPanel, Pending, SetBusy, SetHandler, Silence, Step, SubmitEvent, Take, TickDevice, WithdrawEvent, after_calls}
+use Rattle.osdp_calls.specs.Calls.{Call, NewDevice, NewPanel, Next, OfPanel, Pending, SetBusy, SetHandler, Silence, Step, SubmitEvent, Take, TickDevice, LapseEvent, WithdrawEvent, after_calls}
 use Rattle.osdp_calls.specs.Lines.{InUse, Station, bus_with}
 use Rattle.osdp_calls.specs.Sayings.{NoneRefused}
 
@@ -60,6 +60,7 @@ module _ {H : Type 0} where
   is_of_device k (SetBusy i busy) = i == k
   is_of_device k (SetHandler i handler) = i == k
   is_of_device k (WithdrawEvent i) = i == k
+  is_of_device k (LapseEvent i) = i == k
   is_of_device k (Take i bytes now) = i == k
   is_of_device k (TickDevice i now) = i == k
   is_of_device k (Silence i now) = i == k
@@ -79,6 +80,7 @@ module _ {H : Type 0} where
     device_after (SetBusy i busy) d = record d { reader = after_set_busy busy d.reader }
     device_after (SetHandler i handler) d = record d { reader = after_set_handler handler d.reader }
     device_after (WithdrawEvent i) d = record d { reader = after_withdraw_event d.reader }
+    device_after (LapseEvent i) d = record d { reader = after_lapse_event d.reader }
     device_after (Take i bytes now) d = record d { line = after_take bytes now d.line }
     device_after (TickDevice i now) d = record d { line = after_tick now d.line }
     device_after (Silence i now) d = record d { line = after_silence now d.line }

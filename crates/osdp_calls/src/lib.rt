@@ -83,7 +83,7 @@ pub fn ends_go_by_their_own_calls<H: Handler>()
 
 /// In one life of the panel an event that is told again from one session of an entry to the next is marked (`Bus::is_maybe_again`), and nothing else
 /// is marked but an event equal in bytes to the last one that was reported before, as the first of its session. A life is from where it is made, at
-/// set-up or anew, until it is made anew, whatever is called meanwhile: devices may be made anew, sessions begin again and events be withdrawn.
+/// set-up or anew, until it is made anew, whatever is called meanwhile: devices may be made anew, sessions begin again and events be withdrawn or lapse.
 ///
 /// What the panel's program takes of an entry's events, and then the one that waits, are the events that the sessions of this life have reported,
 /// in their order, each with its mark. Nothing is asked of what the ends read.

@@ -1,9 +1,10 @@
 -- Calls for C are calls of a line in use.
-use Rattle.osdp_calls_instance.proofs.Common.{◌≡◌, ℕ, Bool, true, false, cond, List, [], ◌∷◌, map, Option, Some, None, Result, Ok, Err, refl, sym, subst, ap, ◌∙◌, arith, command_of, Command, Event, BusState, new_bus, add_refusal, after_add, changed_unless, BusConfig, BusFault, is_asked, pending_of, turned_by, with_question, program_after, program_answer, Received, after_silence, after_take, after_tick, each_all, Each, lacks_room, ReaderState, Answer, Call, OfPanel, SetHandler, Take, TickDevice, Silence, Held, takes_event, AddsMakeTheBus, NoneRefused, AreDeviceCalls, ArePanelCalls, IsOfDevice, IsOfPanel, bus_after_each, device_after_each}
+use Rattle.osdp_calls_instance.proofs.Common.{◌≡◌, ℕ, Bool, true, false, cond, List, [], ◌∷◌, map, Option, Some, None, Result, Ok, Err, refl, sym, subst, ap, ◌∙◌, arith, command_of, Command, Event, BusState, new_bus, add_refusal, after_add, changed_unless, BusConfig, BusFault, is_asked, pending_of, turned_by, with_question, program_after, program_answer, Received, after_silence, after_take, after_tick, each_all, Each, lacks_room, ReaderState, after_lapse_event, after_withdraw_event, Answer, Call, OfPanel, SetHandler, Take, TickDevice, Silence, Held, takes_event, AddsMakeTheBus, NoneRefused, AreDeviceCalls, ArePanelCalls, IsOfDevice, IsOfPanel, bus_after_each, device_after_each}
 use Rattle.osdp_msg.specs.NakReasons.{reason_of}
 use Rattle.osdp_msg.specs.declared.fault.MsgFault.{MsgFault}
 use Rattle.osdp_bus.specs.declared.fault.BusFault.TheVariants as fault
 use Rattle.osdp_bus_laws.specs.Calls as bus
+use Rattle.osdp_device.specs.Ages.{after_expiry}
 use Rattle.osdp_device.specs.declared.program.ProgramAnswers.{ProgramAnswers}
 use Rattle.osdp_device.specs.declared.question.Question.{Question}
 use Rattle.osdp_device.specs.declared.question.Question.TheVariants.{Answered, Asked, NotAsked}
@@ -27,7 +28,7 @@ use Rattle.osdp_c_values.specs.declared.status.Status.TheVariants as status
 use Rattle.arrayvec.specs.ArrayVec.{ArrayVec}
 use Rattle.osdp_calls_instance.proofs.LinePrograms.{bus_same, own_device, panels_own}
 use Rattle.osdp_calls_instance.specs.CPrograms as c
-use Rattle.osdp_calls_instance.specs.CPrograms.{AddsEach, DeviceCall, MakesAnew, MakesAnewBy, PanelCall, answer_calls, c_device, c_panel, device_call, device_calls, event_calls, event_read, if_read, orders_with, panel_call, panel_calls, settle_calls, settles_by, submitted, told_states}
+use Rattle.osdp_calls_instance.specs.CPrograms.{AddsEach, DeviceCall, MakesAnew, MakesAnewBy, PanelCall, answer_calls, c_device, c_panel, device_call, device_calls, event_calls, event_read, expiry_calls, if_read, leaving_call, orders_with, panel_call, panel_calls, settle_calls, settles_by, submitted, told_states}
 
 -- ---- a panel
 
@@ -245,6 +246,17 @@ settle_so : (k : ℕ) (m : ReaderMachine) (l : Received)
     → held_in (reader.reads_next m l).machine ≡ after_these (settle_calls k m l) (record { reader = m.device.reader; line = l })
 settle_so k m l = settled_so k m.device.reader.handler.question (pending_of m.device.reader l.held) m.device.reader l
 
+-- the oldest event leaves, or stays
+leaves_so : (k : ℕ) (ever : Bool) (d : Held ProgramAnswers)
+    → ◌≡◌ {A = Held ProgramAnswers} (record d { reader = cond ever (after_lapse_event d.reader) (after_withdraw_event d.reader) }) (after_these (leaving_call k ever ∷ []) d)
+leaves_so k true d = refl
+leaves_so k false d = refl
+
+expires_so : (k : ℕ) (old : Bool) (d : Held ProgramAnswers)
+    → ◌≡◌ {A = Held ProgramAnswers} (record d { reader = cond old (after_expiry d.reader) d.reader }) (after_these (expiry_calls k old d.reader.queue.ever_offered) d)
+expires_so k true d = leaves_so k d.reader.queue.ever_offered d
+expires_so k false d = refl
+
 seen_so : (ok : Bool) (now : ℕ) (call : ReaderMachine → Done ReaderMachine) (calls : List (Call ProgramAnswers)) (m : ReaderMachine)
     → held_in (call (record m { clock = sees now m.clock })).machine ≡ after_these calls (held_in m)
     → held_in (cond ok (call (record m { clock = sees now m.clock })) (too_far m)).machine
@@ -272,6 +284,9 @@ device_is k (c.AnswerList states) m = answer_so k (reader.list_answer states) m
 device_is k (c.AnswerRefused reason) m =
     answer_so k (Some (answer.Refuse (reason_of reason))) m
 device_is k (c.AnswerMaker vendor bytes) m = answer_so k (reader.maker_answer vendor bytes) m
+device_is k (c.ExpiresEvent now limit) m =
+    seen_so (accepts now m.clock) now (reader.expires_event now limit) (expiry_calls k (reader.is_expired now limit m) m.device.reader.queue.ever_offered) m
+    (expires_so k (reader.is_expired now limit m) (held_in m))
 device_is k _ m = refl
 
 -- whose calls these are
@@ -303,6 +318,13 @@ seen_own : (k : ℕ) (ok : Bool) (calls : List (Call ProgramAnswers)) → Each (
 seen_own k true calls are = are
 seen_own k false calls are = tt
 
+leaving_own : (k : ℕ) (ever : Bool) → IsOfDevice k (leaving_call k ever)
+leaving_own k true = own_device k
+leaving_own k false = own_device k
+
+expiry_own : (k : ℕ) (old ever : Bool) → Each (IsOfDevice k) (expiry_calls k old ever)
+expiry_own k old ever = one_own k old (leaving_call k ever) (leaving_own k ever)
+
 turn_own : (k : ℕ) (m : ReaderMachine) (l : Received) → Each (IsOfDevice k) (settle_calls k m l)
 turn_own k m l = settle_own k m.device.reader.handler.question (pending_of m.device.reader l.held) m.device.reader l
 
@@ -322,6 +344,9 @@ device_end k (c.AnswerList states) m = answer_own k (reader.list_answer states) 
 device_end k (c.AnswerRefused reason) m =
     answer_own k (Some (answer.Refuse (reason_of reason))) m
 device_end k (c.AnswerMaker vendor bytes) m = answer_own k (reader.maker_answer vendor bytes) m
+device_end k (c.ExpiresEvent now limit) m =
+    seen_own k (accepts now m.clock) (expiry_calls k (reader.is_expired now limit m) m.device.reader.queue.ever_offered)
+    (expiry_own k (reader.is_expired now limit m) m.device.reader.queue.ever_offered)
 device_end k c.LooksIn m = tt
 device_end k _ m = (own_device k, tt)
 

@@ -21,13 +21,13 @@ pub use Rattle.osdp_link_laws.proofs.Stages.{Each}
 pub use Rattle.osdp_reader.specs.Queue.{has_room, lacks_room}
 pub use Rattle.osdp_reader.specs.State.{after_lapse_event, after_set_busy, after_set_handler, after_submit, after_submit_if, after_withdraw_event, new_reader, ReaderState}
 pub use Rattle.osdp_reader.specs.declared.handler.Answer.{Answer}
-pub use Rattle.osdp_calls.specs.Calls.{after_call, after_calls, after_panel, asked_at, begins_session, begins_with, begun_of, by_device, Call, change_at, changes_at, first_answered, is_to_begin, last_of, NewDevice, NewPanel, Next, noted, OfPanel, panel_says, Pending, read_by as panel_reads, read_up_to, reply_to, said_for, SetBusy, SetHandler, Silence, Step, SubmitEvent, Take, TickDevice, waiting_of, WithdrawEvent}
+pub use Rattle.osdp_calls.specs.Calls.{after_call, after_calls, after_panel, asked_at, begins_session, begins_with, begun_of, by_device, Call, change_at, changes_at, first_answered, is_to_begin, last_of, NewDevice, NewPanel, Next, noted, OfPanel, panel_says, Pending, read_by as panel_reads, read_up_to, reply_to, said_for, SetBusy, SetHandler, Silence, Step, SubmitEvent, Take, TickDevice, waiting_of, LapseEvent, WithdrawEvent}
 pub use Rattle.osdp_calls.specs.Ends.{device_after, device_after_all, GoByTheirOwn, Held, held_by, is_of_device, KeepsPanel, one_panel_call, panel_calls, takes_event}
 pub use Rattle.osdp_calls.specs.Sayings.{acted_on, AddsMakeTheBus, after_hearing, NoneRefused, SaysWhatGoesOut}
 pub use Rattle.osdp_calls_instance.specs.OwnCalls.{after_each, after_own, all_calls, AllFit, AreDeviceCalls, ArePanelCalls, AtDevice, AtPanel, bus_after, bus_after_each, calls_at, calls_by, CallTheLine, device_after_each, DeviceKind, devices_after, FitsAt, IsLineOf, IsOfDevice, IsOfPanel, OwnCall, OwnFits, PanelKind, Programs}
 pub use Rattle.osdp_device.specs.declared.events.Expired.{Expired}
 pub use Rattle.osdp_device.specs.declared.events.Expired.TheVariants.{InDoubt, Withdrawn}
-pub use Rattle.osdp_calls_instance.specs.LinePrograms.{handing, IsWithdrawn, line_device, line_panel, nexts, unless_done}
+pub use Rattle.osdp_calls_instance.specs.LinePrograms.{handing, line_device, line_panel, nexts, unless_done}
 pub use Rattle.osdp_reader_laws.specs.Storing.{StoresItsOwn}
 pub use Rattle.osdp_calls.specs.Lines.{ahead_of_device, Burst, bus_with, concerns, InUse, is_before, is_past_for_device, is_past_for_panel, Opening, Station}
 pub use Rattle.osdp_reader.specs.Table.{hears, kind_of, outcome}

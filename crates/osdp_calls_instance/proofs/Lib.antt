@@ -9,6 +9,7 @@ pub mod SimulatedLists
 pub mod SimulatedEnds
 pub mod SimulatedBus
 pub mod SimSetUp
+mod Lapsing
 mod SimulatedReports
 mod SimulatedAccounts
 mod SimulatedTakes

@@ -1,6 +1,6 @@
 -- Lines are calls of a line in use.
 use Rattle.std.proofs.Common.{◌≡◌, ℕ, zero, suc, ◌<◌, Bool, true, false, not, cond, option_map, slice_get, List, [], ◌∷◌, ◌++◌, drop, length, length-drop, map, Option, Some, None, refl, sym, subst, ap, ◌∙◌, arith, inl, inr}
-use Rattle.osdp_calls_instance.proofs.Common.{◌==◌, AllByRecursion, eqb_tells, Command, Event, AreBytes-drop, AreBytes, decided_nothing, RunItem, item_size, BusState, add_refusal, after_add, after_next_report, changed_unless, remembered_after, BusFault, all_read, all_read_after, fewer_turns, last_turn, seen_in_turn, takes_in_turn, received_new, received_silence, received_take, received_tick, tells_in_turn, Heard, hears_bytes, reads_all, then_hears, turns_left, IsAllRead, IsReceived, Received, after_silence, after_take, after_tick, count_taken, Said, status_after, status_answer, after_all, after_items, items_of, listed, next_told, said_to_all, each_all, Each, has_room, ReaderState, after_lapse_event, after_submit_if, after_withdraw_event, Expired, Withdrawn, InDoubt, Answer, Call, OfPanel, Take, Held, device_after, takes_event, AddsMakeTheBus, AreDeviceCalls, ArePanelCalls, IsOfDevice, IsOfPanel, bus_after_each, device_after_each}
+use Rattle.osdp_calls_instance.proofs.Common.{◌==◌, eqb_tells, Command, Event, AreBytes-drop, AreBytes, decided_nothing, RunItem, item_size, BusState, add_refusal, after_add, after_next_report, changed_unless, remembered_after, BusFault, all_read, all_read_after, fewer_turns, last_turn, seen_in_turn, takes_in_turn, received_new, received_silence, received_take, received_tick, tells_in_turn, Heard, hears_bytes, reads_all, then_hears, turns_left, IsAllRead, IsReceived, Received, after_silence, after_take, after_tick, count_taken, Said, status_after, status_answer, after_all, after_items, items_of, listed, next_told, said_to_all, each_all, Each, has_room, ReaderState, after_lapse_event, after_submit_if, after_withdraw_event, Expired, Withdrawn, InDoubt, Answer, Call, OfPanel, Take, Held, device_after, takes_event, AddsMakeTheBus, AreDeviceCalls, ArePanelCalls, IsOfDevice, IsOfPanel, bus_after_each, device_after_each}
 use Rattle.osdp_frame.specs.Held as frame
 use Rattle.osdp_bus_laws.specs.Calls as bus
 use Rattle.osdp_device.specs.declared.status.DeviceStatus.{DeviceStatus}
@@ -18,7 +18,7 @@ use Rattle.osdp_line_laws.specs.ReaderRuns as device_runs
 use Rattle.osdp_device.specs.Ages.{AgesState, after_expiry, after_removal, expired, expired_front, expires}
 use Rattle.osdp_line_calls.proofs.LettingGo.{none_left}
 use Rattle.osdp_line_calls.specs.ReaderAbsence.{LetGo, goes_first, keeps_all, lets_some_go}
-use Rattle.osdp_calls_instance.specs.LinePrograms.{DeviceAnew, DeviceLine, IsWithdrawn, LinesAreThese, PanelAnew, PanelLine, SaysToDevice, SaysToPanel, after_adds, after_device_line, after_device_lines, after_panel_line, after_panel_lines, calls_of_line, device_line_calls, handing, leaving_by, leaving_calls, line_device, line_panel, nexts, reading, unless_done}
+use Rattle.osdp_calls_instance.specs.LinePrograms.{DeviceAnew, DeviceLine, LinesAreThese, PanelAnew, PanelLine, SaysToDevice, SaysToPanel, after_adds, after_device_line, after_device_lines, after_panel_line, after_panel_lines, calls_of_line, device_line_calls, handing, leaving_by, leaving_call, leaving_calls, line_device, line_panel, nexts, reading, unless_done}
 
 pub own_device : (k : ℕ) → (k == k) ≡ true
 own_device k = elim (eqb_tells k k) [
@@ -315,22 +315,31 @@ event_is false event d = refl
 
 -- ---- events that leave
 
-withdrawn_is : (r : ReaderState DeviceStatus) (e : Event) → expired_front r.queue ≡ Some (Withdrawn e) → after_expiry r ≡ after_withdraw_event r
-withdrawn_is r e is = by_ever r.queue.ever_offered is
-  where
-    differ : (first : Option Event) → option_map (expired true) first ≡ Some (Withdrawn e) → ⊥
-    differ None none = cc
-    differ (Some x) doubt = cc
-
-    by_ever : (ever : Bool) → option_map (expired ever) (slice_get r.queue.events 0) ≡ Some (Withdrawn e)
-        → cond ever (after_lapse_event r) (after_withdraw_event r) ≡ after_withdraw_event r
-    by_ever true doubt = absurd (differ (slice_get r.queue.events 0) doubt)
-    by_ever false known = refl
-
 abbrev with_queue : ReaderState DeviceStatus → Received → Held DeviceStatus
 with_queue r l = record { reader = r; line = l }
 
--- what leaves of so many events at most is taken back by calls
+-- the oldest event leaves by its call
+one_leaves : (k : ℕ) (r : ReaderState DeviceStatus) (l : Received) (first : Expired) → expired_front r.queue ≡ Some first
+    → with_queue (after_expiry r) l ≡ device_after status_answer status_after (leaving_call k first) (with_queue r l)
+one_leaves k r l first is = by_ever r.queue.ever_offered first is
+  where
+    doubted : (front : Option Event) (e : Event) → option_map (expired true) front ≡ Some (Withdrawn e) → ⊥
+    doubted None e none = cc
+    doubted (Some x) e other = cc
+
+    known : (front : Option Event) (e : Event) → option_map (expired false) front ≡ Some (InDoubt e) → ⊥
+    known None e none = cc
+    known (Some x) e other = cc
+
+    by_ever : (ever : Bool) (gone : Expired) → option_map (expired ever) (slice_get r.queue.events 0) ≡ Some gone
+        → with_queue (cond ever (after_lapse_event r) (after_withdraw_event r)) l
+        ≡ device_after status_answer status_after (leaving_call k gone) (with_queue r l)
+    by_ever true (InDoubt e) same = refl
+    by_ever false (Withdrawn e) same = refl
+    by_ever true (Withdrawn e) same = absurd (doubted (slice_get r.queue.events 0) e same)
+    by_ever false (InDoubt e) same = absurd (known (slice_get r.queue.events 0) e same)
+
+-- what leaves of so many events at most leaves by calls
 abbrev IsByCalls : ℕ → Received → ReaderState DeviceStatus → LetGo → Type 0
 IsByCalls k l r g = with_queue g.reader l ≡ device_after_each status_answer status_after (leaving_calls k g.expired) (with_queue r l)
 
@@ -338,48 +347,42 @@ abbrev later_ages : ReaderState DeviceStatus → AgesState → AgesState
 later_ages r a = after_removal false (length r.queue.events) a
 
 left_more : (n k now limit : ℕ) (r : ReaderState DeviceStatus) (l : Received) (a : AgesState)
-    → (AllByRecursion IsWithdrawn (lets_some_go n now limit (after_expiry r) (later_ages r a)).expired
-    → IsByCalls k l (after_expiry r) (lets_some_go n now limit (after_expiry r) (later_ages r a)))
-    → AllByRecursion IsWithdrawn (lets_some_go (suc n) now limit r a).expired
+    → IsByCalls k l (after_expiry r) (lets_some_go n now limit (after_expiry r) (later_ages r a))
     → IsByCalls k l r (lets_some_go (suc n) now limit r a)
-left_more n k now limit r l a more none = by_test (expires now limit (length r.queue.events) a) refl none
+left_more n k now limit r l a more = by_test (expires now limit (length r.queue.events) a) refl
   where
     rest : LetGo
     rest = lets_some_go n now limit (after_expiry r) (later_ages r a)
 
     by_front : (front : Option Expired) → expired_front r.queue ≡ front → expires now limit (length r.queue.events) a ≡ true
-        → AllByRecursion IsWithdrawn (goes_first front rest).expired → IsByCalls k l r (goes_first front rest)
-    by_front None is test known =
+        → IsByCalls k l r (goes_first front rest)
+    by_front None is test =
         absurd (let stays : expires now limit (length r.queue.events) a ≡ false = none_left now limit r a
         (sym is ∙ ap (λ t. cond t (expired_front r.queue) None) (sym test)) in
         let e : true ≡ false = sym test ∙ stays in cc)
-    by_front (Some (InDoubt e)) is test known = absurd known.0
-    by_front (Some (Withdrawn e)) is test known =
-        more known.1
-        ∙ ap (λ (q : ReaderState DeviceStatus). device_after_each status_answer status_after (leaving_calls k rest.expired) (with_queue q l)) (withdrawn_is r e is)
+    by_front (Some first) is test =
+        more ∙ ap (device_after_each status_answer status_after (leaving_calls k rest.expired)) (one_leaves k r l first is)
 
     by_test : (test : Bool) → expires now limit (length r.queue.events) a ≡ test
-        → AllByRecursion IsWithdrawn (cond test (goes_first (expired_front r.queue) rest) (keeps_all r a)).expired
         → IsByCalls k l r (cond test (goes_first (expired_front r.queue) rest) (keeps_all r a))
-    by_test true is known = by_front (expired_front r.queue) refl is known
-    by_test false is known = refl
+    by_test true is = by_front (expired_front r.queue) refl is
+    by_test false is = refl
 
-left_so : (n k now limit : ℕ) (r : ReaderState DeviceStatus) (l : Received) (a : AgesState)
-    → AllByRecursion IsWithdrawn (lets_some_go n now limit r a).expired → IsByCalls k l r (lets_some_go n now limit r a)
-left_so zero k now limit r l a none = refl
-left_so (suc n) k now limit r l a none =
-    left_more n k now limit r l a (λ known. left_so n k now limit (after_expiry r) l (later_ages r a) known) none
+left_so : (n k now limit : ℕ) (r : ReaderState DeviceStatus) (l : Received) (a : AgesState) → IsByCalls k l r (lets_some_go n now limit r a)
+left_so zero k now limit r l a = refl
+left_so (suc n) k now limit r l a = left_more n k now limit r l a (left_so n k now limit (after_expiry r) l (later_ages r a))
 
 leaving_own : (k : ℕ) (gone : List Expired) → Each (IsOfDevice k) (leaving_calls k gone)
 leaving_own k [] = tt
-leaving_own k (expired ∷ gone) = (own_device k, leaving_own k gone)
+leaving_own k (Withdrawn e ∷ gone) = (own_device k, leaving_own k gone)
+leaving_own k (InDoubt e ∷ gone) = (own_device k, leaving_own k gone)
 
 call_is : (k : ℕ) (call : ReaderCall) (s : device.Session) → line_device.Fits (SaysToDevice (Some call)) s → IsAllRead s.line × IsReceived s.line
     → with_line (device.does call s).session ≡ device_after_each status_answer status_after (calls_of_line k call s) (with_line s)
-call_is k (line.At later) s fits is = left_so (length s.reader.queue.events) k later s.absence.expire s.reader s.line s.ages fits.1
+call_is k (line.At later) s fits is = left_so (length s.reader.queue.events) k later s.absence.expire s.reader s.line s.ages
 call_is k (line.Bytes list) s fits is =
     sym (hands status_answer status_after (suc (turns_left list.items s.now s.line)) k list.items s.now s.reader s.line (omega arith) is.1 is.0
-    (λ place. omega (arith, fits.0.1 place))).is
+    (λ place. omega (arith, fits.1 place))).is
 call_is k line.Silence s fits is = sym (reading_is status_answer status_after k s.reader (after_silence s.now s.line))
 call_is k line.Tick s fits is = sym (reading_is status_answer status_after k s.reader (after_tick s.now s.line))
 call_is k (line.Event event) s fits is = sym (event_is (has_room event s.reader.queue) event (with_line s))
@@ -423,7 +426,7 @@ of_device k (DeviceAnew config room gap) s fits is = refl
 stays_sound : (own : DeviceLine) (s : device.Session) → line_device.Fits own s → IsSound s → IsSound (after_device_line own s)
 stays_sound (SaysToDevice None) s fits is = is
 stays_sound (SaysToDevice (Some call)) s fits is =
-    subst (λ (d : Held DeviceStatus). IsAllRead d.line × IsReceived d.line) (sym (done_is call s)) (call_sound call s fits.0 is)
+    subst (λ (d : Held DeviceStatus). IsAllRead d.line × IsReceived d.line) (sym (done_is call s)) (call_sound call s fits is)
 stays_sound (DeviceAnew config room gap) s fits is =
     (record { goes_on = refl; undecided = decided_nothing false }, received_new gap fits)
 

@@ -1,5 +1,5 @@
 -- Whatever programs call by calls of their own, the line in use goes where they go.
-use Rattle.osdp_calls_instance.proofs.Common.{◌≡◌, ◌≢◌, ◌⊎◌, ℕ, true, false, cond, List, [], ◌∷◌, ◌++◌, map, Option, Some, None, refl, sym, subst, ap, ◌∙◌, inl, inr, ◌==◌, eqb_tells, Command, BusState, each_all, each_of, Each, Answer, changed, site_at, at_changed, at_other, some_same, Call, NewDevice, NewPanel, Next, OfPanel, Pending, SetBusy, SetHandler, Silence, Step, SubmitEvent, Take, TickDevice, after_call, after_calls, WithdrawEvent, GoByTheirOwn, Held, KeepsPanel, device_after, device_after_all, held_by, is_of_device, panel_calls, InUse, AreDeviceCalls, ArePanelCalls, AtDevice, AtPanel, CallTheLine, DeviceKind, FitsAt, IsLineOf, IsOfDevice, IsOfPanel, OwnCall, OwnFits, PanelKind, Programs, after_each, after_own, all_calls, bus_after, bus_after_each, calls_at, calls_by, device_after_each, devices_after}
+use Rattle.osdp_calls_instance.proofs.Common.{◌≡◌, ◌≢◌, ◌⊎◌, ℕ, true, false, cond, List, [], ◌∷◌, ◌++◌, map, Option, Some, None, refl, sym, subst, ap, ◌∙◌, inl, inr, ◌==◌, eqb_tells, Command, BusState, each_all, each_of, Each, Answer, changed, site_at, at_changed, at_other, some_same, Call, NewDevice, NewPanel, Next, OfPanel, Pending, SetBusy, SetHandler, Silence, Step, SubmitEvent, Take, TickDevice, after_call, after_calls, LapseEvent, WithdrawEvent, GoByTheirOwn, Held, KeepsPanel, device_after, device_after_all, held_by, is_of_device, panel_calls, InUse, AreDeviceCalls, ArePanelCalls, AtDevice, AtPanel, CallTheLine, DeviceKind, FitsAt, IsLineOf, IsOfDevice, IsOfPanel, OwnCall, OwnFits, PanelKind, Programs, after_each, after_own, all_calls, bus_after, bus_after_each, calls_at, calls_by, device_after_each, devices_after}
 use Rattle.osdp_bus_laws.specs.Calls as bus
 
 -- ---- lists of steps
@@ -63,6 +63,7 @@ module _ {H : Type 0} where
       bus_is (SetBusy i busy) places l = keeps_bus (SetBusy i busy) places l tt
       bus_is (SetHandler i handler) places l = keeps_bus (SetHandler i handler) places l tt
       bus_is (WithdrawEvent i) places l = keeps_bus (WithdrawEvent i) places l tt
+      bus_is (LapseEvent i) places l = keeps_bus (LapseEvent i) places l tt
       bus_is (Take i bytes now) places l = keeps_bus (Take i bytes now) places l tt
       bus_is (TickDevice i now) places l = keeps_bus (TickDevice i now) places l tt
       bus_is (Silence i now) places l = keeps_bus (Silence i now) places l tt
@@ -85,6 +86,7 @@ module _ {H : Type 0} where
   other_device k j (SetBusy i busy) differ is = is_other i k j is differ
   other_device k j (SetHandler i handler) differ is = is_other i k j is differ
   other_device k j (WithdrawEvent i) differ is = is_other i k j is differ
+  other_device k j (LapseEvent i) differ is = is_other i k j is differ
   other_device k j (Take i bytes now) differ is = is_other i k j is differ
   other_device k j (TickDevice i now) differ is = is_other i k j is differ
   other_device k j (Silence i now) differ is = is_other i k j is differ

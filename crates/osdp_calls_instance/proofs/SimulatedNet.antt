@@ -1,5 +1,5 @@
 -- What the moves of a schedule leave of what is on the line, and of the addresses of sites.
-use Rattle.osdp_calls_instance.proofs.Common.{◌≡◌, ◌≢◌, ℕ, zero, suc, Bool, true, false, cond, List, [], ◌∷◌, ◌++◌, Option, Some, None, refl, sym, ap, ◌∙◌, inl, inr, ◌==◌, option_to_list, Packet, Command, Event, comset_of, begin_refusal, submit_refusal, ReadsWhatIsAsked, each_map, Each, Answer, lacks_room, Net, Site, address_of, change_unless, changed, first_gets, gets, is_told, keeping, left_by, link_of, site_at, tagged, Apart, changed_from, map_from, some_same, asked_in}
+use Rattle.osdp_calls_instance.proofs.Common.{◌≡◌, ◌≢◌, ℕ, zero, suc, Bool, true, false, cond, List, [], ◌∷◌, ◌++◌, Option, Some, None, refl, sym, ap, ◌∙◌, inl, inr, ◌==◌, option_to_list, Packet, Command, Event, comset_of, begin_refusal, submit_refusal, ReadsWhatIsAsked, each_map, Each, Answer, lacks_room, Net, Site, address_of, change_unless, changed, first_gets, gets, is_told, left_by, link_of, site_at, tagged, Apart, changed_from, map_from, some_same, asked_in}
 use Rattle.osdp_controller.specs.Sessions as clocks
 use Rattle.osdp_controller.specs.Ticking as controller
 use Rattle.osdp_controller.specs.declared.fault.ControllerFault.{ControllerFault}

@@ -2,7 +2,7 @@
 -- order and quiet openings with that place.
 use Rattle.osdp_calls_instance.proofs.Common.{◌≡◌, ◌≢◌, ◌⊎◌, ◌≤◌, ℕ, zero, suc, Bool, true, false, List, [], ◌∷◌, ◌++◌, map, Option, Some, None, refl, sym, subst, ap, ◌∙◌, arith, append_assoc, append-nil, inl, inr, ◌==◌, ◌&&◌, ◌||◌, Command, Event, Packet, items_of, each_all, Each, ReaderState, Answer, lacks_room, site_at, at_changed, at_other, some_same, GoByTheirOwn, Held, device_after, held_by, Burst, InUse, Opening, Station, is_before, is_past_for_device, is_past_for_panel, AreInOrder, AreNotPast, InOrder, IsOfOthers, NextInOrder, QuietOpening, IsOfDevice, AllOrdered, IsOrdered}
 use Rattle.osdp_bus_laws.specs.Calls as bus
-use Rattle.osdp_calls.specs.Calls.{Call, Next, OfPanel, Pending, SetBusy, SetHandler, Silence, Step, SubmitEvent, Take, TickDevice, after_call, after_calls, after_next, by_device, changes_at, first_answered, last_of, nexts, on_station, queues, read_by, read_up_to, WithdrawEvent}
+use Rattle.osdp_calls.specs.Calls.{Call, Next, OfPanel, Pending, SetBusy, SetHandler, Silence, Step, SubmitEvent, Take, TickDevice, after_call, after_calls, after_next, by_device, changes_at, first_answered, last_of, nexts, on_station, queues, read_by, read_up_to, LapseEvent, WithdrawEvent}
 use Rattle.osdp_calls_instance.proofs.OwnCalls.{of_device}
 use Rattle.osdp_calls_instance.proofs.SimulatedLists.{place_then, same_number}
 use Rattle.osdp_calls_instance.proofs.SimulatedReads.{CallGood, CallsGood, reads_good}
@@ -233,6 +233,8 @@ module _ {H : Type 0} where
         subst (λ (m : ℕ). SpokeBy k i [] l (after_call answer_of after (SetBusy m busy) [] l)) (sym (same_number j k own)) (on_one k i _ l t at refl refl)
     one_spoke k i (WithdrawEvent j) l t Good own good at =
         subst (λ (m : ℕ). SpokeBy k i [] l (after_call answer_of after (WithdrawEvent m) [] l)) (sym (same_number j k own)) (on_one k i _ l t at refl refl)
+    one_spoke k i (LapseEvent j) l t Good own good at =
+        subst (λ (m : ℕ). SpokeBy k i [] l (after_call answer_of after (LapseEvent m) [] l)) (sym (same_number j k own)) (on_one k i _ l t at refl refl)
     one_spoke k i (SetHandler j handler) l t Good own good at =
         subst (λ (m : ℕ). SpokeBy k i [] l (after_call answer_of after (SetHandler m handler) [] l)) (sym (same_number j k own)) (on_one k i _ l t at refl refl)
     one_spoke k i (Take j bytes now) l t Good own good at =
@@ -254,6 +256,7 @@ module _ {H : Type 0} where
     one_ordered packets k i (SubmitEvent j event) l t own good at source since = nothing_read (SubmitEvent j event) l (tt, tt)
     one_ordered packets k i (SetBusy j busy) l t own good at source since = nothing_read (SetBusy j busy) l (tt, tt)
     one_ordered packets k i (WithdrawEvent j) l t own good at source since = nothing_read (WithdrawEvent j) l (tt, tt)
+    one_ordered packets k i (LapseEvent j) l t own good at source since = nothing_read (LapseEvent j) l (tt, tt)
     one_ordered packets k i (SetHandler j handler) l t own good at source since = nothing_read (SetHandler j handler) l (tt, tt)
     one_ordered packets k i (Take j bytes now) l t own good at source since = nothing_read (Take j bytes now) l (tt, tt)
     one_ordered packets k i (TickDevice j now) l t own good at source since = nothing_read (TickDevice j now) l (tt, tt)

@@ -1,11 +1,12 @@
 -- What a run tells of each reader is what its calls tell of the reader's entry.
-use Rattle.osdp_calls_instance.proofs.Common.{◌≡◌, ℕ, Bool, true, false, cond, List, [], ◌∷◌, ◌++◌, Option, Some, None, refl, sym, subst, ap, ◌∙◌, append_assoc, append-nil, ◌==◌, option_to_list, Command, Poll, Event, Packet, Report, BusState, told_along, told_in, front_of, taken, taken_command, in_all, Each, hears, kind_of, Answer, Kind, lacks_room, site_at, KeepsPanel, one_panel_call, panel_calls, InUse, Station, items_of, Stays, panel_so, station_so, those, Told, told_to, told_more}
+use Rattle.osdp_calls_instance.proofs.Common.{◌≡◌, ℕ, Bool, true, false, cond, List, [], ◌∷◌, ◌++◌, Option, Some, None, refl, sym, subst, ap, ◌∙◌, append_assoc, append-nil, ◌==◌, option_to_list, Command, Poll, Event, Packet, Report, BusState, told_along, told_in, front_of, taken, taken_command, in_all, Each, hears, kind_of, after_lapse_event, Answer, Kind, lacks_room, site_at, KeepsPanel, one_panel_call, panel_calls, InUse, Station, items_of, Stays, panel_so, station_so, those, Told, told_to, told_more}
 use Rattle.osdp_msg.specs.declared.reply.Reply.{Reply}
 use Rattle.osdp_msg.specs.declared.reply.Reply.TheVariants as reply
 use Rattle.osdp_controller.specs.declared.report.Report.TheVariants as report
 use Rattle.osdp_bus_laws.specs.Calls as bus
 use Rattle.osdp_reader.specs.declared.kind.Kind.TheVariants as kind
-use Rattle.osdp_calls.specs.Calls.{Call, NewDevice, NewPanel, Next, OfPanel, Pending, SetBusy, SetHandler, Silence, Step, SubmitEvent, Take, TickDevice, after_call, after_calls, after_next, after_panel, answers, begins_session, change_at, changes_at, first_answered, hears_of, nexts, queues, read_up_to, WithdrawEvent}
+use Rattle.osdp_calls.specs.Calls.{Call, NewDevice, NewPanel, Next, OfPanel, Pending, SetBusy, SetHandler, Silence, Step, SubmitEvent, Take, TickDevice, after_call, after_calls, after_next, after_panel, answers, begins_session, change_at, changes_at, first_answered, hears_of, nexts, queues, read_up_to, LapseEvent, WithdrawEvent, lapses_event}
+use Rattle.osdp_calls_instance.proofs.Lapsing.{after_lapse}
 
 -- ---- what reports add
 
@@ -78,6 +79,11 @@ module _ {H : Type 0} where
   queue_told true event t = refl
   queue_told false event t = refl
 
+  lapse_told : (t : Station H) → told_to (lapses_event t) ≡ told_to t
+  lapse_told t =
+      after_lapse (λ a. told_to (record t { reader = after_lapse_event t.reader; account = a }) ≡ told_to t) t.reader.queue t.account refl
+      (λ kept thrown. refl)
+
   module _ (answer_of : H → Command → Answer) (after : H → Command → H) where
     -- what a device takes is told by nobody
     command_told : (c : Command) (said : Option Reply) (front : List Event) (t : Station H)
@@ -118,6 +124,7 @@ module _ {H : Type 0} where
         (λ t. queue_told (lacks_room event t.reader.queue) event t) is
     step_told k (SetBusy i busy) places y l keeps is = keep_told k i _ y l.stations (λ t. refl) is
     step_told k (WithdrawEvent i) places y l keeps is = keep_told k i _ y l.stations (λ t. refl) is
+    step_told k (LapseEvent i) places y l keeps is = keep_told k i lapses_event y l.stations lapse_told is
     step_told k (SetHandler i handler) places y l keeps is = keep_told k i _ y l.stations (λ t. refl) is
     step_told k (Take i bytes now) places y l keeps is = keep_told k i _ y l.stations (λ t. refl) is
     step_told k (TickDevice i now) places y l keeps is = keep_told k i _ y l.stations (λ t. refl) is

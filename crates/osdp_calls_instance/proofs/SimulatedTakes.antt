@@ -1,8 +1,9 @@
 -- What the device of an entry takes goes by its own calls.
-use Rattle.osdp_calls_instance.proofs.Common.{◌≡◌, ℕ, Bool, true, false, cond, List, [], ◌∷◌, ◌++◌, map, Option, Some, None, refl, sym, subst, ap, ◌∙◌, append_assoc, append-nil, ◌==◌, Command, Event, Packet, Report, passed, after_silence, after_take, after_tick, items_of, next_told, in_all, Each, after_set_busy, after_set_handler, Answer, lacks_room, site_at, Held, KeepsPanel, device_after, held_by, is_of_device, InUse, Station, SaysWhatGoesOut, acted_on, next_stations, queue_held, Stays, as_before, panel_so, station_so, IsOfDevice, device_after_each}
+use Rattle.osdp_calls_instance.proofs.Common.{◌≡◌, ℕ, Bool, true, false, cond, List, [], ◌∷◌, ◌++◌, map, Option, Some, None, refl, sym, subst, ap, ◌∙◌, append_assoc, append-nil, ◌==◌, Command, Event, Packet, Report, passed, after_silence, after_take, after_tick, items_of, next_told, in_all, Each, after_lapse_event, after_set_busy, after_set_handler, Answer, lacks_room, site_at, Held, KeepsPanel, device_after, held_by, is_of_device, InUse, Station, SaysWhatGoesOut, acted_on, next_stations, queue_held, Stays, as_before, panel_so, station_so, IsOfDevice, device_after_each}
 use Rattle.osdp_controller.specs.declared.report.Report.TheVariants as report
 use Rattle.osdp_link_laws.specs.Link as link
-use Rattle.osdp_calls.specs.Calls.{Call, NewDevice, NewPanel, Next, OfPanel, Pending, SetBusy, SetHandler, Silence, Step, SubmitEvent, Take, TickDevice, after_call, after_calls, answers, begins_session, change_at, first_answered, hears_of, made_anew, nexts, queues, read_up_to, WithdrawEvent, withdraws_event}
+use Rattle.osdp_calls.specs.Calls.{Call, NewDevice, NewPanel, Next, OfPanel, Pending, SetBusy, SetHandler, Silence, Step, SubmitEvent, Take, TickDevice, after_call, after_calls, answers, begins_session, change_at, first_answered, hears_of, made_anew, nexts, queues, read_up_to, LapseEvent, WithdrawEvent, lapses_event, withdraws_event}
+use Rattle.osdp_calls_instance.proofs.Lapsing.{after_lapse}
 
 module _ {H : Type 0} where
   abbrev pub taken_to : Station H → List Command
@@ -43,6 +44,11 @@ module _ {H : Type 0} where
   queue_takes true event t = refl
   queue_takes false event t = refl
 
+  lapse_takes : (t : Station H) → taken_to (lapses_event t) ≡ taken_to t
+  lapse_takes t =
+      after_lapse (λ a. taken_to (record t { reader = after_lapse_event t.reader; account = a }) ≡ taken_to t) t.reader.queue t.account refl
+      (λ kept thrown. refl)
+
   module _ (answer_of : H → Command → Answer) (after : H → Command → H) where
     -- what a call of a device takes
     abbrev pub takes_by : Call H → Held H → List Command
@@ -79,6 +85,9 @@ module _ {H : Type 0} where
           (λ t. refl) (λ t at. silent t _ refl) is
       step_takes k (WithdrawEvent i) places d y l keeps is =
           change_one k i withdraws_event (device_after answer_of after (WithdrawEvent i)) (λ x. []) d y l.stations (λ t. refl) (λ t at. silent t _ refl) is
+      step_takes k (LapseEvent i) places d y l keeps is =
+          change_one k i lapses_event (device_after answer_of after (LapseEvent i)) (λ x. []) d y l.stations (λ t. refl)
+          (λ t at. silent t _ (lapse_takes t)) is
       step_takes k (SetHandler i handler) places d y l keeps is =
           change_one k i (λ t. record t { reader = after_set_handler handler t.reader }) (device_after answer_of after (SetHandler i handler)) (λ x. []) d y
           l.stations (λ t. refl) (λ t at. silent t _ refl) is

@@ -1,5 +1,5 @@
 -- Programs in C: their calls, each by the definition that its contract in `osdp_c` cites, and which calls of a line in use they are.
-use Rattle.std.specs.Prelude.{◌≡◌, ℕ, Bool, not, ◌==◌, if◌then◌else◌, List, [], ◌∷◌, map, Option, Some, None, Result, Ok, Err}
+use Rattle.std.specs.Prelude.{◌≡◌, ℕ, Bool, true, false, not, ◌==◌, if◌then◌else◌, List, [], ◌∷◌, map, Option, Some, None, Result, Ok, Err}
 use Rattle.arrayvec.specs.ArrayVec.{ArrayVec}
 use Rattle.osdp_msg.specs.CommandTable.{command_of}
 use Rattle.osdp_msg.specs.NakReasons.{reason_of}
@@ -37,7 +37,7 @@ use Rattle.osdp_c_values.specs.Addresses.{device_address}
 use Rattle.osdp_c_values.specs.Calls.{Done, IsDone, frees}
 use Rattle.osdp_c_values.specs.Panels as panel
 use Rattle.osdp_c_values.specs.Readers as reader
-use Rattle.osdp_calls.specs.Calls.{Call, NewDevice, NewPanel, Next, OfPanel, Pending, SetBusy, SetHandler, Silence, SubmitEvent, Take, TickDevice}
+use Rattle.osdp_calls.specs.Calls.{Call, NewDevice, NewPanel, Next, OfPanel, Pending, SetBusy, SetHandler, Silence, SubmitEvent, Take, TickDevice, LapseEvent, WithdrawEvent}
 use Rattle.osdp_calls.specs.Lines.{bus_with}
 use Rattle.osdp_calls_instance.specs.OwnCalls.{ArePanelCalls, DeviceKind, PanelKind}
 
@@ -167,6 +167,9 @@ pub data DeviceCall : Type 0 where
   AnswerList : List ℕ → DeviceCall
   AnswerRefused : ℕ → DeviceCall
   AnswerMaker : List ℕ → List ℕ → DeviceCall
+  WithdrawsEvent : DeviceCall
+  LapsesEvent : DeviceCall
+  ExpiresEvent : (now limit : ℕ) → DeviceCall
   LooksIn : DeviceCall
   DeviceMade : Room → ReaderSettings → ArrayVec Capability → DeviceCall
 
@@ -187,6 +190,9 @@ device_call (AnswerLocal tamper power) m = reader.answers_local tamper power m
 device_call (AnswerList states) m = reader.answers_list states m
 device_call (AnswerRefused reason) m = reader.answers_refused reason m
 device_call (AnswerMaker vendor bytes) m = reader.answers_maker vendor bytes m
+device_call WithdrawsEvent m = reader.withdraws_event m
+device_call LapsesEvent m = reader.lapses_event m
+device_call (ExpiresEvent now limit) m = reader.at_moment now (reader.expires_event now limit) m
 device_call LooksIn m = reader.does m
 device_call (DeviceMade room settings caps) m = reader.does (reader.new_machine_in room settings caps)
 
@@ -220,6 +226,14 @@ settles_by k _ _ r l = Next k ∷ SetHandler k (record (next_told program_answer
 abbrev pub settle_calls : ℕ → ReaderMachine → Received → List (Call ProgramAnswers)
 settle_calls k m l = settles_by k m.device.reader.handler.question (pending_of m.device.reader l.held) m.device.reader l
 
+-- the oldest event leaves where it is too old: it lapses where it was ever offered, and is taken back where not
+abbrev pub leaving_call : ℕ → Bool → Call ProgramAnswers
+leaving_call k true = LapseEvent k
+leaving_call k false = WithdrawEvent k
+
+abbrev pub expiry_calls : ℕ → Bool → Bool → List (Call ProgramAnswers)
+expiry_calls k expires ever_offered = if expires then leaving_call k ever_offered ∷ [] else []
+
 -- a call at a moment that is not accepted is none
 abbrev pub if_seen : ℕ → ReaderMachine → List (Call ProgramAnswers) → List (Call ProgramAnswers)
 if_seen now m calls = if accepts now m.clock then calls else []
@@ -241,6 +255,9 @@ device_calls k (AnswerLocal tamper power) m = answer_calls k (Some (answer.Local
 device_calls k (AnswerList states) m = answer_calls k (reader.list_answer states) m
 device_calls k (AnswerRefused reason) m = answer_calls k (Some (answer.Refuse (reason_of reason))) m
 device_calls k (AnswerMaker vendor bytes) m = answer_calls k (reader.maker_answer vendor bytes) m
+device_calls k WithdrawsEvent m = WithdrawEvent k ∷ []
+device_calls k LapsesEvent m = LapseEvent k ∷ []
+device_calls k (ExpiresEvent now limit) m = if_seen now m (expiry_calls k (reader.is_expired now limit m) m.device.reader.queue.ever_offered)
 device_calls k LooksIn m = []
 device_calls k (DeviceMade room settings caps) m =
     NewDevice k (record { address = settings.address; id = id_of settings; caps = caps }) new_program room settings.gap ∷ []

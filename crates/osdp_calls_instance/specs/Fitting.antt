@@ -1,10 +1,6 @@
--- Which calls of programs the laws of programs speak of: nearly all. Left out are entries that can't be added as they stand, and lines by which a device
--- lets an event go that is in doubt.
-use Rattle.std.specs.Prelude.{◌≡◌, ◌≢◌, ◌↔◌, ℕ, ◌≤◌, false, List, [], ◌∷◌, Option, Some, None}
-use Rattle.std.specs.List.{AllByRecursion}
-use Rattle.osdp_device.specs.declared.events.Expired.{Expired}
+-- Which calls of programs the laws of programs speak of: nearly all. Left out are entries that can't be added as they stand.
+use Rattle.std.specs.Prelude.{◌≡◌, ◌↔◌, ℕ, ◌≤◌, true, false, List, [], ◌∷◌, Option, Some, None}
 use Rattle.osdp_device.specs.declared.events.Expired.TheVariants.{InDoubt, Withdrawn}
-use Rattle.osdp_msg.specs.declared.event.Event.{Event}
 use Rattle.osdp_msg.specs.declared.limits.Room.{Room}
 use Rattle.osdp_frame.specs.declared.check_kind.CheckKind.TheVariants.{Crc}
 use Rattle.osdp_bus.specs.Buses.{new_bus}
@@ -19,6 +15,7 @@ use Rattle.osdp_line_calls.specs.declared.panel_call.PanelCall.{PanelCall}
 use Rattle.osdp_line_calls.specs.declared.reader_call.ReaderCall.{ReaderCall}
 use Rattle.osdp_line_calls.specs.declared.reader_call.ReaderCall.TheVariants as to_device
 use Rattle.osdp_reader.specs.declared.config.ReaderConfig.{ReaderConfig}
+use Rattle.osdp_calls.specs.Calls.{LapseEvent, WithdrawEvent}
 use Rattle.osdp_calls.specs.Sayings.{NoneRefused}
 use Rattle.osdp_calls_instance.specs.CPrograms as c
 use Rattle.osdp_calls_instance.specs.Instance.{device as device_settings}
@@ -39,20 +36,27 @@ abbrev pub pressed : device_sessions.Session
 pressed = lines.after_device_line (lines.SaysToDevice (Some (to_device.Event key)))
     (device_sessions.new_session device_settings 4 20 (record { expire = 1000; told = false }))
 
+-- the same device, but the key was ever offered: nobody knows whether the panel has it
+abbrev pub offered : device_sessions.Session
+offered = record pressed { reader = record pressed.reader { queue = record pressed.reader.queue { offered = true; ever_offered = true } } }
+
+abbrev pub two_seconds : lines.DeviceLine
+two_seconds = lines.SaysToDevice (Some (to_device.At 2000))
+
 -- Each line to a panel is one, and a panel that is run anew is one exactly where its entries can be added, as two at different addresses can. Each line to a
--- device that says nothing is one; one that says a call, exactly where its words are in their ranges and all events that leave by it were never
--- offered; and a device that is run anew, exactly where its gap is at least a millisecond. An event that leaves was never offered exactly where it isn't in
--- doubt. So a line is one by which a key leaves two seconds after it was pressed.
+-- device that says nothing is one; one that says a call, exactly where its words are in their ranges; and a device that is run anew, exactly where its gap is
+-- at least a millisecond. So a line is one by which a key leaves two seconds after it was pressed. It is taken back where it was never offered, and it lapses
+-- where it is in doubt.
 pub record LinesFit (H : Type 0) : Type 0 where
   pub panel : (said : Option PanelCall) (s : panel_sessions.Session) → (lines.line_panel {H = H}).Fits (lines.SaysToPanel said) s
   pub anew : (config : BusConfig) (addresses : List ℕ) (s : panel_sessions.Session)
       → (lines.line_panel {H = H}).Fits (lines.PanelAnew config addresses) s ↔ NoneRefused addresses (new_bus config)
   pub two : (room : Room) (s : panel_sessions.Session) → (lines.line_panel {H = H}).Fits (lines.PanelAnew (default_config Crc room) two_addresses) s
   pub nothing : (s : device_sessions.Session) → lines.line_device.Fits (lines.SaysToDevice None) s
-  pub device : (call : ReaderCall) (s : device_sessions.Session) → lines.line_device.Fits (lines.SaysToDevice (Some call)) s
-      ↔ (CallFits call × AllByRecursion lines.IsWithdrawn (lines.leaving_by call s))
+  pub device : (call : ReaderCall) (s : device_sessions.Session) → lines.line_device.Fits (lines.SaysToDevice (Some call)) s ↔ CallFits call
   pub device_anew : (config : ReaderConfig) (room gap : ℕ) (s : device_sessions.Session)
       → lines.line_device.Fits (lines.DeviceAnew config room gap) s ↔ (1 ≤ gap)
-  pub withdrawn : (gone : Expired) → lines.IsWithdrawn gone ↔ ((event : Event) → gone ≢ InDoubt event)
   pub leaves : lines.leaving_by (to_device.At 2000) pressed ≡ Withdrawn key ∷ []
-  pub taken_back : lines.line_device.Fits (lines.SaysToDevice (Some (to_device.At 2000))) pressed
+  pub taken_back : (k : ℕ) → lines.line_device.calls k two_seconds pressed ≡ WithdrawEvent k ∷ []
+  pub in_doubt : lines.leaving_by (to_device.At 2000) offered ≡ InDoubt key ∷ []
+  pub lapses : (k : ℕ) → lines.line_device.calls k two_seconds offered ≡ LapseEvent k ∷ []

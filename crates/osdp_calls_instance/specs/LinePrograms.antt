@@ -1,6 +1,5 @@
 -- Programs by lines: a panel that `osdp panel` runs and devices that `osdp reader` runs, and which calls of a line in use their lines are.
 use Rattle.std.specs.Prelude.{◌≡◌, ℕ, suc, zero, ◌≤◌, List, [], ◌∷◌, ◌++◌, drop, length, map, Option, Some, None}
-use Rattle.std.specs.List.{AllByRecursion}
 use Rattle.osdp_device.specs.declared.events.Expired.{Expired}
 use Rattle.osdp_device.specs.declared.events.Expired.TheVariants.{Withdrawn, InDoubt}
 use Rattle.osdp_msg.specs.declared.command.Command.{Command}
@@ -31,7 +30,7 @@ use Rattle.osdp_line_laws.specs.ReaderRuns as device_runs
 use Rattle.osdp_reader.specs.State.{ReaderState}
 use Rattle.osdp_reader.specs.declared.config.ReaderConfig.{ReaderConfig}
 use Rattle.osdp_reader.specs.declared.handler.Answer.{Answer}
-use Rattle.osdp_calls.specs.Calls.{Call, NewDevice, NewPanel, Next, OfPanel, SetBusy, SetHandler, Silence, SubmitEvent, Take, TickDevice, WithdrawEvent}
+use Rattle.osdp_calls.specs.Calls.{Call, NewDevice, NewPanel, Next, OfPanel, SetBusy, SetHandler, Silence, SubmitEvent, Take, TickDevice, LapseEvent, WithdrawEvent}
 use Rattle.osdp_calls.specs.Sayings.{NoneRefused}
 use Rattle.osdp_calls_instance.specs.OwnCalls.{ArePanelCalls, DeviceKind, PanelKind}
 
@@ -93,15 +92,9 @@ abbrev pub leaving_by : ReaderCall → device.Session → List Expired
 leaving_by (line.At later) s = leaving (record s { now = later })
 leaving_by _ s = []
 
--- Each of them is withdrawn. No call of a line in use lets an event go that is in doubt: so a run stands outside in which a line tells `in doubt`, which
--- takes the setting `expire`.
-abbrev pub IsWithdrawn : Expired → Type 0
-IsWithdrawn (Withdrawn event) = Unit {0}
-IsWithdrawn (InDoubt event) = ⊥
-
 abbrev pub DeviceLineFits : DeviceLine → device.Session → Type 0
 DeviceLineFits (SaysToDevice None) s = Unit {0}
-DeviceLineFits (SaysToDevice (Some call)) s = CallFits call × AllByRecursion IsWithdrawn (leaving_by call s)
+DeviceLineFits (SaysToDevice (Some call)) s = CallFits call
 DeviceLineFits (DeviceAnew config room gap) s = 1 ≤ gap
 
 module _ {H : Type 0} where
@@ -127,9 +120,13 @@ module _ {H : Type 0} where
         let read = reads_all answer_of after r (after_take bytes now l) in
         Take k bytes now ∷ (reading k r (after_take bytes now l) ++ unless_done rest (handing turns k rest now read.reader read.line))
 
--- what the device takes back is a call of its own
+-- each event that leaves is a call of its own: one that was never offered is taken back, and one that is in doubt lapses
+abbrev pub leaving_call : ℕ → Expired → Call DeviceStatus
+leaving_call k (Withdrawn event) = WithdrawEvent k
+leaving_call k (InDoubt event) = LapseEvent k
+
 abbrev pub leaving_calls : ℕ → List Expired → List (Call DeviceStatus)
-leaving_calls k gone = map (λ (expired : Expired). WithdrawEvent k) gone
+leaving_calls k gone = map (leaving_call k) gone
 
 -- which calls that is
 abbrev pub calls_of_line : ℕ → ReaderCall → device.Session → List (Call DeviceStatus)

@@ -51,8 +51,9 @@ fn stands_on_calls<H: Handler>()
 
 /// Whatever programs in C call, losses of power among it, is a list of calls of a line in use, which leads to the same bus and devices. Each call of a
 /// handle is the calls that `panel_calls` and `device_calls` name. What is promised of them then is law `c_programs_hold_once` of `osdp_programs_ledger`.
-/// An order that waits for a POLL is no call yet: it is one of the tick that sends the POLL. A panel whose handle is freed, made and given its devices,
-/// each call done, is one made anew, whether it is made with room for each command or for so many bytes of them, and with POLLs between orders or not.
+/// An order that waits for a POLL is no call yet: it is one of the tick that sends the POLL. An event that is too old lapses where it was
+/// ever offered, and else it is taken back. A panel whose handle is freed, made and given its devices, each call done, is one made anew, whether it is made with
+/// room for each command or for so many bytes of them, and with POLLs between orders or not.
 pub fn calls_for_c_are_calls()
     ensures anew { MakesAnew }
     ensures line { CallTheLine c_panel c_device program_answer program_after }
@@ -61,8 +62,9 @@ pub fn calls_for_c_are_calls()
 }
 
 /// What a run of lines to `osdp panel` and to `osdp reader` leaves is what the calls leave that these lines say. And whatever a panel and its devices
-/// are called by lines, power losses among it, is a list of calls of a line in use, which brings the bus and the devices to the same. What is
-/// promised of them then is law `line_programs_hold_once` of `osdp_programs_ledger`.
+/// are called by lines, power losses among it, is a list of calls of a line in use, which brings the bus and the devices to the same. An
+/// event that leaves by a line lapses where it is in doubt, and else it is taken back. What is promised of them then is law `line_programs_hold_once` of
+/// `osdp_programs_ledger`.
 pub fn lines_are_calls()
     ensures lines { LinesAreThese }
     ensures line { CallTheLine line_panel line_device status_answer status_after }
@@ -74,7 +76,7 @@ pub fn lines_are_calls()
 
 /// The laws of programs leave out nearly none of the calls for C and of the lines. Of calls for C they speak of each, also of one that makes a device anew
 /// as another model. Of lines to a panel they speak of each, but of a run anew with entries that can't be added; two at different addresses can. Of lines
-/// to a device they leave out those by which an event leaves that is in doubt; a line is one by which a key leaves that was never offered.
+/// to a device they speak of each, also of one by which a key leaves that is in doubt, and of one by which a key leaves that was never offered.
 ///
 /// Of a schedule's steps they ask what goes over the line of one that hands the readers a burst alone, and a step orders no COMSET exactly where it is no
 /// order of one. Some schedule is taken that orders none, in which a session begins again. One is taken that orders one, and its run keeps to the rule.

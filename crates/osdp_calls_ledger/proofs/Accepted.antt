@@ -1,11 +1,11 @@
 -- The steps of a call accept what the call does: no command and no event is forgotten, and none is made up.
-use Rattle.osdp_calls_ledger.proofs.Common.{◌≡◌, ℕ, ◌+◌, Bool, true, false, cond, List, [], ◌∷◌, ◌++◌, Option, Some, None, refl, sym, ap, ◌∙◌, inl, inr, append_assoc, append-nil, eqb_tells, map-append, ◌==◌, Packet, Command, Event, Report, BusState, device_of, changed_unless, submit_refusal_at, withdrawal_at, bus_ticks, Entry, BusFault, told_in, items_of, lacks_room, never_offered, ReaderState, Answer, Card, Ledger, Order, new_ledger, History, new_history, runs, steps_on, unless_full, both, each_append, each_map, Each, after_steps, queues, submits, withdraws, withdraws_event, site_at, Call, NewDevice, NewPanel, Next, OfPanel, Step, SubmitEvent, WithdrawEvent, after_call, asked_at, first_answered, read_up_to, is_of_device, heard, InUse, Station, IsDone, answered, device_steps, given_back, opening, panel_restarts, panel_steps, reported, steps_along, steps_at, steps_from, steps_of}
+use Rattle.osdp_calls_ledger.proofs.Common.{◌≡◌, ℕ, ◌+◌, Bool, true, false, cond, List, [], ◌∷◌, ◌++◌, Option, Some, None, refl, sym, ap, ◌∙◌, inl, inr, append_assoc, append-nil, eqb_tells, map-append, ◌==◌, Packet, Command, Event, Report, BusState, device_of, changed_unless, submit_refusal_at, withdrawal_at, bus_ticks, Entry, BusFault, told_in, items_of, in_doubt, lacks_room, never_offered, ReaderState, Answer, Card, Ledger, Order, new_ledger, History, new_history, runs, steps_on, unless_full, both, each_append, each_map, Each, after_steps, queues, submits, withdraws, withdraws_event, site_at, Call, NewDevice, NewPanel, Next, OfPanel, Step, SubmitEvent, LapseEvent, WithdrawEvent, after_call, asked_at, first_answered, read_up_to, is_of_device, heard, InUse, Station, IsDone, answered, device_steps, given_back, opening, panel_restarts, panel_steps, reported, steps_along, steps_at, steps_from, steps_of}
 use Rattle.osdp_bus_laws.specs.Calls as bus
 use Rattle.osdp_ledger.specs.Ledger as ledger
 use Rattle.osdp_link_ledger.specs.Steps as links
 use Rattle.osdp_link_ledger.proofs.Lists.{commands, events}
 use Rattle.osdp_calls.specs.Accepted.{accepted_by, accepted_by_panel, all_accepted, all_queued, queued_at, queued_by}
-use Rattle.osdp_calls_ledger.proofs.Allowing.{answered_done, opening_open, reported_done}
+use Rattle.osdp_calls_ledger.proofs.Allowing.{answered_done, lapses_each, opening_open, reported_done}
 
 -- ---- what steps accept
 
@@ -45,12 +45,11 @@ runs_queued (ledger.Queue card ∷ steps) h =
     ∙ append_assoc (events h.queued) (card.event ∷ []) (events_in steps)
 runs_queued (step ∷ steps) h = runs_queued steps (steps_on step h)
 
--- ---- steps that accept nothing, and by which no event lapses
+-- ---- steps that accept nothing
 
 abbrev pub AcceptsNone : ledger.Step → Type 0
 AcceptsNone (ledger.Submit order) = ⊥
 AcceptsNone (ledger.Queue card) = ⊥
-AcceptsNone (ledger.Lapse card) = ⊥
 AcceptsNone _ = Unit {0}
 
 no_commands : (steps : List ledger.Step) → Each AcceptsNone steps → commands_in steps ≡ []
@@ -66,7 +65,6 @@ no_events (_ ∷ steps) none = no_events steps none.1
 done_accepts : (step : ledger.Step) → IsDone step → AcceptsNone step
 done_accepts (ledger.Submit order) done = absurd done
 done_accepts (ledger.Queue card) done = absurd done
-done_accepts (ledger.Lapse card) done = absurd done
 done_accepts _ done = tt
 
 reported_none : (k : ℕ) (all : List (ℕ × Report)) (g : Ledger) → Each AcceptsNone (reported k all g)
@@ -156,6 +154,7 @@ module _ {H : Type 0} (answer_of : H → Command → Answer) (after : H → Comm
   device_none (OfPanel call) t g other = absurd other
   device_none (SubmitEvent i event) t g other = absurd other
   device_none (WithdrawEvent i) t g other = withdraws_event_none (never_offered t.reader.queue) t.reader.queue.ever_offered g
+  device_none (LapseEvent i) t g other = lapses_each AcceptsNone (λ card. (tt, tt)) (in_doubt t.reader.queue) g
   device_none (Next i) t g other = gets_accept (first_answered t.reader (read_up_to t.reader (items_of t.line.held))) t.reader g
   device_none (NewDevice i config handler room gap) t g other = (tt, tt)
   device_none _ t g other = tt

@@ -1,7 +1,9 @@
--- Which steps a call shows: plain ones, and a withdrawal or a restart its own.
-use Rattle.osdp_calls_ledger.proofs.Common.{◌≡◌, ℕ, Bool, cond, List, [], ◌∷◌, Option, Some, None, sym, subst, inl, inr, eqb_tells, ◌==◌, Packet, Command, Event, Report, BusState, device_of, changed_unless, submit_refusal_at, withdrawal_at, bus_ticks, Entry, BusFault, told_in, items_of, lacks_room, never_offered, ReaderState, Answer, Card, Ledger, Open, Order, RestartDevice, RestartPanel, new_ledger, IsPlain, both, each_append, each_map, Each, after_steps, opens, queued_before, queues, submits, told, withdraws, withdraws_event, IsDone, are_plain, gets_done, opens_open, queued_plain, queues_plain, told_done, site_at, Call, NewDevice, NewPanel, Next, OfPanel, Pending, SetHandler, Silence, Step, SubmitEvent, Take, TickDevice, WithdrawEvent, after_call, asked_at, first_answered, read_up_to, heard, InUse, Station, answered, device_steps, given_back, opening, panel_restarts, panel_steps, reported, steps_along, steps_at, steps_from, steps_of}
+-- Which steps a call shows: plain ones, and a withdrawal, a lapse or a restart its own.
+use Rattle.osdp_calls_ledger.proofs.Common.{◌≡◌, ℕ, Bool, cond, List, [], ◌∷◌, Option, Some, None, sym, subst, inl, inr, eqb_tells, ◌==◌, Packet, Command, Event, Report, BusState, device_of, changed_unless, submit_refusal_at, withdrawal_at, bus_ticks, Entry, BusFault, told_in, items_of, in_doubt, lacks_room, never_offered, ReaderState, Answer, Card, Ledger, Open, Order, RestartDevice, RestartPanel, new_ledger, IsPlain, both, each_append, each_map, Each, after_steps, opens, queued_before, queues, submits, told, withdraws, lapses_event, withdraws_event, IsDone, are_plain, gets_done, opens_open, queued_plain, queues_plain, told_done, site_at, Call, NewDevice, NewPanel, Next, OfPanel, Pending, SetHandler, Silence, Step, SubmitEvent, Take, TickDevice, LapseEvent, WithdrawEvent, after_call, asked_at, first_answered, read_up_to, heard, InUse, Station, answered, device_steps, given_back, opening, panel_restarts, panel_steps, reported, steps_along, steps_at, steps_from, steps_of}
+use Rattle.std.specs.Prelude.{nat_lt}
 use Rattle.osdp_bus_laws.specs.Calls as bus
 use Rattle.osdp_ledger.specs.Ledger as ledger
+use Rattle.osdp_link_ledger.specs.Steps.{card_at}
 use Rattle.osdp_calls.specs.Calls as calls
 
 -- ---- what is reported, and what a device has done
@@ -23,6 +25,16 @@ pub answered_done : {H : Type 0} (answer_of : H → Command → Answer) (after :
     → Each IsDone (answered answer_of after o r g)
 answered_done answer_of after None r g = tt
 answered_done answer_of after (Some p) r g = gets_done answer_of after p r g
+
+-- ---- an event lapses, or is taken back where it was offered before the ledger began alone
+
+pub lapses_each : (P : ledger.Step → Type 0) → ((card : Card) → P (ledger.Lapse card) × P (ledger.WithdrawEvent card)) → (o : Option Event) (g : Ledger)
+    → Each P (lapses_event o g)
+lapses_each P holds None g = tt
+lapses_each P holds (Some event) g =
+    let card = card_at g.cards event in
+    let both_hold = holds card in
+    (both P (nat_lt card.place g.shown) (ledger.Lapse card) (ledger.WithdrawEvent card) both_hold.0 both_hold.1, tt)
 
 -- ---- steps of which something holds
 
@@ -56,7 +68,7 @@ module _ (P : ledger.Step → Type 0) (plain : (step : ledger.Step) → IsPlain 
   submits_hold None command g = (plain _ tt, tt)
   submits_hold (Some fault) command g = tt
 
-  panel_holds : (call : bus.Call) (b : BusState) (g : Ledger) → AllowsPanel call → Each P (panel_steps k call b g)
+  pub panel_holds : (call : bus.Call) (b : BusState) (g : Ledger) → AllowsPanel call → Each P (panel_steps k call b g)
   panel_holds (bus.Submit i command) b g allows =
       if_own i (changed_unless (submit_refusal_at i command b) [] (submits None command g)) (λ same. submits_hold (submit_refusal_at i command b) command g)
   panel_holds (bus.Withdraw i) b g allows =
@@ -81,6 +93,7 @@ module _ (P : ledger.Step → Type 0) (plain : (step : ledger.Step) → IsPlain 
     abbrev pub Allows : Call H → Type 0
     Allows (OfPanel call) = AllowsPanel call
     Allows (WithdrawEvent i) = i ≡ k → (card : Card) → P (ledger.WithdrawEvent card)
+    Allows (LapseEvent i) = i ≡ k → (card : Card) → P (ledger.Lapse card) × P (ledger.WithdrawEvent card)
     Allows (NewDevice i config handler room gap) = i ≡ k → P RestartDevice
     Allows (NewPanel config addresses) = (on_wire : Bool) → P (RestartPanel on_wire)
     Allows _ = Unit {0}
@@ -91,13 +104,15 @@ module _ (P : ledger.Step → Type 0) (plain : (step : ledger.Step) → IsPlain 
     at_holds i call holds None g = if_own i [] (λ same. tt)
     at_holds i call holds (Some t) g = if_own i (device_steps answer_of after call t g) (holds t g)
 
-    call_holds : (call : Call H) (l : InUse H) (g : Ledger) → Allows call → Each P (steps_of answer_of after k call l g)
+    pub call_holds : (call : Call H) (l : InUse H) (g : Ledger) → Allows call → Each P (steps_of answer_of after k call l g)
     call_holds (OfPanel call) l g allows = panel_holds call l.bus g allows
     call_holds (NewPanel config xs) l g allows = restarts_hold (device_of k l.bus) allows
     call_holds (SubmitEvent i event) l g allows =
         at_holds i (SubmitEvent i event) (λ t g same. are (queues (lacks_room event t.reader.queue) event g) (queues_plain (lacks_room event t.reader.queue) event g)) (site_at k l.stations) g
     call_holds (WithdrawEvent i) l g allows =
         at_holds i (WithdrawEvent i) (λ t g same. withdraws_event_hold (never_offered t.reader.queue) t.reader.queue.ever_offered g (allows same)) (site_at k l.stations) g
+    call_holds (LapseEvent i) l g allows =
+        at_holds i (LapseEvent i) (λ t g same. lapses_each P (allows same) (in_doubt t.reader.queue) g) (site_at k l.stations) g
     call_holds (Next i) l g allows =
         at_holds i (Next i) (λ t g same. let o = first_answered t.reader (read_up_to t.reader (items_of t.line.held)) in
         done (answered answer_of after o t.reader g) (answered_done answer_of after o t.reader g)) (site_at k l.stations) g

@@ -1,5 +1,5 @@
 -- What each call comes to, with the steps of each entry.
-use Rattle.osdp_calls_ledger.proofs.Common.{◌≡◌, ℕ, max, Bool, cond, List, [], ◌∷◌, ◌++◌, Option, Some, None, refl, sym, ap, ◌∙◌, inl, inr, append_assoc, is_some, ◌==◌, Command, device_of, seen_by_bus, changed_unless, bus_ticks, ticks_at, told_by_ticking, told_in, lacks_room, never_offered, ReaderState, Answer, Ledger, each_of, after_steps, queues, submits, withdraws, withdraws_event, Net, NetMove, Queue, RestartReader, Retarget, SetBusy, Submit, Withdraw, site_at, Call, NewDevice, NewPanel, Next, OfPanel, SetHandler, SubmitEvent, WithdrawEvent, after_call, all_hear, asked_at, last_of, panel_says, read_by, is_of_device, told_by_all, InUse, Station, Addresses, InOrder, InRange, QuietOpening, ticks_to, reads_those, IsNextOf, nexting, one_call, at_seen, told_then, NotPast, IsNetOf, Made, StepsTo, device_moves, ordered, device_steps, opening, reported, steps_at, steps_of, IsOurs, call_keeps}
+use Rattle.osdp_calls_ledger.proofs.Common.{◌≡◌, ℕ, max, Bool, cond, List, [], ◌∷◌, ◌++◌, Option, Some, None, refl, sym, ap, ◌∙◌, inl, inr, append_assoc, is_some, ◌==◌, Command, device_of, seen_by_bus, changed_unless, bus_ticks, ticks_at, told_by_ticking, told_in, lacks_room, in_doubt, never_offered, ReaderState, Answer, Ledger, each_of, after_steps, queues, submits, withdraws, lapses_event, withdraws_event, Net, NetMove, Queue, RestartReader, Retarget, SetBusy, site_at, Call, NewDevice, NewPanel, Next, OfPanel, SetHandler, SubmitEvent, LapseEvent, WithdrawEvent, after_call, all_hear, asked_at, last_of, panel_says, read_by, is_of_device, told_by_all, InUse, Station, Addresses, InOrder, InRange, QuietOpening, ticks_to, reads_those, IsNextOf, nexting, one_call, at_seen, told_then, NotPast, IsNetOf, Made, StepsTo, device_moves, ordered, device_steps, opening, reported, steps_at, steps_of, IsOurs, call_keeps}
 use Rattle.osdp_bus_laws.specs.Calls as bus
 use Rattle.osdp_bus_laws.proofs.Moments.{moments_are_seen}
 use Rattle.osdp_link_laws.specs.Link as link
@@ -170,6 +170,10 @@ module _ {H : Type 0} (answer_of : H → Command → Answer) (after : H → Comm
         by_moves (WithdrawEvent i) places order quiet addresses range (λ moves are. are)
         (of_device answer_of after i (WithdrawEvent i) (line.WithdrawEvent i) link.WithdrawEvent l n h (λ k s. refl)
         (λ k s t g is. ap (λ (r : ReaderState H). withdraws_event (never_offered r.queue) r.queue.ever_offered g) is))
+    call_shows (LapseEvent i) places order quiet addresses range =
+        by_moves (LapseEvent i) places order quiet addresses range (λ moves are. are)
+        (of_device answer_of after i (LapseEvent i) (line.LapseEvent i) link.LapseEvent l n h (λ k s. refl)
+        (λ k s t g is. ap (λ (r : ReaderState H). lapses_event (in_doubt r.queue) g) is))
     call_shows (Next i) places order quiet addresses range =
         by_made answer_of after (call_shown (Next i) l) (IsNextOf answer_of after i (site_at i l.stations) n) n (after_call answer_of after (Next i) places l)
         (λ moves next whole k g own. next_of_shows answer_of after i (site_at i l.stations) l n moves refl next whole k g)

@@ -9,6 +9,7 @@ pub mod Nexting
 pub mod Calling
 pub mod Allowing
 pub mod Accepted
+pub mod GivenUp
 pub mod Exits
 pub mod Keeping
 pub mod Promising

@@ -1,5 +1,5 @@
 -- What the moves of programs and of power failures show: what their calls do.
-use Rattle.osdp_calls_ledger.proofs.Common.{◌≡◌, ℕ, Bool, true, false, cond, List, [], ◌∷◌, Option, Some, None, Ok, Err, Result, refl, sym, subst, ap, ◌∙◌, inl, inr, append-nil, eqb_tells, Command, comset_of, Machine, submit_refusal, withdrawn_in, device_of, changed_unless, submit_refusal_at, withdrawal_at, withdrawal_of, BusFault, Answer, Ledger, RestartPanel, Link, Move, outstanding_command, both, all_steps, queues, submits, withdraws, withdraws_event, Net, NetMove, RestartsPanel, Site, Submit, Withdraw, is_comset_refused, site_at, move_of, one_if, view, Call, begun_of, withdrawn, InUse, Station, FoundAt, Nobody, Somebody, found, IsOurs, outstanding_same, Controls, IsNetOf, IsSame, Sites, device_steps, given_back, panel_restarts, panel_steps, steps_at}
+use Rattle.osdp_calls_ledger.proofs.Common.{◌≡◌, ℕ, Bool, true, false, cond, List, [], ◌∷◌, Option, Some, None, Ok, Err, Result, refl, sym, subst, ap, ◌∙◌, inl, inr, append-nil, eqb_tells, Command, comset_of, Machine, submit_refusal, withdrawn_in, device_of, changed_unless, submit_refusal_at, withdrawal_at, withdrawal_of, BusFault, Answer, Ledger, RestartPanel, Link, Move, both, all_steps, submits, withdraws, Net, NetMove, RestartsPanel, Site, Submit, Withdraw, is_comset_refused, site_at, move_of, one_if, view, Call, begun_of, withdrawn, InUse, Station, FoundAt, Nobody, Somebody, found, IsOurs, outstanding_same, Controls, IsNetOf, IsSame, Sites, device_steps, given_back, panel_restarts, panel_steps, steps_at}
 use Rattle.std.specs.Prelude.{◌==◌, is_some}
 use Rattle.osdp_msg.specs.declared.limits.Room.{Room}
 use Rattle.osdp_controller.specs.declared.config.ControllerConfig.{ControllerConfig}

@@ -2,13 +2,13 @@
 use Rattle.std.proofs.Common.{◌≡◌, ◌+◌, ℕ, Bool, true, false, cond, List, [], ◌∷◌, ◌++◌, flat_map, map, Option, Some, None, refl, sym, ap, ◌∙◌}
 use Rattle.std.proofs.lemmas.Grind.{flat_map-append}
 use Rattle.std.proofs.lemmas.List.{append-nil, map-append}
-use Rattle.osdp_calls_ledger.proofs.Common.{◌==◌, Packet, Command, Event, Reply, Report, BusState, device_of, changed_unless, submit_refusal_at, withdrawal_at, bus_ticks, Entry, BusFault, told_in, items_of, lacks_room, never_offered, ReaderState, Answer, End, Forgotten, GivenBack, History, InDoubt, Settled, ends_at_restart, new_history, runs, steps_on, Card, Doubt, Ledger, Order, RestartPanel, Settle, new_ledger, both, Each, doubted_as, settled_as, after_steps, queued_before, queues, submits, told, withdraws, withdraws_event, site_at, Call, NewDevice, NewPanel, Next, OfPanel, Step, SubmitEvent, WithdrawEvent, after_call, asked_at, first_answered, read_up_to, is_of_device, heard, InUse, Station, answered, device_steps, given_back, opening, panel_restarts, panel_steps, reported, steps_along, steps_at, steps_of, gets_each}
+use Rattle.osdp_calls_ledger.proofs.Common.{◌==◌, Packet, Command, Event, Reply, Report, BusState, device_of, changed_unless, submit_refusal_at, withdrawal_at, bus_ticks, Entry, BusFault, told_in, items_of, lacks_room, in_doubt, never_offered, ReaderState, Answer, End, Forgotten, GivenBack, History, InDoubt, Settled, ends_at_restart, new_history, runs, steps_on, Card, Doubt, Ledger, Order, RestartPanel, Settle, new_ledger, both, Each, doubted_as, settled_as, after_steps, queued_before, queues, submits, told, withdraws, withdraws_event, site_at, Call, NewDevice, NewPanel, Next, OfPanel, Step, SubmitEvent, LapseEvent, WithdrawEvent, after_call, asked_at, first_answered, read_up_to, is_of_device, heard, InUse, Station, answered, device_steps, given_back, opening, panel_restarts, panel_steps, reported, steps_along, steps_at, steps_of, gets_each}
 use Rattle.osdp_msg.specs.declared.reply.Reply.TheVariants as reply
 use Rattle.osdp_controller.specs.declared.report.Report.TheVariants as report
 use Rattle.osdp_bus_laws.specs.Calls as bus
 use Rattle.osdp_ledger.specs.Ledger as ledger
 use Rattle.osdp_calls_ledger.specs.Reports.{Told, TellsReports, all_told, nothing_told, told_by, told_in_history, with_report, with_reports}
-use Rattle.osdp_calls_ledger.proofs.Allowing.{opening_open}
+use Rattle.osdp_calls_ledger.proofs.Allowing.{lapses_each, opening_open}
 use Rattle.osdp_link_ledger.proofs.Tallies.{command_at, offered_event}
 
 -- ---- what a step tells
@@ -178,6 +178,7 @@ module _ (k : ℕ) where
     device_silent : (call : Call H) (t : Station H) (g : Ledger) → Each IsSilent (device_steps answer_of after call t g)
     device_silent (SubmitEvent i e) t g = queues_silent (lacks_room e t.reader.queue) e g
     device_silent (WithdrawEvent i) t g = withdraws_event_silent (never_offered t.reader.queue) t.reader.queue.ever_offered g
+    device_silent (LapseEvent i) t g = lapses_each IsSilent (λ card. (tt, tt)) (in_doubt t.reader.queue) g
     device_silent (Next i) t g = gets_silent (first_answered t.reader (read_up_to t.reader (items_of t.line.held))) t.reader g
     device_silent (NewDevice i config handler room gap) t g = (tt, tt)
     device_silent _ t g = tt

@@ -1,5 +1,5 @@
 -- A device that has lost no power since its session began: the account of this session counts no restart, so the session ends by no refused number.
-use Rattle.osdp_calls_ledger.proofs.Common.{◌≡◌, ◌≢◌, ◌+◌, ℕ, zero, suc, max, Bool, true, false, cond, List, [], ◌∷◌, ◌++◌, map, length, Option, Some, None, is_some, refl, sym, subst, ap, ◌∙◌, inl, inr, eqb_tells, ◌==◌, slice_get, Packet, Command, Event, Reply, Report, State, Closed, Quiet, Idle, Waiting, Pausing, Devices, device_of, entry_hears, hears_packet, begin_refusal_at, changed_unless, submit_refusal_at, withdrawal_at, bus_ticks, Entry, BusFault, told_in, items_of, Account, after_report, front_of, taken, taken_command, lacks_room, never_offered, after_set_busy, after_set_handler, Answer, Ledger, Open, RestartDevice, new_ledger, each_map, Each, after_steps, opens, queued_before, queues, submits, withdraws, withdraws_event, IsDone, changed_from, some_same, Call, NewDevice, NewPanel, Next, OfPanel, Pending, SetHandler, Silence, Step, SubmitEvent, Take, TickDevice, WithdrawEvent, after_call, after_calls, all_forget, all_hear, answers, asked_at, begins_session, begins_with, begun_of, change_at, changes_at, first_answered, forgets, hears_of, is_to_begin, issues, last_of, made_anew, nexts, panel_says, read_by, read_up_to, takes_back, waiting_of, withdrawn, heard, hears_all, InUse, Station, bus_with, AllKeep, begun_heard, new_at, its_site, one_call, call_keeps, calls_keep, IsOurs, HeardAt, Touched, Untouched, heard_at, IsNetOf, first_net, starts, answered, device_steps, given_back, opening, panel_restarts, panel_steps, reported, steps_along, steps_at, steps_of}
+use Rattle.osdp_calls_ledger.proofs.Common.{◌≡◌, ◌≢◌, ◌+◌, ℕ, zero, suc, max, Bool, true, false, cond, List, [], ◌∷◌, ◌++◌, map, length, Option, Some, None, is_some, refl, sym, subst, ap, ◌∙◌, inl, inr, eqb_tells, ◌==◌, slice_get, Packet, Command, Event, Reply, Report, State, Closed, Quiet, Idle, Waiting, Pausing, Devices, device_of, entry_hears, hears_packet, begin_refusal_at, changed_unless, submit_refusal_at, withdrawal_at, bus_ticks, Entry, BusFault, told_in, items_of, Account, after_report, front_of, taken, taken_command, lacks_room, in_doubt, never_offered, after_set_busy, after_set_handler, Answer, Ledger, Open, RestartDevice, new_ledger, each_map, Each, after_steps, opens, queued_before, queues, submits, withdraws, withdraws_event, IsDone, changed_from, some_same, Call, NewDevice, NewPanel, Next, OfPanel, Pending, SetHandler, Silence, Step, SubmitEvent, Take, TickDevice, LapseEvent, WithdrawEvent, after_call, after_calls, all_forget, all_hear, answers, asked_at, begins_session, begins_with, begun_of, change_at, changes_at, first_answered, forgets, hears_of, is_to_begin, issues, last_of, made_anew, nexts, panel_says, read_by, read_up_to, takes_back, waiting_of, withdrawn, heard, hears_all, InUse, Station, bus_with, AllKeep, begun_heard, new_at, its_site, one_call, call_keeps, calls_keep, IsOurs, HeardAt, Touched, Untouched, heard_at, IsNetOf, first_net, starts, answered, device_steps, given_back, opening, panel_restarts, panel_steps, reported, steps_along, steps_at, steps_of}
 use Rattle.osdp_msg.specs.declared.command.Command.TheVariants.{Poll}
 use Rattle.osdp_controller.specs.Hearing as controllers
 use Rattle.osdp_controller.specs.declared.report.Report.TheVariants as report
@@ -15,12 +15,12 @@ use Rattle.osdp_shared_line.specs.Line.{Net, RestartPanel, after_net, site_at}
 use Rattle.osdp_calls.specs.Calls as calls
 use Rattle.osdp_calls.proofs.Ends.{next_stations}
 use Rattle.osdp_calls.proofs.Marked.{Tells, reported_in}
-use Rattle.osdp_calls.proofs.MarkedDevices.{step_tells, told_by}
+use Rattle.osdp_calls.proofs.MarkedDevices.{lapsed_keeps, step_tells, told_by}
 use Rattle.osdp_calls.proofs.Marking.{Agrees, Told, after_told, heard_marks, next as next_one, next_told}
 use Rattle.osdp_calls.proofs.Places.{those}
 use Rattle.osdp_calls.proofs.Refusing as by_accounts
 use Rattle.osdp_calls_ledger.specs.Refusals.{CallsRefuseNoNumber, has_restarted}
-use Rattle.osdp_calls_ledger.proofs.Allowing.{answered_done, reported_done}
+use Rattle.osdp_calls_ledger.proofs.Allowing.{answered_done, lapses_each, reported_done}
 use Rattle.osdp_calls_ledger.proofs.Own.{no_steps}
 use Rattle.osdp_calls_ledger.proofs.Ticks.{nothing_sent, other_opens}
 
@@ -340,6 +340,10 @@ module _ {H : Type 0} (answer_of : H → Command → Answer) (after : H → Comm
       calmly broken (steps_of answer_of after k (WithdrawEvent i) l g) (change_at i calls.withdraws_event l.stations)
       (at_calm (WithdrawEvent i) (λ t q. withdraws_event_calm (never_offered t.reader.queue) t.reader.queue.ever_offered q) (i == k) (site_at k l.stations) g)
       (same_whole k broken i calls.withdraws_event l.stations (λ t. refl) is)
+  call_whole (LapseEvent i) places l g broken agreed is =
+      calmly broken (steps_of answer_of after k (LapseEvent i) l g) (change_at i calls.lapses_event l.stations)
+      (at_calm (LapseEvent i) (λ t q. lapses_each IsCalm (λ card. (tt, tt)) (in_doubt t.reader.queue) q) (i == k) (site_at k l.stations) g)
+      (same_whole k broken i calls.lapses_event l.stations (λ t. lapsed_keeps (λ (a : Account). a.restarts) t.reader.queue t.account refl) is)
   call_whole (Next i) places l g broken agreed is =
       calmly broken (steps_of answer_of after k (Next i) l g) (after_call answer_of after (Next i) places l).stations
       (at_calm (Next i) (λ t q. let o = first_answered t.reader (read_up_to t.reader (items_of t.line.held)) in

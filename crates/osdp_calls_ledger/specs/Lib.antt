@@ -1,5 +1,6 @@
 pub mod Steps
 pub mod Laws
+pub mod GivenUp
 pub mod Promises
 pub mod OneDevice
 pub mod Reports

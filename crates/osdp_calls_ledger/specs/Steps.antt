@@ -12,15 +12,15 @@ use Rattle.osdp_bus.specs.declared.fault.BusFault.{BusFault}
 use Rattle.osdp_bus_laws.specs.Calls as bus
 use Rattle.osdp_bus_laws.specs.Reports.{told_in}
 use Rattle.osdp_device.specs.Telling.{items_of}
-use Rattle.osdp_reader.specs.Queue.{lacks_room, never_offered}
+use Rattle.osdp_reader.specs.Queue.{in_doubt, lacks_room, never_offered}
 use Rattle.osdp_reader.specs.State.{ReaderState}
 use Rattle.osdp_reader.specs.declared.handler.Answer.{Answer}
 use Rattle.osdp_ledger.specs.Ledger as ledger
 use Rattle.osdp_ledger.specs.Ledger.{Ledger, RestartDevice, RestartPanel, new_ledger}
 use Rattle.osdp_link_laws.specs.Link.{outstanding_command}
-use Rattle.osdp_link_ledger.specs.Steps.{after_steps, gets, opens, queued_before, queues, submits, told, withdraws, withdraws_event}
+use Rattle.osdp_link_ledger.specs.Steps.{after_steps, gets, lapses_event, opens, queued_before, queues, submits, told, withdraws, withdraws_event}
 use Rattle.osdp_shared_line.specs.Line.{site_at}
-use Rattle.osdp_calls.specs.Calls.{Call, NewDevice, NewPanel, Next, OfPanel, Step, SubmitEvent, WithdrawEvent, after_call, asked_at, first_answered, read_up_to}
+use Rattle.osdp_calls.specs.Calls.{Call, NewDevice, NewPanel, Next, OfPanel, Step, SubmitEvent, LapseEvent, WithdrawEvent, after_call, asked_at, first_answered, read_up_to}
 use Rattle.osdp_calls.specs.Ends.{is_of_device}
 use Rattle.osdp_calls.specs.Handing.{heard}
 use Rattle.osdp_calls.specs.Lines.{InUse, Station}
@@ -68,6 +68,7 @@ module _ {H : Type 0} (answer_of : H → Command → Answer) (after : H → Comm
   abbrev pub device_steps : Call H → Station H → Ledger → List ledger.Step
   device_steps (SubmitEvent i event) t g = queues (lacks_room event t.reader.queue) event g
   device_steps (WithdrawEvent i) t g = withdraws_event (never_offered t.reader.queue) t.reader.queue.ever_offered g
+  device_steps (LapseEvent i) t g = lapses_event (in_doubt t.reader.queue) g
   device_steps (Next i) t g = answered (first_answered t.reader (read_up_to t.reader (items_of t.line.held))) t.reader g
   device_steps (NewDevice i config handler room gap) t g = RestartDevice ∷ []
   device_steps _ t g = []

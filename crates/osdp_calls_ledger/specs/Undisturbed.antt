@@ -1,4 +1,4 @@
--- Where nobody restarts and nothing of an entry is taken back, all that ends is told.
+-- Where nobody restarts, nothing of an entry is taken back and no event of it lapses, all that ends is told.
 use Rattle.std.specs.Prelude.{ℕ, All, List}
 use Rattle.osdp_msg.specs.declared.command.Command.{Command}
 use Rattle.osdp_reader.specs.declared.handler.Answer.{Answer}

@@ -27,7 +27,8 @@ pub fn each_keeps_ledger<H: Handler>()
 /// So what the programs of each entry are promised is what its ledger says, a sentence each. Each accepted command has one place, in the order of
 /// submission. None is taken twice. What is settled was taken, with that answer. At most one is told in doubt a session. Each accepted event has left
 /// the device's queue once, or waits. Events are reported in their order, in each session once, and at most the last of a session is told again later.
-/// None is skipped but by its device's program, or by a loss of the device's power.
+/// None is skipped but by its device's program, or by a loss of the device's power. What the program gave up is what its calls took back or let lapse, one for
+/// one; where it lets none lapse, none has.
 ///
 /// The premises:
 ///
@@ -37,8 +38,8 @@ pub fn each_keeps_ledger<H: Handler>()
 ///   reader, or to or from its address.
 /// - Addresses: no accepted call and no restart gives an entry an address where another entry's device is or may come. A device that comes back
 ///   elsewhere comes to no address of another entry, and to none at which it may still read what was said for another.
-/// - Set-up: entries stand at different addresses, each with its reader there and no reply stored. Further entries, after these, may have readers of
-///   others: nothing is promised or asked of them.
+/// - Set-up: entries stand at different addresses, each with its reader there, which stores no reply but one from its own address or from 127. Further
+///   entries, after these, may have readers of others: nothing is promised or asked of them.
 /// - Values are in the ranges of their types, and no entry is added later.
 ///
 /// Nothing is asked of moments, of how bytes are cut, of when reports are taken, of who is busy, or of what the handlers answer. The rule for programs of
@@ -78,8 +79,8 @@ pub fn one_device_holds_once<H: Handler>()
     osdp_ledger::throws_none_away();
 }
 
-/// Where neither end of an entry is made anew, and nothing of it is taken back, each of its commands that has ended was settled or told in doubt, and each
-/// of its events that has left was reported, whatever the other programs call. This asks nothing of what the ends read.
+/// Where neither end of an entry is made anew, nothing of it is taken back, and no event of it lapses, each of its commands that has ended was settled or told
+/// in doubt, and each of its events that has left was reported, whatever the other programs call. This asks nothing of what the ends read.
 pub fn ordinary_is_undisturbed<H: Handler>()
     ensures { OrdinaryCallsEndTold H.answer_of H.after }
 {

@@ -1,5 +1,5 @@
 -- Call after call each packet is read in time, so each opening is quiet.
-use Rattle.osdp_calls_time_laws.proofs.Common.{◌≡◌, ◌+◌, ◌<◌, ◌≤◌, ℕ, List, [], ◌∷◌, length, refl, sym, subst, ap, ◌∙◌, arith, ◌++◌, ◌^◌, map, slice_get, Command, BusState, address_of, IsBusConfig, BusConfig, Entry, ReadsWhatIsAsked, each_of, Each, after_set_busy, after_set_handler, Answer, Net, RestartPanel, after_net, site_at, Apart, apart_after, apart_all, apart_first, Call, NewDevice, NewPanel, Next, OfPanel, Pending, SetBusy, SetHandler, Silence, SubmitEvent, Take, TickDevice, WithdrawEvent, after_call, begun_of, change_at, made_anew, queues, withdraws_event, InUse, Station, bus_with, AllKeep, InOrder, InRange, IsSetUp, QuietOpening, begun_change, new_at, one_call, IsNetOf, LedgerHoldsOnce, TimelyCallsOpenQuietly, TimelyLedgerHoldsOnce, steps_of, AllKeepElse, AllTimely, Clock, KeepsClock, Timed, WaitsTwice, clock_after, clock_at, queues_begun}
+use Rattle.osdp_calls_time_laws.proofs.Common.{◌≡◌, ◌+◌, ◌<◌, ◌≤◌, ℕ, List, [], ◌∷◌, length, refl, sym, subst, ap, ◌∙◌, arith, ◌++◌, ◌^◌, map, slice_get, Command, BusState, address_of, IsBusConfig, BusConfig, Entry, ReadsWhatIsAsked, each_of, Each, after_set_busy, after_set_handler, Answer, Net, RestartPanel, after_net, site_at, Apart, apart_after, apart_all, apart_first, Call, NewDevice, NewPanel, Next, OfPanel, Pending, SetBusy, SetHandler, Silence, SubmitEvent, Take, TickDevice, LapseEvent, WithdrawEvent, after_call, begun_of, change_at, made_anew, queues, lapses_event, withdraws_event, InUse, Station, bus_with, AllKeep, InOrder, InRange, IsSetUp, QuietOpening, begun_change, new_at, one_call, IsNetOf, LedgerHoldsOnce, TimelyCallsOpenQuietly, TimelyLedgerHoldsOnce, steps_of, AllKeepElse, AllTimely, Clock, KeepsClock, Timed, WaitsTwice, clock_after, clock_at, queues_begun}
 use Rattle.osdp_device.specs.Deciding.{passed}
 use Rattle.osdp_frame.specs.Receiving.{after_silence, after_take, after_tick}
 use Rattle.osdp_reader.specs.Queue.{lacks_room}
@@ -64,6 +64,7 @@ module _ {H : Type 0} where
       runs_call (SetHandler k handler) places order quiet range clock read m same =
           station_changes k (λ u. record u { reader = after_set_handler handler u.reader }) clock (λ u. refl)
       runs_call (WithdrawEvent k) places order quiet range clock read m same = station_changes k withdraws_event clock (λ u. refl)
+      runs_call (LapseEvent k) places order quiet range clock read m same = station_changes k lapses_event clock (λ u. refl)
       runs_call (Take k bytes now) places order quiet range clock read m same =
           station_changes k (λ u. record u { line = after_take bytes now u.line }) clock (λ u. refl)
       runs_call (TickDevice k now) places order quiet range clock read m same =

@@ -6,7 +6,7 @@ use Rattle.osdp_device.specs.Telling.{items_of}
 use Rattle.osdp_reader.specs.Table.{hears, kind_by_number, kind_of}
 use Rattle.osdp_reader.specs.declared.kind.Kind.TheVariants as kind
 use Rattle.osdp_shared_line.proofs.Readers.{IsForAll, IsFrom, StoresOwn, reads_well}
-use Rattle.osdp_calls.specs.Calls.{answers, begun_of, by_device, after_next, first_answered, nexts, read_up_to, reply_to}
+use Rattle.osdp_calls.specs.Calls.{begun_of, by_device, after_next, first_answered, nexts, read_up_to, reply_to}
 use Rattle.osdp_calls.proofs.Replying.{silent_to_replies}
 use Rattle.osdp_calls_time_laws.proofs.Quiet.{ReadAt, device_not_past}
 use Rattle.osdp_calls_time_laws.proofs.Stamps.{there_is}

@@ -5,7 +5,7 @@ use Rattle.osdp_msg.specs.declared.command.Command.{Command}
 use Rattle.osdp_bus.specs.declared.config.BusConfig.{BusConfig}
 use Rattle.osdp_reader.specs.declared.handler.Answer.{Answer}
 use Rattle.osdp_shared_line.specs.Line.{site_at}
-use Rattle.osdp_calls.specs.Calls.{Call, NewDevice, NewPanel, Next, OfPanel, Pending, SetBusy, SetHandler, Silence, SubmitEvent, Take, TickDevice, WithdrawEvent, after_call}
+use Rattle.osdp_calls.specs.Calls.{Call, NewDevice, NewPanel, Next, OfPanel, Pending, SetBusy, SetHandler, Silence, SubmitEvent, Take, TickDevice, LapseEvent, WithdrawEvent, after_call}
 use Rattle.osdp_calls.specs.Lines.{InUse}
 use Rattle.osdp_premises.specs.Deciding.{each_of, if_there}
 use Rattle.osdp_calls_time_laws.specs.Moments.{Clock, IsTimely, Timed, clock_after, moment_of}
@@ -26,6 +26,7 @@ module _ {H : Type 0} where
   keeps_clock w (SetBusy k busy) t c l = t.start == c.start
   keeps_clock w (SetHandler k handler) t c l = t.start == c.start
   keeps_clock w (WithdrawEvent k) t c l = t.start == c.start
+  keeps_clock w (LapseEvent k) t c l = t.start == c.start
   keeps_clock w (Take k bytes now) t c l = t.start == c.start
   keeps_clock w (TickDevice k now) t c l = t.start == c.start
   keeps_clock w (Silence k now) t c l = t.start == c.start

@@ -1,5 +1,5 @@
 -- The ledger of each device, read off a panel whose entries stand in an order of its own, is that of its link.
-use Rattle.osdp_entry_numbers.proofs.Common.{◌≡◌, ◌⊎◌, ℕ, true, false, inl, inr, List, [], ◌∷◌, ◌++◌, map, Some, refl, sym, subst, ap, ◌∙◌, Command, device_of, Entry, Answer, Order, RestartPanel, after, new_ledger, AreAllowed, History, new_history, runs, after_steps, all_steps, queued_before, outstanding_command, Net, NetMove, RestartsPanel, after_net, site_at, some_same, is_there, IsIdle, AllOwnKeep, OwnLine, OwnStep, after_all_own, after_own, in_order, turned, IsOfPanel, OwnOrderDoesTheSame, OwnOrderKeepsApart, OwnOrderKeepsLedger, own_along, own_steps, own_steps_from}
+use Rattle.osdp_entry_numbers.proofs.Common.{◌≡◌, ◌⊎◌, ℕ, true, false, inl, inr, List, [], ◌∷◌, ◌++◌, map, Some, refl, sym, subst, ap, ◌∙◌, Command, device_of, Entry, Answer, Order, RestartPanel, after, new_ledger, AreAllowed, History, new_history, runs, after_steps, all_steps, queued_before, outstanding_command, Net, NetMove, RestartsPanel, after_net, site_at, some_same, is_there, IsIdle, AllOwnKeep, OwnLine, OwnStep, after_all_own, after_own, in_order, turned, all_own_given_up, IsOfPanel, OwnOrderDoesTheSame, OwnOrderKeepsApart, OwnOrderKeepsLedger, own_along, own_steps, own_steps_from}
 use Rattle.std.specs.Prelude.{is_some, option_to_list}
 use Rattle.osdp_reader.specs.State.{ReaderState}
 use Rattle.osdp_ledger.specs.Ledger as ledger
@@ -16,12 +16,13 @@ use Rattle.osdp_calls.proofs.Powers.{outstanding_same, waiting_too}
 use Rattle.osdp_calls.proofs.Same.{IsNetOf}
 use Rattle.osdp_calls.proofs.Setting.{first_net, first_site, first_there, starts}
 use Rattle.osdp_calls_ledger.proofs.Calling.{call_shown, call_shows}
+use Rattle.osdp_calls_ledger.proofs.GivenUp.{exits_so}
 use Rattle.osdp_calls_ledger.proofs.Keeping.{allowed_without, before_still, runs_without, switched_on}
 use Rattle.osdp_calls_ledger.proofs.Seen.{in_turn, seen, seen_at, seen_of_link}
 use Rattle.osdp_calls_ledger.proofs.Shows.{Shown, Shows, shows_as, then_shows}
 use Rattle.osdp_entry_numbers.proofs.Entries.{FromOther, IsEntry, IsIdleOne, from_other}
 use Rattle.osdp_entry_numbers.proofs.Following.{Follows, does_the_same, own_line_under, set_up_follows, still_follows}
-use Rattle.osdp_entry_numbers.proofs.Reading.{own_commands, own_events, own_exits}
+use Rattle.osdp_entry_numbers.proofs.Reading.{own_commands, own_events, own_gone}
 
 module _ {H : Type 0} (answer_of : H → Command → Answer) (after_command : H → Command → H) where
   -- ---- a list of calls
@@ -137,7 +138,8 @@ module _ {H : Type 0} (answer_of : H → Command → Answer) (after_command : H 
       allowed_without before rest (RestartPanel false) new_history quiet (subst (λ xs. AreAllowed xs new_history) same kept.allowed) in
       let last_follows = all_follow steps a follows keep in
       let mine = at.is_entry in
-      let mine = whole_entry k d end last_follows at.entry at.is_entry entry in (
+      let mine = whole_entry k d end last_follows at.entry at.is_entry entry in
+      let gone = own_gone answer_of after_command k first steps a in (
         allowed,
         record {
           accepted = sym (own_commands answer_of after_command k first steps a);
@@ -150,7 +152,8 @@ module _ {H : Type 0} (answer_of : H → Command → Answer) (after_command : H 
               ∙ ap (λ (r : ReaderState H). r.queue.events) at.reader;
           orders = subst OrdersHold ends kept.orders;
           cards = subst EventsHold ends kept.events;
-          exits = own_exits answer_of after_command k first steps a;
+          gone = gone;
+          exits = exits_so (all_own_given_up answer_of after_command k steps a) (runs (before ++ rest) new_history).left gone;
           untold = in_turn_told (own_steps_from answer_of after_command k first steps a) allowed;
         },
       )

@@ -8,7 +8,7 @@ use Rattle.osdp_bus.specs.Ticking.{bus_ticks}
 use Rattle.osdp_bus.specs.declared.entry.Entry.{Entry}
 use Rattle.osdp_bus_laws.specs.Calls as bus
 use Rattle.osdp_bus_laws.specs.Reports.{told_in}
-use Rattle.osdp_ledger.specs.History.{AreAllowed, new_history, runs}
+use Rattle.osdp_ledger.specs.History.{AreAllowed, Exit, new_history, runs}
 use Rattle.osdp_ledger.specs.Ledger as ledger
 use Rattle.osdp_ledger.specs.Ledger.{Ledger, RestartPanel, new_ledger}
 use Rattle.osdp_link_ledger.specs.Steps.{after_steps, queued_before}
@@ -17,6 +17,7 @@ use Rattle.osdp_shared_line.specs.Line.{site_at}
 use Rattle.osdp_calls.specs.Accepted.{accepted_by_panel, queued_by}
 use Rattle.osdp_calls.specs.Calls.{Call, NewPanel, OfPanel}
 use Rattle.osdp_calls.specs.Lines.{Station}
+use Rattle.osdp_calls_ledger.specs.GivenUp.{given_up_by}
 use Rattle.osdp_calls_ledger.specs.Promises.{HoldsOnce}
 use Rattle.osdp_calls_ledger.specs.Steps.{panel_restarts, panel_steps, steps_of}
 use Rattle.osdp_entry_numbers.specs.Numbers.{IsIdle, renumbered, renumbers}
@@ -46,6 +47,11 @@ module _ {H : Type 0} where
     all_own_queued k [] a = []
     all_own_queued k (step ∷ steps) a = queued_by k step.call a.line ++ all_own_queued k steps (after_own answer_of after step a)
 
+    -- .. and those events that its program gives up
+    abbrev pub all_own_given_up : ℕ → List (OwnStep H) → OwnLine H → List (Event × Exit)
+    all_own_given_up k [] a = []
+    all_own_given_up k (step ∷ steps) a = given_up_by k step.call a.line ++ all_own_given_up k steps (after_own answer_of after step a)
+
     -- the steps of a device's ledger: off the panel's own bus, and off the device
     abbrev pub own_steps : ℕ → Call H → OwnLine H → Ledger → List ledger.Step
     own_steps k (OfPanel call) a g = panel_steps (a.numbers.own k) call a.bus g
@@ -68,7 +74,7 @@ module _ {H : Type 0} where
         (k : ℕ) (first last : Station H) (d : Entry) → site_at k a.line.stations ≡ Some first → site_at k end.line.stations ≡ Some last
         → IsOfPanel k d end
         → AreAllowed (own_steps_from k first steps a) new_history
-        × HoldsOnce (all_own_accepted k steps a) (first.reader.queue.events ++ all_own_queued k steps a) d last
+        × HoldsOnce (all_own_accepted k steps a) (first.reader.queue.events ++ all_own_queued k steps a) (all_own_given_up k steps a) d last
         (runs (own_steps_from k first steps a) new_history)
 
     -- no two devices are ever at one address

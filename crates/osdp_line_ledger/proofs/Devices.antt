@@ -9,7 +9,7 @@ use Rattle.osdp_link_laws.proofs.Lines.{each_all, each_map, each_of}
 use Rattle.osdp_link_laws.proofs.OrdinaryRuns.{keep_handler}
 use Rattle.osdp_link_ledger.specs.Answers.{ActsHaveAnswersOfOneHandler}
 use Rattle.osdp_link_ledger.specs.Ordinary.{OrdinaryMovesEndTold}
-use Rattle.osdp_shared_line.specs.Line.{LoseToPanel, LoseToReader, Net, NetMove, RestartPanel, RestartReader, SetHandler, ToPanel, Withdraw, WithdrawEvent}
+use Rattle.osdp_shared_line.specs.Line.{LoseToPanel, LoseToReader, Net, NetMove, RestartPanel, RestartReader, SetHandler, ToPanel, Withdraw, LapseEvent, WithdrawEvent}
 use Rattle.osdp_shared_line.specs.Restarts.{IsOrdinaryOf, KeepsDeviceOf}
 use Rattle.osdp_shared_line.specs.Runs.{moves_of}
 use Rattle.osdp_shared_line.specs.Views.{view}
@@ -29,6 +29,7 @@ module _ {H : Type 0} (k : ℕ) where
   all_ordinary : (move : NetMove H) → IsOrdinaryOf k move → HoldsOf IsOrdinary k move
   all_ordinary (Withdraw i) is = λ e. absurd (is e)
   all_ordinary (WithdrawEvent i) is = λ e. absurd (is e)
+  all_ordinary (LapseEvent i) is = λ e. absurd (is e)
   all_ordinary (RestartReader i config handler room) is = λ e. absurd (is e)
   all_ordinary (RestartPanel settings) is = absurd is
   all_ordinary (ToPanel how now) is = (λ by. tt, tt)

@@ -27,8 +27,8 @@ pub fn each_acts_by_one_handler<H: Handler>()
     osdp_link_ledger::acts_have_answers_of_one_handler::<H>();
 }
 
-/// A device neither of whose ends restarts, and of which nothing is withdrawn, whatever the others do: each of its commands that has ended was settled
-/// or told in doubt, and each of its events that has left was reported.
+/// A device neither of whose ends restarts, and of which nothing is withdrawn or lapses, whatever the others do: each of its commands that has ended was
+/// settled or told in doubt, and each of its events that has left was reported.
 pub fn each_ordinary_ends_told<H: Handler>()
     ensures { EachOrdinaryEndsTold H.answer_of H.after }
 {

@@ -1,14 +1,16 @@
 -- What each move does to the account of a session, by how its stage comes from the one before it.
-use Rattle.osdp_link_laws.proofs.Common.{◌≡◌, ◌≢◌, ◌⊎◌, ℕ, Bool, true, false, List, [], ◌∷◌, ◌++◌, length, map, Option, Some, None, Result, Ok, refl, sym, subst, ap, ◌∙◌, inl, inr, arith, append_assoc, append-nil, map-append, Packet, event_in, Command, Event, MsgFault, Reply, exchange_command, submitted_command, seen, ticks, ControllerConfig, Exchange, Opening, Polling, Asking, ControllerFault, Session, State, Closed, Quiet, Idle, Waiting, Pausing, EventQueue, lacks_room, released, ReaderState, begun, command_in, kind_of, new_address, outcome, taken, Answer, Kind, IsWithout, asked, Account, Delivered, Delivery, Link, Lost, Move, QueueEvent, Reopen, Repeated, RestartController, RestartReader, Retarget, Submit, Tick, ToController, ToReader, ThrownAway, Withdraw, WithdrawEvent, Withdrawn, after_move, event_withdrawn, outstanding_command, reader_restarted, told_by_front, removed_command}
+use Rattle.osdp_link_laws.proofs.Common.{◌≡◌, ◌≢◌, ◌⊎◌, ℕ, Bool, true, false, cond, is_some, List, [], ◌∷◌, ◌++◌, length, map, Option, Some, None, Result, Ok, refl, sym, subst, ap, ◌∙◌, inl, inr, arith, append_assoc, append-nil, map-append, Packet, event_in, Command, Event, MsgFault, Reply, exchange_command, submitted_command, seen, ticks, ControllerConfig, Exchange, Opening, Polling, Asking, ControllerFault, Session, State, Closed, Quiet, Idle, Waiting, Pausing, EventQueue, event_for, lacks_room, lapsed, offering, released, unoffered, Room, ReaderState, begun, command_in, kind_of, new_address, outcome, taken, Answer, Kind, IsWithout, asked, Account, Delivered, Delivery, Link, Lost, Move, QueueEvent, Reopen, Repeated, RestartController, RestartReader, Retarget, Submit, Tick, ToController, ToReader, ThrownAway, Withdraw, LapseEvent, WithdrawEvent, Withdrawn, after_move, outstanding_command, reader_restarted, told_by_front, removed_command}
 use Rattle.std.specs.Prelude.{drop, option_to_list, take}
+use Rattle.osdp_reader.specs.Queue.{empty_queue}
 use Rattle.osdp_msg.specs.declared.command.Command.TheVariants as command
 use Rattle.osdp_controller.specs.Machine as controllers
 use Rattle.osdp_reader.specs.declared.kind.Kind.TheVariants as kind
 use Rattle.osdp_link_laws.specs.Link as link
 use Rattle.osdp_link_laws.proofs.Accounts.{Accounted, Accounts, EndIs, EventsAre, OrdersAre, gone, hears_tell, reports, ticks_tell}
-use Rattle.osdp_link_laws.proofs.Acting.{leaves_shown, polled_front, taken_is}
-use Rattle.osdp_link_laws.proofs.Coming.{Announces, Due, KeepsDue, MovesTo, Reads, ReadsFront, ReadsTo, Stays, standing_at, stands, stood}
+use Rattle.osdp_link_laws.proofs.Acting.{leaves_shown, no_event, polled_front, taken_is}
+use Rattle.osdp_link_laws.proofs.Coming.{Announces, Due, KeepsDue, MovesTo, Reads, ReadsFront, ReadsTo, Stays, same_either, standing_of, stands, stood}
 use Rattle.osdp_link_laws.proofs.Growing.{GoesOn}
+use Rattle.osdp_link_laws.proofs.Lapsed.{events_lapse, lapsed_keeps}
 use Rattle.osdp_link_laws.proofs.Reports.{tick_so}
 use Rattle.osdp_link_laws.proofs.Restarts.{front_at}
 use Rattle.osdp_link_laws.proofs.Since.{Hears, has_acted}
@@ -44,8 +46,8 @@ withdraws_none _ ws = inl refl
 
 -- ---- the orders of a program, and a loss of power
 
-module _ (since : Restarted) (at : Stage) (state : State) (ws : List Command) (queue : List Event) (t : Account) (h : Accounted since at state ws queue t) where
-  submitted : (c : Command) → Accounted since at state (ws ++ c ∷ []) queue (record t { issued = t.issued ++ c ∷ [] })
+module _ (since : Restarted) (at : Stage) (state : State) (ws : List Command) (q : EventQueue) (t : Account) (h : Accounted since at state ws q t) where
+  submitted : (c : Command) → Accounted since at state (ws ++ c ∷ []) q (record t { issued = t.issued ++ c ∷ [] })
   submitted c = record {
     orders = record {
       issued = ap (λ all. all ++ c ∷ []) h.orders.issued
@@ -62,7 +64,7 @@ module _ (since : Restarted) (at : Stage) (state : State) (ws : List Command) (q
   -- these commands are removed, of those that wait
   removed : (vs : List Command) (more : List link.Removal) (new : State) (forgotten : List Command) → map removed_command more ++ vs ≡ ws
       → EndIs (given_up_at at new) new t.unsettled forgotten (t.removed ++ more)
-      → Accounted since at new vs queue (record t { removed = t.removed ++ more; forgotten = forgotten })
+      → Accounted since at new vs q (record t { removed = t.removed ++ more; forgotten = forgotten })
   removed vs more new forgotten all over = record {
     orders = record {
       issued = h.orders.issued ∙ ap (λ cs. t.taken ++ (pending_at at ++ cs))
@@ -76,7 +78,7 @@ module _ (since : Restarted) (at : Stage) (state : State) (ws : List Command) (q
     restarts = h.restarts;
   }
 
-  withdraws : Accounted since at state (controllers.kept_in state ws) queue
+  withdraws : Accounted since at state (controllers.kept_in state ws) q
       (record t { removed = t.removed ++ map Withdrawn (option_to_list (controllers.withdrawn_in state ws)) })
   withdraws =
       let out = option_to_list (controllers.withdrawn_in state ws) in
@@ -93,14 +95,14 @@ module _ (since : Restarted) (at : Stage) (state : State) (ws : List Command) (q
 
   -- the controller restarts: what is outstanding is forgotten
   restarts_panel : (out : List Command) → given_up_at at state ++ out ≡ given_up_at at Closed
-      → Accounted since at Closed [] queue (record t { removed = t.removed ++ map ThrownAway ws; forgotten = t.forgotten ++ out })
+      → Accounted since at Closed [] q (record t { removed = t.removed ++ map ThrownAway ws; forgotten = t.forgotten ++ out })
   restarts_panel out all =
       removed [] (map ThrownAway ws) Closed (t.forgotten ++ out) (append-nil (map removed_command (map ThrownAway ws)) ∙ thrown_are ws) (record {
         lost = sym (append_assoc t.unsettled t.forgotten out) ∙ ap (λ cs. cs ++ out) h.over.lost ∙ all;
         quiet = inr refl;
       })
 
-  queues : (e : Event) → Accounted since at state ws (queue ++ e ∷ [])
+  queues : (e : Event) → Accounted since at state ws (record q { events = q.events ++ e ∷ [] })
       (record t { queued = t.queued ++ e ∷ []; stayed = t.stayed ++ e ∷ []; kept = t.kept ++ e ∷ [] })
   queues e = record {
     orders = h.orders;
@@ -108,8 +110,8 @@ module _ (since : Restarted) (at : Stage) (state : State) (ws : List Command) (q
     events = record {
       left = h.events.left;
       past = h.events.past;
-      stayed = ap (λ all. all ++ e ∷ []) h.events.stayed ∙ append_assoc h.events.left queue (e ∷ []);
-      kept = ap (λ all. all ++ e ∷ []) h.events.kept ∙ append_assoc h.events.past queue (e ∷ []);
+      stayed = ap (λ all. all ++ e ∷ []) h.events.stayed ∙ append_assoc h.events.left q.events (e ∷ []);
+      kept = ap (λ all. all ++ e ∷ []) h.events.kept ∙ append_assoc h.events.past q.events (e ∷ []);
       without = h.events.without;
       offered = h.events.offered;
       reported = h.events.reported;
@@ -118,10 +120,11 @@ module _ (since : Restarted) (at : Stage) (state : State) (ws : List Command) (q
   }
 
   -- the device restarts: those it had not offered in this session are gone
-  restarts_device : (rest : List Event) → queue ≡ standing_at since at ++ rest → Accounted Now at state ws [] (reader_restarted t)
-  restarts_device rest front =
+  restarts_device : (room : Room) (rest : List Event) → q.events ≡ standing_of since at q.offered ++ rest
+      → Accounted Now at state ws (empty_queue room.messages room.bytes) (reader_restarted t)
+  restarts_device room rest front =
       let e = h.events in
-      let standing = standing_at since at in
+      let standing = standing_of since at q.offered in
       let kept : t.kept ≡ t.offered ++ rest =
       e.kept ∙ ap (λ es. e.past ++ es) front ∙ sym (append_assoc e.past standing rest) ∙ ap (λ es. es ++ rest) (sym e.offered) in
       let none : drop (length t.offered) t.kept ≡ rest = ap (drop (length t.offered)) kept ∙ drop_front t.offered rest in
@@ -145,99 +148,119 @@ module _ (since : Restarted) (at : Stage) (state : State) (ws : List Command) (q
       }
 
   -- number 0 is heard, or nothing changes
-  hears_zero : (new : Restarted) (to : Stage) → KeepsDue since at new to → Accounted new to state ws queue t
+  hears_zero : (new : Restarted) (to : Stage) → KeepsDue since at new to → Accounted new to state ws (unoffered q) t
   hears_zero new to k = record {
     orders = subst (λ (d : Due). OrdersAre d.pend d.owing (gone t ++ ws) t.issued t.taken t.given t.settled) (sym k.due) h.orders;
     over = record { lost = h.over.lost ∙ sym (k.given_up state); quiet = h.over.quiet };
-    events = subst (λ es. EventsAre es (unreported_at to) queue t.stayed t.kept t.thrown_away t.offered t.reported) (sym k.stands)
-        (subst (λ (d : Due). EventsAre (standing_at since at) d.untold queue t.stayed t.kept t.thrown_away t.offered t.reported) (sym k.due) h.events);
+    events = subst (λ (d : Due). EventsAre [] d.untold q.events t.stayed t.kept t.thrown_away t.offered t.reported) (sym k.due)
+        (subst (λ es. EventsAre es (unreported_at at) q.events t.stayed t.kept t.thrown_away t.offered t.reported)
+        (ap (λ es. cond q.offered es []) k.stood ∙ same_either [] q.offered) h.events);
     restarts = k.restarts t.restarts h.restarts;
   }
 
-  stays : (new : Restarted) (to : Stage) → Stays since at new to → Accounted new to state ws queue t
-  stays new to (same, is) = subst (λ s. Accounted s to state ws queue t) (sym same) (subst (λ z. Accounted since z state ws queue t) (sym is) h)
+  stays : (new : Restarted) (to : Stage) → Stays since at new to → Accounted new to state ws q t
+  stays new to (same, is) = subst (λ s. Accounted s to state ws q t) (sym same) (subst (λ z. Accounted since z state ws q t) (sym is) h)
+
+  -- an event lapses
+  lapses : (rest : List Event) → q.events ≡ standing_of since at q.offered ++ rest → Accounted since at state ws (lapsed q) (link.event_lapsed q t)
+  lapses rest front =
+      let events = events_lapse since at t q rest front h.events in
+      let keeps = lapsed_keeps q t in
+      subst (λ u. EventsAre (standing_of since at (lapsed q).offered) (unreported_at at) (lapsed q).events u.stayed u.kept u.thrown_away u.offered u.reported
+      → Accounted since at state ws (lapsed q) u) (sym keeps.1)
+      (λ e. record { orders = h.orders; over = h.over; events = e; restarts = h.restarts }) events
 
 -- ---- a packet comes to the reader
 
 -- an event that was told leaves the queue, and another may be offered
 module _ (since : Restarted) (hears : Hears since) (n : ℕ) (y : Exchange) (b : Reply) (x : Exchange) (a : Reply) where
-  events_go : (q : EventQueue) (t : Account) → q.events ≡ shown y b ++ (released q).events
-      → EventsAre (standing_at since (Behind (After n y b) x)) [] q.events t.stayed t.kept t.thrown_away t.offered t.reported
-      → EventsAre (standing_at since (Level (After n y b) x a)) (shown x a) (released q).events t.stayed t.kept t.thrown_away (t.offered ++ shown x a) t.reported
-  events_go q t leaves e = record {
-    left = e.left ++ shown y b;
-    past = e.past ++ shown y b;
-    stayed = e.stayed ∙ ap (λ es. e.left ++ es) leaves ∙ sym (append_assoc e.left (shown y b) (released q).events);
-    kept = e.kept ∙ ap (λ es. e.past ++ es) leaves ∙ sym (append_assoc e.past (shown y b) (released q).events);
-    without = without_keeps t.thrown_away e.left e.past (shown y b) e.without;
-    offered = ap (λ es. es ++ shown x a) (e.offered ∙ ap (λ es. e.past ++ es) (stood since hears n y b x))
-        ∙ ap (λ es. (e.past ++ shown y b) ++ es) (sym (stands since hears (After n y b) x a));
-    reported = ap (λ es. es ++ shown x a) (e.reported ∙ append-nil t.reported);
-  }
+  events_go : (q : EventQueue) (t : Account) (offered : Bool) → q.events ≡ cond q.offered (shown y b) [] ++ (released q).events
+      → cond offered (shown x a) [] ≡ shown x a
+      → EventsAre (standing_of since (Behind (After n y b) x) q.offered) [] q.events t.stayed t.kept t.thrown_away t.offered t.reported
+      → EventsAre (standing_of since (Level (After n y b) x a) offered) (shown x a) (released q).events t.stayed t.kept t.thrown_away (t.offered ++ shown x a) t.reported
+  events_go q t offered leaves offers e =
+      let gone = cond q.offered (shown y b) [] in
+      record {
+        left = e.left ++ gone;
+        past = e.past ++ gone;
+        stayed = e.stayed ∙ ap (λ es. e.left ++ es) leaves ∙ sym (append_assoc e.left gone (released q).events);
+        kept = e.kept ∙ ap (λ es. e.past ++ es) leaves ∙ sym (append_assoc e.past gone (released q).events);
+        without = without_keeps t.thrown_away e.left e.past gone e.without;
+        offered = ap (λ es. es ++ shown x a) (e.offered ∙ ap (λ es. e.past ++ cond q.offered es []) (stood since hears n y b x))
+            ∙ ap (λ es. (e.past ++ gone) ++ es) (sym offers ∙ ap (λ es. cond offered es []) (sym (stands since hears (After n y b) x a)));
+        reported = ap (λ es. es ++ shown x a) (e.reported ∙ append-nil t.reported);
+      }
 
 module _ (fixed : ControllerConfig) {H : Type 0} (answer_of : H → Command → Answer) (after : H → Command → H) where
   -- the account after a command that is taken
   abbrev Takes : Result Command MsgFault → Packet → ReaderState H → Restarted → Stage → State → List Command → Account → Type 0
   Takes c p r since to state ws t =
       let o = taken answer_of after c r p in
-      Accounted since to state ws o.reader.queue.events (link.taken kind.Taken o.command o.said (take 1 (released r.queue).events) t)
+      Accounted since to state ws o.reader.queue (link.taken kind.Taken o.command o.said (take 1 (released r.queue).events) t)
 
   module _ (since : Restarted) (hears : Hears since) (n : ℕ) (y : Exchange) (b : Reply) (a : Reply) (p : Packet) (r : ReaderState H) (state : State) (ws : List Command)
-      (t : Account) (leaves : r.queue.events ≡ shown y b ++ (released r.queue).events) where
-    polls : (taken answer_of after (Ok command.Poll) r p).said ≡ Some a → Accounted since (Behind (After n y b) Polling) state ws r.queue.events t
+      (t : Account) (leaves : r.queue.events ≡ cond r.queue.offered (shown y b) [] ++ (released r.queue).events) where
+    polls : (taken answer_of after (Ok command.Poll) r p).said ≡ Some a → Accounted since (Behind (After n y b) Polling) state ws r.queue t
         → Takes (Ok command.Poll) p r since (Level (After n y b) Polling a) state ws t
     polls says h =
         let events = (released r.queue).events in
         let front : take 1 events ≡ shown Polling a =
         sym (polled_front fixed events answer_of after r.config r.handler) ∙ ap (λ o. polled_by o) says in
-        subst (λ es. Accounted since (Level (After n y b) Polling a) state ws events (record t { offered = t.offered ++ es })) (sym front) (record {
+        let told = event_for command.Poll events in
+        subst (λ es. Accounted since (Level (After n y b) Polling a) state ws (offering told (released r.queue)) (record t { offered = t.offered ++ es })) (sym front) (record {
           orders = h.orders;
           over = h.over;
-          events = events_go since hears n y b Polling a r.queue t leaves h.events;
+          events = events_go since hears n y b Polling a r.queue t (is_some told) leaves
+              (ap (λ es. cond (is_some told) es []) (sym front) ∙ offers_front events ∙ front) h.events;
           restarts = h.restarts;
         })
       where
+        offers_front : (events : List Event) → cond (is_some (event_for command.Poll events)) (take 1 events) [] ≡ take 1 events
+        offers_front [] = refl
+        offers_front (e ∷ events) = refl
+
         polled_by : Option Reply → List Event
         polled_by None = []
         polled_by (Some reply) = option_to_list (event_in reply)
 
     asks : (c : Command) → c ≢ command.Poll → (taken answer_of after (Ok c) r p).said ≡ Some a
-        → Accounted since (Behind (After n y b) (Asking c)) state ws r.queue.events t → Takes (Ok c) p r since (Level (After n y b) (Asking c) a) state ws t
+        → Accounted since (Behind (After n y b) (Asking c)) state ws r.queue t → Takes (Ok c) p r since (Level (After n y b) (Asking c) a) state ws t
     asks c other says h =
         let to = Level (After n y b) (Asking c) a in
         let front = take 1 (released r.queue).events in
         let o = taken answer_of after (Ok c) r p in
-        let queue : o.reader.queue.events ≡ (released r.queue).events = ap (λ (q : EventQueue). q.events) (moved_queue answer_of after (new_address c) _) in
-        subst (λ es. Accounted since to state ws es (link.taken_command c o.said front t)) (sym queue)
-        (subst (λ u. Accounted since to state ws (released r.queue).events u) (sym (taken_is c o.said front t other))
-        (subst (λ s. Accounted since to state ws (released r.queue).events (record t { taken = t.taken ++ c ∷ []; given = t.given ++ link.given_to c s })) (sym says) (record {
+        let queue : o.reader.queue ≡ offering None (released r.queue) =
+        moved_queue answer_of after (new_address c) _ ∙ ap (λ told. offering told (released r.queue)) (no_event c (released r.queue).events other) in
+        subst (λ q. Accounted since to state ws q (link.taken_command c o.said front t)) (sym queue)
+        (subst (λ u. Accounted since to state ws (offering None (released r.queue)) u) (sym (taken_is c o.said front t other))
+        (subst (λ s. Accounted since to state ws (offering None (released r.queue)) (record t { taken = t.taken ++ c ∷ []; given = t.given ++ link.given_to c s })) (sym says) (record {
           orders = record {
             issued = h.orders.issued ∙ sym (append_assoc t.taken (c ∷ []) (gone t ++ ws));
             answered = map-append asked t.given ((c, a) ∷ []) ∙ ap (λ cs. cs ++ c ∷ []) h.orders.answered;
             settled = ap (λ pairs. pairs ++ (c, a) ∷ []) (sym (append-nil t.settled) ∙ h.orders.settled);
           };
           over = h.over;
-          events = subst (λ es. EventsAre (standing_at since to) [] (released r.queue).events t.stayed t.kept t.thrown_away es t.reported) (append-nil t.offered)
-              (events_go since hears n y b (Asking c) a r.queue t leaves h.events);
+          events = subst (λ es. EventsAre [] [] (released r.queue).events t.stayed t.kept t.thrown_away es t.reported) (append-nil t.offered)
+              (events_go since hears n y b (Asking c) a r.queue t false leaves refl h.events);
           restarts = h.restarts;
         })))
 
   abbrev ReadsSo : Kind → Packet → ReaderState H → Restarted → Stage → State → List Command → Account → Type 0
   ReadsSo k p r new to state ws t =
       let o = outcome answer_of after k r p in
-      Accounted new to state ws o.reader.queue.events (link.taken k o.command o.said (take 1 (released r.queue).events) t)
+      Accounted new to state ws o.reader.queue (link.taken k o.command o.said (take 1 (released r.queue).events) t)
 
   takes : (since : Restarted) (at : Stage) (p : Packet) (r : ReaderState H) (state : State) (ws : List Command) (t : Account) (new : Restarted) (to : Stage)
       → IsStage at → ReaderAt fixed since at r → ReadsTo kind.Taken (command_in p) (taken answer_of after (command_in p) r p).said since at new to
-      → Accounted since at state ws r.queue.events t → ReadsSo kind.Taken p r new to state ws t
+      → Accounted since at state ws r.queue t → ReadsSo kind.Taken p r new to state ws t
   takes since (Behind (After n y b) x) p r state ws t new to stage knows (hears, same, reads, (a, says, is)) h =
       let leaves = leaves_shown y b r.queue (has_acted fixed since n y b r hears knows).offer in
       subst (λ s. ReadsSo kind.Taken p r s to state ws t) (sym same)
       (subst (λ z. ReadsSo kind.Taken p r since z state ws t) (sym is)
       (subst (λ c. (taken answer_of after c r p).said ≡ Some a → Takes c p r since (Level (After n y b) x a) state ws t) (sym reads) (by_exchange x stage.1 h leaves) says))
     where
-      by_exchange : (x : Exchange) → IsAsked (After n y b) x → Accounted since (Behind (After n y b) x) state ws r.queue.events t
-          → r.queue.events ≡ shown y b ++ (released r.queue).events
+      by_exchange : (x : Exchange) → IsAsked (After n y b) x → Accounted since (Behind (After n y b) x) state ws r.queue t
+          → r.queue.events ≡ cond r.queue.offered (shown y b) [] ++ (released r.queue).events
           → (taken answer_of after (Ok (exchange_command x)) r p).said ≡ Some a
           → Takes (Ok (exchange_command x)) p r since (Level (After n y b) x a) state ws t
       by_exchange Opening asked h leaves said = absurd asked
@@ -247,12 +270,12 @@ module _ (fixed : ControllerConfig) {H : Type 0} (answer_of : H → Command → 
   takes since _ p r state ws t new to stage knows is h = absurd is
 
   reads : (k : Kind) (since : Restarted) (at : Stage) (p : Packet) (r : ReaderState H) (state : State) (ws : List Command) (t : Account) (new : Restarted) (to : Stage)
-      → IsStage at → ReaderAt fixed since at r → Reads answer_of after k p r since at new to → Accounted since at state ws r.queue.events t
+      → IsStage at → ReaderAt fixed since at r → Reads answer_of after k p r since at new to → Accounted since at state ws r.queue t
       → ReadsSo k p r new to state ws t
   reads kind.Taken since at p r state ws t new to stage knows is h = takes since at p r state ws t new to stage knows is h
   reads kind.Zero since at p r state ws t new to stage knows is h =
-      subst (λ c. Accounted new to state ws (begun answer_of after c r p).reader.queue.events t) (sym is.0) (hears_zero since at state ws r.queue.events t h new to is.1)
-  reads _ since at p r state ws t new to stage knows is h = stays since at state ws r.queue.events t h new to is
+      subst (λ c. Accounted new to state ws (begun answer_of after c r p).reader.queue t) (sym is.0) (hears_zero since at state ws r.queue t h new to is.1)
+  reads _ since at p r state ws t new to stage knows is h = stays since at state ws r.queue t h new to is
 
   -- ---- each move
 
@@ -284,16 +307,16 @@ module _ (fixed : ControllerConfig) {H : Type 0} (answer_of : H → Command → 
     abbrev state : State
     state = l.controller.session.state
 
-    stays_so : Stays since at new to → Accounted new to state l.controller.waiting l.reader.queue.events l.account
-    stays_so comes = stays since at state l.controller.waiting l.reader.queue.events l.account h new to comes
+    stays_so : Stays since at new to → Accounted new to state l.controller.waiting l.reader.queue l.account
+    stays_so comes = stays since at state l.controller.waiting l.reader.queue l.account h new to comes
 
     submits_so : (refusal : Option ControllerFault) (c : Command) → Stays since at new to → Accounts new to (link.submits refusal c l)
     submits_so (Some fault) c comes = stays_so comes
-    submits_so None c comes = submitted new to state l.controller.waiting l.reader.queue.events l.account (stays_so comes) c
+    submits_so None c comes = submitted new to state l.controller.waiting l.reader.queue l.account (stays_so comes) c
 
     queues_so : (full : Bool) (e : Event) → Stays since at new to → Accounts new to (link.queues full e l)
     queues_so true e comes = stays_so comes
-    queues_so false e comes = queues new to state l.controller.waiting l.reader.queue.events l.account (stays_so comes) e
+    queues_so false e comes = queues new to state l.controller.waiting l.reader.queue l.account (stays_so comes) e
 
     withdraws_event_so : Stays since at new to → Accounts new to (link.withdraws_event l)
     withdraws_event_so comes =
@@ -334,14 +357,14 @@ module _ (fixed : ControllerConfig) {H : Type 0} (answer_of : H → Command → 
         let t = ticks now l.controller.session l.controller.waiting in
         let none : Announces t.step.report [] [] =
         tick_so (λ r. Announces r [] []) (refl, refl) (λ o. (refl, refl)) state (seen now l.controller.session) l.controller.waiting in
-        subst (λ s. Accounted s to t.session.state t.waiting l.reader.queue.events (link.after_report t.step.report l.account)) (sym same)
-        (reports since at to state t.session.state l.controller.waiting t.waiting l.reader.queue.events t.step.report l.account
+        subst (λ s. Accounted s to t.session.state t.waiting l.reader.queue (link.after_report t.step.report l.account)) (sym same)
+        (reports since at to state t.session.state l.controller.waiting t.waiting l.reader.queue t.step.report l.account
         (ticks_tell since at to t none ticks_to) controls h)
 
     -- what is told by the packet in front is told in the account
     hears_so : (how : Delivery) (now : ℕ) (ps : List Packet) → let r = told_by_front how ps now l.controller.session in
         let m = link.to_controller ps how now l in
-        Accounted new to m.controller.session.state l.controller.waiting l.reader.queue.events (link.after_report r l.account) → Accounts new to m
+        Accounted new to m.controller.session.state l.controller.waiting l.reader.queue (link.after_report r l.account) → Accounts new to m
     hears_so Delivered now [] is = is
     hears_so Lost now [] is = is
     hears_so Repeated now [] is = is
@@ -355,8 +378,8 @@ module _ (fixed : ControllerConfig) {H : Type 0} (answer_of : H → Command → 
         let r = told_by_front how l.to_controller now l.controller.session in
         let m = link.to_controller l.to_controller how now l in
         hears_so how now l.to_controller
-        (subst (λ s. Accounted s to m.controller.session.state l.controller.waiting l.reader.queue.events (link.after_report r l.account)) (sym same)
-        (reports since at to state m.controller.session.state l.controller.waiting l.controller.waiting l.reader.queue.events r l.account
+        (subst (λ s. Accounted s to m.controller.session.state l.controller.waiting l.reader.queue (link.after_report r l.account)) (sym same)
+        (reports since at to state m.controller.session.state l.controller.waiting l.controller.waiting l.reader.queue r l.account
         (hears_tell since at to r hears_to) controls h))
 
     pub accounts_so : (move : Move H) → GoesOn move → MovesTo answer_of after move l since at new to → Accounts new to (after_move answer_of after move l)
@@ -366,16 +389,21 @@ module _ (fixed : ControllerConfig) {H : Type 0} (answer_of : H → Command → 
     accounts_so (ToReader how) on comes = to_reader_so how l.to_reader comes
     accounts_so (ToController how now) on comes = to_controller_so how now comes
     accounts_so (Reopen now) on comes = absurd on
-    accounts_so Withdraw on comes = withdraws new to state l.controller.waiting l.reader.queue.events l.account (stays_so comes)
+    accounts_so Withdraw on comes = withdraws new to state l.controller.waiting l.reader.queue l.account (stays_so comes)
     accounts_so (Retarget address) on comes = retargets_so (controllers.retarget_refusal address l.controller) address comes
     accounts_so WithdrawEvent on comes = withdraws_event_so comes
+    accounts_so LapseEvent on comes =
+        let front = front_at fixed since at l.reader held.reader in
+        stays since at state l.controller.waiting (lapsed l.reader.queue) (link.event_lapsed l.reader.queue l.account)
+        (lapses since at state l.controller.waiting l.reader.queue l.account h front.0 front.1) new to comes
     accounts_so (RestartReader config handler room) on (same, is) =
         let front = front_at fixed since at l.reader held.reader in
-        subst (λ s. Accounted s to state l.controller.waiting [] (reader_restarted l.account)) (sym same)
-        (subst (λ z. Accounted Now z state l.controller.waiting [] (reader_restarted l.account)) (sym is)
-        (restarts_device since at state l.controller.waiting l.reader.queue.events l.account h front.0 front.1))
+        let none = empty_queue room.messages room.bytes in
+        subst (λ s. Accounted s to state l.controller.waiting none (reader_restarted l.account)) (sym same)
+        (subst (λ z. Accounted Now z state l.controller.waiting none (reader_restarted l.account)) (sym is)
+        (restarts_device since at state l.controller.waiting l.reader.queue l.account h room front.0 front.1))
     accounts_so (RestartController config room) on comes =
-        stays since at Closed [] l.reader.queue.events (link.controller_restarted l.controller l.account)
-        (restarts_panel since at state l.controller.waiting l.reader.queue.events l.account h (option_to_list (outstanding_command state))
+        stays since at Closed [] l.reader.queue (link.controller_restarted l.controller l.account)
+        (restarts_panel since at state l.controller.waiting l.reader.queue l.account h (option_to_list (outstanding_command state))
         (forgets at l.controller.session held.controller)) new to comes
     accounts_so _ on comes = stays_so comes

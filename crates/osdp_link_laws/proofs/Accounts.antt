@@ -1,8 +1,8 @@
 -- What the account of a session comes to at each stage, and what it comes to after a report.
-use Rattle.osdp_link_laws.proofs.Common.{◌≡◌, ◌⊎◌, List, [], ◌∷◌, ◌++◌, map, Option, Some, None, refl, sym, subst, ap, ◌∙◌, inl, inr, append_assoc, append-nil, option_to_list, Command, Event, Reply, Ticked, Report, State, Closed, IsWithout, asked, Account, Link, Removal, after_report, removed_command}
+use Rattle.osdp_link_laws.proofs.Common.{◌≡◌, ◌⊎◌, List, [], ◌∷◌, ◌++◌, map, Option, Some, None, refl, sym, subst, ap, ◌∙◌, inl, inr, append_assoc, append-nil, cond, option_to_list, Command, Event, EventQueue, Reply, Ticked, Report, State, Closed, IsWithout, asked, Account, Link, Removal, after_report, removed_command}
 use Rattle.osdp_msg.specs.declared.reply.Reply.TheVariants as reply
 use Rattle.osdp_controller.specs.declared.report.Report.TheVariants as report
-use Rattle.osdp_link_laws.proofs.Coming.{Announces, BeginsFrom, Controls, HearsTo, TicksTo, lost_in, reported_in, settled_in, standing_at}
+use Rattle.osdp_link_laws.proofs.Coming.{Announces, BeginsFrom, Controls, HearsTo, TicksTo, lost_in, reported_in, settled_in, standing_at, standing_of}
 use Rattle.osdp_link_laws.proofs.Stages.{After, Before, Behind, Fresh, HasRestarted, Level, Never, Now, Rest, Restarted, Stage, Start, given_up_at, number_after, owed_at, pending_at, shown, unreported_at}
 
 abbrev pub gone : Account → List Command
@@ -30,14 +30,14 @@ pub record EventsAre (standing untold queue stay keep thrown offer report : List
   pub offered : offer ≡ past ++ standing
   pub reported : offer ≡ report ++ untold
 
-pub record Accounted (since : Restarted) (at : Stage) (state : State) (ws : List Command) (queue : List Event) (t : Account) : Type 0 where
+pub record Accounted (since : Restarted) (at : Stage) (state : State) (ws : List Command) (q : EventQueue) (t : Account) : Type 0 where
   pub orders : OrdersAre (pending_at at) (owed_at at) (gone t ++ ws) t.issued t.taken t.given t.settled
   pub over : EndIs (given_up_at at state) state t.unsettled t.forgotten t.removed
-  pub events : EventsAre (standing_at since at) (unreported_at at) queue t.stayed t.kept t.thrown_away t.offered t.reported
+  pub events : EventsAre (standing_of since at q.offered) (unreported_at at) q.events t.stayed t.kept t.thrown_away t.offered t.reported
   pub restarts : HasRestarted since t.restarts
 
 abbrev pub Accounts : {H : Type 0} → Restarted → Stage → Link H → Type 0
-Accounts {H} since at l = Accounted since at l.controller.session.state l.controller.waiting l.reader.queue.events l.account
+Accounts {H} since at l = Accounted since at l.controller.session.state l.controller.waiting l.reader.queue l.account
 
 -- ---- a report
 
@@ -110,8 +110,8 @@ hears_tell since (Level past x a) to r (inr (is, tells)) = subst (λ z. Tells si
     stands Before = append-nil (shown x a)
     stands Now = refl
 
-module _ (since : Restarted) (at to : Stage) (old new : State) (ws vs : List Command) (queue : List Event) (r : Option Report) (t : Account)
-    (tells : Tells since at to r) (controls : Controls at to old new ws vs r) (h : Accounted since at old ws queue t) where
+module _ (since : Restarted) (at to : Stage) (old new : State) (ws vs : List Command) (q : EventQueue) (r : Option Report) (t : Account)
+    (tells : Tells since at to r) (controls : Controls at to old new ws vs r) (h : Accounted since at old ws q t) where
   reports_rest : pending_at at ++ (gone t ++ ws) ≡ pending_at to ++ (gone t ++ vs)
   reports_rest = by_quiet h.over.quiet
     where
@@ -140,8 +140,8 @@ module _ (since : Restarted) (at to : Stage) (old new : State) (ws vs : List Com
             quiet = inr o.0;
           }
 
-  pub reports : Accounted since to new vs queue (after_report r t)
-  reports = subst (Accounted since to new vs queue) (sym (told_is r t)) (record {
+  pub reports : Accounted since to new vs q (after_report r t)
+  reports = subst (Accounted since to new vs q) (sym (told_is r t)) (record {
     orders = record {
       issued = h.orders.issued ∙ ap (λ cs. t.taken ++ cs) reports_rest;
       answered = h.orders.answered;
@@ -154,7 +154,7 @@ module _ (since : Restarted) (at to : Stage) (old new : State) (ws vs : List Com
       stayed = h.events.stayed;
       kept = h.events.kept;
       without = h.events.without;
-      offered = h.events.offered ∙ ap (λ es. h.events.past ++ es) (sym tells.stands);
+      offered = h.events.offered ∙ ap (λ es. h.events.past ++ cond q.offered es []) (sym tells.stands);
       reported = h.events.reported ∙ ap (λ es. t.reported ++ es) (sym tells.told) ∙ sym (append_assoc t.reported (reported_in r) (unreported_at to));
     };
     restarts = h.restarts;

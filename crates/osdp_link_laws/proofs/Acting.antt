@@ -2,7 +2,7 @@
 use Rattle.osdp_link_laws.proofs.Common.{◌≡◌, ◌≢◌, ◌<◌, ℕ, Bool, false, not, cond, eqb, List, [], ◌∷◌, ◌++◌, drop, take, Option, Some, None, refl, sym, subst, ap, ◌∙◌, inl, inr, arith, ◌||◌, is_some, option_to_list, eqb_tells, next_sequence, Command, Event, Reply, ControllerConfig, Exchange, Opening, Polling, Asking, event_in, ReaderConfig, Answer, Silent, Zero, Repeat, Taken, Busy, Wrong, Queue, event_for, released, ReaderState, Account, given_to, taken_command}
 use Rattle.osdp_msg.specs.declared.command.Command.TheVariants as command
 use Rattle.osdp_msg.specs.declared.event.Event.TheVariants as event
-use Rattle.osdp_reader.specs.Table.{answer_to, answered, event_or_answer, kind_by_number, kind_of, moved}
+use Rattle.osdp_reader.specs.Table.{event_or_answer, kind_by_number, kind_of, moved}
 use Rattle.osdp_link_laws.proofs.Numbers.{is_true, is_false, next_above_zero, next_differs}
 use Rattle.osdp_link_laws.proofs.Stages.{HasActed, Offers, OffersEvent, frame, shown}
 
@@ -69,8 +69,8 @@ module _ (fixed : ControllerConfig) {H : Type 0} where
       let a = event_or_answer answer_of after told config handler command.Poll in
       Offers Polling a.reply (record { events = events; capacity = capacity; room = room; offered = is_some told; ever_offered = is_some told || ever }) × (a.handler ≡ handler)
   polled [] capacity room ever answer_of after config handler = (refl, refl)
-  polled (event.LocalState s ∷ rest) capacity room ever answer_of after config handler = ((refl, refl, (rest, refl)), refl)
-  polled (_ ∷ rest) capacity room ever answer_of after config handler = ((refl, refl, (rest, refl)), refl)
+  polled (event.LocalState s ∷ rest) capacity room ever answer_of after config handler = (inl (refl, refl, (rest, refl)), refl)
+  polled (_ ∷ rest) capacity room ever answer_of after config handler = (inl (refl, refl, (rest, refl)), refl)
 
   -- the event that its answer tells is the front
   pub polled_front : (events : List Event) (answer_of : H → Command → Answer) (after : H → Command → H) (config : ReaderConfig) (handler : H)
@@ -89,15 +89,18 @@ pub taken_is : (c : Command) (said : Option Reply) (front : List Event) (t : Acc
 taken_is command.Poll said front t other = absurd (other refl)
 taken_is c said front t other = refl
 
--- the event that an answer told leaves the queue when the next number is taken
-leaves_none : (q : Queue) → q.offered ≡ false → q.events ≡ (released q).events
-leaves_none q off = sym (ap (λ b. cond b (drop 1 q.events) q.events) off)
+-- where nothing is offered, nothing leaves the queue when the next number is taken
+leaves_none : (told : List Event) (q : Queue) → q.offered ≡ false → q.events ≡ cond q.offered told [] ++ (released q).events
+leaves_none told q off = (λ i. cond (sym off i) told [] ++ cond (sym off i) (drop 1 q.events) q.events)
 
-leaves_event : (told : Option Event) (q : Queue) → OffersEvent told q → q.events ≡ option_to_list told ++ (released q).events
-leaves_event None q off = leaves_none q off
-leaves_event (Some e) q (on, ever, (rest, is)) = is ∙ ap (λ l. e ∷ l) (sym (ap (λ b. cond b (drop 1 q.events) q.events) on ∙ ap (drop 1) is))
+-- the event that an answer told leaves it then, where it is offered
+leaves_event : (told : Option Event) (q : Queue) → OffersEvent told q → q.events ≡ cond q.offered (option_to_list told) [] ++ (released q).events
+leaves_event None q off = leaves_none [] q off
+leaves_event (Some e) q (inl (on, ever, (rest, is))) =
+    is ∙ (λ i. e ∷ drop 1 (sym is i)) ∙ (λ i. cond (sym on i) (e ∷ []) [] ++ cond (sym on i) (drop 1 q.events) q.events)
+leaves_event (Some e) q (inr off) = leaves_none (e ∷ []) q off
 
-pub leaves_shown : (x : Exchange) (a : Reply) (q : Queue) → Offers x a q → q.events ≡ shown x a ++ (released q).events
-leaves_shown Opening a q off = leaves_none q off
+pub leaves_shown : (x : Exchange) (a : Reply) (q : Queue) → Offers x a q → q.events ≡ cond q.offered (shown x a) [] ++ (released q).events
+leaves_shown Opening a q off = leaves_none [] q off
 leaves_shown Polling a q offers = leaves_event (event_in a) q offers
-leaves_shown (Asking c) a q off = leaves_none q off
+leaves_shown (Asking c) a q off = leaves_none [] q off

@@ -1,6 +1,6 @@
 -- What laws ask of moves, by each move, and by the list.
-use Rattle.osdp_link_laws.proofs.Common.{◌≡◌, ◌≢◌, ℕ, List, [], ◌∷◌, ◌++◌, refl, subst, ap, Command, Answer, SetsNoOther, AtEach, BeginsNoSession, EachIsAsked, FindsRoom, HasItsHandler, LeavingIsExact, LosesNoneWithin, RestartsNoController, RestartsNoReader, SetsNoHandler, SetsOnly, TakesNothingBack, KeepSession, KeepsSession, KeepHandler, KeepsDevice, KeepsHandler, IsOrdinary, IsSteady, KeepsReader}
-use Rattle.osdp_link_laws.specs.Link.{Link, LoseToController, LoseToReader, Move, Queue, Reopen, RestartController, RestartReader, Retarget, SetHandler, Withdraw, WithdrawEvent, after_move, run}
+use Rattle.osdp_link_laws.proofs.Common.{◌≡◌, ◌≢◌, ℕ, List, [], ◌∷◌, ◌++◌, refl, subst, ap, Command, Answer, SetsNoOther, AtEach, EachIsAsked, HasItsHandler, LeavingIsExact, LosesNoneWithin, RestartsNoController, RestartsNoReader, SetsNoHandler, SetsOnly, TakesNothingBack, KeepHandler, KeepsDevice, KeepsHandler, IsOrdinary, IsSteady, KeepsReader}
+use Rattle.osdp_link_laws.specs.Link.{LapseEvent, Link, LoseToController, LoseToReader, Move, RestartController, RestartReader, Retarget, SetHandler, Withdraw, WithdrawEvent, after_move, run}
 
 -- two lists are the same where their first items are, and the rest
 pub first_same : {A : Type 0} (x y : A) (xs ys : List A) → (x ∷ xs) ≡ (y ∷ ys) → (x ≡ y) × (xs ≡ ys)
@@ -29,7 +29,7 @@ module _ {H : Type 0} where
 
   none_disturbs : (move : Move H) → IsOrdinary move → TakesNothingBack move × RestartsNoReader move × RestartsNoController move
   none_disturbs move is = (
-    (λ e. subst IsOrdinary e is, λ e. subst IsOrdinary e is),
+    (λ e. subst IsOrdinary e is, λ e. subst IsOrdinary e is, λ e. subst IsOrdinary e is),
     λ config handler room e. subst IsOrdinary e is,
     λ config room e. subst IsOrdinary e is,
   )
@@ -37,6 +37,7 @@ module _ {H : Type 0} where
   is_ordinary : (move : Move H) → TakesNothingBack move × RestartsNoReader move × RestartsNoController move → IsOrdinary move
   is_ordinary Withdraw none = none.0.0 refl
   is_ordinary WithdrawEvent none = none.0.1 refl
+  is_ordinary LapseEvent none = none.0.2 refl
   is_ordinary (RestartReader config handler room) none = none.1 config handler room refl
   is_ordinary (RestartController config room) none = none.2 config room refl
   is_ordinary move none = tt
@@ -47,6 +48,7 @@ module _ {H : Type 0} where
   steady_ordinary : (move : Move H) → IsSteady move → IsOrdinary move
   steady_ordinary Withdraw is = is
   steady_ordinary WithdrawEvent is = is
+  steady_ordinary LapseEvent is = is
   steady_ordinary (RestartReader config handler room) is = is
   steady_ordinary (RestartController config room) is = is
   steady_ordinary move is = tt
@@ -66,6 +68,7 @@ module _ {H : Type 0} where
   is_steady (LoseToController place) calm = (calm.3 place).1 refl
   is_steady Withdraw calm = calm.0
   is_steady WithdrawEvent calm = calm.0
+  is_steady LapseEvent calm = calm.0
   is_steady (RestartReader config handler room) calm = calm.0
   is_steady (RestartController config room) calm = calm.0
   is_steady move calm = tt
@@ -94,17 +97,6 @@ leaving_exact {H} = record {
 }
 
 module _ {H : Type 0} (answer_of : H → Command → Answer) (after : H → Command → H) where
-  begins_none : (move : Move H) (l : Link H) → KeepsSession answer_of after move l → BeginsNoSession move × FindsRoom move l
-  begins_none move l keeps = (
-    λ now e. subst (λ m. KeepsSession answer_of after m l) e keeps,
-    λ event e. subst (λ m. KeepsSession answer_of after m l) e keeps,
-  )
-
-  session_lasts : (move : Move H) (l : Link H) → BeginsNoSession move × FindsRoom move l → KeepsSession answer_of after move l
-  session_lasts (Queue event) l none = none.1 event refl
-  session_lasts (Reopen now) l none = none.0 now refl
-  session_lasts move l none = tt
-
   -- what is said of a list by its first move and the rest is said of each move
   module _ (Asked : Move H → Link H → Type 0) (AllAsked : List (Move H) → Link H → Type 0)
       (first : (move : Move H) (moves : List (Move H)) (l : Link H) → AllAsked (move ∷ moves) l → Asked move l × AllAsked moves (after_move answer_of after move l))
@@ -129,14 +121,5 @@ module _ {H : Type 0} (answer_of : H → Command → Answer) (after : H → Comm
   keep_handler (m ∷ moves) l each =
       let both = each_then KeepsHandler m moves l each in (both.0, keep_handler moves (after_move answer_of after m l) both.1)
 
-  keep_session : (moves : List (Move H)) (l : Link H) → AtEach answer_of after (KeepsSession answer_of after) moves l → KeepSession answer_of after moves l
-  keep_session [] l each = tt
-  keep_session (m ∷ moves) l each =
-      let both = each_then (KeepsSession answer_of after) m moves l each in (both.0, keep_session moves (after_move answer_of after m l) both.1)
-
   pub each_is_asked : EachIsAsked answer_of after
-  each_is_asked = record {
-    handlers = λ moves l. (each_asked KeepsHandler (KeepHandler answer_of after) (λ m ms n keep. keep) moves l, keep_handler moves l);
-    session = λ move l. (begins_none move l, session_lasts move l);
-    sessions = λ moves l. (each_asked (KeepsSession answer_of after) (KeepSession answer_of after) (λ m ms n keep. keep) moves l, keep_session moves l);
-  }
+  each_is_asked moves l = (each_asked KeepsHandler (KeepHandler answer_of after) (λ m ms n keep. keep) moves l, keep_handler moves l)

@@ -1,6 +1,6 @@
 -- Rounds without losses, from the first: what they settle and report, exactly.
 use Rattle.std.proofs.Common.{◌≡◌, ◌≤◌, ◌-◌, ℕ, zero, suc, arith, Bool, true, false, if◌then◌else◌, List, [], ◌∷◌, ◌++◌, length, take, drop, Option, Some, None, refl, sym, subst, ap, ◌∙◌, append_assoc}
-use Rattle.osdp_link_laws.proofs.Common.{le-leb, append-nil, length-take, IfSome, min, Command, Event, submit_refusal, later_by, seen, is_closed, moment_of, begins, stays, ticks, ticks_in, ControllerConfig, Polling, ControllerFault, Session, Closed, Quiet, Idle, next_sequence, exchange_command, ReaderState, answer_to, event_or_answer, ReaderConfig, Answer, MovesFit, MaySubmit, Account, Link, Move, QueueEvent, Reopen, RestartController, RestartReader, Retarget, SetBusy, SetHandler, Submit, Tick, ToController, ToReader, Withdraw, WithdrawEvent, after_move, new_account, run, LoseToReader, LoseToController, with_answers, ReadEachOther, SetsNoAddress, round, rounds}
+use Rattle.osdp_link_laws.proofs.Common.{le-leb, append-nil, length-take, IfSome, min, Command, Event, submit_refusal, later_by, seen, is_closed, moment_of, begins, stays, ticks, ticks_in, ControllerConfig, Polling, ControllerFault, Session, Closed, Quiet, Idle, next_sequence, exchange_command, ReaderState, answer_to, event_or_answer, ReaderConfig, Answer, MovesFit, MaySubmit, Account, Link, Move, QueueEvent, Submit, new_account, run, with_answers, ReadEachOther, SetsNoAddress, round, rounds}
 use Rattle.osdp_reader.specs.Queue.{Queue, event_for, offering, queued, released, lacks_room}
 use Rattle.osdp_link_laws.specs.Clean.{AreSpaced, GoesInTurn, IsInTurn, IsOrder}
 use Rattle.osdp_link_laws.specs.Link as link

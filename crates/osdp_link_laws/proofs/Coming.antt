@@ -1,5 +1,5 @@
 -- How the stage of a session comes from the one before it, by what moves; and what is due at a stage.
-use Rattle.osdp_link_laws.proofs.Common.{◌≡◌, ◌⊎◌, ℕ, List, [], ◌∷◌, ◌++◌, length, Option, Some, None, Result, Ok, refl, append-nil, option_to_list, Packet, Command, Event, MsgFault, Reply, exchange_command, Ticked, ticks, Exchange, ControllerFault, Report, State, Closed, ReaderState, command_in, kind_of, outcome, Answer, Kind, Delivered, Delivery, Link, Lost, Move, Reopen, Repeated, RestartReader, Tick, ToController, ToReader, told_by_front}
+use Rattle.osdp_link_laws.proofs.Common.{◌≡◌, ◌⊎◌, ℕ, Bool, true, false, cond, List, [], ◌∷◌, ◌++◌, length, Option, Some, None, Result, Ok, refl, append-nil, option_to_list, Packet, Command, Event, MsgFault, Reply, exchange_command, Ticked, ticks, Exchange, ControllerFault, Report, State, Closed, ReaderState, command_in, kind_of, outcome, Answer, Kind, Delivered, Delivery, Link, Lost, Move, Reopen, Repeated, RestartReader, Tick, ToController, ToReader, told_by_front}
 use Rattle.osdp_msg.specs.declared.command.Command.TheVariants as command
 use Rattle.osdp_msg.specs.declared.reply.Reply.TheVariants as reply
 use Rattle.osdp_controller.specs.Machine as controllers
@@ -24,6 +24,14 @@ abbrev pub standing_at : Restarted → Stage → List Event
 standing_at Now at = []
 standing_at _ at = shown_at at ++ unreported_at at
 
+pub same_either : (events : List Event) (b : Bool) → cond b events events ≡ events
+same_either events true = refl
+same_either events false = refl
+
+-- .. of these stand in front of its queue: all, or none where the event has lapsed, since nothing is offered then
+abbrev pub standing_of : Restarted → Stage → Bool → List Event
+standing_of since at offered = cond offered (standing_at since at) []
+
 -- of one that hears these are the event that it told last, and the one that it offers
 pub stood : (since : Restarted) → Hears since → (n : ℕ) (y : Exchange) (b : Reply) (x : Exchange) → standing_at since (Behind (After n y b) x) ≡ shown y b
 stood Never hears n y b x = append-nil (shown y b)
@@ -38,10 +46,11 @@ stands Now hears past x a = absurd hears
 abbrev pub due_at : Restarted → Stage → Due
 due_at since at = record { pend = pending_at at; owing = owed_at at; untold = unreported_at at; stands = length (standing_at since at) }
 
--- number 0 is heard: as much is due as before, and the same events stand in front
+-- number 0 is heard: as much is due as before, and no event stands in front, as before
 pub record KeepsDue (since : Restarted) (at : Stage) (new : Restarted) (to : Stage) : Type 0 where
   pub due : due_at new to ≡ due_at since at
-  pub stands : standing_at new to ≡ standing_at since at
+  pub stands : standing_at new to ≡ []
+  pub stood : standing_at since at ≡ []
   pub given_up : (state : State) → given_up_at to state ≡ given_up_at at state
   pub restarts : (count : ℕ) → HasRestarted since count → HasRestarted new count
 

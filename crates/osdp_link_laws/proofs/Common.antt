@@ -21,15 +21,15 @@ pub use Rattle.osdp_controller.specs.declared.fault.ControllerFault.{ControllerF
 pub use Rattle.osdp_controller.specs.declared.session.Session.{Session}
 pub use Rattle.osdp_controller.specs.declared.state.State.{State}
 pub use Rattle.osdp_controller.specs.declared.state.State.TheVariants.{Closed, Idle, Pausing, Quiet, Waiting}
-pub use Rattle.osdp_reader.specs.Queue.{bytes_waiting, event_for, event_size, has_room, in_doubt, lacks_room, never_offered, offering, Queue, Queue as EventQueue, released, unoffered, withdrawn}
-pub use Rattle.osdp_reader.specs.State.{after_set_handler, after_submit, after_withdraw_event, new_reader, ReaderState}
+pub use Rattle.osdp_reader.specs.Queue.{bytes_waiting, event_for, event_size, has_room, in_doubt, lacks_room, lapsed, never_offered, offering, Queue, Queue as EventQueue, released, unoffered, withdrawn}
+pub use Rattle.osdp_reader.specs.State.{after_lapse_event, after_set_handler, after_submit, after_withdraw_event, new_reader, ReaderState}
 pub use Rattle.osdp_reader.specs.Table.{answer_to, begun, command_in, event_or_answer, is_for_another, kind_by_number, kind_of, moved, new_address, outcome, Outcome, taken}
 pub use Rattle.osdp_reader.specs.declared.handler.Answer.{Answer, Answer as HandlerAnswer}
 pub use Rattle.osdp_reader.specs.declared.kind.Kind.{Kind}
 pub use Rattle.osdp_link_laws.specs.Headline.{asked, Begins, EachIsOnce, HoldsOnce, IsBeginning, IsOnce, IsWithout, MaySubmit, MoveFits, MovesFit, SaysWhatFits, SaysWhatFitsIf}
-pub use Rattle.osdp_link_laws.specs.Link.{Account, after_move, after_report, but_oldest, Delivered, Delivery, event_withdrawn, given_to, Link, LoseToController, LoseToReader, Lost, lost_at, Move, new_account, outstanding_command, Queue as QueueEvent, reader_restarted, Removal, Reopen, Repeated, RestartController, RestartReader, Retarget, run, SetBusy, SetHandler, Submit, taken_command, ThrownAway, Tick, ToController, ToReader, unoffered_in, Withdraw, WithdrawEvent, Withdrawn}
+pub use Rattle.osdp_link_laws.specs.Link.{Account, after_move, after_report, but_oldest, Delivered, Delivery, event_lapsed, event_withdrawn, given_to, is_offered_here, LapseEvent, Link, LoseToController, LoseToReader, Lost, lost_at, Move, new_account, outstanding_command, Queue as QueueEvent, reader_restarted, Removal, Reopen, Repeated, RestartController, RestartReader, Retarget, run, SetBusy, SetHandler, Submit, taken_command, ThrownAway, Tick, ToController, ToReader, unoffered_in, Withdraw, WithdrawEvent, Withdrawn}
 pub use Rattle.osdp_link_laws.specs.Refusals.{IsNoRefusal, IsOtherCause, KeepsReader, RefusesNoNumber, RefusesNoNumberWithoutRestart, reports, SaysAllPlainly, told_by, told_by_front}
-pub use Rattle.osdp_link_laws.specs.Sessions.{accepted, all_submitted, CommandsHavePlaces, ended_commands, ended_in, LastOneLasts, LastsOrLeaves, Leaves, LeavesCommands, LeavesEvents, queued, removed_command, SessionsInARow, settled_commands, submitted, unless_full}
+pub use Rattle.osdp_link_laws.specs.Sessions.{accepted, all_submitted, CommandsHavePlaces, ended_commands, ended_in, LastOneLasts, LastsOrLeaves, LeavesCommands, queued, removed_command, SessionsInARow, settled_commands, submitted, unless_full}
 pub use Rattle.osdp_controller.specs.declared.report.Report.{Report}
 pub use Rattle.osdp_reader.specs.declared.config.ReaderConfig.{ReaderConfig}
 pub use Rattle.osdp_reader.specs.declared.kind.Kind.TheVariants.{Busy, Repeat, Secured, Silent, Taken, Wrong, Zero}
@@ -49,16 +49,15 @@ pub use Rattle.osdp_msg.specs.ReplyTable.{IsReply, reply_code, reply_data, reply
 pub use Rattle.osdp_reader.specs.Replies.{not_processed, refused, reply_packet}
 pub use Rattle.osdp_msg.specs.declared.nak.NakReason.TheVariants.{UnexpectedSequence}
 pub use Rattle.osdp_reader_laws.specs.Laws.{AnswersPlainly, ComesTo, IsPlain}
-pub use Rattle.osdp_link_laws.specs.Asked.{AtEach, BeginsNoSession, EachIsAsked, FindsRoom, HasItsHandler, LeavingIsExact, LosesNoneWithin, RestartsNoController, RestartsNoReader, SetsNoHandler, SetsOnly, TakesNothingBack}
-pub use Rattle.osdp_link_laws.specs.Lapses.{DifferByLapse, IsNotZero, IsNotZeroIf, KeepSession, KeepsSession, lapses, LapsesAreUnheard, NextBeginsWithout, Offers, SessionsHideLapses, StayInSession, StaysInSession}
+pub use Rattle.osdp_link_laws.specs.Asked.{AtEach, EachIsAsked, HasItsHandler, LeavingIsExact, LosesNoneWithin, RestartsNoController, RestartsNoReader, SetsNoHandler, SetsOnly, TakesNothingBack}
+pub use Rattle.osdp_link_laws.specs.Lapses.{DifferByLapse, IsNotZero, IsNotZeroIf, lapses, LapsesAreUnheard, Offers, StayInSession, StaysInSession}
 pub use Rattle.osdp_link_laws.specs.OneHandler.{KeepHandler, KeepsDevice, KeepsHandler, with_answers}
 pub use Rattle.osdp_link_laws.specs.Ordinary.{AreUndisturbed, IsOrdinary, IsSteady, IsUndisturbed, OrdinaryIsUndisturbed}
 pub use Rattle.osdp_controller.specs.Machine.{acts, after_begin, after_retarget, AreSettings, begin_refusal, changed_unless, Machine, or_no_device, refused_unless_closed, retarget_refusal, submit_refusal}
 pub use Rattle.osdp_controller.specs.States.{is_closed, moment_of}
 pub use Rattle.osdp_msg.specs.declared.limits.Room.{Room}
-pub use Rattle.osdp_link_laws.specs.Effects.{AnswersBy, CountsRestarts, EachMoveDoes, HasAddress, HasHandler, HasNewController, HasNewReader, HasWithdrawn, LosesOne, RefusesNumbers, restarts_in, Retargets, ThrowsAway, Withdraws, WithdrawsEvents}
+pub use Rattle.osdp_link_laws.specs.Effects.{AnswersBy, CountsRestarts, EachMoveDoes, HasAddress, HasHandler, HasLapsed, HasNewController, HasNewReader, HasWithdrawn, LapsesEvents, LosesOne, RefusesNumbers, restarts_in, Retargets, ThrowsAway, Withdraws, WithdrawsEvents}
 pub use Rattle.osdp_controller.specs.declared.fault.ControllerFault.TheVariants.{NotClosed, OutOfRange}
 pub use Rattle.osdp_controller_laws.proofs.Closed.{silent_frame, silent_tick, was_closed}
 pub use Rattle.osdp_frame.specs.Packed.{packed}
-pub use Rattle.osdp_link_laws.specs.LapsingRuns.{after_lapsing, after_reopen, AllFit, AreInARowButLapsed, Doubtful, Lapse, LapsingFits, LapsingHoldsOnce, LapsingMove, LeavesRoom, Moves, run_lapsing}
 pub use Rattle.osdp_link_laws.specs.Names.{IsCommandTo, IsNoDevice, IsReplyFrom, IsToldAsAsked, NameOneDevice, NamesOne, TellAsAsked}

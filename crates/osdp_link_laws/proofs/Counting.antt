@@ -1,11 +1,12 @@
 -- Within a session the restarts of the reader are counted.
-use Rattle.osdp_link_laws.proofs.Common.{◌≡◌, ◌≢◌, ◌≤◌, ◌+◌, ℕ, Bool, true, false, List, [], ◌∷◌, length, Option, Some, None, refl, sym, ap, ◌∙◌, arith, Packet, Command, Event, Reply, ticks, ControllerFault, Report, Answer, Kind, lacks_room, CountsRestarts, restarts_in, Account, Delivered, Delivery, Link, Lost, Move, QueueEvent, Reopen, Repeated, RestartReader, Retarget, Submit, Tick, ToController, ToReader, after_move, after_report, run, KeepsReader}
+use Rattle.osdp_link_laws.proofs.Common.{◌≡◌, ◌≢◌, ◌≤◌, ◌+◌, ℕ, Bool, true, false, List, [], ◌∷◌, length, Option, Some, None, refl, sym, ap, ◌∙◌, arith, Packet, Command, Event, Reply, ticks, ControllerFault, Report, Answer, Kind, lacks_room, CountsRestarts, restarts_in, Account, Delivered, Delivery, Link, Lost, Move, QueueEvent, Reopen, Repeated, RestartReader, Retarget, Submit, Tick, ToController, ToReader, after_move, after_report, run, KeepsReader, LapseEvent}
 use Rattle.osdp_controller.specs.Hearing as controller
 use Rattle.osdp_controller.specs.Machine as controllers
 use Rattle.osdp_controller.specs.declared.report.Report.TheVariants as report
 use Rattle.osdp_reader.specs.Table as reader
 use Rattle.osdp_link_laws.specs.Link as link
 use Rattle.osdp_link_laws.proofs.Growing.{GoesOn, goes_on, taken_takes}
+use Rattle.osdp_link_laws.proofs.Lapsed.{lapsed_keeps}
 
 -- no restart is counted
 abbrev pub Keeps : Account → Account → Type 0
@@ -95,6 +96,7 @@ module _ {H : Type 0} (answer_of : H → Command → Answer) (after : H → Comm
   keeps (ToController how now) l reads same = to_controller_keeps how now l.to_controller l
   keeps (Reopen now) l reads same = reopens_keeps (controllers.begin_refusal l.controller) l.to_reader l.to_controller now l same
   keeps (Retarget address) l reads same = retargets_keeps (controllers.retarget_refusal address l.controller) address l
+  keeps LapseEvent l reads same = ap (λ u. u.restarts) (lapsed_keeps l.reader.queue l.account).1
   keeps (RestartReader config handler room) l reads same = absurd reads
   keeps _ l reads same = refl
 

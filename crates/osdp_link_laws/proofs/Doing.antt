@@ -1,5 +1,5 @@
 -- What each move does to a link, however it stands.
-use Rattle.osdp_link_laws.proofs.Common.{◌≡◌, ◌≢◌, ◌⊎◌, ◌≤◌, ◌<◌, ◌+◌, ℕ, zero, suc, Bool, true, false, cond, eqb, List, [], ◌∷◌, ◌++◌, length, map, drop, Some, None, refl, sym, subst, ap, ◌∙◌, inl, inr, arith, append_assoc, le-ltb, lt-ltb, append-nil, Packet, Room, Command, Event, UnexpectedSequence, ControllerConfig, ControllerFault, NotClosed, OutOfRange, State, Closed, EventQueue, never_offered, released, withdrawn, refused, ReaderState, after_set_handler, new_reader, event_or_answer, is_for_another, kind_by_number, kind_of, ReaderConfig, Answer, Silent, Secured, Zero, Busy, Wrong, ComesTo, AnswersBy, CountsRestarts, EachMoveDoes, HasAddress, HasHandler, HasNewController, HasNewReader, HasWithdrawn, LosesOne, RefusesNumbers, Retargets, ThrowsAway, Withdraws, WithdrawsEvents, Account, Link, RestartController, RestartReader, SetHandler, Withdrawn, after_move, but_oldest, lost_at, reader_restarted, unoffered_in}
+use Rattle.osdp_link_laws.proofs.Common.{◌≡◌, ◌≢◌, ◌⊎◌, ◌≤◌, ◌<◌, ◌+◌, ℕ, zero, suc, Bool, true, false, cond, eqb, List, [], ◌∷◌, ◌++◌, length, map, drop, Some, None, refl, sym, subst, ap, ◌∙◌, inl, inr, arith, append_assoc, le-ltb, lt-ltb, append-nil, Packet, Room, Command, Event, UnexpectedSequence, ControllerConfig, ControllerFault, NotClosed, OutOfRange, State, Closed, EventQueue, never_offered, released, withdrawn, refused, ReaderState, after_set_handler, new_reader, event_or_answer, is_for_another, kind_by_number, kind_of, ReaderConfig, Answer, Silent, Secured, Zero, Busy, Wrong, ComesTo, AnswersBy, CountsRestarts, EachMoveDoes, HasAddress, HasHandler, HasNewController, HasNewReader, HasWithdrawn, LosesOne, RefusesNumbers, Retargets, ThrowsAway, Withdraws, WithdrawsEvents, Account, Link, RestartController, RestartReader, SetHandler, Withdrawn, after_move, but_oldest, lost_at, reader_restarted, unoffered_in, take, is_offered_here, LapsesEvents, ◌&&◌}
 use Rattle.std.specs.Prelude.{◌-◌, ◌||◌, if◌then◌else◌, not, option_to_list}
 use Rattle.osdp_controller.specs.Machine as controllers
 use Rattle.osdp_reader.specs.Table as reader
@@ -8,6 +8,7 @@ use Rattle.osdp_link_laws.proofs.Acting.{no_event}
 use Rattle.osdp_link_laws.proofs.Numbers.{is_false, is_true}
 use Rattle.osdp_link_laws.proofs.Accounting.{drop_front}
 use Rattle.osdp_link_laws.proofs.Withdrawing.{place_is}
+use Rattle.osdp_link_laws.proofs.Lapsed.{lapsed_told, lapsed_untold}
 
 -- ---- a reader that knows no number
 
@@ -215,6 +216,29 @@ module _ {H : Type 0} (answer_of : H → Command → Answer) (after : H → Comm
           ∙ ap (λ es. record l { account = record t { stayed = es; kept = but_oldest q t.kept } }) (same_all t.stayed q tail)
           ∙ ap (λ es. record l { account = record t { kept = es } }) (same_all t.kept q tail)
 
+  lapses_events : LapsesEvents answer_of after
+  lapses_events = record {
+    front = λ l event rest is ever.
+        let q = l.reader.queue in
+        record {
+          others = refl;
+          reader = (λ i. record l.reader {
+            queue = cond (ever i) (record q { events = drop 1 (is i); offered = false; ever_offered = false }) q;
+          });
+          told = λ past keeps offers. lapsed_told q l.account past event rest is keeps offers;
+          untold = λ past keeps offers.
+              lapsed_untold q l.account past ever (keeps ∙ ap (λ es. past ++ es) (sym is)) offers
+              ∙ ap (λ es. record l.account { kept = past ++ drop 1 es; thrown_away = l.account.thrown_away ++ take 1 es }) is;
+        };
+    none = λ l never.
+        let q = l.reader.queue in
+        let t = l.account in
+        (λ i. record l {
+          reader = record l.reader { queue = cond (never i) (record q { events = drop 1 q.events; offered = false; ever_offered = false }) q };
+          account = cond (never i && not (is_offered_here q t)) (record t { kept = lost_at (length t.kept - length q.events) t.kept; thrown_away = t.thrown_away ++ take 1 q.events }) t;
+        });
+  }
+
   retargets : Retargets answer_of after
   retargets = record {
     set = λ l address closed small.
@@ -228,6 +252,7 @@ module _ {H : Type 0} (answer_of : H → Command → Answer) (after : H → Comm
     handler = λ l handler. (sets_handler answer_of after l handler, answers_by answer_of after handler l.reader);
     withdraw = withdraws;
     event = withdraws_events;
+    lapse = lapses_events;
     retarget = retargets;
     reader = restarts_reader answer_of after;
     controller = restarts_controller answer_of after;

@@ -1,6 +1,6 @@
 -- What holds of each account of a link, where it goes by what is queued, withdrawn, kept and thrown away, by what is forgotten and removed, and by the restarts: it
 -- is kept by moves with which neither end restarts and no command or event is withdrawn.
-use Rattle.osdp_link_laws.proofs.Common.{ℕ, Bool, true, false, List, [], ◌∷◌, ◌++◌, Option, Some, None, sym, subst, Packet, Command, Event, ticks, ControllerFault, Report, Answer, lacks_room, Account, Delivered, Delivery, Link, Lost, Move, QueueEvent, Reopen, Repeated, RestartController, RestartReader, Retarget, Submit, Tick, ToController, ToReader, Withdraw, WithdrawEvent, after_move, after_report, new_account, IsOrdinary}
+use Rattle.osdp_link_laws.proofs.Common.{ℕ, Bool, true, false, List, [], ◌∷◌, ◌++◌, Option, Some, None, sym, subst, Packet, Command, Event, ticks, ControllerFault, Report, Answer, lacks_room, Account, Delivered, Delivery, Link, Lost, Move, QueueEvent, Reopen, Repeated, RestartController, RestartReader, Retarget, Submit, Tick, ToController, ToReader, Withdraw, WithdrawEvent, after_move, after_report, new_account, IsOrdinary, LapseEvent}
 use Rattle.osdp_controller.specs.Hearing as controller
 use Rattle.osdp_controller.specs.Machine as controllers
 use Rattle.osdp_controller.specs.declared.report.Report.TheVariants as report
@@ -81,6 +81,7 @@ module _ {H : Type 0} (answer_of : H → Command → Answer) (after : H → Comm
   each_kept (Retarget address) l ordinary all = retargets (controllers.retarget_refusal address l.controller) address l all
   each_kept Withdraw l ordinary all = absurd ordinary
   each_kept WithdrawEvent l ordinary all = absurd ordinary
+  each_kept LapseEvent l ordinary all = absurd ordinary
   each_kept (RestartReader config handler room) l ordinary all = absurd ordinary
   each_kept (RestartController config room) l ordinary all = absurd ordinary
   each_kept _ l ordinary all = all

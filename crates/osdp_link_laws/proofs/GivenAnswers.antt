@@ -1,5 +1,5 @@
 -- Each answer given is one of the reader's to its command.
-use Rattle.osdp_link_laws.proofs.Common.{◌≡◌, ℕ, Bool, true, false, List, [], ◌∷◌, Option, Some, None, Result, Ok, Err, refl, sym, subst, Packet, Command, Event, MsgFault, Reply, ticks, ControllerFault, Report, event_for, released, lacks_room, ReaderState, answer_to, command_in, event_or_answer, outcome, taken, ReaderConfig, Answer, Kind, Begins, Account, Delivered, Delivery, Link, Lost, Move, QueueEvent, Reopen, Repeated, Retarget, Submit, Tick, ToController, ToReader, after_move, taken_command, after_report}
+use Rattle.osdp_link_laws.proofs.Common.{◌≡◌, ℕ, Bool, true, false, List, [], ◌∷◌, Option, Some, None, Result, Ok, Err, refl, sym, subst, Packet, Command, Event, MsgFault, Reply, ticks, ControllerFault, Report, event_for, released, lacks_room, ReaderState, answer_to, command_in, event_or_answer, outcome, taken, ReaderConfig, Answer, Kind, Begins, Account, Delivered, Delivery, Link, Lost, Move, QueueEvent, Reopen, Repeated, Retarget, Submit, Tick, ToController, ToReader, after_move, taken_command, after_report, LapseEvent}
 use Rattle.osdp_msg.specs.declared.command.Command.TheVariants as command
 use Rattle.osdp_controller.specs.Hearing as controller
 use Rattle.osdp_controller.specs.Machine as controllers
@@ -9,6 +9,7 @@ use Rattle.osdp_reader.specs.declared.kind.Kind.TheVariants as kind
 use Rattle.osdp_link_laws.specs.Link as link
 use Rattle.osdp_link_laws.proofs.Lines.{each_append}
 use Rattle.osdp_link_laws.proofs.Stages.{Each}
+use Rattle.osdp_link_laws.proofs.Lapsed.{lapsed_keeps}
 
 told_gives : (r : Option Report) (t : Account) → (after_report r t).given ≡ t.given
 told_gives None t = refl
@@ -77,6 +78,7 @@ module _ {H : Type 0} (answer_of : H → Command → Answer) (after : H → Comm
   move_given (ToController how now) l are = to_controller_given how now l.to_controller l are
   move_given (Reopen now) l are = reopens_given (controllers.begin_refusal l.controller) l.to_reader l.to_controller now l are
   move_given (Retarget address) l are = retargets_given (controllers.retarget_refusal address l.controller) address l are
+  move_given LapseEvent l are = subst AreAnswers (sym (lapsed_keeps l.reader.queue l.account).1) are
   move_given _ l are = are
 
   pub first_given : (l : Link H) → Begins l → AreAnswers l.account

@@ -1,5 +1,5 @@
 -- What a move adds to an account: the command that it submits, or the event that it queues.
-use Rattle.osdp_link_laws.proofs.Common.{◌≡◌, ℕ, List, [], ◌∷◌, ◌++◌, Bool, true, false, Option, Some, None, refl, sym, ◌∙◌, ap, append-nil, Packet, Command, Event, Reply, ticks, ControllerFault, Report, Answer, Kind, lacks_room, Account, Delivered, Delivery, Link, Lost, Move, QueueEvent, Reopen, Repeated, RestartController, RestartReader, Retarget, Submit, Tick, ToController, ToReader, Withdraw, WithdrawEvent, after_move, after_report, accepted, queued, unless_full, submitted}
+use Rattle.osdp_link_laws.proofs.Common.{◌≡◌, ℕ, List, [], ◌∷◌, ◌++◌, Bool, true, false, Option, Some, None, refl, sym, ◌∙◌, ap, append-nil, Packet, Command, Event, Reply, ticks, ControllerFault, Report, Answer, Kind, lacks_room, Account, Delivered, Delivery, Link, Lost, Move, QueueEvent, Reopen, Repeated, RestartController, RestartReader, Retarget, Submit, Tick, ToController, ToReader, Withdraw, WithdrawEvent, after_move, after_report, accepted, queued, unless_full, submitted, LapseEvent}
 use Rattle.osdp_msg.specs.declared.command.Command.TheVariants as command
 use Rattle.osdp_controller.specs.Hearing as controller
 use Rattle.osdp_controller.specs.Machine as controllers
@@ -7,6 +7,7 @@ use Rattle.osdp_controller.specs.declared.report.Report.TheVariants as report
 use Rattle.osdp_reader.specs.declared.kind.Kind.TheVariants as kind
 use Rattle.osdp_reader.specs.Table as reader
 use Rattle.osdp_link_laws.specs.Link as link
+use Rattle.osdp_link_laws.proofs.Lapsed.{lapsed_keeps}
 
 -- a move that begins no session again
 abbrev pub GoesOn : {H : Type 0} → Move H → Type 0
@@ -87,6 +88,10 @@ module _ {H : Type 0} (answer_of : H → Command → Answer) (after : H → Comm
   goes_on (Submit c) l on = submits_on (controllers.submit_refusal c l.controller) c l
   goes_on (QueueEvent e) l on = queues_on (lacks_room e l.reader.queue) e l
   goes_on WithdrawEvent l on = (as_before l.account (link.withdraws_event l).account refl refl, refl)
+  goes_on LapseEvent l on =
+      let t = link.event_lapsed l.reader.queue l.account in
+      let less = lapsed_keeps l.reader.queue l.account in
+      (as_before l.account t (ap (λ u. u.issued) less.1) (ap (λ u. u.queued) less.1), refl)
   goes_on (Tick now) l on = (told_keeps (ticks now l.controller.session l.controller.waiting).step.report l.account, refl)
   goes_on (ToReader how) l on = to_reader_on how l.to_reader l
   goes_on (ToController how now) l on = to_controller_on how now l.to_controller l

@@ -1,5 +1,5 @@
 -- A reader hears on until it restarts, and again from number 0 on.
-use Rattle.osdp_link_laws.proofs.Common.{◌≡◌, Some, Result, Ok, Err, refl, sym, subst, ap, arith, inl, inr, Packet, Command, MsgFault, Room, unoffered, ReaderState, command_in, kind_of, ReaderConfig, Answer, Link, RestartReader, after_move, HearsOn, SetsNoAddress, KeepsReader}
+use Rattle.osdp_link_laws.proofs.Common.{◌≡◌, Some, Result, Ok, Err, refl, sym, subst, ap, arith, inl, inr, Packet, Command, MsgFault, Room, unoffered, ReaderState, command_in, ReaderConfig, Answer, Link, RestartReader, after_move, HearsOn, SetsNoAddress, KeepsReader}
 use Rattle.osdp_reader.specs.Table as table
 use Rattle.osdp_link_laws.specs.HearingOn.{HearsOnUntilRestart}
 use Rattle.osdp_link_laws.proofs.Kept.{first_kept, moves_kept}

@@ -174,7 +174,7 @@ module _ {H : Type 0} (answer_of : H → Command → Answer) (after : H → Comm
       again None [] [] now may =
           let left = leaves h.fixed answer_of after l h.goes (was_closed l.controller.session.state may) in
           placed
-          ∙ ap (λ all. ended_commands l.earlier ++ all) left.of_commands.commands
+          ∙ ap (λ all. ended_commands l.earlier ++ all) left.commands
           ∙ sym (append_assoc (ended_commands l.earlier) (ended_in l.account) l.controller.waiting)
 
       by_move : (move : Move H) → Placed (cs ++ submitted move l) (after_move answer_of after move l)

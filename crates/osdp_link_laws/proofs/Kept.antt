@@ -1,7 +1,8 @@
 -- Where the reader never restarts, no session has a restart.
-use Rattle.osdp_link_laws.proofs.Common.{◌≡◌, List, [], ◌∷◌, refl, sym, subst, Command, Answer, Begins, Account, Link, Move, RestartController, RestartReader, Withdraw, WithdrawEvent, after_move, run, KeepsReader}
+use Rattle.osdp_link_laws.proofs.Common.{◌≡◌, List, [], ◌∷◌, refl, sym, subst, Command, Answer, Begins, Account, Link, Move, RestartController, RestartReader, Withdraw, WithdrawEvent, after_move, run, KeepsReader, LapseEvent}
 use Rattle.osdp_link_laws.proofs.EachAccount.{IsKept, each_kept}
 use Rattle.osdp_link_laws.proofs.Stages.{Each}
+use Rattle.osdp_link_laws.proofs.Lapsed.{lapsed_keeps}
 
 abbrev HasNone : Account → Type 0
 HasNone t = t.restarts ≡ 0
@@ -16,6 +17,7 @@ module _ {H : Type 0} (answer_of : H → Command → Answer) (after : H → Comm
   pub move_kept : (move : Move H) (l : Link H) → KeepsReader move → AllKept l → AllKept (after_move answer_of after move l)
   move_kept (RestartReader config handler room) l keeps is = absurd keeps
   move_kept WithdrawEvent l keeps is = is
+  move_kept LapseEvent l keeps is = (subst HasNone (sym (lapsed_keeps l.reader.queue l.account).1) is.0, is.1)
   move_kept Withdraw l keeps is = is
   move_kept (RestartController config room) l keeps is = is
   move_kept move l keeps is = each_kept answer_of after HasNone none_kept move l tt is

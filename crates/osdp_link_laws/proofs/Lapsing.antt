@@ -1,12 +1,8 @@
 -- A link whose device lets an event lapse, beside the same link without the lapse.
-use Rattle.std.proofs.Common.{◌≡◌, ◌≢◌, ◌<◌, ◌+◌, ◌-◌, ◌&&◌, ◌⊎◌, ltb, leb, not, ℕ, suc, Bool, true, false, List, [], ◌∷◌, ◌++◌, length, Option, Some, None, Ok, Err, refl, sym, subst, ap, inl, inr, arith}
-use Rattle.osdp_link_laws.proofs.Common.{and_from, leb-true, le-leb, lt-ltb, ltb-true, Packet, Command, Event, Room, ControllerFault, Queue, bytes_waiting, event_size, has_room, lacks_room, ReaderState, kind_of, outcome, Answer, Kind, Zero, Taken, option_to_list, DifferByLapse, IsNotZero, IsNotZeroIf, KeepSession, KeepsSession, LapsesAreUnheard, NextBeginsWithout, Offers, SessionsHideLapses, StayInSession, StaysInSession, lapses, Delivered, Delivery, Link, Lost, Move, QueueEvent, Reopen, Repeated, RestartController, RestartReader, Retarget, Submit, ToController, ToReader, Withdraw, WithdrawEvent, after_move, run, Begins, MaySubmit, ReadEachOther}
+use Rattle.std.proofs.Common.{◌≡◌, ◌≢◌, ◌+◌, ◌-◌, ◌&&◌, ◌⊎◌, ltb, leb, not, ℕ, suc, Bool, true, false, List, [], ◌∷◌, ◌++◌, length, Option, Some, None, Ok, Err, refl, sym, subst, ap, inl, inr, arith}
+use Rattle.osdp_link_laws.proofs.Common.{and_from, leb-true, le-leb, lt-ltb, ltb-true, Packet, Command, Event, Room, ControllerFault, Queue, bytes_waiting, event_size, has_room, lacks_room, kind_of, outcome, Answer, Kind, Zero, Taken, option_to_list, DifferByLapse, IsNotZeroIf, LapseEvent, LapsesAreUnheard, Offers, StayInSession, StaysInSession, lapses, Delivered, Delivery, Link, Lost, Move, QueueEvent, Reopen, Repeated, RestartController, RestartReader, Retarget, Submit, ToController, ToReader, Withdraw, WithdrawEvent, after_move, run}
 use Rattle.osdp_controller.specs.Machine as controllers
 use Rattle.osdp_link_laws.specs.Link as link
-use Rattle.osdp_link_laws.proofs.InARow.{stands}
-use Rattle.osdp_link_laws.proofs.Lines.{each_all}
-use Rattle.osdp_link_laws.proofs.PastOpening.{IsNoReopen, IsNumbered, NoneOfferedOrPast, OpeningIsPast, numbered_goes_on, opening_is_past, past_on}
-use Rattle.osdp_link_laws.proofs.Stages.{Each}
 
 -- a queue whose front is offered
 abbrev offered_queue : Event → List Event → Room → Queue
@@ -153,6 +149,7 @@ module _ {H : Type 0} where
       moves_so (ToReader how) rest room l stays = to_reader_so how l.to_reader rest room l stays
       moves_so (ToController how now) rest room l stays = to_controller_so how now l.to_controller rest room l
       moves_so (Reopen now) rest room l stays = absurd stays
+      moves_so LapseEvent rest room l stays = absurd stays
       moves_so Withdraw rest room l stays = yet rest room (link.withdraws l)
       moves_so (Retarget address) rest room l stays = retargets_so (controllers.retarget_refusal address l.controller) address rest room l
       moves_so WithdrawEvent rest room l stays =
@@ -206,71 +203,3 @@ module _ {H : Type 0} where
           (subst (λ k. gets_by event answer_of after k p (lapses (off event rest room l)) ≡ gets_by event answer_of after k p (off event rest room l))
           (sym kind) (taken_so event answer_of after p rest room l));
     }
-
-    -- ---- where the session ends
-
-    next_with : (refusal : Option ControllerFault) (ps qs : List Packet) (now : ℕ) (event : Event) (rest : List Event) (room : Room) (l : Link H)
-        → l.controller.session.config.address < 127 → Each MaySubmit l.controller.waiting
-        → refusal ≡ None → ps ≡ [] → qs ≡ [] → l.to_reader ≡ [] → l.to_controller ≡ []
-        → let next = link.reopens refusal ps qs now (lapses (off event rest room l)) in
-        Begins (record next { earlier = [] }) × (next.account.queued ≡ rest) × (next.earlier ≡ l.account ∷ l.earlier)
-    next_with None [] [] now event rest room l device waiting may to_none from_none there here = (
-      record {
-        quiet = (_, refl);
-        address = device;
-        waiting = each_all MaySubmit l.controller.waiting waiting;
-        to_reader = there;
-        to_controller = here;
-        account = refl;
-        earlier = refl;
-      },
-      refl,
-      refl,
-    )
-    next_with (Some fault) ps qs now event rest room l device waiting may to_none from_none there here = absurd (let e = may in cc)
-    next_with None (p ∷ ps) qs now event rest room l device waiting may to_none from_none there here = absurd (let e = to_none in cc)
-    next_with None [] (q ∷ qs) now event rest room l device waiting may to_none from_none there here = absurd (let e = from_none in cc)
-
-    pub next_begins_without : ReadEachOther answer_of after → NextBeginsWithout answer_of after
-    next_begins_without peers first moves event rest now begin fits is may there here =
-        let l = run answer_of after moves first in
-        let room = room_of l.reader.queue in
-        let s = stands answer_of after peers first moves begin fits in
-        subst (λ (m : Link H). let next = after_move answer_of after (Reopen now) (lapses m) in
-        Begins (record next { earlier = [] }) × (next.account.queued ≡ rest) × (next.earlier ≡ l.account ∷ l.earlier)) (is_off event rest l is)
-        (next_with (controllers.begin_refusal l.controller) l.to_reader l.to_controller now event rest room l s.current
-        s.goes.holds.2.waiting may there here there here)
-
-    -- ---- a session in which an event was offered
-
-    not_zero : (ps : List Packet) (r : ReaderState H) → Each IsNumbered ps → IsNotZero ps r
-    not_zero [] r all = tt
-    not_zero (p ∷ ps) r all = numbered_goes_on r p all.0
-
-    pub not_zero_if : (how : Delivery) (ps : List Packet) (r : ReaderState H) → Each IsNumbered ps → IsNotZeroIf how ps r
-    not_zero_if Delivered ps r all = not_zero ps r all
-    not_zero_if Lost ps r all = tt
-    not_zero_if Repeated ps r all = not_zero ps r all
-
-    keeps_so : (move : Move H) (l : Link H) → OpeningIsPast l → KeepsSession answer_of after move l → StaysInSession move l × IsNoReopen move
-    keeps_so (QueueEvent e) l past keeps = (keeps, tt)
-    keeps_so (Reopen now) l past keeps = absurd keeps
-    keeps_so (ToReader how) l past keeps = (not_zero_if how l.to_reader l.reader past.frames, tt)
-    keeps_so _ l past keeps = (tt, tt)
-
-    keep_so : (moves : List (Move H)) (l : Link H) → OpeningIsPast l → KeepSession answer_of after moves l → StayInSession answer_of after moves l
-    keep_so [] l past keep = tt
-    keep_so (move ∷ moves) l past keep =
-        let k = keeps_so move l past keep.0 in
-        (k.0, keep_so moves (after_move answer_of after move l) (past_on answer_of after move l k.1 past) keep.1)
-
-    pub sessions_hide_lapses : ReadEachOther answer_of after → SessionsHideLapses answer_of after
-    sessions_hide_lapses peers first moves event rest more begin fits is some keep =
-        by_past (opening_is_past answer_of after peers first moves begin fits)
-      where
-        l : Link H
-        l = run answer_of after moves first
-
-        by_past : NoneOfferedOrPast l → DifferByLapse (run answer_of after more (lapses l)) (run answer_of after more l)
-        by_past (inl none) = absurd (some none)
-        by_past (inr past) = all_so more l event rest is (keep_so more l past keep)

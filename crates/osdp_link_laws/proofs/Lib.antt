@@ -19,6 +19,7 @@ pub mod Restarts
 pub mod Growing
 pub mod Staying
 pub mod Accounts
+pub mod Lapsed
 pub mod Accounting
 pub mod Once
 pub mod Controllers
@@ -50,8 +51,5 @@ mod AskedMoves
 mod MovesFitting
 pub mod Doing
 pub mod Counting
-mod PastOpening
 mod Lapsing
-mod LapsingAsked
 mod HearingOn
-mod LapsingRuns

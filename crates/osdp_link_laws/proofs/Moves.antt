@@ -1,5 +1,5 @@
 -- What holds of a session holds after each move.
-use Rattle.osdp_link_laws.proofs.Common.{◌≡◌, ◌≢◌, ◌<◌, ℕ, Bool, true, false, List, [], ◌∷◌, ◌++◌, Option, Some, None, Ok, refl, sym, subst, ap, ◌∙◌, inl, inr, arith, append-nil, Packet, CommandFits, ReplyFits, Command, Machine, submit_refusal, Event, Reply, meaning_by_reply, exchange_command, event_in, Ticked, ticks, Plain, ControllerConfig, Session, State, Exchange, Opening, Polling, Asking, ControllerFault, Answer, ReaderState, after_submit, after_withdraw_event, command_in, AnswersPlainly, IsPlain, MaySubmit, Link, TellsItsEvent}
+use Rattle.osdp_link_laws.proofs.Common.{◌≡◌, ◌≢◌, ◌<◌, ℕ, Bool, true, false, List, [], ◌∷◌, ◌++◌, Option, Some, None, Ok, refl, sym, subst, ap, ◌∙◌, inl, inr, arith, append-nil, Packet, CommandFits, ReplyFits, Command, Machine, submit_refusal, Event, Reply, meaning_by_reply, exchange_command, event_in, Ticked, ticks, Plain, ControllerConfig, Session, State, Exchange, Opening, Polling, Asking, ControllerFault, Answer, ReaderState, after_submit, after_withdraw_event, command_in, AnswersPlainly, IsPlain, MaySubmit, Link, TellsItsEvent, after_lapse_event}
 use Rattle.std.specs.Prelude.{drop, if◌then◌else◌, option_to_list, take}
 use Rattle.osdp_msg.specs.declared.command.Command.TheVariants as command
 use Rattle.osdp_controller.specs.Answers as packets
@@ -10,6 +10,7 @@ use Rattle.osdp_link_laws.proofs.Lines.{each_append, each_rest, runs_append, run
 use Rattle.osdp_link_laws.proofs.Stages.{After, Before, Behind, ControllerAt, Each, Fresh, HasActed, IsAsked, IsFrame, IsOldFrame, IsPast, Knows, Level, Never, Now, Offers, OffersEvent, Past, ReaderAt, ReaderBehind, Rest, Restarted, Runs, SaysOld, Stage, Start, ToReaderAt, answer, frame, given_up_at, number_after, pending, pending_at}
 use Rattle.osdp_link_laws.proofs.Parts.{At, with_reader}
 use Rattle.osdp_link_laws.proofs.Ticks.{Begun, RestsOn, Unchanged, WaitsOn, closed_tick, ticks_asking, ticks_resting, ticks_waiting}
+use Rattle.osdp_link_laws.proofs.Lapsed.{offers_lapsed}
 
 pub runs_last : (P Q : Packet → Type 0) (ps : List Packet) → Each Q ps → Runs P Q ps
 runs_last P Q [] all = tt
@@ -32,12 +33,14 @@ asked_fits (After n y b) (Asking c) asked = asked.fits
 
 offers_more : (told : Option Event) (event : Event) (q : Queue) → OffersEvent told q → OffersEvent told (queued event q)
 offers_more None event q off = off
-offers_more (Some e) event q (on, ever, (rest, is)) = (on, ever, (rest ++ event ∷ [], ap (λ l. l ++ event ∷ []) is))
+offers_more (Some e) event q (inl (on, ever, (rest, is))) = inl (on, ever, (rest ++ event ∷ [], ap (λ l. l ++ event ∷ []) is))
+offers_more (Some e) event q (inr off) = inr off
 
 -- what is offered stays in front
 offers_less : (told : Option Event) (q : Queue) → OffersEvent told q → OffersEvent told (withdrawn q)
 offers_less None q off = off
-offers_less (Some e) q (on, ever, (rest, is)) = (
+offers_less (Some e) q (inr off) = inr off
+offers_less (Some e) q (inl (on, ever, (rest, is))) = inl (
   on,
   ever,
   (
@@ -75,6 +78,18 @@ module _ (fixed : ControllerConfig) {H : Type 0} where
   knows_withdraws Never n x a r acted = acted_withdraws n x a r acted
   knows_withdraws Before n x a r acted = acted_withdraws n x a r acted
   knows_withdraws Now n x a r none = none
+
+  -- .. nor does one that lapses
+  acted_lapses : (n : ℕ) (x : Exchange) (a : Reply) (r : ReaderState H) → HasActed fixed n x a r → HasActed fixed n x a (after_lapse_event r)
+  acted_lapses n Opening a r acted = record { here = acted.here; offer = offers_lapsed Opening a r.queue acted.offer }
+  acted_lapses n Polling a r acted = record { here = acted.here; offer = offers_lapsed Polling a r.queue acted.offer }
+  acted_lapses n (Asking c) a r acted = record { here = acted.here; offer = offers_lapsed (Asking c) a r.queue acted.offer }
+
+  knows_lapses : (since : Restarted) (n : ℕ) (x : Exchange) (a : Reply) (r : ReaderState H) → Knows fixed since n x a r
+      → Knows fixed since n x a (after_lapse_event r)
+  knows_lapses Never n x a r acted = acted_lapses n x a r acted
+  knows_lapses Before n x a r acted = acted_lapses n x a r acted
+  knows_lapses Now n x a r none = none
 
   -- .. whether it is busy, and its handler, are no matter
   abbrev otherwise : Bool → H → ReaderState H → ReaderState H
@@ -138,6 +153,12 @@ module _ (fixed : ControllerConfig) {H : Type 0} (answer_of : H → Command → 
   withdrawing at l h =
       with_reader fixed answer_of after since at l (after_withdraw_event l.reader) h
       (reader_changes fixed since l.reader (after_withdraw_event l.reader) (λ n x a. knows_withdraws fixed since n x a l.reader) at h.reader)
+
+  -- the front goes, where it was ever offered
+  pub lapsing : (at : Stage) (l : Link H) → AtStage at l → AtStage at (link.lapses_event l)
+  lapsing at l h =
+      with_reader fixed answer_of after since at l (after_lapse_event l.reader) h
+      (reader_changes fixed since l.reader (after_lapse_event l.reader) (λ n x a. knows_lapses fixed since n x a l.reader) at h.reader)
 
   -- BUSY on or off, or another handler
   pub being_otherwise : (busy : Bool) (handler : H) (at : Stage) (l : Link H) → AtStage at l

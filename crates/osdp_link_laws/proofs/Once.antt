@@ -1,14 +1,14 @@
 -- Within one session: each move keeps what holds, and what holds says that all is once and in order.
-use Rattle.osdp_link_laws.proofs.Common.{◌≡◌, ◌≤◌, ℕ, [], ◌++◌, length, Option, Some, None, refl, sym, subst, ap, ◌∙◌, inl, arith, append_assoc, option_to_list, Command, Reply, new_session, ControllerConfig, Exchange, Opening, Polling, Asking, ControllerFault, Session, State, Closed, lacks_room, Answer, IsOnce, IsWithout, MoveFits, MaySubmit, Account, Link, LoseToController, LoseToReader, Move, QueueEvent, Reopen, RestartController, RestartReader, Retarget, SetBusy, SetHandler, Submit, Tick, ToController, ToReader, Withdraw, WithdrawEvent, after_move, new_account}
+use Rattle.osdp_link_laws.proofs.Common.{◌≡◌, ◌≤◌, ℕ, [], ◌++◌, length, Option, Some, None, refl, sym, subst, ap, ◌∙◌, inl, arith, append_assoc, option_to_list, Command, Reply, new_session, ControllerConfig, Exchange, Opening, Polling, Asking, ControllerFault, Session, State, Closed, lacks_room, Answer, IsOnce, IsWithout, MoveFits, MaySubmit, Link, LoseToController, LoseToReader, Move, QueueEvent, Reopen, RestartController, RestartReader, Retarget, SetBusy, SetHandler, Submit, Tick, ToController, ToReader, Withdraw, WithdrawEvent, after_move, new_account, LapseEvent}
 use Rattle.osdp_controller.specs.Machine as controllers
 use Rattle.osdp_link_laws.specs.Link as link
 use Rattle.osdp_link_laws.proofs.Accounting.{accounts_so, withdrawn_first}
 use Rattle.osdp_link_laws.proofs.Accounts.{Accounted, Accounts, gone}
-use Rattle.osdp_link_laws.proofs.Coming.{MovesTo}
+use Rattle.osdp_link_laws.proofs.Coming.{MovesTo, same_either}
 use Rattle.osdp_link_laws.proofs.Deliveries.{coming_to_controller, coming_to_reader, missing_to_controller, missing_to_reader}
 use Rattle.osdp_link_laws.proofs.Growing.{GoesOn}
 use Rattle.osdp_link_laws.proofs.Lines.{each_rest}
-use Rattle.osdp_link_laws.proofs.Moves.{Premises, being_otherwise, not_poll, queueing, submitting, ticking, withdrawing}
+use Rattle.osdp_link_laws.proofs.Moves.{Premises, being_otherwise, not_poll, queueing, submitting, ticking, withdrawing, lapsing}
 use Rattle.osdp_link_laws.proofs.Parts.{At, HoldsAtSomeStage, HoldsThen, with_session}
 use Rattle.osdp_link_laws.proofs.Restarts.{front_at, restarting_reader}
 use Rattle.osdp_link_laws.proofs.Stages.{Asks, Behind, ControllerAt, Each, Fresh, Level, Never, Now, Rest, Restarted, Rests, Stage, Waits, number_after, owed, owed_at, pending_at, unreported_at}
@@ -60,6 +60,7 @@ module _ (fixed : ControllerConfig) {H : Type 0} (answer_of : H → Command → 
   holds_on given (QueueEvent e) l on fits (s, at, h) =
       (s, at, (refl, refl), queueing fixed answer_of after s (lacks_room e l.reader.queue) e at l h)
   holds_on given WithdrawEvent l on fits (s, at, h) = (s, at, (refl, refl), withdrawing fixed answer_of after s at l h)
+  holds_on given LapseEvent l on fits (s, at, h) = (s, at, (refl, refl), lapsing fixed answer_of after s at l h)
   holds_on given (SetBusy busy) l on fits (s, at, h) = (s, at, (refl, refl), being_otherwise fixed answer_of after s busy l.reader.handler at l h)
   holds_on given (Tick now) l on fits (s, at, h) =
       let t = ticking fixed answer_of after s at now l h in (s, t.0, (refl, t.1.0, t.1.1), t.2)
@@ -163,10 +164,10 @@ module _ (fixed : ControllerConfig) {H : Type 0} (answer_of : H → Command → 
         Fresh,
         record { stage = tt; controller = new.controller; waiting = new.waiting; reader = tt; to_reader = new.to_reader; to_controller = new.to_controller },
       );
-      accounts = subst (Accounted Never Fresh l.controller.session.state l.controller.waiting l.reader.queue.events) (sym new.account) (record {
+      accounts = subst (Accounted Never Fresh l.controller.session.state l.controller.waiting l.reader.queue) (sym new.account) (record {
         orders = record { issued = refl; answered = refl; settled = refl };
         over = record { lost = refl; quiet = inl (refl, refl) };
-        events = record { left = []; past = []; stayed = refl; kept = refl; without = (refl, refl); offered = refl; reported = refl };
+        events = record { left = []; past = []; stayed = refl; kept = refl; without = (refl, refl); offered = sym (same_either [] l.reader.queue.offered); reported = refl };
         restarts = refl;
       });
     },

@@ -10,6 +10,7 @@ use Rattle.osdp_link_laws.proofs.Stages.{Each}
 is_ordinary : {H : Type 0} (m : Move H) → IsSteady m → IsOrdinary m
 is_ordinary link.Withdraw steady = absurd steady
 is_ordinary link.WithdrawEvent steady = absurd steady
+is_ordinary link.LapseEvent steady = absurd steady
 is_ordinary (link.RestartReader config handler room) steady = absurd steady
 is_ordinary (link.RestartController config room) steady = absurd steady
 is_ordinary m steady = tt

@@ -10,7 +10,7 @@ use Rattle.osdp_link_laws.proofs.Sessions.{lasts, taken_commands}
 use Rattle.osdp_link_laws.proofs.Since.{Hears}
 use Rattle.osdp_link_laws.proofs.Stages.{Asks, Before, Behind, Each, Fresh, Level, Never, Now, Rest, Restarted, Rests, Stage, Waits, number_after, pending_at}
 use Rattle.osdp_link_laws.proofs.Accounts.{Accounts, gone}
-use Rattle.osdp_link_laws.proofs.Coming.{standing_at}
+use Rattle.osdp_link_laws.proofs.Coming.{standing_of}
 use Rattle.osdp_link_laws.proofs.Once.{Goes}
 
 abbrev pub counted : Account → ℕ
@@ -43,8 +43,8 @@ module _ (fixed : ControllerConfig) {H : Type 0} (answer_of : H → Command → 
           let issued : length t.issued ≡ length t.taken = ap length (b.orders.issued ∙ ap (λ ws. t.taken ++ ws) rest ∙ append-nil t.taken) in
           let past = b.events.past in
           let queued : length t.kept ≡ length past = ap length (b.events.kept ∙ ap (λ es. past ++ es) empty ∙ append-nil past) in
-          let reported : length t.reported ≡ length past + length (standing_at since (Rest n x a)) =
-          ap length (sym (append-nil t.reported) ∙ sym b.events.reported ∙ b.events.offered) ∙ length-append past (standing_at since (Rest n x a)) in
+          let reported : length t.reported ≡ length past + length (standing_of since (Rest n x a) l.reader.queue.offered) =
+          ap length (sym (append-nil t.reported) ∙ sym b.events.reported ∙ b.events.offered) ∙ length-append past (standing_of since (Rest n x a) l.reader.queue.offered) in
           omega (arith, settled, issued, queued, reported)
 
   -- one more is settled or reported, or all is

@@ -1,24 +1,13 @@
 -- A session that has ended leaves what the next one begins with.
-use Rattle.osdp_link_laws.proofs.Common.{◌≡◌, ◌≤◌, ◌⊎◌, ◌+◌, ℕ, List, [], ◌++◌, length, map, Option, Some, None, refl, sym, subst, ap, ◌∙◌, inl, inr, arith, append_assoc, append-nil, append_cancel_right, map-append, option_to_list, Command, Event, Reply, event_in, ControllerConfig, Exchange, Opening, Polling, Asking, State, Closed, Answer, asked, Account, Link, LastsOrLeaves, Leaves, LeavesCommands, LeavesEvents, settled_commands}
+use Rattle.osdp_link_laws.proofs.Common.{◌≡◌, ◌≤◌, ◌⊎◌, List, [], ◌++◌, length, map, refl, sym, subst, ap, ◌∙◌, inl, inr, arith, append_assoc, append-nil, map-append, Command, Reply, ControllerConfig, Exchange, Opening, Polling, Asking, State, Closed, Answer, asked, Account, Link, LastsOrLeaves, LeavesCommands, settled_commands}
 use Rattle.osdp_link_laws.proofs.Once.{Goes}
-use Rattle.osdp_link_laws.proofs.Accounts.{EventsAre, OrdersAre, gone}
-use Rattle.osdp_link_laws.proofs.Coming.{standing_at}
-use Rattle.osdp_link_laws.proofs.Restarts.{front_at}
-use Rattle.osdp_link_laws.proofs.Stages.{After, Before, Behind, Fresh, HasRestarted, Level, Never, Now, Rest, Restarted, Stage, Start, given_up, given_up_at, owed, owed_at, pending, pending_at, shown, shown_at, unreported_at}
+use Rattle.osdp_link_laws.proofs.Accounts.{OrdersAre, gone}
+use Rattle.osdp_link_laws.proofs.Stages.{Behind, Fresh, Level, Rest, Stage, given_up, given_up_at, owed, owed_at, pending, pending_at}
 
 one_pending : (x : Exchange) → length (pending x) ≤ 1
 one_pending Opening = omega arith
 one_pending Polling = omega arith
 one_pending (Asking c) = omega arith
-
-one_event : (event : Option Event) → length (option_to_list event) ≤ 1
-one_event None = omega arith
-one_event (Some event) = omega arith
-
-one_shown : (x : Exchange) (a : Reply) → length (shown x a) ≤ 1
-one_shown Opening a = omega arith
-one_shown Polling a = one_event (event_in a)
-one_shown (Asking c) a = omega arith
 
 -- the command of an answer on its way is the pending one
 pub owed_command : (x : Exchange) (a : Reply) → map asked (owed x a) ≡ pending x
@@ -69,17 +58,6 @@ left_taken t told waiting pend are lost few issued =
       inr taken,
     )
 
--- the events that count as reported and stand in front, and the one that was offered and isn't reported yet, are one at most
-one_told : (at : Stage) → length (shown_at at) + length (unreported_at at) ≤ 1
-one_told Fresh = omega arith
-one_told (Behind Start x) = omega arith
-one_told (Behind (After n y b) x) = omega (arith, one_shown y b)
-one_told (Level past x a) = omega (arith, one_shown x a)
-one_told (Rest n x a) = omega (arith, one_shown x a)
-
-no_more_than : (k n m : ℕ) → k + n ≤ m → k + 0 ≤ m
-no_more_than k n m few = omega (arith, few)
-
 -- the commands told unsettled or forgotten, and those that wait or were removed
 abbrev LeftOf : Account → List Command → Type 0
 LeftOf t waiting = Left t (t.unsettled ++ t.forgotten) (gone t ++ waiting)
@@ -108,52 +86,13 @@ leaves_commands t w (issued, one, taken) = record {
   taken = taken;
 }
 
--- the events: those of a reader that hears, and those of one that has restarted
-leaves_heard : (at : Stage) (events : List Event) (t : Account) → (rest : List Event) × (events ≡ (shown_at at ++ unreported_at at) ++ rest)
-    → (e : EventsAre (shown_at at ++ unreported_at at) (unreported_at at) events t.stayed t.kept t.thrown_away t.offered t.reported) → LeavesEvents t e.left events
-leaves_heard at events t (rest, front) e = record {
-  stayed = e.stayed;
-  heard = e.past;
-  without = e.without;
-  again = shown_at at;
-  unheard = [];
-  reported = append-nil t.reported ∙ append_cancel_right t.reported (e.past ++ shown_at at) (unreported_at at)
-      (sym e.reported ∙ e.offered ∙ sym (append_assoc e.past (shown_at at) (unreported_at at)));
-  front = (unreported_at at ++ rest, front ∙ append_assoc (shown_at at) (unreported_at at) rest);
-  one = no_more_than (length (shown_at at)) (length (unreported_at at)) 1 (one_told at);
-  restart = inl refl;
-}
-
-leaves_events : (since : Restarted) (at : Stage) (events : List Event) (t : Account) → HasRestarted since t.restarts
-    → (rest : List Event) × (events ≡ standing_at since at ++ rest)
-    → (e : EventsAre (standing_at since at) (unreported_at at) events t.stayed t.kept t.thrown_away t.offered t.reported) → LeavesEvents t e.left events
-leaves_events Never at events t count front e = leaves_heard at events t front e
-leaves_events Before at events t count front e = leaves_heard at events t front e
-leaves_events Now at events t count front e = record {
-  stayed = e.stayed;
-  heard = e.past;
-  without = e.without;
-  again = [];
-  unheard = unreported_at at;
-  reported = sym e.reported ∙ e.offered;
-  front = (events, refl);
-  one = omega (arith, one_told at);
-  restart = inr (count, e.reported);
-}
-
 module _ (fixed : ControllerConfig) {H : Type 0} (answer_of : H → Command → Answer) (after : H → Command → H) where
   pub leaves : (l : Link H) → Goes fixed answer_of after l → l.controller.session.state ≡ Closed
-      → Leaves l.account l.controller.waiting l.reader.queue.events
+      → LeavesCommands l.account l.controller.waiting
   leaves l h closed =
-      let since = h.holds.0 in
       let at = h.holds.1 in
       let a = h.accounts in
-      let t = l.account in
-      record {
-        of_commands = leaves_commands t l.controller.waiting (left at t l.controller.waiting a.orders (a.over.lost ∙ ap (given_up_at at) closed));
-        left = a.events.left;
-        of_events = leaves_events since at l.reader.queue.events t a.restarts (front_at fixed since at l.reader h.holds.2.reader) a.events;
-      }
+      leaves_commands l.account l.controller.waiting (left at l.account l.controller.waiting a.orders (a.over.lost ∙ ap (given_up_at at) closed))
 
   -- a session that lasts has told nothing unsettled, and forgotten and removed none
   pub lasts : (l : Link H) → Goes fixed answer_of after l → (l.controller.session.state ≡ Closed → ⊥)

@@ -131,10 +131,13 @@ abbrev pub unreported_at : Stage → List Event
 unreported_at (Level past x r) = shown x r
 unreported_at _ = []
 
--- the event that the last answer told is offered, and stands in front
+-- the event that the last answer told is offered, and stands in front; or it has lapsed, and nothing is offered
+abbrev pub OffersFront : Event → Queue → Type 0
+OffersFront event q = (q.offered ≡ true) × (q.ever_offered ≡ true) × ((rest : List Event) × (q.events ≡ event ∷ rest))
+
 abbrev pub OffersEvent : Option Event → Queue → Type 0
 OffersEvent None q = q.offered ≡ false
-OffersEvent (Some event) q = (q.offered ≡ true) × (q.ever_offered ≡ true) × ((rest : List Event) × (q.events ≡ event ∷ rest))
+OffersEvent (Some event) q = OffersFront event q ⊎ (q.offered ≡ false)
 
 abbrev pub Offers : Exchange → Reply → Queue → Type 0
 Offers Opening r q = q.offered ≡ false

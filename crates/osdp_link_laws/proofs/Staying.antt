@@ -1,5 +1,5 @@
 -- What each move does to the events of a session, those of them that stay, and those in the queue that were never offered.
-use Rattle.osdp_link_laws.proofs.Common.{◌≡◌, ℕ, Bool, true, false, List, [], ◌∷◌, ◌++◌, drop, Option, Some, None, Result, Ok, Err, refl, sym, subst, ap, ◌∙◌, inl, inr, append_assoc, append-nil, ◌==◌, if◌then◌else◌, option_to_list, Packet, Command, Event, MsgFault, Reply, ticks, ControllerFault, Report, Queue, event_for, never_offered, offering, released, withdrawn, lacks_room, ReaderState, command_in, new_address, Answer, Kind, Account, Delivered, Delivery, Link, Lost, Move, QueueEvent, Reopen, Repeated, RestartController, RestartReader, Retarget, Submit, Tick, ToController, ToReader, Withdraw, WithdrawEvent, after_move, after_report, unoffered_in, queued, unless_full}
+use Rattle.osdp_link_laws.proofs.Common.{◌≡◌, ℕ, Bool, true, false, List, [], ◌∷◌, ◌++◌, drop, Option, Some, None, Result, Ok, Err, refl, sym, subst, ap, ◌∙◌, inl, inr, append_assoc, append-nil, ◌==◌, if◌then◌else◌, option_to_list, Packet, Command, Event, MsgFault, Reply, ticks, ControllerFault, Report, Queue, event_for, never_offered, offering, released, withdrawn, lacks_room, ReaderState, command_in, new_address, Answer, Kind, Account, Delivered, Delivery, Link, Lost, Move, QueueEvent, Reopen, Repeated, RestartController, RestartReader, Retarget, Submit, Tick, ToController, ToReader, Withdraw, WithdrawEvent, after_move, after_report, unoffered_in, queued, unless_full, LapseEvent, lapsed}
 use Rattle.osdp_controller.specs.Hearing as controller
 use Rattle.osdp_controller.specs.Machine as controllers
 use Rattle.osdp_controller.specs.declared.report.Report.TheVariants as report
@@ -9,6 +9,7 @@ use Rattle.osdp_link_laws.specs.Link as link
 use Rattle.osdp_link_laws.proofs.Growing.{GoesOn, taken_takes}
 use Rattle.osdp_link_laws.proofs.Lines.{both}
 use Rattle.osdp_link_laws.proofs.Withdrawing.{Goes, Splits, but_oldest_is, splits}
+use Rattle.osdp_link_laws.proofs.Lapsed.{lapsed_keeps}
 
 -- ---- a queue: fewer were never offered
 
@@ -41,6 +42,14 @@ offering_by (Some a) (e ∷ events) capacity room offered false = (e ∷ [], ref
 
 offering_tail : (told : Option Reply) (q : Queue) → Fewer (unoffered_in q) (unoffered_in (offering told q))
 offering_tail told q = offering_by told q.events q.capacity q.room q.offered q.ever_offered
+
+lapsed_by : (events : List Event) (capacity room : ℕ) (offered ever : Bool)
+    → let q : Queue = record { events = events; capacity = capacity; room = room; offered = offered; ever_offered = ever } in Fewer (unoffered_in q) (unoffered_in (lapsed q))
+lapsed_by events capacity room offered true = ([], refl)
+lapsed_by events capacity room offered false = ([], refl)
+
+lapsed_tail : (q : Queue) → Fewer (unoffered_in q) (unoffered_in (lapsed q))
+lapsed_tail q = lapsed_by q.events q.capacity q.room q.offered q.ever_offered
 
 -- one more at the end
 queued_by : (e : Event) (events : List Event) (ever : Bool)
@@ -205,6 +214,11 @@ module _ {H : Type 0} (answer_of : H → Command → Answer) (after : H → Comm
   events_go Withdraw l on = same_as l (link.withdraws l).account (same_events l.account (link.withdraws l).account refl refl refl)
   events_go (Retarget address) l on = retargets_go (controllers.retarget_refusal address l.controller) address l
   events_go WithdrawEvent l on = withdraws_go l
+  events_go LapseEvent l on =
+      let t = link.event_lapsed l.reader.queue l.account in
+      let less = lapsed_keeps l.reader.queue l.account in
+      still l.account t (unoffered_in l.reader.queue) (unoffered_in (lapsed l.reader.queue))
+      (same_events l.account t (ap (λ u. u.queued) less.1) (ap (λ u. u.withdrawn) less.1) (ap (λ u. u.stayed) less.1)) (lapsed_tail l.reader.queue)
   events_go (RestartReader config handler room) l on = record {
     took = [];
     queued = sym (append-nil l.account.queued);

@@ -1,18 +1,27 @@
 -- A frame comes to the reader: how far the session has come then.
-use Rattle.osdp_link_laws.proofs.Common.{◌≡◌, ◌≢◌, ◌<◌, ℕ, zero, suc, [], ◌∷◌, ◌++◌, length, Some, None, Ok, refl, sym, subst, inl, inr, append-nil, option_to_list, IfSome, eqb_tells, Packet, ReplyFits, Command, Reply, ControllerConfig, Exchange, Opening, Polling, Asking, Answer, Kind, Zero, Busy, refused, ReaderState, UnexpectedSequence, begun, command_in, kind_of, outcome, Account, Link}
+use Rattle.osdp_link_laws.proofs.Common.{◌≡◌, ◌≢◌, ◌<◌, ℕ, zero, suc, [], ◌∷◌, ◌++◌, length, Some, None, Ok, refl, sym, subst, inl, inr, append-nil, option_to_list, IfSome, eqb_tells, Packet, ReplyFits, Command, Reply, ControllerConfig, Exchange, Opening, Polling, Asking, Answer, Kind, Zero, Busy, refused, ReaderState, UnexpectedSequence, begun, command_in, kind_of, outcome, Link}
 use Rattle.osdp_msg.specs.declared.command.Command.TheVariants as command
 use Rattle.osdp_msg.specs.declared.reply.Reply.TheVariants as reply
 use Rattle.osdp_link_laws.specs.Link as link
 use Rattle.osdp_link_laws.proofs.Acting.{kind_again, kind_away, kind_unknown, kind_zero}
-use Rattle.osdp_link_laws.proofs.Coming.{KeepsDue, Reads}
+use Rattle.osdp_link_laws.proofs.Coming.{KeepsDue, Reads, standing_at}
 use Rattle.osdp_link_laws.proofs.Lines.{both}
 use Rattle.osdp_link_laws.proofs.Parts.{At, with_to_controller}
 use Rattle.osdp_link_laws.proofs.Since.{line_since}
 use Rattle.osdp_link_laws.proofs.Stages.{Acted, Before, HasActed, HoldsOf, Knows, Never, Now, ReaderAt, Restarted, Says, Stage, ToControllerAt, answer, frame, owed_at, pending_at, shown, shown_at, unreported_at}
 
+-- no event counts as told at this stage
+abbrev pub TellsNone : Stage → Type 0
+TellsNone at = (shown_at at ≡ []) × (unreported_at at ≡ [])
+
+none_stands : (since : Restarted) (at : Stage) → TellsNone at → standing_at since at ≡ []
+none_stands Never at none = (λ i. none.0 i ++ none.1 i)
+none_stands Before at none = (λ i. none.0 i ++ none.1 i)
+none_stands Now at none = refl
+
 -- as much is due as before where nothing changes
-as_due : (since : Restarted) (at : Stage) → KeepsDue since at since at
-as_due since at = record { due = refl; stands = refl; given_up = λ state. refl; restarts = λ count is. is }
+as_due : (since : Restarted) (at : Stage) → TellsNone at → KeepsDue since at since at
+as_due since at none = record { due = refl; stands = none_stands since at none; stood = none_stands since at none; given_up = λ state. refl; restarts = λ count is. is }
 
 module _ {H : Type 0} (answer_of : H → Command → Answer) (after : H → Command → H) where
   -- what is said anew is of the table of replies
@@ -96,12 +105,12 @@ module _ (fixed : ControllerConfig) {H : Type 0} (answer_of : H → Command → 
   -- the frame of an exchange that the reader has acted on
   pub again : (at : Stage) (n : ℕ) (x : Exchange) (a : Reply) (l : Link H) → fixed.address < 127
       → command_in (frame fixed Opening 0) ≡ Ok (command.Id 0) → AtStage at l
-      → HasActed fixed n x a l.reader → Acted n x a
+      → HasActed fixed n x a l.reader → Acted n x a → (x ≡ Opening → TellsNone at)
       → Grows at n a l → Puts at n x a → FitsBy answer_of after (kind_of l.reader (frame fixed x n)) (frame fixed x n) l
       → StaysBy at (kind_of l.reader (frame fixed x n)) (frame fixed x n) l
-  again at n x a l device reads h acted is grows puts fits =
+  again at n x a l device reads h acted is silent grows puts fits =
       elim (eqb_tells l.reader.config.address fixed.address) [
-        | inl same ↦ by_exchange n x acted is grows puts same.1 fits
+        | inl same ↦ by_exchange n x acted is silent grows puts same.1 fits
         | inr other ↦ away at x n l device other.1 h
       ]
     where
@@ -116,24 +125,20 @@ module _ (fixed : ControllerConfig) {H : Type 0} (answer_of : H → Command → 
                 (says at l (answer fixed n a) h (grows (answer fixed n a) (inr (inl refl)))),
           )
 
-      by_exchange : (n : ℕ) (x : Exchange) → HasActed fixed n x a l.reader → Acted n x a
+      by_exchange : (n : ℕ) (x : Exchange) → HasActed fixed n x a l.reader → Acted n x a → (x ≡ Opening → TellsNone at)
           → Grows at n a l → Puts at n x a → l.reader.config.address ≡ fixed.address → FitsBy answer_of after (kind_of l.reader (frame fixed x n)) (frame fixed x n) l
           → StaysBy at (kind_of l.reader (frame fixed x n)) (frame fixed x n) l
-      by_exchange zero Opening acted is grows puts same fits =
+      by_exchange zero Opening acted is silent grows puts same fits =
           subst (λ k. FitsBy answer_of after k (frame fixed Opening 0) l → StaysBy at k (frame fixed Opening 0) l) (sym (kind_zero fixed l.reader Opening same))
           (both (λ k. FitsBy answer_of after k (frame fixed Opening 0) l → StaysBy at k (frame fixed Opening 0) l) l.reader.busy Busy Zero
           (λ f. ((refl, refl), says at l (answer fixed 0 reply.Busy) h (grows (answer fixed 0 reply.Busy) (inl refl))))
-          (λ f. ((reads, as_due since at), zero_again at a l reads h grows puts f))) fits
-      by_exchange (suc n) Opening acted is grows puts same fits = absurd is.1
-      by_exchange n Polling acted is grows puts same fits = repeated n Polling is.1 same (acted.here same) grows
-      by_exchange n (Asking c) acted is grows puts same fits = repeated n (Asking c) is.1 same (acted.here same) grows
+          (λ f. ((reads, as_due since at (silent refl)), zero_again at a l reads h grows puts f))) fits
+      by_exchange (suc n) Opening acted is silent grows puts same fits = absurd is.1
+      by_exchange n Polling acted is silent grows puts same fits = repeated n Polling is.1 same (acted.here same) grows
+      by_exchange n (Asking c) acted is silent grows puts same fits = repeated n (Asking c) is.1 same (acted.here same) grows
 
 -- a restarted reader that has heard number 0
 module _ (fixed : ControllerConfig) {H : Type 0} (answer_of : H → Command → Answer) (after : H → Command → H) where
-  -- no event counts as told at this stage
-  abbrev pub TellsNone : Stage → Type 0
-  TellsNone at = (shown_at at ≡ []) × (unreported_at at ≡ [])
-
   pub shows_none : (x : Exchange) (a : Reply) → x ≡ Opening → shown x a ≡ []
   shows_none Opening a is = refl
   shows_none Polling a is = absurd cc
@@ -143,7 +148,8 @@ module _ (fixed : ControllerConfig) {H : Type 0} (answer_of : H → Command → 
   revived_due : (at : Stage) → TellsNone at → KeepsDue Now at Before at
   revived_due at none = record {
     due = (λ i. record { pend = pending_at at; owing = owed_at at; untold = unreported_at at; stands = length (none.0 i ++ none.1 i) });
-    stands = (λ i. none.0 i ++ none.1 i);
+    stands = none_stands Before at none;
+    stood = refl;
     given_up = λ state. refl;
     restarts = λ count is. is;
   }
@@ -206,8 +212,8 @@ module _ (fixed : ControllerConfig) {H : Type 0} (answer_of : H → Command → 
       → FitsBy answer_of after (kind_of l.reader (frame fixed x n)) (frame fixed x n) l
       → HeardAt since at (kind_of l.reader (frame fixed x n)) (frame fixed x n) l
   heard_again Never at n x a l device reads h knows is silent grows puts fits =
-      let stays = again fixed answer_of after Never at n x a l device reads h knows is grows (puts Never) fits in (Never, stays.0, stays.1)
+      let stays = again fixed answer_of after Never at n x a l device reads h knows is silent grows (puts Never) fits in (Never, stays.0, stays.1)
   heard_again Before at n x a l device reads h knows is silent grows puts fits =
-      let stays = again fixed answer_of after Before at n x a l device reads h knows is grows (puts Before) fits in (Before, stays.0, stays.1)
+      let stays = again fixed answer_of after Before at n x a l device reads h knows is silent grows (puts Before) fits in (Before, stays.0, stays.1)
   heard_again Now at n x a l device reads h knows is silent grows puts fits =
       unknown at n x a l device reads h knows is silent grows (puts Before) fits

@@ -1,5 +1,5 @@
 -- From a link without losses over its rounds.
-use Rattle.osdp_link_laws.proofs.Common.{◌≡◌, ◌⊎◌, ◌≤◌, ◌+◌, ◌-◌, ℕ, List, [], ◌∷◌, length, refl, sym, subst, ap, ◌∙◌, inl, inr, arith, Option, Some, None, min-le_left, min-le_right, length-append, Packet, Command, said_by, hears_in, ignores, is_from_reader, seen, ticks, ControllerConfig, Exchange, Report, Session, State, Closed, Quiet, Idle, Waiting, Pausing, Answer, MovesFit, SaysWhatFits, Account, Delivered, Link, Move, Tick, ToController, ToReader, run, after_report, AreDue, ComeOn, ComesThrough, IsClear, SetsNoAddress, round, rounds, ReadEachOther}
+use Rattle.osdp_link_laws.proofs.Common.{◌≡◌, ◌⊎◌, ◌≤◌, ◌+◌, ◌-◌, ℕ, List, [], ◌∷◌, length, refl, sym, subst, ap, ◌∙◌, inl, inr, arith, Option, Some, None, min-le_left, min-le_right, length-append, Packet, Command, said_by, hears_in, ignores, is_from_reader, seen, ticks, ControllerConfig, Exchange, Report, Session, State, Closed, Quiet, Idle, Waiting, Pausing, Answer, MovesFit, SaysWhatFits, Account, Delivered, Link, Tick, ToController, ToReader, run, after_report, AreDue, ComeOn, ComesThrough, IsClear, SetsNoAddress, round, rounds, ReadEachOther}
 use Rattle.osdp_msg.specs.declared.reply.Reply.TheVariants as reply
 use Rattle.osdp_controller.specs.Hearing as controller
 use Rattle.osdp_controller.specs.declared.report.Report.TheVariants as report

@@ -1,16 +1,12 @@
--- Which moves leave the ends of a link and their addresses as they are, which take nothing back, and which begin no session. Of a list of moves each is asked, on
--- the link as it is then.
-use Rattle.std.specs.Prelude.{◌≡◌, ◌≢◌, ◌↔◌, ℕ, true, List, ◌∷◌, ◌++◌}
+-- Which moves leave the ends of a link and their addresses as they are, and which take nothing back. Of a list of moves each is asked, on the link as it is then.
+use Rattle.std.specs.Prelude.{◌≡◌, ◌≢◌, ◌↔◌, ℕ, List, ◌∷◌, ◌++◌}
 use Rattle.osdp_msg.specs.declared.command.Command.{Command}
-use Rattle.osdp_msg.specs.declared.event.Event.{Event}
 use Rattle.osdp_msg.specs.declared.limits.Room.{Room}
 use Rattle.osdp_controller.specs.declared.config.ControllerConfig.{ControllerConfig}
-use Rattle.osdp_reader.specs.Queue.{has_room}
 use Rattle.osdp_reader.specs.declared.config.ReaderConfig.{ReaderConfig}
 use Rattle.osdp_reader.specs.declared.handler.Answer.{Answer}
 use Rattle.osdp_link_laws.specs.Addresses.{SetsNoOther}
-use Rattle.osdp_link_laws.specs.Lapses.{KeepSession, KeepsSession}
-use Rattle.osdp_link_laws.specs.Link.{Link, LoseToController, LoseToReader, Move, Queue, Reopen, RestartController, RestartReader, Retarget, SetHandler, Withdraw, WithdrawEvent, run}
+use Rattle.osdp_link_laws.specs.Link.{LapseEvent, Link, LoseToController, LoseToReader, Move, RestartController, RestartReader, Retarget, SetHandler, Withdraw, WithdrawEvent, run}
 use Rattle.osdp_link_laws.specs.OneHandler.{IsSameModel, KeepHandler, KeepsDevice, KeepsHandler}
 use Rattle.osdp_link_laws.specs.Ordinary.{IsOrdinary, IsSteady}
 use Rattle.osdp_link_laws.specs.Refusals.{KeepsReader}
@@ -26,7 +22,7 @@ module _ {H : Type 0} where
   SetsNoHandler move = (handler : H) → move ≢ SetHandler handler
 
   abbrev pub TakesNothingBack : Move H → Type 0
-  TakesNothingBack move = (move ≢ Withdraw) × (move ≢ WithdrawEvent)
+  TakesNothingBack move = (move ≢ Withdraw) × (move ≢ WithdrawEvent) × (move ≢ LapseEvent)
 
   -- nothing is lost at a place of the line: only what is in front
   abbrev pub LosesNoneWithin : Move H → Type 0
@@ -44,13 +40,6 @@ module _ {H : Type 0} where
     pub reader : (config : ReaderConfig) (handler : H) (room : Room) → move ≡ RestartReader config handler room → config.address ≡ there
     pub controller : (config : ControllerConfig) (room : Room) → move ≡ RestartController config room → config.address ≡ here
 
-  abbrev pub BeginsNoSession : Move H → Type 0
-  BeginsNoSession move = (now : ℕ) → move ≢ Reopen now
-
-  -- an event that it queues has room
-  abbrev pub FindsRoom : Move H → Link H → Type 0
-  FindsRoom move l = (event : Event) → move ≡ Queue event → has_room event l.reader.queue ≡ true
-
 -- what is asked of moves where a reader never restarts, where a device never changes or keeps its handler, where nothing is disturbed, and where both
 -- ends stay at their addresses
 pub record LeavingIsExact (H : Type 0) : Type 0 where
@@ -67,9 +56,6 @@ module _ {H : Type 0} (answer_of : H → Command → Answer) (after : H → Comm
   AtEach Asked moves l =
       (front : List (Move H)) (move : Move H) (rest : List (Move H)) → moves ≡ front ++ move ∷ rest → Asked move (run answer_of after front l)
 
-  -- .. of a list of moves, and where the session goes on
-  pub record EachIsAsked : Type 0 where
-    pub handlers : (moves : List (Move H)) (l : Link H) → (KeepHandler answer_of after moves l) ↔ (AtEach KeepsHandler moves l)
-    pub session : (move : Move H) (l : Link H) → (KeepsSession answer_of after move l) ↔ (BeginsNoSession move × FindsRoom move l)
-    pub sessions : (moves : List (Move H)) (l : Link H)
-        → (KeepSession answer_of after moves l) ↔ (AtEach (KeepsSession answer_of after) moves l)
+  -- .. of a list of moves
+  abbrev pub EachIsAsked : Type 0
+  EachIsAsked = (moves : List (Move H)) (l : Link H) → (KeepHandler answer_of after moves l) ↔ (AtEach KeepsHandler moves l)

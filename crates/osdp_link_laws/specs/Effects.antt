@@ -1,6 +1,6 @@
 -- What each move of a program, of a power failure or of the line does to a link, however it stands: what is new, empty or gone after it, and
 -- that all else is as it was.
-use Rattle.std.specs.Prelude.{◌≡◌, ◌≢◌, ◌≤◌, ◌<◌, ◌+◌, ◌⊎◌, ℕ, suc, false, if◌then◌else◌, List, [], ◌∷◌, ◌++◌, length, map, Option, Some, None, Ok, option_to_list}
+use Rattle.std.specs.Prelude.{◌≡◌, ◌≢◌, ◌≤◌, ◌<◌, ◌+◌, ◌⊎◌, ℕ, suc, true, false, if◌then◌else◌, List, [], ◌∷◌, ◌++◌, length, map, Option, Some, None, Ok, option_to_list}
 use Rattle.osdp_frame.specs.Packet.{Packet}
 use Rattle.osdp_msg.specs.declared.command.Command.{Command}
 use Rattle.osdp_msg.specs.declared.command.Command.TheVariants.{Poll}
@@ -17,7 +17,7 @@ use Rattle.osdp_reader.specs.declared.config.ReaderConfig.{ReaderConfig}
 use Rattle.osdp_reader.specs.declared.handler.Answer.{Answer}
 use Rattle.osdp_reader.specs.declared.kind.Kind.TheVariants.{Repeat, Taken}
 use Rattle.osdp_reader_laws.specs.Laws.{ComesTo, DiffersByHandler}
-use Rattle.osdp_link_laws.specs.Link.{Account, Link, LoseToController, LoseToReader, Move, Reopen, RestartController, RestartReader, Retarget, SetHandler, ThrownAway, Withdraw, WithdrawEvent, Withdrawn, after_move, outstanding_command, run}
+use Rattle.osdp_link_laws.specs.Link.{Account, LapseEvent, Link, LoseToController, LoseToReader, Move, Reopen, RestartController, RestartReader, Retarget, SetHandler, ThrownAway, Withdraw, WithdrawEvent, Withdrawn, after_move, outstanding_command, run}
 
 -- ---- accounts
 
@@ -105,6 +105,15 @@ module _ {H : Type 0} where
     pub account : (stayed kept : List Event) → l.account.stayed ≡ stayed ++ l.reader.queue.events → l.account.kept ≡ kept ++ l.reader.queue.events
         → WithdrawsIt event stayed kept (front ++ rest) l.account next.account
 
+  -- the front has left the queue, nothing is offered any more, and what is stored stays. An event that was offered in this session may be reported
+  -- yet, so its account stays; and else it is thrown away.
+  pub record HasLapsed (event : Event) (rest : List Event) (l next : Link H) : Type 0 where
+    pub others : SameButReader l next
+    pub reader : next.reader ≡ record l.reader { queue = record l.reader.queue { events = rest; offered = false; ever_offered = false } }
+    pub told : (past : List Event) → l.account.kept ≡ past ++ event ∷ rest → l.account.offered ≡ past ++ event ∷ [] → next.account ≡ l.account
+    pub untold : (past : List Event) → l.account.kept ≡ past ++ event ∷ rest → l.account.offered ≡ past
+        → next.account ≡ record l.account { kept = past ++ rest; thrown_away = l.account.thrown_away ++ event ∷ [] }
+
   -- the controller has this address, and is as it was: closed, with the commands that wait
   pub record HasAddress (here : ℕ) (l next : Link H) : Type 0 where
     pub others : SameButController l next
@@ -175,6 +184,12 @@ module _ {H : Type 0} where
       pub none : (l : Link H) → length l.reader.queue.events ≤ (if l.reader.queue.ever_offered then 1 else 0)
           → after_move answer_of after WithdrawEvent l ≡ l
 
+    -- the front, where it was ever offered, and only there
+    pub record LapsesEvents : Type 0 where
+      pub front : (l : Link H) (event : Event) (rest : List Event) → l.reader.queue.events ≡ event ∷ rest → l.reader.queue.ever_offered ≡ true
+          → HasLapsed event rest l (after_move answer_of after LapseEvent l)
+      pub none : (l : Link H) → l.reader.queue.ever_offered ≡ false → after_move answer_of after LapseEvent l ≡ l
+
     pub record Loses : Type 0 where
       pub to_reader : (l : Link H) (place : ℕ) → let next = after_move answer_of after (LoseToReader place) l in
           LosesOne place l.to_reader next.to_reader × (next ≡ record l { to_reader = next.to_reader })
@@ -195,6 +210,7 @@ module _ {H : Type 0} where
           HasHandler handler l next × AnswersBy handler l.reader next.reader
       pub withdraw : Withdraws
       pub event : WithdrawsEvents
+      pub lapse : LapsesEvents
       pub retarget : Retargets
       pub reader : (l : Link H) (config : ReaderConfig) (handler : H) (room : Room)
           → HasNewReader config handler room l (after_move answer_of after (RestartReader config handler room) l)

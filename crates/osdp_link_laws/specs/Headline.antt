@@ -13,7 +13,7 @@ use Rattle.osdp_controller.specs.Machine.{AreSettings}
 use Rattle.osdp_reader.specs.declared.handler.Answer.{Answer}
 use Rattle.osdp_reader.specs.State.{ReaderState}
 use Rattle.osdp_reader.specs.Table.{hears}
-use Rattle.osdp_link_laws.specs.Link.{Account, Delivered, Delivery, Link, Lost, Move, Reopen, Repeated, RestartController, RestartReader, Retarget, SetHandler, Submit, Queue, SetBusy, Tick, ToReader, ToController, Withdraw, WithdrawEvent, after_move, new_account, run, LoseToReader, LoseToController}
+use Rattle.osdp_link_laws.specs.Link.{Account, Delivered, Delivery, Link, Lost, Move, Reopen, Repeated, RestartController, RestartReader, Retarget, SetHandler, Submit, Queue, SetBusy, Tick, ToReader, ToController, Withdraw, WithdrawEvent, LapseEvent, after_move, new_account, run, LoseToReader, LoseToController}
 
 -- a command that may be submitted: any but POLL, its fields in their ranges
 pub record MaySubmit (command : Command) : Type 0 where
@@ -35,7 +35,7 @@ asked p = p.0
 
 -- the commands that the reader has taken are a beginning of those issued; it gave an answer to each of them; of these the settled ones,
 -- each with the answer that the reader gave, are all, or all but the last. The events reported are a beginning of those queued, but those
--- that the device has withdrawn, and those that a restart of the reader threw away before they were offered.
+-- that the device has withdrawn, and those that a restart of the reader threw away, or that lapsed, before they were offered.
 pub record IsOnce (t : Account) : Type 0 where
   pub taken : IsBeginning t.taken t.issued
   pub answered : map asked t.given ≡ t.taken
@@ -85,6 +85,7 @@ module _ {H : Type 0} where
     MoveFits Withdraw l = Unit {0}
     MoveFits (Retarget address) l = Unit {0}
     MoveFits WithdrawEvent l = Unit {0}
+    MoveFits LapseEvent l = Unit {0}
     MoveFits (RestartReader config handler room) l = (config.address < 127) × AreRoom room.messages room.bytes
     MoveFits (RestartController config room) l = AreSettings config room.messages room.bytes
     MoveFits (LoseToReader place) l = Unit {0}

@@ -1,17 +1,15 @@
 -- An event lapses: the front of the queue, which is offered and whose answer may be lost, leaves it as in doubt. As long as the session lasts nobody
 -- hears that: the line, the controller and the account are as without it, and from the next command on that the reader takes it is too.
-use Rattle.std.specs.Prelude.{◌≡◌, ◌≢◌, ◌⊎◌, ℕ, true, false, List, [], ◌∷◌, None}
+use Rattle.std.specs.Prelude.{◌≡◌, ◌≢◌, ◌⊎◌, true, false, List, [], ◌∷◌}
 use Rattle.osdp_frame.specs.Packet.{Packet}
 use Rattle.osdp_msg.specs.declared.command.Command.{Command}
 use Rattle.osdp_msg.specs.declared.event.Event.{Event}
-use Rattle.osdp_controller.specs.Machine.{begin_refusal}
 use Rattle.osdp_reader.specs.Queue.{has_room}
 use Rattle.osdp_reader.specs.State.{ReaderState, after_lapse_event}
 use Rattle.osdp_reader.specs.Table.{kind_of}
 use Rattle.osdp_reader.specs.declared.handler.Answer.{Answer}
 use Rattle.osdp_reader.specs.declared.kind.Kind.TheVariants.{Taken, Zero}
-use Rattle.osdp_link_laws.specs.Headline.{Begins, MovesFit}
-use Rattle.osdp_link_laws.specs.Link.{Delivered, Delivery, Link, Lost, Move, Queue, Reopen, Repeated, ToReader, after_move, reader_gets, run}
+use Rattle.osdp_link_laws.specs.Link.{Delivered, Delivery, LapseEvent, Link, Lost, Move, Queue, Reopen, Repeated, ToReader, after_move, reader_gets, run}
 
 module _ {H : Type 0} where
   -- the device lets the front lapse, where it was ever offered
@@ -34,11 +32,12 @@ module _ {H : Type 0} where
   IsNotZeroIf Lost ps r = Unit {0}
   IsNotZeroIf Repeated ps r = IsNotZero ps r
 
-  -- the session lasts, and an event that is queued finds room
+  -- the session lasts, an event that is queued finds room, and none lapses
   abbrev pub StaysInSession : Move H → Link H → Type 0
   StaysInSession (Queue event) l = has_room event l.reader.queue ≡ true
   StaysInSession (ToReader how) l = IsNotZeroIf how l.to_reader l.reader
   StaysInSession (Reopen now) l = ⊥
+  StaysInSession LapseEvent l = ⊥
   StaysInSession _ l = Unit {0}
 
   -- a link with the lapse, and one without: they are the same, or the event that is offered has left the queue and nothing else is otherwise
@@ -60,32 +59,3 @@ module _ {H : Type 0} where
       -- the next command that is taken, a POLL that offers the event after it among these, leaves no difference
       pub taken : (l : Link H) (event : Event) (rest : List Event) (p : Packet) → Offers event rest l → kind_of l.reader p ≡ Taken
           → reader_gets answer_of after p (lapses l) ≡ reader_gets answer_of after p l
-
-    -- where a session ends after a lapse, the next one begins with the events after the one that lapsed, and what is promised of a link from its first session on
-    -- holds from there on
-    abbrev pub NextBeginsWithout : Type 0
-    NextBeginsWithout = (first : Link H) (moves : List (Move H)) (event : Event) (rest : List Event) (now : ℕ) → Begins first
-        → MovesFit answer_of after moves first
-        → let l = run answer_of after moves first in
-        Offers event rest l → begin_refusal l.controller ≡ None → l.to_reader ≡ [] → l.to_controller ≡ []
-        → let next = after_move answer_of after (Reopen now) (lapses l) in
-        Begins (record next { earlier = [] }) × (next.account.queued ≡ rest) × (next.earlier ≡ l.account ∷ l.earlier)
-
-    -- no session begins, and an event that is queued finds room
-    abbrev pub KeepsSession : Move H → Link H → Type 0
-    KeepsSession (Queue event) l = has_room event l.reader.queue ≡ true
-    KeepsSession (Reopen now) l = ⊥
-    KeepsSession _ l = Unit {0}
-
-    abbrev pub KeepSession : List (Move H) → Link H → Type 0
-    KeepSession [] l = Unit {0}
-    KeepSession (move ∷ moves) l = KeepsSession move l × KeepSession moves (after_move answer_of after move l)
-
-    -- of a link from its first session on: where the reader has offered an event in this session, number 0 comes to it no more in it, and nobody hears that the
-    -- event lapses
-    abbrev pub SessionsHideLapses : Type 0
-    SessionsHideLapses = (first : Link H) (moves : List (Move H)) (event : Event) (rest : List Event) (more : List (Move H)) → Begins first
-        → MovesFit answer_of after moves first
-        → let l = run answer_of after moves first in
-        Offers event rest l → l.account.offered ≢ [] → KeepSession more l
-        → DifferByLapse (run answer_of after more (lapses l)) (run answer_of after more l)

@@ -15,5 +15,3 @@ pub mod Ordinary
 pub mod Clean
 pub mod Effects
 pub mod Lapses
-pub mod LapsingAsked
-pub mod LapsingRuns

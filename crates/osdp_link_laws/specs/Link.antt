@@ -1,5 +1,5 @@
 -- One link: a controller, a reader, and the packets that are on the way between them.
-use Rattle.std.specs.Prelude.{ℕ, zero, suc, Bool, true, false, ◌+◌, ◌-◌, if◌then◌else◌, List, [], ◌∷◌, ◌++◌, drop, length, map, take, Option, Some, None, option_to_list}
+use Rattle.std.specs.Prelude.{ℕ, zero, suc, Bool, true, false, ◌+◌, ◌-◌, ◌&&◌, not, nat_lt, if◌then◌else◌, List, [], ◌∷◌, ◌++◌, drop, length, map, take, Option, Some, None, option_to_list}
 use Rattle.osdp_frame.specs.Packet.{Packet}
 use Rattle.osdp_msg.specs.declared.command.Command.{Command}
 use Rattle.osdp_msg.specs.declared.command.Command.TheVariants.{Poll}
@@ -37,8 +37,8 @@ pub data Removal : Type 0 where
 -- answer that the reader gave to it then; those settled, each with its answer; those told unsettled; the one that was outstanding when the
 -- controller restarted; and those that waited after the end and were withdrawn or thrown away.
 -- Of events: those in the queue when it began and those accepted since; those of them that the device has withdrawn, and those that it has
--- not; of these, those that no restart of the reader has thrown away before they were offered in this session, and those that one has; those
--- that the reader has offered; and those reported.
+-- not; of these, those that no restart of the reader has thrown away before they were offered in this session, and that have not lapsed before,
+-- and those that have; those that the reader has offered; and those reported.
 -- And how often the reader has restarted in it.
 pub record Account : Type 0 where
   pub issued : List Command
@@ -95,10 +95,10 @@ pub data Delivery : Type 0 where
 
 -- what may happen to a link, at any moment. `Reopen`: a session begins again. `SetHandler`: the device has another handler from now on.
 -- `Withdraw`: where the controller is closed, the command that has waited longest is taken back. `Retarget`: where it is closed, its
--- address is set. `WithdrawEvent`: the device takes the oldest event back that it has never offered, if there is one. `RestartReader`: the reader
--- is new, with these settings, this handler and this room for events: the same device where its identity and its capabilities are as before, and
--- else another in its place. `RestartController`: the controller is new, with these settings and room for commands. What is on the line stays on
--- it. `LoseToReader`, `LoseToController`: what stands at this place of the line, the front at 0, is lost, beside what others say on it.
+-- address is set. `WithdrawEvent`: the device takes the oldest event back that it has never offered, if there is one. `LapseEvent`: it lets the
+-- front go, where it was ever offered, though its answer may be lost. `RestartReader`: the reader is new, with these settings, this handler and this
+-- room for events: the same device where its identity and its capabilities are as before, and else another in its place. `RestartController`: the
+-- controller is new, with these settings and room for commands. What is on the line stays on it. `LoseToReader`, `LoseToController`: what stands at this place of the line, the front at 0, is lost, beside what others say on it.
 pub data Move (H : Type 0) : Type 0 where
   Submit : Command → Move H
   Queue : Event → Move H
@@ -111,6 +111,7 @@ pub data Move (H : Type 0) : Type 0 where
   Withdraw : Move H
   Retarget : ℕ → Move H
   WithdrawEvent : Move H
+  LapseEvent : Move H
   RestartReader : ReaderConfig → H → Room → Move H
   RestartController : ControllerConfig → Room → Move H
   LoseToReader : ℕ → Move H
@@ -162,6 +163,16 @@ event_withdrawn q t = record t {
   stayed = but_oldest q t.stayed;
   kept = but_oldest q t.kept;
 }
+
+-- the front of the queue was offered in this session: of what is kept, all before the queue were offered, and so was the front
+abbrev pub is_offered_here : EventQueue → Account → Bool
+is_offered_here q t = nat_lt (length t.kept) (length t.offered + length q.events)
+
+-- .. after an event lapsed: where it was offered in this session it may be reported yet, and else it is thrown away
+abbrev pub event_lapsed : EventQueue → Account → Account
+event_lapsed q t = if q.ever_offered && not (is_offered_here q t)
+    then record t { kept = lost_at (length t.kept - length q.events) t.kept; thrown_away = t.thrown_away ++ take 1 q.events }
+    else t
 
 -- .. after a restart of the reader: the events that it had not offered in this session are gone
 abbrev pub reader_restarted : Account → Account
@@ -248,6 +259,10 @@ module _ {H : Type 0} where
   abbrev pub withdraws_event : Link H → Link H
   withdraws_event l = record l { reader = readers.after_withdraw_event l.reader; account = event_withdrawn l.reader.queue l.account }
 
+  -- the front leaves the queue, where it was ever offered; the stored reply stays
+  abbrev pub lapses_event : Link H → Link H
+  lapses_event l = record l { reader = readers.after_lapse_event l.reader; account = event_lapsed l.reader.queue l.account }
+
   -- a device with nothing taken, nothing stored and no event, the same or another
   abbrev pub restarts_reader : ReaderConfig → H → Room → Link H → Link H
   restarts_reader config handler room l = record l {
@@ -297,6 +312,7 @@ module _ {H : Type 0} where
     after_move Withdraw l = withdraws l
     after_move (Retarget address) l = retargets (controllers.retarget_refusal address l.controller) address l
     after_move WithdrawEvent l = withdraws_event l
+    after_move LapseEvent l = lapses_event l
     after_move (RestartReader config handler room) l = restarts_reader config handler room l
     after_move (RestartController config room) l = restarts_controller config room l
     after_move (LoseToReader place) l = record l { to_reader = lost_at place l.to_reader }

@@ -3,12 +3,13 @@ use Rattle.std.specs.Prelude.{◌≡◌, All, List, [], ◌∷◌}
 use Rattle.osdp_msg.specs.declared.command.Command.{Command}
 use Rattle.osdp_reader.specs.declared.handler.Answer.{Answer}
 use Rattle.osdp_link_laws.specs.Headline.{Begins}
-use Rattle.osdp_link_laws.specs.Link.{Account, Link, LoseToController, LoseToReader, Move, RestartController, RestartReader, Retarget, SetHandler, Withdraw, WithdrawEvent, run}
+use Rattle.osdp_link_laws.specs.Link.{Account, Link, LoseToController, LoseToReader, Move, RestartController, RestartReader, Retarget, SetHandler, Withdraw, WithdrawEvent, LapseEvent, run}
 
--- a move with which neither end restarts and no command or event is withdrawn
+-- a move with which neither end restarts, no command or event is withdrawn and no event lapses
 abbrev pub IsOrdinary : {H : Type 0} → Move H → Type 0
 IsOrdinary Withdraw = ⊥
 IsOrdinary WithdrawEvent = ⊥
+IsOrdinary LapseEvent = ⊥
 IsOrdinary (RestartReader config handler room) = ⊥
 IsOrdinary (RestartController config room) = ⊥
 IsOrdinary _ = Unit {0}
@@ -18,6 +19,7 @@ abbrev pub IsSteady : {H : Type 0} → Move H → Type 0
 IsSteady (SetHandler handler) = ⊥
 IsSteady Withdraw = ⊥
 IsSteady WithdrawEvent = ⊥
+IsSteady LapseEvent = ⊥
 IsSteady (Retarget address) = ⊥
 IsSteady (RestartReader config handler room) = ⊥
 IsSteady (RestartController config room) = ⊥

@@ -1,6 +1,6 @@
--- Sessions in a row: what one has left the next begins with. No event is skipped but those that were withdrawn or that a restart threw away,
--- and one at most is told again; a command that has ended is none of a later session.
-use Rattle.std.specs.Prelude.{◌≡◌, ◌≤◌, ◌+◌, Bool, true, false, List, [], ◌∷◌, ◌++◌, length, map, Option, Some, None, ◌⊎◌}
+-- Sessions in a row: a command that has ended is none of a later session. What becomes of events from one session to the next says the ledger
+-- (`osdp_link_ledger`).
+use Rattle.std.specs.Prelude.{◌≡◌, ◌≤◌, Bool, true, false, List, [], ◌∷◌, ◌++◌, length, map, Option, Some, None, ◌⊎◌}
 use Rattle.osdp_msg.specs.declared.command.Command.{Command}
 use Rattle.osdp_msg.specs.declared.event.Event.{Event}
 use Rattle.osdp_controller.specs.Machine.{submit_refusal}
@@ -9,7 +9,7 @@ use Rattle.osdp_controller.specs.declared.state.State.{State}
 use Rattle.osdp_controller.specs.declared.state.State.TheVariants.{Closed}
 use Rattle.osdp_reader.specs.declared.handler.Answer.{Answer}
 use Rattle.osdp_reader.specs.Queue.{lacks_room}
-use Rattle.osdp_link_laws.specs.Headline.{MovesFit, Begins, IsBeginning, IsWithout, asked}
+use Rattle.osdp_link_laws.specs.Headline.{MovesFit, Begins, asked}
 use Rattle.osdp_link_laws.specs.Link.{Account, Link, Move, Queue, Removal, Submit, ThrownAway, Withdrawn, after_move, run}
 
 abbrev pub settled_commands : Account → List Command
@@ -30,31 +30,6 @@ pub record LeavesCommands (t : Account) (waiting : List Command) : Type 0 where
   pub commands : t.issued ≡ ended_in t ++ waiting
   pub one : length (t.unsettled ++ t.forgotten) ≤ 1
   pub taken : (t.taken ≡ settled_commands t) ⊎ (t.taken ≡ settled_commands t ++ (t.unsettled ++ t.forgotten))
-
--- .. and of its events, but those withdrawn: some have left the queue, and the others wait. Those that a restart threw away have left, and
--- so have those that were reported: all of them, or all but the last, which waits in front. Where the reader has restarted, one more may
--- have left that was offered and never reported.
-pub record LeavesEvents (t : Account) (left events : List Event) : Type 0 where
-  pub stayed : t.stayed ≡ left ++ events
-  pub heard : List Event
-  pub without : IsWithout t.thrown_away left heard
-  pub again : List Event
-  pub unheard : List Event
-  pub reported : t.reported ++ unheard ≡ heard ++ again
-  pub front : IsBeginning again events
-  pub one : length again + length unheard ≤ 1
-  pub restart : (unheard ≡ []) ⊎ ((1 ≤ t.restarts) × (t.offered ≡ t.reported ++ unheard))
-
-pub record Leaves (t : Account) (waiting : List Command) (events : List Event) : Type 0 where
-  pub of_commands : LeavesCommands t waiting
-  pub left : List Event
-  pub of_events : LeavesEvents t left events
-
--- a session, and one after it, which begins with what it leaves
-abbrev pub LeavesTo : Account → Account → Type 0
-LeavesTo t next =
-    (waiting : List Command) × (events : List Event)
-    × Leaves t waiting events × IsBeginning waiting next.issued × IsBeginning events next.queued
 
 -- a list of each of these sessions, session after session
 abbrev pub in_all : {A : Type 0} → (Account → List A) → List Account → List A
@@ -90,10 +65,10 @@ module _ {H : Type 0} where
   queued (Queue event) l = unless_full (lacks_room event l.reader.queue) event
   queued _ l = []
 
-  -- while the last session lasts it has told no command unsettled, and none is forgotten or removed; where it has ended it leaves what a
-  -- next one would begin with
+  -- while the last session lasts it has told no command unsettled, and none is forgotten or removed; where it has ended it leaves the commands that
+  -- a next one would begin with
   abbrev pub LastsOrLeaves : State → Link H → Type 0
-  LastsOrLeaves Closed l = Leaves l.account l.controller.waiting l.reader.queue.events
+  LastsOrLeaves Closed l = LeavesCommands l.account l.controller.waiting
   LastsOrLeaves _ l = (l.account.unsettled ≡ []) × (l.account.forgotten ≡ []) × (l.account.removed ≡ [])
 
   module _ (answer_of : H → Command → Answer) (after : H → Command → H) where

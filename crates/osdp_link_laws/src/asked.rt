@@ -3,7 +3,6 @@
 ghost use Rattle.osdp_link_laws.specs.Asked.{EachIsAsked, LeavingIsExact};
 ghost use Rattle.osdp_link_laws.specs.Fitting.{FittingIsExact};
 ghost use Rattle.osdp_link_laws.specs.HearingOn.{HearsOnUntilRestart};
-ghost use Rattle.osdp_link_laws.specs.LapsingAsked.{LapsingAskedIsExact};
 
 use osdp_reader::Handler;
 
@@ -22,17 +21,9 @@ pub fn leaving_is_exact<H: Handler>()
     ensures { LeavingIsExact H }
 {}
 
-/// A list of moves keeps a handler, or a session, exactly where each of its moves does, on the link as it is then. A move keeps a session exactly where
-/// it begins none, and an event that it queues has room.
+/// A list of moves keeps a handler exactly where each of its moves does, on the link as it is then.
 pub fn each_is_asked<H: Handler>()
     ensures { EachIsAsked H.answer_of H.after }
-{}
-
-/// Each move of a list with lapses is asked what it is asked anyway, and an event that is queued is to have room also beside the one that lapsed last. A
-/// list in which nothing lapses is asked nothing more than that it fits. An event may lapse as soon as the reader has told it, and a lapse where none was
-/// ever told asks nothing.
-pub fn lapsing_asked_is_exact<H: Handler>()
-    ensures { LapsingAskedIsExact H.answer_of H.after }
 {}
 
 /// From a first session on a reader hears on as long as it doesn't restart. It doesn't where it has just restarted, and does once it has acted on

@@ -52,8 +52,8 @@ pub fn read_each_other<H: Handler>()
 }
 
 /// Within each session, opened by ID on a quiet line, commands are taken once and in order, settled with the answers that the reader gave to them
-/// then, and events are reported once and in order, but those that the device has withdrawn, and those that a restart of the reader threw away
-/// before they were offered. So it is over every list of losses, repeats and detected damage, whatever the device tells, whoever restarts, and
+/// then, and events are reported once and in order, but those that the device has withdrawn, and those that a restart of the reader threw away, or that
+/// lapsed, before they were offered. So it is over every list of losses, repeats and detected damage, whatever the device tells, whoever restarts, and
 /// whatever model comes back.
 pub fn holds_once<H: Handler>()
     ensures { HoldsOnce H.answer_of H.after }
@@ -67,8 +67,8 @@ pub fn ordinary_runs_are_undisturbed<H: Handler>()
 {}
 
 /// Over sessions in a row, each begun again on a quiet line: each command that was accepted has ended in one of them, or is one of the last. Where the
-/// last one has ended, it leaves what a next one would begin with: the commands that have not ended, and the events but those withdrawn, those that a
-/// restart of the reader threw away, and those reported, of which the last may wait still.
+/// last one has ended, it leaves what a next one would begin with: the commands that have not ended. What becomes of events says the ledger
+/// (`osdp_link_ledger`).
 pub fn sessions_in_a_row<H: Handler>()
     ensures { SessionsInARow H.answer_of H.after }
 {

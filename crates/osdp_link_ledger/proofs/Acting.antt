@@ -68,18 +68,25 @@ module _ {H : Type 0} (p : Packet) (l : Link H) (d : Due) (g : Ledger) (placed :
   cards_long : length g.cards ≡ length l.reader.queue.events
   cards_long = sym (length-map g.cards (λ (c : Card). c.event)) ∙ ap length h.cards
 
+  -- the one that is offered is counted
+  one_stands : l.reader.queue.offered ≡ true → cond l.reader.queue.offered d.stands 0 ≡ 1
+  one_stands on = ap (λ b. cond b d.stands 0) on ∙ n.heard on
+
   -- none leaves
-  stays : (released l.reader.queue).events ≡ l.reader.queue.events → (released l.reader.queue).ever_offered ≡ l.reader.queue.ever_offered → IsReady l d g
-  stays same ever =
+  stays : l.reader.queue.offered ≡ false → IsReady l d g
+  stays off =
+      let same : (released l.reader.queue).events ≡ l.reader.queue.events = ap (λ b. cond b (drop 1 l.reader.queue.events) l.reader.queue.events) off in
+      let ever : (released l.reader.queue).ever_offered ≡ l.reader.queue.ever_offered = ap (λ b. cond b false l.reader.queue.ever_offered) off in
       let fewer : length (released l.reader.queue).events ≡ length l.reader.queue.events = ap length same in
+      let none : cond l.reader.queue.offered d.stands 0 ≡ 0 = ap (λ b. cond b d.stands 0) off in
       record {
         ahead = h.ahead;
         is_open = h.is_open;
         cards = h.cards ∙ sym same;
         front = λ never. h.front (sym ever ∙ never);
         told = told_now;
-        follows = λ c front. follows_now g.offer g.cards placed.upto told_now (omega (arith, o.counts, n.counts, fewer, cards_long)) c front;
-        counts = omega (arith, o.counts, n.counts);
+        follows = λ c front. follows_now g.offer g.cards placed.upto told_now (omega (arith, o.counts, none, cards_long)) c front;
+        counts = omega (arith, o.counts, none, fewer);
         orders = orders;
       }
 
@@ -111,7 +118,7 @@ module _ {H : Type 0} (p : Packet) (l : Link H) (d : Due) (g : Ledger) (placed :
           → g.offer ≡ Reported (card_at g.cards e)
       by_front offer is (inl none) cards =
           let all : length (not_offered g.offer g.cards) ≡ length g.cards = ap (λ x. length (not_offered x g.cards)) none in
-          absurd (omega (arith, all, o.counts, n.heard on, cards_long))
+          absurd (omega (arith, all, o.counts, one_stands on, cards_long))
       by_front NoOffer is (inr front) cards = absurd (subst (λ x. IsOfferedFront x g.cards) is front)
       by_front (Unreported b) is (inr front) cards = absurd (let bad : b.event ∷ [] ≡ [] = ap unreported_in (sym is) ∙ told_now in cc)
       by_front (Reported b) is (inr front) cards =
@@ -121,13 +128,12 @@ module _ {H : Type 0} (p : Packet) (l : Link H) (d : Due) (g : Ledger) (placed :
           is ∙ ap Reported card
 
   by_queue : (all : List Event) (on : Bool) → l.reader.queue.events ≡ all → l.reader.queue.offered ≡ on → Leads (leaves (cond on (take 1 all) []) g) g (IsReady l d)
-  by_queue all false is off =
-      (tt, stays (ap (λ b. cond b (drop 1 l.reader.queue.events) l.reader.queue.events) off) (ap (λ b. cond b false l.reader.queue.ever_offered) off))
+  by_queue all false is off = (tt, stays off)
   by_queue (e ∷ rest) true is on =
       goes e rest is (ap (λ b. cond b (drop 1 l.reader.queue.events) l.reader.queue.events) on ∙ ap (drop 1) is) on (ap (λ b. cond b false l.reader.queue.ever_offered) on)
   by_queue [] true is on =
       let none : length l.reader.queue.events ≡ 0 = ap length is in
-      absurd (omega (arith, none, n.counts, n.heard on))
+      absurd (omega (arith, none, n.counts, one_stands on))
 
   pub leaving : Leads (leaves (cond l.reader.queue.offered (take 1 l.reader.queue.events) []) g) g (IsReady l d)
   leaving = by_queue l.reader.queue.events l.reader.queue.offered refl refl
@@ -172,7 +178,7 @@ module _ {H : Type 0} (p : Packet) (l : Link H) (d : Due) (g : Ledger) (n : Take
     front = r.front;
     session = with_offers l.controller.session.state (offering None (released l.reader.queue)) ps qs e g
         (same_orders l.controller.session.state d e g g.offer g.shown later.pend later.owing r.orders)
-        (record { untold = later.untold ∙ sym r.told; front = λ on. absurd cc; counts = omega (arith, r.counts, later.stands) });
+        (record { untold = later.untold ∙ sym r.told; front = λ on. absurd cc; counts = omega (arith, r.counts) });
   }
 
   -- the front is told
@@ -221,7 +227,7 @@ module _ {H : Type 0} (p : Packet) (l : Link H) (d : Due) (g : Ledger) (n : Take
   Acted ps qs e k = Ties l.controller.session.state l.controller.waiting (offering None (released l.reader.queue)) ps qs e k
 
   offers_on : (c : Command) (a : Reply) (e : Due) → Acts c a d e → OffersAre (offering None (released l.reader.queue)) e.untold e.stands g.offer g.cards
-  offers_on c a e later = record { untold = later.untold ∙ sym r.told; front = λ on. absurd cc; counts = omega (arith, r.counts, later.stands) }
+  offers_on c a e later = record { untold = later.untold ∙ sym r.told; front = λ on. absurd cc; counts = omega (arith, r.counts) }
 
   reported : (offer : Offer) → unreported_in offer ≡ [] → ledger.IsReported offer
   reported NoOffer told = tt

@@ -1,10 +1,11 @@
 -- What a device acts on, move by move beside its handler: where it never changes, each command has its answer.
-use Rattle.osdp_link_ledger.proofs.Common.{◌≡◌, ◌⊎◌, ◌+◌, ℕ, Bool, true, false, eqb, List, [], ◌∷◌, ◌++◌, map, Option, Some, None, Result, Ok, Err, refl, sym, subst, ap, ◌∙◌, inl, inr, append_assoc, append-nil, map-append, Packet, event_in, Command, Id, Poll, Event, MsgFault, Reply, ticks, ControllerFault, Report, State, Quiet, event_for, lacks_room, never_offered, offering, released, unoffered, reply_packet, ReaderState, answer_to, answered, begun, command_in, event_or_answer, hears, kind_of, moved, new_address, outcome, taken, Answer, Kind, History, new_history, runs, steps_on, Act, Ledger, Order, Step, new_ledger, Begins, EachIsOnce, HoldsOnce, MovesFit, asked, Account, Delivered, Delivery, Link, Lost, Move, QueueEvent, Reopen, Repeated, RestartReader, Retarget, SetHandler, Submit, Tick, ToController, ToReader, Withdraw, WithdrawEvent, after_move, run, told_by_front, in_all, both, LedgerTellsAccounts, acts_at_zero, after_steps, all_steps, gets, leaves, leaves_and_acts, leaving, offers, opens, order_acted, queued_before, queues, steps_before, steps_from, steps_of, submits, submitted_before, to_reader, told, withdraws, withdraws_event}
+use Rattle.osdp_link_ledger.proofs.Common.{◌≡◌, ◌⊎◌, ◌+◌, ℕ, Bool, true, false, cond, eqb, ltb, List, [], ◌∷◌, ◌++◌, map, Option, Some, None, Result, Ok, Err, refl, sym, subst, ap, ◌∙◌, inl, inr, append_assoc, append-nil, map-append, Packet, event_in, Command, Id, Poll, Event, MsgFault, Reply, ticks, ControllerFault, Report, State, Quiet, event_for, in_doubt, lacks_room, never_offered, offering, released, unoffered, reply_packet, ReaderState, answer_to, answered, begun, command_in, event_or_answer, kind_of, moved, new_address, outcome, taken, Answer, Kind, History, new_history, runs, steps_on, Act, Lapse, Ledger, Order, Step, new_ledger, Begins, EachIsOnce, HoldsOnce, MovesFit, asked, Account, Delivered, Delivery, LapseEvent, Link, Lost, Move, QueueEvent, Reopen, Repeated, RestartReader, Retarget, SetHandler, Submit, Tick, ToController, ToReader, Withdraw, WithdrawEvent, after_move, run, told_by_front, in_all, both, LedgerTellsAccounts, after_steps, all_steps, card_at, lapses_event, leaves, leaves_and_acts, leaving, offers, opens, order_acted, queued_before, queues, steps_before, steps_from, steps_of, submits, submitted_before, to_reader, told, withdraws, withdraws_event}
 use Rattle.osdp_controller.specs.Machine as controllers
 use Rattle.osdp_controller.specs.declared.report.Report.TheVariants as report
 use Rattle.osdp_reader.specs.declared.config.ReaderConfig.{ReaderConfig}
 use Rattle.osdp_reader.specs.declared.kind.Kind.TheVariants as kind
 use Rattle.osdp_reader_laws.proofs.Sequences.{same_own}
+use Rattle.osdp_ledger.specs.Ledger as ledger
 use Rattle.osdp_link_laws.specs.Link as link
 use Rattle.osdp_link_laws.specs.OneHandler.{IsSameModel, KeepHandler, KeepsHandler, with_answers}
 use Rattle.osdp_link_ledger.specs.Answers.{ActsHaveAnswersOfOneHandler, HasAnswersOf}
@@ -56,6 +57,14 @@ withdraws_none (Some command) g = refl
 withdraws_event_none : (out : Option Event) (ever : Bool) (g : Ledger) → acted_by (withdraws_event out ever g) ≡ []
 withdraws_event_none None ever g = refl
 withdraws_event_none (Some event) ever g = refl
+
+lapses_event_none : (out : Option Event) (g : Ledger) → acted_by (lapses_event out g) ≡ []
+lapses_event_none None g = refl
+lapses_event_none (Some event) g = by_test (ltb (card_at g.cards event).place g.shown)
+  where
+    by_test : (b : Bool) → acted_by (cond b (Lapse (card_at g.cards event)) (ledger.WithdrawEvent (card_at g.cards event)) ∷ []) ≡ []
+    by_test true = refl
+    by_test false = refl
 
 leaves_none : (es : List Event) (g : Ledger) (steps : List Step) → acted_by (leaves es g ++ steps) ≡ acted_by steps
 leaves_none [] g steps = refl
@@ -196,6 +205,7 @@ module _ {H : Type 0} (answer_of : H → Command → Answer) (after : H → Comm
   move_acts (Retarget address) l g keeps =
       by_none l.reader (after_move answer_of after (Retarget address) l).reader [] (retargets_reader (controllers.retarget_refusal address l.controller) address l) refl
   move_acts WithdrawEvent l g keeps = ((refl, refl), inl (withdraws_event_none (never_offered l.reader.queue) l.reader.queue.ever_offered g, refl))
+  move_acts LapseEvent l g keeps = ((refl, refl), inl (lapses_event_none (in_doubt l.reader.queue) g, refl))
   move_acts (RestartReader config handler room) l g keeps = (keeps.1, inl (refl, keeps.0))
   move_acts _ l g keeps = ((refl, refl), inl (refl, refl))
 

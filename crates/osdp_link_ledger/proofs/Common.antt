@@ -9,25 +9,25 @@ pub use Rattle.osdp_msg.specs.declared.event.Event.{Event}
 pub use Rattle.osdp_msg.specs.declared.fault.MsgFault.{MsgFault}
 pub use Rattle.osdp_controller.specs.Ticking.{begins, gives_up, sends_frame, stays, Ticked, ticks, ticks_in, tries_again}
 pub use Rattle.osdp_controller.specs.declared.fault.ControllerFault.{ControllerFault}
-pub use Rattle.osdp_reader.specs.Queue.{event_for, lacks_room, never_offered, offering, Queue as EventQueue, released, unoffered, withdrawn}
+pub use Rattle.osdp_reader.specs.Queue.{event_for, in_doubt, lacks_room, lapsed, never_offered, offering, Queue as EventQueue, released, unoffered, withdrawn}
 pub use Rattle.osdp_reader.specs.Table.{answer_to, answered, begun, command_in, event_or_answer, hears, kind_of, moved, new_address, outcome, taken}
 pub use Rattle.osdp_reader.specs.declared.handler.Answer.{Answer}
 pub use Rattle.osdp_reader.specs.declared.kind.Kind.{Kind}
-pub use Rattle.osdp_ledger.specs.History.{AfterReport, AreAllowed, End, ends_at_restart, Forgotten, GivenBack, History, InDoubt, Left, new_history, runs, Settled, steps_on, TakenBack, ThrownAway}
+pub use Rattle.osdp_ledger.specs.History.{AreAllowed, End, ends_at_restart, Forgotten, GivenBack, History, InDoubt, new_history, runs, Settled, steps_on}
 pub use Rattle.osdp_ledger.specs.Ledger.{Act, acted_on, after, Card, Close, Doubt, is_in_front, Lapse, late_after, late_at_restart, Leave, Ledger, May, MayFollow, new_ledger, NoOffer, Offer, Offers, Open, Order, panel_restarted, Report as Reports, Reported, RestartDevice, RestartPanel, Settle, Step, Unreported}
 pub use Rattle.osdp_ledger.proofs.Events.{at_first, keeps}
 pub use Rattle.osdp_ledger.proofs.InTurn.{allowed_both, runs_then}
 pub use Rattle.osdp_ledger.proofs.Waiting.{Beyond, Events, IsUpTo, OfferIs, Rising}
 pub use Rattle.osdp_link_laws.specs.Headline.{asked, Begins, EachIsOnce, HoldsOnce, MaySubmit, MoveFits, MovesFit}
-pub use Rattle.osdp_link_laws.specs.Link.{Account, after_move, after_report, Delivered, Delivery, front_of, Link, LoseToController, LoseToReader, Lost, lost_at, Move, outstanding_command, Queue as QueueEvent, Removal, Reopen, Repeated, RestartController, RestartReader, Retarget, run, SetBusy, SetHandler, Submit, Tick, ToController, ToReader, Withdraw, WithdrawEvent}
+pub use Rattle.osdp_link_laws.specs.Link.{Account, after_move, after_report, Delivered, Delivery, front_of, LapseEvent, Link, LoseToController, LoseToReader, Lost, lost_at, Move, outstanding_command, Queue as QueueEvent, Removal, Reopen, Repeated, RestartController, RestartReader, Retarget, run, SetBusy, SetHandler, Submit, Tick, ToController, ToReader, Withdraw, WithdrawEvent}
 pub use Rattle.osdp_link_laws.specs.Peers.{ReadEachOther}
 pub use Rattle.osdp_link_laws.specs.Refusals.{told_by_front}
 pub use Rattle.osdp_link_laws.specs.Sessions.{accepted, all_queued, all_submitted, in_all, queued, submitted, unless_full}
 pub use Rattle.osdp_link_laws.proofs.InARow.{assumed, Assumed, begins_so, standing_so, Stands, StandsThen}
-pub use Rattle.osdp_link_laws.proofs.Coming.{BeginsFrom, Due, due_at, HearsTo, IsSent, MovesTo, Reads, ReadsFront, ReadsTo, ReopensTo, reported_in, settled_in, stands, Stays, stood, TicksTo}
+pub use Rattle.osdp_link_laws.proofs.Coming.{BeginsFrom, Due, due_at, HearsTo, IsSent, MovesTo, Reads, ReadsFront, ReadsTo, ReopensTo, reported_in, settled_in, standing_at, stands, Stays, stood, TicksTo}
 pub use Rattle.osdp_link_laws.proofs.Stages.{After, answer, Asks, Before, Behind, ControllerAt, Each, Fresh, HasActed, IsAsked, IsOpen, IsStage, Knows, Level, Never, Now, number_after, OffersEvent, owed, owed_at, pending, pending_at, ReaderAt, Rest, Restarted, Rests, shown, Stage, Start, unreported_at, Waits}
-pub use Rattle.osdp_link_ledger.specs.Accounts.{cut_off_as, doubted_as, LedgerTellsAccounts, removed_as, settled_as, taken_back_as}
-pub use Rattle.osdp_link_ledger.specs.Steps.{acts, acts_at_zero, acts_on, after_steps, all_steps, card_at, gets, leaves, leaves_and_acts, leaving, leaving as leaving_events, offered_at, offers, opens, order_acted, order_at, queued_before, queues, steps_before, steps_from, steps_of, submits, submitted_before, ticked, to_reader, told, withdraws, withdraws_event}
+pub use Rattle.osdp_link_ledger.specs.Accounts.{cut_off_as, doubted_as, LedgerTellsAccounts, removed_as, settled_as}
+pub use Rattle.osdp_link_ledger.specs.Steps.{acts, acts_at_zero, acts_on, after_steps, all_steps, card_at, gets, gives_up as gives_up_event, lapses_event, leaves, leaves_and_acts, leaving, leaving as leaving_events, offered_at, offers, opens, order_acted, order_at, queued_before, queues, steps_before, steps_from, steps_of, submits, submitted_before, ticked, to_reader, told, withdraws, withdraws_event}
 pub use Rattle.osdp_msg.specs.declared.reply.Reply.{Reply}
 pub use Rattle.osdp_controller.specs.declared.state.State.{State}
 pub use Rattle.osdp_controller.specs.declared.state.State.TheVariants.{Closed, Idle, Pausing, Quiet, Waiting}

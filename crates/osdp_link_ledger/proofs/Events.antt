@@ -14,7 +14,7 @@ record Fewer (q : EventQueue) (stands : ℕ) (g : Ledger) (cards : List Card) : 
   offer : q.offered ≡ true → IsOfferedFront g.offer g.cards → IsOfferedFront g.offer cards
   counts : length q.events ≡ stands + length (not_offered g.offer g.cards) → length (withdrawn q).events ≡ stands + length (not_offered g.offer cards)
 
-fewer_offers : (q : EventQueue) (waits : List Event) (stands : ℕ) (g : Ledger) (cards : List Card) → Fewer q stands g cards → OffersAre q waits stands g.offer g.cards
+fewer_offers : (q : EventQueue) (waits : List Event) (stands : ℕ) (g : Ledger) (cards : List Card) → Fewer q (cond q.offered stands 0) g cards → OffersAre q waits stands g.offer g.cards
     → OffersAre (withdrawn q) waits stands g.offer cards
 fewer_offers q waits stands g cards fewer o = record { untold = o.untold; front = λ on. by_front on (o.front on); counts = fewer.counts o.counts }
   where
@@ -22,7 +22,7 @@ fewer_offers q waits stands g cards fewer o = record { untold = o.untold; front 
     by_front on (inl none) = inl none
     by_front on (inr front) = inr (fewer.offer on front)
 
-fewer_session : (state : State) (q : EventQueue) (ps qs : List Packet) (d : Due) (g : Ledger) (cards : List Card) → Fewer q d.stands g cards
+fewer_session : (state : State) (q : EventQueue) (ps qs : List Packet) (d : Due) (g : Ledger) (cards : List Card) → Fewer q (cond q.offered d.stands 0) g cards
     → SessionIs state q ps qs d g → SessionIs state (withdrawn q) ps qs d (record g { cards = cards })
 fewer_session state q ps qs d g cards fewer (inl s) = inl s
 fewer_session state q ps qs d g cards fewer (inr (inl s)) =
@@ -30,7 +30,7 @@ fewer_session state q ps qs d g cards fewer (inr (inl s)) =
 fewer_session state q ps qs d g cards fewer (inr (inr s)) =
     inr (inr (record { closed = s.closed; acted = s.acted; late = s.late; offers = fewer_offers q d.untold d.stands g cards fewer s.offers }))
 
-with_fewer : (state : State) (waiting : List Command) (q : EventQueue) (ps qs : List Packet) (d : Due) (g : Ledger) (cards : List Card) → Fewer q d.stands g cards
+with_fewer : (state : State) (waiting : List Command) (q : EventQueue) (ps qs : List Packet) (d : Due) (g : Ledger) (cards : List Card) → Fewer q (cond q.offered d.stands 0) g cards
     → Ties state waiting q ps qs d g → Ties state waiting (withdrawn q) ps qs d (record g { cards = cards })
 with_fewer state waiting q ps qs d g cards fewer h = record {
   ahead = h.ahead;
@@ -40,7 +40,7 @@ with_fewer state waiting q ps qs d g cards fewer h = record {
   session = fewer_session state q ps qs d g cards fewer h.session;
 }
 
-abbrev parts : List Event → ℕ → ℕ → Bool → Bool → EventQueue
+abbrev pub parts : List Event → ℕ → ℕ → Bool → Bool → EventQueue
 parts all capacity room offered ever = record { events = all; capacity = capacity; room = room; offered = offered; ever_offered = ever }
 
 -- nothing is withdrawn
@@ -113,11 +113,11 @@ Withdraws q state waiting ps qs d g = Leads (withdraws_event (never_offered q) q
 by_parts : (all : List Event) (capacity room : ℕ) (offered ever : Bool) (state : State) (waiting : List Command) (ps qs : List Packet) (d : Due) (g : Ledger)
     → Placed g → Ties state waiting (parts all capacity room offered ever) ps qs d g → Withdraws (parts all capacity room offered ever) state waiting ps qs d g
 by_parts [] capacity room offered false state waiting ps qs d g placed h =
-    (tt, with_fewer state waiting (parts [] capacity room offered false) ps qs d g g.cards (none_fewer (parts [] capacity room offered false) d.stands g refl h.cards h.front) h)
+    (tt, with_fewer state waiting (parts [] capacity room offered false) ps qs d g g.cards (none_fewer (parts [] capacity room offered false) (cond offered d.stands 0) g refl h.cards h.front) h)
 by_parts [] capacity room offered true state waiting ps qs d g placed h =
-    (tt, with_fewer state waiting (parts [] capacity room offered true) ps qs d g g.cards (none_fewer (parts [] capacity room offered true) d.stands g refl h.cards h.front) h)
+    (tt, with_fewer state waiting (parts [] capacity room offered true) ps qs d g g.cards (none_fewer (parts [] capacity room offered true) (cond offered d.stands 0) g refl h.cards h.front) h)
 by_parts (a ∷ []) capacity room offered true state waiting ps qs d g placed h =
-    (tt, with_fewer state waiting (parts (a ∷ []) capacity room offered true) ps qs d g g.cards (none_fewer (parts (a ∷ []) capacity room offered true) d.stands g refl h.cards h.front) h)
+    (tt, with_fewer state waiting (parts (a ∷ []) capacity room offered true) ps qs d g g.cards (none_fewer (parts (a ∷ []) capacity room offered true) (cond offered d.stands 0) g refl h.cards h.front) h)
 by_parts (e ∷ rest) capacity room offered false state waiting ps qs d g placed h =
     let q = parts (e ∷ rest) capacity room offered false in
     let front = front_card g.cards e rest h.cards in
@@ -127,7 +127,7 @@ by_parts (e ∷ rest) capacity room offered false state waiting ps qs d g placed
     ap (filter (λ d. not (d.place == c.place))) front.0 ∙ filter_front c (drop 1 g.cards) 0 (subst (Rising 0) front.0 placed.rising) in (
       ((subst (λ cards. Contains cards c) (sym front.0) (0, omega arith, refl), above), tt),
       subst (λ cards. Ties state waiting (withdrawn q) ps qs d (record g { cards = cards })) (sym gone)
-          (with_fewer state waiting q ps qs d g (drop 1 g.cards) (front_fewer capacity room offered e rest d.stands g c (drop 1 g.cards) placed front.0 front.1 above) h),
+          (with_fewer state waiting q ps qs d g (drop 1 g.cards) (front_fewer capacity room offered e rest (cond offered d.stands 0) g c (drop 1 g.cards) placed front.0 front.1 above) h),
     )
 by_parts (a ∷ e ∷ rest) capacity room offered true state waiting ps qs d g placed h =
     let q = parts (a ∷ e ∷ rest) capacity room offered true in
@@ -143,7 +143,7 @@ by_parts (a ∷ e ∷ rest) capacity room offered true state waiting ps qs d g p
     let names : events (f ∷ cs) ≡ a ∷ rest = ap (λ es. f.event ∷ es) second.1 ∙ ap (λ x. x ∷ rest) (event g.cards) in (
       ((subst (λ cards. Contains cards c) (sym all) (1, omega arith, refl), All-head (λ (x : Card). g.shown ≤ x.place) c cs beyond), tt),
       subst (λ cards. Ties state waiting (withdrawn q) ps qs d (record g { cards = cards })) (sym gone)
-          (with_fewer state waiting q ps qs d g (f ∷ cs) (second_fewer capacity room offered a e rest d.stands g f c cs all names) h),
+          (with_fewer state waiting q ps qs d g (f ∷ cs) (second_fewer capacity room offered a e rest (cond offered d.stands 0) g f c cs all names) h),
     )
   where
     event : (cards : List Card) → (card_at cards a).event ≡ a

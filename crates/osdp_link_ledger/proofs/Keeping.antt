@@ -1,5 +1,5 @@
 -- Each move keeps the ledger tied to the link, and so does each list of moves.
-use Rattle.osdp_link_ledger.proofs.Common.{◌≡◌, ◌≢◌, ◌==◌, ℕ, Bool, true, false, cond, List, [], ◌∷◌, ◌++◌, length, Option, Some, None, Result, Ok, refl, sym, subst, ap, ◌∙◌, inl, inr, arith, append-nil, length-map, option_to_list, Packet, event_in, event_reply, Command, Event, MsgFault, Reply, exchange_command, Ticked, ticks, Exchange, Opening, Polling, Asking, Report, reply_packet, EventQueue, event_for, lacks_room, offering, released, unoffered, ReaderState, begun, event_or_answer, kind_of, moved, new_address, outcome, Answer, Kind, Ledger, Open, Step, MaySubmit, MoveFits, Delivered, Delivery, Link, Lost, LoseToController, LoseToReader, Move, QueueEvent, Reopen, Repeated, RestartController, RestartReader, Retarget, SetBusy, SetHandler, Submit, Tick, ToController, ToReader, Withdraw, WithdrawEvent, after_move, lost_at, told_by_front, no_event, IsRead, all_read, Due, IsSent, MovesTo, ReadsFront, Stays, due_at, Assumed, Stands, standing_so, Premises, After, Each, IsAsked, Restarted, Stage, pending, shown, is_under_way, acts_on, after_steps, gets, leaves, leaves_and_acts, leaving_events, offers, opens, order_acted, steps_of, ticked, told, to_reader}
+use Rattle.osdp_link_ledger.proofs.Common.{◌≡◌, ◌≢◌, ◌==◌, ℕ, Bool, true, false, cond, List, [], ◌∷◌, ◌++◌, length, Option, Some, None, Result, Ok, refl, sym, subst, ap, ◌∙◌, inl, inr, arith, append-nil, length-map, option_to_list, Packet, event_in, event_reply, Command, Event, MsgFault, Reply, exchange_command, Ticked, ticks, Exchange, Opening, Polling, Asking, Report, reply_packet, EventQueue, event_for, lacks_room, offering, released, unoffered, ReaderState, begun, event_or_answer, kind_of, moved, new_address, outcome, Answer, Kind, Ledger, Open, Step, MaySubmit, MoveFits, Delivered, Delivery, LapseEvent, Link, Lost, LoseToController, LoseToReader, Move, QueueEvent, Reopen, Repeated, RestartController, RestartReader, Retarget, SetBusy, SetHandler, Submit, Tick, ToController, ToReader, Withdraw, WithdrawEvent, after_move, lost_at, told_by_front, no_event, IsRead, all_read, Due, IsSent, MovesTo, ReadsFront, Stays, due_at, Assumed, Stands, standing_so, Premises, After, Each, IsAsked, Restarted, Stage, pending, shown, is_under_way, acts_on, after_steps, gets, leaves, leaves_and_acts, leaving_events, offers, opens, order_acted, steps_of, ticked, told, to_reader}
 use Rattle.osdp_msg.specs.declared.command.Command.TheVariants as command
 use Rattle.osdp_msg.specs.declared.reply.Reply.TheVariants as reply
 use Rattle.osdp_controller.specs.Hearing as controller
@@ -13,6 +13,8 @@ use Rattle.osdp_link_laws.proofs.Hearing.{closed_hears}
 use Rattle.osdp_link_ledger.proofs.Acting.{Acts, IsReady, OrdersAre, Polled, acts as acting, leaving, offers_front, offers_none, with_offers}
 use Rattle.osdp_link_ledger.proofs.Events.{withdrawing_event}
 use Rattle.osdp_link_ledger.proofs.Facts.{DueAfterReport, DueAfterTick, IsAlike, IsTold, OutIs, alike, due_hears, due_reopened, due_stays, due_ticks, none_told, out_at, reopened, told_none}
+use Rattle.osdp_link_ledger.proofs.Lapsing.{lapsing_event}
+use Rattle.osdp_link_ledger.proofs.Lists.{none_counted}
 use Rattle.osdp_link_ledger.proofs.Programs.{losing, queueing, reopening, restarting_device, restarting_panel, retargeting, submitting, withdrawing, without_events}
 use Rattle.osdp_link_ledger.proofs.Reading.{IsAnswered, IsReadAs, TakesNext, read}
 use Rattle.osdp_link_ledger.proofs.Reports.{reports}
@@ -34,7 +36,7 @@ module _ {H : Type 0} (l : Link H) (d : Due) (g : Ledger) (h : IsTied l d g) whe
   AfterTick t e k = Ties t.session.state t.waiting l.reader.queue (l.to_reader ++ option_to_list t.step.frame) l.to_controller e k
 
   same_offers : (e : Due) → IsAlike d e → OffersAre l.reader.queue d.untold d.stands g.offer g.cards → OffersAre l.reader.queue e.untold e.stands g.offer g.cards
-  same_offers e same o = record { untold = same.untold ∙ o.untold; front = o.front; counts = omega (arith, o.counts, same.stands) }
+  same_offers e same o = record { untold = same.untold ∙ o.untold; front = o.front; counts = omega (arith, o.counts, ap (λ n. cond l.reader.queue.offered n 0) same.stands) }
 
   same_acted : (e : Due) → IsAlike d e → ActedIs g.ahead g.acted d.owing → ActedIs g.ahead g.acted e.owing
   same_acted e same acted = subst (ActedIs g.ahead g.acted) (sym same.owing) acted
@@ -96,9 +98,10 @@ module _ {H : Type 0} (l : Link H) (d : Due) (g : Ledger) (h : IsTied l d g) whe
                   untold = alike.untold ∙ ap (λ (x : Due). x.untold) s.empty;
                   front = λ on. inl refl;
                   counts =
-                      let none : d.stands ≡ 0 = ap (λ (x : Due). x.stands) s.empty in
+                      let none : cond l.reader.queue.offered e.stands 0 ≡ 0 =
+                      none_counted l.reader.queue.offered e.stands (alike.stands ∙ ap (λ (x : Due). x.stands) s.empty) in
                       let all : length g.cards ≡ length l.reader.queue.events = sym (length-map g.cards (λ (c : ledger.Card). c.event)) ∙ ap length h.cards in
-                      omega (arith, alike.stands, none, all);
+                      omega (arith, none, all);
                 };
               }));
             },
@@ -286,10 +289,17 @@ module _ {H : Type 0} (answer_of : H → Command → Answer) (after : H → Comm
   -- by the kind of the packet
   by_kind : (k : Kind) → (let out = outcome answer_of after k l.reader p in
       IsReadAs k p l out.said d e → Leads (leaves_and_acts k l.reader.queue out.command out.said g) g (Becomes out.reader.queue))
-  by_kind kind.Zero (reads, due) =
+  by_kind kind.Zero (reads, due, none) =
       subst (λ read. let out = begun answer_of after read l.reader p in
       Leads (leaves_and_acts kind.Zero l.reader.queue out.command out.said g) g (Becomes out.reader.queue))
-      (sym reads) (tt, unmoved (unoffered l.reader.queue) refl refl (record { untold = o.untold; front = λ on. absurd cc; counts = o.counts }) due)
+      (sym reads) (
+        tt,
+        unmoved (unoffered l.reader.queue) refl refl (record {
+          untold = o.untold;
+          front = λ on. absurd cc;
+          counts = omega (arith, o.counts, none_counted l.reader.queue.offered d.stands none);
+        }) due,
+      )
   by_kind kind.Taken (n, s) = subst (Takes n.exchange) (sym n.reads) (takes n n.exchange refl n.asked) s
   by_kind _ due = (tt, unmoved l.reader.queue refl refl o due)
 
@@ -407,6 +417,9 @@ module _ {H : Type 0} (answer_of : H → Command → Answer) (after : H → Comm
     by_move WithdrawEvent comes =
         unchanged (link.withdraws_event l) (steps_of answer_of after WithdrawEvent l g) comes
         (withdrawing_event l.reader.queue l.controller.session.state l.controller.waiting l.to_reader l.to_controller (due_of l s) g placed h)
+    by_move LapseEvent comes =
+        unchanged (link.lapses_event l) (steps_of answer_of after LapseEvent l g) comes
+        (lapsing_event l.reader.queue l.controller.session.state l.controller.waiting l.to_reader l.to_controller (due_of l s) g placed h)
     by_move (RestartReader config handler room) comes =
         with_due (link.restarts_reader config handler room l) (steps_of answer_of after (RestartReader config handler room) l g) (without_events (due_of l s))
         (λ i. due_at (comes.0 i) (comes.1 i))

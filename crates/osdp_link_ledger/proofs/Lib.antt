@@ -6,6 +6,7 @@ pub mod Telling
 pub mod Programs
 pub mod Reports
 pub mod Events
+pub mod Lapsing
 pub mod Reading
 pub mod Acting
 pub mod Keeping

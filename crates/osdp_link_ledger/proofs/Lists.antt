@@ -8,6 +8,11 @@ commands = map (λ o. o.command)
 abbrev pub events : List Card → List Event
 events = map (λ c. c.event)
 
+-- no more than none are counted
+pub none_counted : (b : Bool) (n : ℕ) → n ≡ 0 → cond b n 0 ≡ 0
+none_counted true n none = none
+none_counted false n none = refl
+
 pub no_items : {A : Type 0} (xs : List A) → length xs ≡ 0 → xs ≡ []
 no_items [] none = refl
 no_items (x ∷ xs) none = absurd (omega (arith, none))

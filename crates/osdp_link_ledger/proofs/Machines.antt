@@ -1,6 +1,6 @@
 -- What the two machines keep says what is acted on and isn't settled, and what is offered and isn't reported.
-use Rattle.osdp_link_ledger.proofs.Common.{◌≡◌, ℕ, ◌==◌, Bool, true, false, cond, take, List, [], ◌∷◌, Option, Some, None, refl, sym, ap, ◌∙◌, inl, inr, option_to_list, event_in, Command, Event, Reply, meaning_of, ControllerConfig, Exchange, Opening, Polling, Asking, Plain, Session, Packet, next_sequence, EventQueue, ReaderState, Answer, Order, outstanding_command, Premises, is_false, is_true, next_differs, After, Before, Behind, ControllerAt, Fresh, HasActed, IsStage, Knows, Level, Never, Now, OffersEvent, ReaderAt, Rest, Restarted, Stage, Start, answer, number_after, owed, owed_at, shown, unreported_at}
-use Rattle.osdp_link_ledger.specs.Laws.{answer_to, is_polling, is_under_way, offered_to, read_as}
+use Rattle.osdp_link_ledger.proofs.Common.{◌≡◌, ℕ, ◌==◌, Bool, true, false, List, [], ◌∷◌, Option, Some, None, refl, sym, ap, ◌∙◌, inl, inr, Command, Event, Reply, meaning_of, ControllerConfig, Exchange, Opening, Polling, Asking, Plain, Session, Packet, next_sequence, ReaderState, Answer, Order, outstanding_command, Premises, is_false, is_true, next_differs, After, Before, Behind, ControllerAt, Fresh, HasActed, IsStage, Knows, Level, Never, Now, ReaderAt, Rest, Restarted, Stage, Start, answer, number_after, owed, owed_at, shown, unreported_at}
+use Rattle.osdp_link_ledger.specs.Laws.{answer_to, event_told, is_polling, is_under_way, offered_to, read_as}
 use Rattle.osdp_link_ledger.proofs.Facts.{IsAsking, asking, resting, unopened}
 use Rattle.osdp_link_ledger.proofs.Ties.{ActedIs}
 
@@ -17,13 +17,9 @@ no_answer : (out : Option Command) (stored : Option Packet) → answer_to out fa
 no_answer None stored = refl
 no_answer (Some c) stored = refl
 
-no_offer : (polls : Bool) (q : EventQueue) → offered_to polls false q ≡ []
-no_offer true q = refl
-no_offer false q = refl
-
-offered_front : (told : Option Event) (q : EventQueue) → OffersEvent told q → option_to_list told ≡ cond q.offered (take 1 q.events) []
-offered_front None q off = sym (ap (λ b. cond b (take 1 q.events) []) off)
-offered_front (Some e) q (on, ever, (rest, is)) = (λ i. cond (sym on i) (take 1 (sym is i)) [])
+no_offer : (polls : Bool) (stored : Option Packet) → offered_to polls false stored ≡ []
+no_offer true stored = refl
+no_offer false stored = refl
 
 module _ (fixed : ControllerConfig) where
   module _ {H : Type 0} (answer_of : H → Command → Answer) (after : H → Command → H) (s : Session) (r : ReaderState H) where
@@ -31,12 +27,12 @@ module _ (fixed : ControllerConfig) where
     abbrev pub AreKept : ℕ → List (Command × Reply) → List Event → Type 0
     AreKept m owing untold =
         (owed_answer owing ≡ answer_to (outstanding_command s.state) (m == s.number) r.stored)
-        × (untold ≡ offered_to (is_polling s.state) (m == s.number) r.queue)
+        × (untold ≡ offered_to (is_polling s.state) (m == s.number) r.stored)
 
     -- neither a command nor a POLL is outstanding
     none_kept : (m : ℕ) → outstanding_command s.state ≡ None → is_polling s.state ≡ false → AreKept m [] []
     none_kept m none unpolled =
-        (sym (ap (λ o. answer_to o (m == s.number) r.stored) none), sym (ap (λ b. offered_to b (m == s.number) r.queue) unpolled))
+        (sym (ap (λ o. answer_to o (m == s.number) r.stored) none), sym (ap (λ b. offered_to b (m == s.number) r.stored) unpolled))
 
     has_acted : (since : Restarted) (m n : ℕ) (x : Exchange) (a : Reply) → r.last ≡ Some m → Knows fixed since n x a r → HasActed fixed n x a r
     has_acted Never m n x a last acted = acted
@@ -53,7 +49,7 @@ module _ (fixed : ControllerConfig) where
         let same = same_number m n last (acted.here here).0 in
         let differs : (m == s.number) ≡ false = is_false m s.number (λ e. next_differs n (sym asks.is_open.1 ∙ sym e ∙ same)) in (
           sym (ap (λ t. answer_to (outstanding_command s.state) t r.stored) differs ∙ no_answer (outstanding_command s.state) r.stored),
-          sym (ap (λ t. offered_to (is_polling s.state) t r.queue) differs ∙ no_offer (is_polling s.state) r.queue),
+          sym (ap (λ t. offered_to (is_polling s.state) t r.stored) differs ∙ no_offer (is_polling s.state) r.stored),
         )
 
     -- it has: its last number is that of the exchange
@@ -61,15 +57,16 @@ module _ (fixed : ControllerConfig) where
         → IsAsking fixed n x s → meaning_of (answer fixed n a) ≡ Plain a → AreKept m (owed x a) (shown x a)
     kept_for_last m n Opening a here last acted asks says = none_kept m asks.command asks.polls
     kept_for_last m n Polling a here last acted asks says =
-        let same = is_true m s.number (same_number m n last (acted.here here).0 ∙ sym asks.is_open.1) in (
+        let kept = acted.here here in
+        let same = is_true m s.number (same_number m n last kept.0 ∙ sym asks.is_open.1) in (
           sym (ap (λ o. answer_to o (m == s.number) r.stored) asks.command),
-          offered_front (event_in a) r.queue acted.offer ∙ (λ i. offered_to (sym asks.polls i) (sym same i) r.queue),
+          ap (λ meaning. event_told (read_as meaning)) (sym says) ∙ (λ i. offered_to (sym asks.polls i) (sym same i) (sym kept.1 i)),
         )
     kept_for_last m n (Asking c) a here last acted asks says =
         let kept = acted.here here in
         let same = is_true m s.number (same_number m n last kept.0 ∙ sym asks.is_open.1) in (
           ap read_as (sym says) ∙ (λ i. answer_to (sym asks.command i) (sym same i) (sym kept.1 i)),
-          sym (ap (λ b. offered_to b (m == s.number) r.queue) asks.polls),
+          sym (ap (λ b. offered_to b (m == s.number) r.stored) asks.polls),
         )
 
     pub kept_at : Premises fixed answer_of after → (since : Restarted) (at : Stage) (m : ℕ) → IsStage at → ControllerAt fixed at s → ReaderAt fixed since at r

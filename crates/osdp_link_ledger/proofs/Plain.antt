@@ -1,4 +1,4 @@
--- What ordinary moves show: steps by which nobody loses power, and nothing is taken back.
+-- What ordinary moves show: steps by which nobody loses power, nothing is taken back and no event lapses.
 use Rattle.osdp_link_ledger.proofs.Common.{◌+◌, ℕ, Bool, true, false, List, [], ◌∷◌, Option, Some, None, Packet, event_in, Command, Id, Poll, Event, Reply, ticks, ControllerFault, Report, State, Quiet, lacks_room, ReaderState, hears, kind_of, Answer, Kind, Act, Card, Close, Doubt, Lapse, Leave, Ledger, Offers, Open, Order, Reports, RestartDevice, RestartPanel, Settle, Step, new_ledger, Delivered, Delivery, Link, Lost, Move, Repeated, RestartController, RestartReader, Tick, ToController, ToReader, after_move, told_by_front, each_all, each_append, each_map, each_of, Each, acts, acts_at_zero, acts_on, after_steps, all_steps, gets, leaves, leaving, offers, opens, queued_before, queues, steps_before, steps_from, steps_of, submits, submitted_before, to_reader, told}
 use Rattle.osdp_controller.specs.Machine.{submit_refusal}
 use Rattle.osdp_controller.specs.declared.report.Report.TheVariants as report
@@ -124,6 +124,7 @@ module _ {H : Type 0} (answer_of : H → Command → Answer) (after : H → Comm
       let r = told_by_front how l.to_controller now l.controller.session in are_plain (told r g) (told_done r g)
   move_plain link.Withdraw l g ordinary = absurd ordinary
   move_plain link.WithdrawEvent l g ordinary = absurd ordinary
+  move_plain link.LapseEvent l g ordinary = absurd ordinary
   move_plain (RestartReader config handler room) l g ordinary = absurd ordinary
   move_plain (RestartController config room) l g ordinary = absurd ordinary
   move_plain _ l g ordinary = tt

@@ -1,5 +1,5 @@
 -- What a packet that the device reads says of the session.
-use Rattle.osdp_link_ledger.proofs.Common.{◌≡◌, ◌+◌, ℕ, true, false, [], length, Option, Some, None, Ok, refl, sym, subst, ap, ◌∙◌, arith, length-append, option_to_list, Packet, event_in, Command, Event, Reply, exchange_command, ControllerConfig, Exchange, Opening, Polling, Asking, EventQueue, released, command_in, Answer, Kind, Link, leaves_shown, Due, ReadsTo, due_at, stands, stood, At}
+use Rattle.osdp_link_ledger.proofs.Common.{◌≡◌, ◌+◌, ℕ, Bool, true, false, cond, List, [], length, Option, Some, None, Ok, refl, sym, subst, ap, ◌∙◌, arith, length-append, option_to_list, Packet, event_in, Command, Event, Reply, exchange_command, ControllerConfig, Exchange, Opening, Polling, Asking, EventQueue, released, command_in, Answer, Kind, Link, leaves_shown, Due, ReadsTo, due_at, standing_at, stands, stood, At}
 use Rattle.osdp_msg.specs.declared.command.Command.TheVariants as command
 use Rattle.osdp_reader.specs.declared.kind.Kind.TheVariants as kind
 use Rattle.osdp_link_laws.proofs.Since.{Hears, has_acted}
@@ -16,7 +16,7 @@ pub record TakesNext {H : Type 0} (p : Packet) (l : Link H) (d : Due) : Type 0 w
   pub owing : d.owing ≡ []
   pub untold : d.untold ≡ []
   pub heard : l.reader.queue.offered ≡ true → d.stands ≡ 1
-  pub counts : length l.reader.queue.events ≡ d.stands + length (released l.reader.queue).events
+  pub counts : length l.reader.queue.events ≡ cond l.reader.queue.offered d.stands 0 + length (released l.reader.queue).events
 
 -- .. and what the device says is due after it
 pub record IsAnswered (x : Exchange) (said : Option Reply) (e : Due) : Type 0 where
@@ -27,13 +27,18 @@ pub record IsAnswered (x : Exchange) (said : Option Reply) (e : Due) : Type 0 wh
   pub untold : e.untold ≡ shown x answer
   pub stands : e.stands ≡ length (shown x answer)
 
--- what a packet may be to the device, by its kind: but where a command is taken as much is due as before
+-- what a packet may be to the device, by its kind: but where a command is taken as much is due as before, and where number 0 comes nothing that was
+-- offered in this session stands in the queue
 abbrev pub IsReadAs : {H : Type 0} → Kind → Packet → Link H → Option Reply → Due → Due → Type 0
 IsReadAs kind.Taken p l said d e = (n : TakesNext p l d) × IsAnswered n.exchange said e
-IsReadAs kind.Zero p l said d e = (command_in p ≡ Ok (command.Id 0)) × (e ≡ d)
+IsReadAs kind.Zero p l said d e = (command_in p ≡ Ok (command.Id 0)) × (e ≡ d) × (d.stands ≡ 0)
 IsReadAs _ p l said d e = e ≡ d
 
 -- ---- the queue
+
+counted : (on : Bool) (es : List Event) → length (cond on es []) ≡ cond on (length es) 0
+counted true es = refl
+counted false es = refl
 
 -- what is offered was told last
 heard_event : (told : Option Event) (q : EventQueue) → OffersEvent told q → q.offered ≡ true → length (option_to_list told) ≡ 1
@@ -52,9 +57,12 @@ module _ (fixed : ControllerConfig) {H : Type 0} (answer_of : H → Command → 
   takes since n y b x p l hears h reads =
       let acted = has_acted fixed since n y b l.reader hears h.reader in
       let left = (released l.reader.queue).events in
-      let counts : length l.reader.queue.events ≡ length (shown y b) + length left =
-      ap length (leaves_shown y b l.reader.queue acted.offer) ∙ length-append (shown y b) left in
+      let on = l.reader.queue.offered in
       let front = ap length (stood since hears n y b x) in
+      let gone : length (cond on (shown y b) []) ≡ cond on (length (standing_at since (Behind (After n y b) x))) 0 =
+      counted on (shown y b) ∙ ap (λ m. cond on m 0) (sym front) in
+      let counts : length l.reader.queue.events ≡ length (cond on (shown y b) []) + length left =
+      ap length (leaves_shown y b l.reader.queue acted.offer) ∙ length-append (cond on (shown y b) []) left in
       record {
         exchange = x;
         past = (n, y, b);
@@ -64,7 +72,7 @@ module _ (fixed : ControllerConfig) {H : Type 0} (answer_of : H → Command → 
         owing = refl;
         untold = refl;
         heard = λ on. front ∙ heard_shown y b l.reader.queue acted.offer on;
-        counts = omega (arith, counts, front);
+        counts = omega (arith, counts, gone);
       }
 
   answers : (since : Restarted) (past : Past) (x : Exchange) (said : Option Reply) (a : Reply) → Hears since → said ≡ Some a → IsAnswered x said (due_at since (Level past x a))
@@ -84,5 +92,5 @@ module _ (fixed : ControllerConfig) {H : Type 0} (answer_of : H → Command → 
   pub read : (k : Kind) (since : Restarted) (at : Stage) (new : Restarted) (to : Stage) (p : Packet) (said : Option Reply) (l : Link H)
       → At fixed answer_of after since at l → ReadsTo k (command_in p) said since at new to → IsReadAs k p l said (due_at since at) (due_at new to)
   read kind.Taken since at new to p said l h is = read_taken since at new to p said l h is
-  read kind.Zero since at new to p said l h is = (is.0, is.1.due)
+  read kind.Zero since at new to p said l h is = (is.0, is.1.due, ap length is.1.stood)
   read _ since at new to p said l h is = due_stays since at new to is

@@ -1,5 +1,5 @@
 -- What a report says: the ledger stays tied.
-use Rattle.osdp_link_ledger.proofs.Common.{◌≡◌, ◌+◌, ◌⊎◌, suc, true, List, [], ◌∷◌, ◌++◌, length, map, drop, Option, Some, None, refl, sym, subst, ap, ◌∙◌, inl, inr, arith, length-append, length-map, option_to_list, Packet, Command, Event, Reply, Report, State, Closed, Close, Doubt, Ledger, NoOffer, Offer, Order, Reported, Settle, Unreported, asked, Link, is_under_way, unreported_in, offered_at, order_at, told, Due}
+use Rattle.osdp_link_ledger.proofs.Common.{◌≡◌, ◌+◌, ◌⊎◌, ℕ, suc, true, cond, List, [], ◌∷◌, ◌++◌, length, map, drop, Option, Some, None, refl, sym, subst, ap, ◌∙◌, inl, inr, arith, length-append, length-map, option_to_list, Packet, Command, Event, Reply, Report, State, Closed, Close, Doubt, Ledger, NoOffer, Offer, Reported, Settle, Unreported, asked, Link, is_under_way, unreported_in, offered_at, order_at, told, Due}
 use Rattle.osdp_msg.specs.declared.reply.Reply.TheVariants as reply
 use Rattle.osdp_controller.specs.declared.report.Report.TheVariants as report
 use Rattle.osdp_ledger.specs.Ledger as ledger
@@ -21,9 +21,13 @@ module _ {H : Type 0} (l : Link H) (d : Due) (g : Ledger) (f : OutIs l.controlle
   under_way : g.is_open ≡ true
   under_way = h.is_open ∙ s.way
 
+  -- as many are counted
+  counted : {m n : ℕ} → m ≡ n → cond l.reader.queue.offered m 0 ≡ cond l.reader.queue.offered n 0
+  counted same = ap (λ n. cond l.reader.queue.offered n 0) same
+
   -- what was offered stays so
   offers_stay : (e : Due) → e.untold ≡ d.untold → e.stands ≡ d.stands → OffersAre l.reader.queue e.untold e.stands g.offer g.cards
-  offers_stay e untold stands = record { untold = untold ∙ s.offers.untold; front = s.offers.front; counts = omega (arith, s.offers.counts, stands) }
+  offers_stay e untold stands = record { untold = untold ∙ s.offers.untold; front = s.offers.front; counts = omega (arith, s.offers.counts, counted stands) }
 
   stays : (e : Due) (new : State) (ps qs : List Packet) → e ≡ d → Stays state new → Becomes new ps qs e g
   stays e new ps qs due same = subst (λ x. Becomes new ps qs x g) (sym due) (record {
@@ -123,9 +127,9 @@ module _ {H : Type 0} (l : Link H) (d : Due) (g : Ledger) (f : OutIs l.controlle
                   untold = sym rest;
                   front = λ on. by_front (subst (λ o. (o ≡ NoOffer) ⊎ IsOfferedFront o g.cards) is (s.offers.front on));
                   counts =
-                      let all : length l.reader.queue.events ≡ d.stands + length (not_offered (Unreported c) g.cards) =
-                      subst (λ o. length l.reader.queue.events ≡ d.stands + length (not_offered o g.cards)) is s.offers.counts in
-                      omega (arith, all, later.stands);
+                      let all : length l.reader.queue.events ≡ cond l.reader.queue.offered d.stands 0 + length (not_offered (Unreported c) g.cards) =
+                      subst (λ o. length l.reader.queue.events ≡ cond l.reader.queue.offered d.stands 0 + length (not_offered o g.cards)) is s.offers.counts in
+                      omega (arith, all, counted later.stands);
                 });
               }));
             },

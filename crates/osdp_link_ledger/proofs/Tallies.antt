@@ -1,7 +1,7 @@
 -- What a history says and what accounts say, as plain lists: what each step adds to the ones its move adds to the others.
-use Rattle.osdp_link_ledger.proofs.Common.{◌≡◌, ℕ, Bool, true, false, List, [], ◌∷◌, ◌++◌, flat_map, is_some, map, Option, Some, None, refl, sym, ap, ◌∙◌, append_assoc, append-nil, map-append, Packet, event_in, Command, Event, Reply, Report, State, Closed, Quiet, Idle, AfterReport, End, Forgotten, GivenBack, History, InDoubt, Left, Settled, TakenBack, ThrownAway, ends_at_restart, runs, steps_on, Card, Ledger, NoOffer, Offer, Order, RestartDevice, RestartPanel, Account, Removal, after_report, outstanding_command, in_all, cut_off_as, doubted_as, removed_as, settled_as, taken_back_as, is_under_way, acts_on, card_at, leaves, offered_at, offers, opens, order_acted, order_at, told, withdraws, withdraws_event}
+use Rattle.osdp_link_ledger.proofs.Common.{◌≡◌, ℕ, Bool, true, false, cond, ltb, List, [], ◌∷◌, ◌++◌, flat_map, is_some, map, Option, Some, None, refl, sym, ap, ◌∙◌, append_assoc, append-nil, map-append, Packet, event_in, Command, Event, Reply, Report, State, Closed, Quiet, End, Forgotten, GivenBack, History, InDoubt, Settled, ends_at_restart, runs, steps_on, Card, Lapse, Ledger, NoOffer, Offer, Order, RestartDevice, RestartPanel, Account, Removal, after_report, outstanding_command, in_all, cut_off_as, doubted_as, removed_as, settled_as, is_under_way, acts_on, card_at, gives_up_event, lapses_event, leaves, offered_at, offers, opens, order_acted, order_at, told, withdraws, withdraws_event}
 use Rattle.std.proofs.lemmas.Grind.{flat_map-append}
-use Rattle.std.specs.Prelude.{drop, if◌then◌else◌, option_to_list}
+use Rattle.std.specs.Prelude.{if◌then◌else◌, option_to_list}
 use Rattle.osdp_msg.specs.declared.command.Command.TheVariants as command
 use Rattle.osdp_msg.specs.declared.reply.Reply.TheVariants as reply
 use Rattle.osdp_controller.specs.declared.report.Report.TheVariants as report
@@ -22,9 +22,6 @@ by_cut e = cut_off_as e.0 e.1
 abbrev by_removal : Order × End → List Removal
 by_removal e = removed_as e.0 e.1
 
-abbrev by_exit : Left → List Event
-by_exit w = taken_back_as w.card w.why
-
 abbrev asked_in : Order × Reply → Command × Reply
 asked_in d = (d.0.command, d.1)
 
@@ -40,7 +37,6 @@ pub record Tally : Type 0 where
   pub cut_off : List Command
   pub removed : List Removal
   pub reported : List Event
-  pub withdrawn : List Event
 
 abbrev pub of_history : History → Tally
 of_history h = record {
@@ -52,7 +48,6 @@ of_history h = record {
   cut_off = flat_map by_cut h.ended;
   removed = flat_map by_removal h.ended;
   reported = map event_of h.reports;
-  withdrawn = flat_map by_exit h.left;
 }
 
 -- of these commands and events, and these sessions, the last of them first
@@ -66,7 +61,6 @@ of_accounts cs es ts = record {
   cut_off = in_all (λ t. t.forgotten) ts;
   removed = in_all (λ t. t.removed) ts;
   reported = in_all (λ t. t.reported) ts;
-  withdrawn = in_all (λ t. t.withdrawn) ts;
 }
 
 abbrev pub Tells : List Command → List Event → List Account → History → Type 0
@@ -93,17 +87,6 @@ ends_more more h =
       removed = flat_map-append by_removal h.ended more i;
     })
 
-exits_more : (more : List Left) (h : History) → of_history (record h { left = h.left ++ more })
-    ≡ record (of_history h) { withdrawn = (of_history h).withdrawn ++ flat_map by_exit more }
-exits_more more h = (λ i. record (of_history h) { withdrawn = flat_map-append by_exit h.left more i })
-
--- none of these was taken back
-exits_none : (more : List Left) (h : History) → flat_map by_exit more ≡ [] → of_history (record h { left = h.left ++ more }) ≡ of_history h
-exits_none more h none =
-    exits_more more h
-    ∙ (λ i. record (of_history h) { withdrawn = (of_history h).withdrawn ++ none i })
-    ∙ (λ i. record (of_history h) { withdrawn = append-nil (of_history h).withdrawn i })
-
 pub submits_more : (o : Order) (cs : List Command) (es : List Event) (ts : List Account) (h : History) → Tells cs es ts h → Tells (cs ++ o.command ∷ []) es ts (steps_on (ledger.Submit o) h)
 submits_more o cs es ts h is =
     (λ i. record (of_history h) { orders = map-append (λ (o : Order). o.command) h.accepted (o ∷ []) i })
@@ -122,10 +105,6 @@ command_at (o ∷ os) c = refl
 
 pub order_is : (c : Command) (g : Ledger) → (order_acted c g).command ≡ c
 order_is c g = command_at (if g.is_open then g.ahead else option_to_list g.late) c
-
-event_at : (cards : List Card) (e : Event) → (card_at cards e).event ≡ e
-event_at [] e = refl
-event_at (c ∷ cs) e = refl
 
 pub offered_event : (offer : Offer) (e : Event) → (offered_at offer e).event ≡ e
 offered_event NoOffer e = refl
@@ -204,9 +183,6 @@ module _ (cs : List Command) (es : List Event) (earlier : List Account) where
         removed = append_assoc (in_all (λ t. t.removed) earlier) t.removed more i;
       })
 
-  told_withdrawn : (more : List Event) (t : Account) → record (said t) { withdrawn = (said t).withdrawn ++ more } ≡ said (record t { withdrawn = t.withdrawn ++ more })
-  told_withdrawn more t = (λ i. record (said t) { withdrawn = append_assoc (in_all (λ t. t.withdrawn) earlier) t.withdrawn more i })
-
   -- ---- reports
 
   settles : (t : Account) (h : History) (g : Ledger) (c : Command) (a : Reply) → Now t h
@@ -252,7 +228,7 @@ module _ (cs : List Command) (es : List Event) (earlier : List Account) where
 
   pub leaving_tally : (front : List Event) (t : Account) (h : History) (g : Ledger) → Now t h → Now t (runs (leaves front g) h)
   leaving_tally [] t h g is = is
-  leaving_tally (e ∷ rest) t h g is = exits_none (record { session = h.sessions; card = card_at g.cards e; why = AfterReport } ∷ []) h refl ∙ is
+  leaving_tally (e ∷ rest) t h g is = is
 
   offering_tally : (event : Option Event) (t : Account) (h : History) (g : Ledger) → Now t h → Now t (runs (offers event g) h)
   offering_tally None t h g is = is
@@ -282,26 +258,34 @@ module _ (cs : List Command) (es : List Event) (earlier : List Account) where
       ∙ told_removed [] (link.Withdrawn c ∷ []) t
       ∙ (λ i. record (said (record t { removed = t.removed ++ link.Withdrawn c ∷ [] })) { cut_off = in_all (λ t. t.forgotten) earlier ++ append-nil t.forgotten i })
 
-  pub withdrawing_event_tally : (out : Option Event) (ever : Bool) (stayed kept : List Event) (t : Account) (h : History) (g : Ledger) → Now t h
-      → Now (record t { withdrawn = t.withdrawn ++ option_to_list out; stayed = stayed; kept = kept }) (runs (withdraws_event out ever g) h)
-  withdrawing_event_tally None ever stayed kept t h g is =
-      is ∙ (λ i. record (said t) { withdrawn = ap (λ l. in_all (λ t. t.withdrawn) earlier ++ l) (sym (append-nil t.withdrawn)) i })
-  withdrawing_event_tally (Some e) ever stayed kept t h g is =
-      let cards = if ever then drop 1 g.cards else g.cards in
-      exits_more (record { session = h.sessions; card = card_at cards e; why = TakenBack } ∷ []) h
-      ∙ (λ i. record (is i) { withdrawn = (is i).withdrawn ++ event_at cards e i ∷ [] })
-      ∙ told_withdrawn (e ∷ []) t
+  pub withdrawing_event_tally : (out : Option Event) (ever : Bool) (gone stayed kept : List Event) (t : Account) (h : History) (g : Ledger) → Now t h
+      → Now (record t { withdrawn = gone; stayed = stayed; kept = kept }) (runs (withdraws_event out ever g) h)
+  withdrawing_event_tally None ever gone stayed kept t h g is = is
+  withdrawing_event_tally (Some e) ever gone stayed kept t h g is = is
+
+  -- the account of a lapse, whose event may have been offered in this session or before
+  lapsed_account : (old : Bool) (kept thrown : List Event) (t : Account) (h : History) → Now t h
+      → Now (cond old (record t { kept = kept; thrown_away = thrown }) t) h
+  lapsed_account true kept thrown t h is = is
+  lapsed_account false kept thrown t h is = is
+
+  lapsed_step : (shown : Bool) (c : Card) (t : Account) (h : History) → Now t h → Now t (steps_on (cond shown (Lapse c) (ledger.WithdrawEvent c)) h)
+  lapsed_step true c t h is = is
+  lapsed_step false c t h is = is
+
+  pub lapsing_event_tally : (out : Option Event) (old : Bool) (kept thrown : List Event) (t : Account) (h : History) (g : Ledger) → Now t h
+      → Now (cond old (record t { kept = kept; thrown_away = thrown }) t) (runs (lapses_event out g) h)
+  lapsing_event_tally None old kept thrown t h g is = lapsed_account old kept thrown t h is
+  lapsing_event_tally (Some e) old kept thrown t h g is =
+      let c = card_at g.cards e in
+      let new = steps_on (gives_up_event c g.shown) h in
+      lapsed_account old kept thrown t new (lapsed_step (ltb c.place g.shown) c t h is)
 
   -- ---- power
 
-  none_back : (sessions : ℕ) (cards : List Card) → flat_map by_exit (map (λ c. record { session = sessions; card = c; why = ThrownAway }) cards) ≡ []
-  none_back sessions [] = refl
-  none_back sessions (c ∷ cards) = none_back sessions cards
-
   pub device_tally : (kept thrown : List Event) (count : ℕ) (t : Account) (h : History) → Now t h
       → Now (record t { kept = kept; thrown_away = thrown; restarts = count }) (steps_on RestartDevice h)
-  device_tally kept thrown count t h is =
-      exits_none (map (λ c. record { session = h.sessions; card = c; why = ThrownAway }) h.ledger.cards) h (none_back h.sessions h.ledger.cards) ∙ is
+  device_tally kept thrown count t h is = is
 
   pub panel_tally : (out waiting : List Command) (on_wire : Bool) (t : Account) (h : History) → EndsAtRestart out waiting (ends_at_restart h.ledger.is_open on_wire h.ledger.ahead)
       → Now t h → Now (record t { forgotten = t.forgotten ++ out; removed = t.removed ++ map link.ThrownAway waiting }) (steps_on (RestartPanel on_wire) h)
@@ -320,5 +304,4 @@ module _ (cs : List Command) (es : List Event) (earlier : List Account) where
         cut_off = sym (append-nil (said t).cut_off) i;
         removed = sym (append-nil (said t).removed) i;
         reported = sym (append-nil (said t).reported) i;
-        withdrawn = sym (append-nil (said t).withdrawn) i;
       })

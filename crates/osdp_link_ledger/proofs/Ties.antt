@@ -1,5 +1,5 @@
 -- What ties the ledger to a link.
-use Rattle.osdp_link_ledger.proofs.Common.{◌≡◌, ◌≤◌, ◌+◌, ◌⊎◌, ℕ, true, false, List, [], ◌∷◌, ◌++◌, length, Option, Some, None, All, refl, option_to_list, Packet, Command, Event, Reply, State, Closed, EventQueue, AreAllowed, History, runs, steps_on, Card, Ledger, May, NoOffer, Offer, Order, Reported, Step, Unreported, after, keeps, Beyond, Events, IsUpTo, OfferIs, Rising, Link, is_under_way, unreported_in, after_steps, Due}
+use Rattle.osdp_link_ledger.proofs.Common.{◌≡◌, ◌≤◌, ◌+◌, ◌⊎◌, ℕ, true, false, cond, List, [], ◌∷◌, ◌++◌, length, Option, Some, None, All, refl, option_to_list, Packet, Command, Event, Reply, State, Closed, EventQueue, AreAllowed, History, runs, steps_on, Card, Ledger, May, NoOffer, Offer, Order, Reported, Step, Unreported, after, keeps, Beyond, Events, IsUpTo, OfferIs, Rising, Link, is_under_way, unreported_in, after_steps, Due}
 use Rattle.osdp_link_ledger.proofs.Facts.{none_due, out_of}
 use Rattle.osdp_link_ledger.proofs.Lists.{FrontUnshown, IsOfferedFront, StandsAt, commands, events, not_offered}
 
@@ -81,10 +81,11 @@ pub record OneOwed (orders : List Order) (done : Option Reply) (answers : List (
 abbrev pub ActedIs : List Order → Option Reply → List (Command × Reply) → Type 0
 ActedIs ahead acted owing = NothingOwed acted owing ⊎ OneOwed ahead acted owing
 
+-- the events of the queue that were offered in this session are counted while its front is offered: one that has lapsed stands there no more
 pub record OffersAre (q : EventQueue) (waits : List Event) (stands : ℕ) (offer : Offer) (cards : List Card) : Type 0 where
   pub untold : waits ≡ unreported_in offer
   pub front : q.offered ≡ true → (offer ≡ NoOffer) ⊎ IsOfferedFront offer cards
-  pub counts : length q.events ≡ stands + length (not_offered offer cards)
+  pub counts : length q.events ≡ cond q.offered stands 0 + length (not_offered offer cards)
 
 -- no packet of the session has gone out yet
 pub record IsUnopened (state : State) (ps qs : List Packet) (d : Due) (done : Option Reply) : Type 0 where

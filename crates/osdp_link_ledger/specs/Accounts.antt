@@ -4,7 +4,7 @@ use Rattle.osdp_msg.specs.declared.command.Command.{Command}
 use Rattle.osdp_msg.specs.declared.event.Event.{Event}
 use Rattle.osdp_msg.specs.declared.reply.Reply.{Reply}
 use Rattle.osdp_reader.specs.declared.handler.Answer.{Answer}
-use Rattle.osdp_ledger.specs.History.{CutOff, End, Exit, Forgotten, GivenBack, History, InDoubt, Left, Settled, TakenBack, new_history, runs}
+use Rattle.osdp_ledger.specs.History.{CutOff, End, Forgotten, GivenBack, History, InDoubt, Settled, new_history, runs}
 use Rattle.osdp_ledger.specs.Ledger.{Card, Order}
 use Rattle.osdp_link_laws.specs.Headline.{Begins, MovesFit}
 use Rattle.osdp_link_laws.specs.Link as link
@@ -30,13 +30,8 @@ removed_as order GivenBack = link.Withdrawn order.command ∷ []
 removed_as order Forgotten = link.ThrownAway order.command ∷ []
 removed_as order _ = []
 
--- the events that were taken back
-abbrev pub taken_back_as : Card → Exit → List Event
-taken_back_as card TakenBack = card.event ∷ []
-taken_back_as card _ = []
-
 -- these commands were accepted and these events queued; of the commands those acted on, settled, told in doubt, cut off by a loss of power, and
--- withdrawn or forgotten, and of the events those reported and taken back, are those of the accounts
+-- withdrawn or forgotten, and the events reported, are those of the accounts
 pub record TellsAccounts {H : Type 0} (accepted : List Command) (queued : List Event) (l : Link H) (h : History) : Type 0 where
   pub orders : map (λ (o : Order). o.command) h.accepted ≡ accepted
   pub cards : map (λ (c : Card). c.event) h.queued ≡ queued
@@ -46,7 +41,6 @@ pub record TellsAccounts {H : Type 0} (accepted : List Command) (queued : List E
   pub cut_off : flat_map (λ (e : Order × End). cut_off_as e.0 e.1) h.ended ≡ in_all (λ t. t.forgotten) (l.account ∷ l.earlier)
   pub removed : flat_map (λ (e : Order × End). removed_as e.0 e.1) h.ended ≡ in_all (λ t. t.removed) (l.account ∷ l.earlier)
   pub reported : map (λ (r : ℕ × Card). r.1.event) h.reports ≡ in_all (λ t. t.reported) (l.account ∷ l.earlier)
-  pub withdrawn : flat_map (λ (w : Left). taken_back_as w.card w.why) h.left ≡ in_all (λ t. t.withdrawn) (l.account ∷ l.earlier)
 
 module _ {H : Type 0} (answer_of : H → Command → Answer) (after : H → Command → H) where
   abbrev pub LedgerTellsAccounts : Type 0

@@ -1,6 +1,7 @@
 -- A link keeps the ledger of its two programs.
-use Rattle.std.specs.Prelude.{◌≡◌, ℕ, ◌==◌, Bool, true, false, if◌then◌else◌, take, List, [], ◌∷◌, ◌++◌, map, Option, Some, None, option_to_list}
+use Rattle.std.specs.Prelude.{◌≡◌, ℕ, ◌==◌, Bool, true, false, List, [], ◌∷◌, ◌++◌, map, Option, Some, None, option_to_list}
 use Rattle.osdp_frame.specs.Packet.{Packet}
+use Rattle.osdp_msg.specs.Events.{event_in}
 use Rattle.osdp_msg.specs.declared.command.Command.{Command}
 use Rattle.osdp_msg.specs.declared.event.Event.{Event}
 use Rattle.osdp_msg.specs.declared.reply.Reply.{Reply}
@@ -11,7 +12,6 @@ use Rattle.osdp_controller.specs.declared.meaning.ReplyMeaning.{ReplyMeaning}
 use Rattle.osdp_controller.specs.declared.meaning.ReplyMeaning.TheVariants.{Plain}
 use Rattle.osdp_controller.specs.declared.state.State.{State}
 use Rattle.osdp_controller.specs.declared.state.State.TheVariants.{Closed, Quiet, Waiting, Pausing}
-use Rattle.osdp_reader.specs.Queue.{Queue as EventQueue}
 use Rattle.osdp_reader.specs.declared.handler.Answer.{Answer}
 use Rattle.osdp_ledger.specs.History.{AreAllowed, new_history, runs}
 use Rattle.osdp_ledger.specs.Laws.{EventsHold, OrdersHold}
@@ -56,10 +56,14 @@ abbrev pub answer_to : Option Command → Bool → Option Packet → Option Repl
 answer_to (Some command) true stored = stored_answer stored
 answer_to _ _ stored = None
 
--- the front of its queue, where a POLL is outstanding, its last number is that POLL's, and it offers the front
-abbrev pub offered_to : Bool → Bool → EventQueue → List Event
-offered_to true true q = if q.offered then take 1 q.events else []
-offered_to _ _ q = []
+-- the event that its answer to the POLL that is outstanding tells, where its last number is that POLL's: the answer that it stores
+abbrev pub event_told : Option Reply → List Event
+event_told None = []
+event_told (Some answer) = option_to_list (event_in answer)
+
+abbrev pub offered_to : Bool → Bool → Option Packet → List Event
+offered_to true true stored = event_told (stored_answer stored)
+offered_to _ _ stored = []
 
 -- the device is where the panel's packets go, and this is its last number. A device that has lost power, or has gone to another address, has none
 -- until number 0 comes.
@@ -69,7 +73,7 @@ HasNumber {H} l n = (l.reader.config.address ≡ l.controller.session.config.add
 -- the ledger is the link's. The commands that have no end yet are the outstanding one and those that wait, a session is under way where the controller
 -- has one, and the events are those of the device's queue. While a session is under way, and the device has a number: an order is acted on exactly where
 -- that is the number of the command that is outstanding, by the answer that the device stores; and an event is unreported exactly where it is the number
--- of the POLL that is outstanding, and the device offers its front. Where no command is outstanding none is acted on, and where no POLL is no event is
+-- of the POLL that is outstanding, and that answer tells it. Where no command is outstanding none is acted on, and where no POLL is no event is
 -- unreported, whatever has become of the device.
 pub record IsLedgerOf {H : Type 0} (l : Link H) (g : Ledger) : Type 0 where
   pub ahead : map (λ (o : Order). o.command) g.ahead ≡ option_to_list (outstanding_command l.controller.session.state) ++ l.controller.waiting
@@ -78,7 +82,7 @@ pub record IsLedgerOf {H : Type 0} (l : Link H) (g : Ledger) : Type 0 where
       → g.acted ≡ answer_to (outstanding_command l.controller.session.state) (n == l.controller.session.number) l.reader.stored
   pub unasked : g.is_open ≡ true → outstanding_command l.controller.session.state ≡ None → g.acted ≡ None
   pub offer : g.is_open ≡ true → (n : ℕ) → HasNumber l n
-      → unreported_in g.offer ≡ offered_to (is_polling l.controller.session.state) (n == l.controller.session.number) l.reader.queue
+      → unreported_in g.offer ≡ offered_to (is_polling l.controller.session.state) (n == l.controller.session.number) l.reader.stored
   pub unpolled : g.is_open ≡ true → is_polling l.controller.session.state ≡ false → unreported_in g.offer ≡ []
   pub cards : map (λ (c : Card). c.event) g.cards ≡ l.reader.queue.events
 

@@ -1,4 +1,4 @@
--- Where neither end restarts and nothing is withdrawn, all that ends is told.
+-- Where neither end restarts, nothing is withdrawn and no event lapses, all that ends is told.
 use Rattle.std.specs.Prelude.{List, All}
 use Rattle.osdp_msg.specs.declared.command.Command.{Command}
 use Rattle.osdp_reader.specs.declared.handler.Answer.{Answer}

@@ -1,7 +1,7 @@
 -- What a move of a link shows the two programs, as steps of the ledger: what a call answers, what goes out, what the device acts on and
 -- answers, what leaves its queue, and what is reported. Commands, answers and events are the machines' own. Of the ledger places alone are
 -- read: the machines keep lists, in which equal commands are told apart by where they stand.
-use Rattle.std.specs.Prelude.{ℕ, ◌+◌, Bool, true, false, if◌then◌else◌, is_some, drop, take, List, [], ◌∷◌, ◌++◌, Option, Some, None, option_to_list}
+use Rattle.std.specs.Prelude.{ℕ, ◌+◌, Bool, true, false, nat_lt, if◌then◌else◌, is_some, drop, take, List, [], ◌∷◌, ◌++◌, Option, Some, None, option_to_list}
 use Rattle.osdp_frame.specs.Packet.{Packet}
 use Rattle.osdp_msg.specs.Events.{event_in}
 use Rattle.osdp_msg.specs.declared.command.Command.{Command}
@@ -16,7 +16,7 @@ use Rattle.osdp_controller.specs.declared.report.Report.{Report}
 use Rattle.osdp_controller.specs.declared.report.Report.TheVariants as report
 use Rattle.osdp_controller.specs.declared.state.State.{State}
 use Rattle.osdp_controller.specs.declared.state.State.TheVariants.{Quiet}
-use Rattle.osdp_reader.specs.Queue.{Queue as EventQueue, lacks_room, never_offered}
+use Rattle.osdp_reader.specs.Queue.{Queue as EventQueue, in_doubt, lacks_room, never_offered}
 use Rattle.osdp_reader.specs.State.{ReaderState}
 use Rattle.osdp_reader.specs.Table.{hears, kind_of}
 use Rattle.osdp_reader.specs.declared.handler.Answer.{Answer}
@@ -95,6 +95,14 @@ abbrev pub withdraws_event : Option Event → Bool → Ledger → List Step
 withdraws_event None ever_offered g = []
 withdraws_event (Some event) ever_offered g = ledger.WithdrawEvent (card_at (if ever_offered then drop 1 g.cards else g.cards) event) ∷ []
 
+-- an event lapses that was offered. One that was offered before the ledger began alone has never been offered in it, and is taken back.
+abbrev pub gives_up : Card → ℕ → Step
+gives_up card shown = if nat_lt card.place shown then ledger.Lapse card else ledger.WithdrawEvent card
+
+abbrev pub lapses_event : Option Event → Ledger → List Step
+lapses_event None g = []
+lapses_event (Some event) g = gives_up (card_at g.cards event) g.shown ∷ []
+
 -- an offered front leaves where the next number is taken
 abbrev pub leaving : Kind → EventQueue → List Event
 leaving kind.Taken q = if q.offered then take 1 q.events else []
@@ -165,6 +173,7 @@ module _ {H : Type 0} (answer_of : H → Command → Answer) (after_command : H 
   steps_of link.Withdraw l g = withdraws (withdrawn_in l.controller.session.state l.controller.waiting) g
   steps_of (Retarget address) l g = []
   steps_of link.WithdrawEvent l g = withdraws_event (never_offered l.reader.queue) l.reader.queue.ever_offered g
+  steps_of link.LapseEvent l g = lapses_event (in_doubt l.reader.queue) g
   steps_of (RestartReader config handler room) l g = RestartDevice ∷ []
   steps_of (RestartController config room) l g = RestartPanel (is_some (outstanding_command l.controller.session.state)) ∷ []
   steps_of (LoseToReader place) l g = []

@@ -12,7 +12,7 @@ use osdp_reader::Handler;
 
 /// From a first session that has begun, over every list of moves of a link, each step that the two programs see is one that the ledger allows where
 /// it happens, and the ledger at the end is the link's. The moves are losses, repeats and detected damage, whatever the device tells, withdrawals,
-/// other addresses, sessions that end and begin again, and restarts of either end.
+/// events that lapse, other addresses, sessions that end and begin again, and restarts of either end.
 pub fn link_keeps_ledger<H: Handler>()
     ensures { LinkKeepsLedger H.answer_of H.after }
 {
@@ -28,8 +28,8 @@ pub fn devices_act_and_offer<H: Handler>()
 }
 
 /// What these steps come to is what the accounts of the link's sessions say: the commands accepted, those that the device acted on, each with
-/// its answer, those settled, told in doubt, cut off by a loss of power, withdrawn and forgotten, and the events queued, reported and taken
-/// back. So no such step is forgotten, and none is made up.
+/// its answer, those settled, told in doubt, cut off by a loss of power, withdrawn and forgotten, and the events queued and reported. So no such
+/// step is forgotten, and none is made up.
 pub fn ledger_tells_accounts<H: Handler>()
     ensures { LedgerTellsAccounts H.answer_of H.after }
 {
@@ -51,8 +51,8 @@ pub fn acts_have_answers_of_one_handler<H: Handler>()
     ensures { ActsHaveAnswersOfOneHandler H.answer_of H.after }
 {}
 
-/// Where neither end restarts and nothing is withdrawn, each command that has ended was settled or told in doubt, and each event that has left was
-/// reported. So none is forgotten, cut off, given back or thrown away.
+/// Where neither end restarts, nothing is withdrawn and no event lapses, each command that has ended was settled or told in doubt, and each event that
+/// has left was reported. So none is forgotten, cut off, given back or thrown away.
 pub fn ordinary_moves_end_told<H: Handler>()
     ensures { OrdinaryMovesEndTold H.answer_of H.after }
 {

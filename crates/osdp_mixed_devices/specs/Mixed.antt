@@ -3,7 +3,7 @@ use Rattle.std.specs.Prelude.{◌≡◌, ℕ, List, [], map}
 use Rattle.osdp_msg.specs.declared.command.Command.{Command}
 use Rattle.osdp_reader.specs.State.{ReaderState}
 use Rattle.osdp_reader.specs.declared.handler.Answer.{Answer}
-use Rattle.osdp_calls.specs.Calls.{Call, NewDevice, NewPanel, Next, OfPanel, Pending, SetBusy, SetHandler, Silence, SubmitEvent, Take, TickDevice, WithdrawEvent}
+use Rattle.osdp_calls.specs.Calls.{Call, NewDevice, NewPanel, Next, OfPanel, Pending, SetBusy, SetHandler, Silence, SubmitEvent, Take, TickDevice, LapseEvent, WithdrawEvent}
 use Rattle.osdp_calls.specs.Ends.{Held}
 use Rattle.osdp_calls_instance.specs.OwnCalls.{DeviceKind, device_after_each}
 use Rattle.osdp_mixed_devices.specs.Either.{after_either, answer_of_either}
@@ -25,6 +25,7 @@ module _ {H K : Type 0} (seen : H → K) where
   call_as (SetBusy k busy) = SetBusy k busy
   call_as (SetHandler k handler) = SetHandler k (seen handler)
   call_as (WithdrawEvent k) = WithdrawEvent k
+  call_as (LapseEvent k) = LapseEvent k
   call_as (Take k bytes now) = Take k bytes now
   call_as (TickDevice k now) = TickDevice k now
   call_as (Silence k now) = Silence k now

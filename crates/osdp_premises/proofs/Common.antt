@@ -20,7 +20,7 @@ pub use Rattle.osdp_frame.specs.declared.check_kind.CheckKind.TheVariants.{Crc, 
 pub use Rattle.osdp_msg.specs.declared.command.Command.{Command}
 pub use Rattle.osdp_device.specs.Telling.{items_of}
 pub use Rattle.osdp_reader.specs.declared.handler.Answer.{Answer}
-pub use Rattle.osdp_calls.specs.Calls.{after_call, after_calls, Call, NewDevice, NewPanel, Next, OfPanel, read_by, read_up_to, SetHandler, Step, WithdrawEvent}
+pub use Rattle.osdp_calls.specs.Calls.{after_call, after_calls, Call, NewDevice, NewPanel, Next, OfPanel, read_by, read_up_to, SetHandler, Step, LapseEvent, WithdrawEvent}
 pub use Rattle.osdp_premises.specs.Exactly.{AllInRange, FairCallsKeep, PremisesAreExact}
 pub use Rattle.osdp_calls.specs.Ends.{CanStand, KeepsPanel}
 pub use Rattle.osdp_premises.specs.Leaving.{is_ordinary, keeps_device, keeps_handler, keeps_panel, leaves_commands, LeavingIsExact}

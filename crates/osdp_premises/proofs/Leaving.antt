@@ -1,5 +1,5 @@
 -- The tests of which calls leave an end as it is.
-use Rattle.osdp_premises.proofs.Common.{◌≢◌, ◌==◌, ℕ, not, Decides, Decides-eqb, Decides-not, Call, NewDevice, NewPanel, OfPanel, SetHandler, WithdrawEvent, CanStand, KeepsPanel, LeavingIsExact, is_ordinary, keeps_device, keeps_handler, keeps_panel, leaves_commands}
+use Rattle.osdp_premises.proofs.Common.{◌≢◌, ◌==◌, ℕ, not, Decides, Decides-eqb, Decides-not, Call, NewDevice, NewPanel, OfPanel, SetHandler, LapseEvent, WithdrawEvent, CanStand, KeepsPanel, LeavingIsExact, is_ordinary, keeps_device, keeps_handler, keeps_panel, leaves_commands}
 use Rattle.osdp_bus_laws.specs.Calls as bus
 use Rattle.osdp_calls.specs.OneDevice.{KeepsHandler}
 use Rattle.osdp_calls.specs.Restarts.{KeepsDevice}
@@ -31,6 +31,7 @@ module _ {H : Type 0} where
   ordinary_decides k (NewPanel config addresses) = never (λ h. h)
   ordinary_decides k (OfPanel call) = commands_decide k call
   ordinary_decides k (WithdrawEvent i) = another i k
+  ordinary_decides k (LapseEvent i) = another i k
   ordinary_decides k (NewDevice i config handler room gap) = another i k
   ordinary_decides k _ = always tt
 

@@ -155,7 +155,7 @@ module _ {H : Type 0} (answer_of : H → Command → Answer) (after : H → Comm
   ranges : (handler other : H) → AllRanges (long_day handler other) (line_in_the_morning handler)
   unfolding items left_over decided reply_of reply_fault reply_at command_of command_fault command_at
   ranges handler other =
-      (tt, (tt, (tt, (tt, (tt, (tt, ((id_fits, tt), (tt, ((tt, tt), (tt, (tt, (tt, (omega arith, (tt, (tt, ((id_fits, tt), (tt, (tt, (tt, (tt, (tt, (tt, (tt, (tt, (tt, (((omega arith, each_all CapabilityFits [] tt), tt), (tt, ((tt, tt), (tt, (tt, (tt, (tt, (tt, (tt, ((tt, tt), (tt, (tt, (tt, (tt, ((tt, tt), (tt, (tt, (tt, (tt, ((key_fits, tt), (tt, (tt, (tt, (tt, ((tt, tt), (tt, (tt, (tt, (tt, (tt, (tt, (omega arith, (tt, (tt, (tt, (tt, (tt, (tt, ((omega arith, room_fits), (tt, ((record { reason = tt; room = omega arith; detail = no_bytes }, tt), (tt, (tt, (tt, (tt, ((id_fits, tt), (tt, (tt, (tt, (tt, ((key_fits, tt), (tt, (tt, ((omega arith, omega arith), (tt, (tt, (((omega arith, omega arith), tt), (tt, (tt, (tt, (tt, (tt, ((id_fits, tt), (tt, (tt, ((omega arith, omega arith), (tt, (tt, (((omega arith, omega arith), tt), (tt, (tt, ((tt, tt), (tt, (tt, (tt, (tt, (tt, (tt, ((id_fits, tt), (tt, (tt, ((omega arith, room_fits), (tt, (tt, (tt, (tt, (tt, (tt, (tt, (tt, ((spare_fits, tt), (tt, (tt, (omega arith, (tt, (tt, (((omega arith, spare_can), tt), ((twice_fits, (omega arith, (omega arith, (omega arith, tt))), omega arith), (tt, (tt, (tt, ((spare_fits, tt), (tt, (tt, (tt, (tt, (tt, (tt, (omega arith, (tt, (tt, (tt, ((tt, tt), (tt, (tt, (tt, (tt, ((tt, (tt, (tt, tt))), (tt, (tt, (tt, (tt, (tt, ((omega arith, room_fits), tt)))))))))))))))))))))))))))))))))))))))))))))))))))))))))))))))))))))))))))))))))))))))))))))))))))))))))))))))))))))))))))))))))))))))))))))))))))))
+      (tt, (tt, (tt, (tt, (tt, (tt, ((id_fits, tt), (tt, ((tt, tt), (tt, (tt, (tt, (omega arith, (tt, (tt, ((id_fits, tt), (tt, (tt, (tt, (tt, (tt, (tt, (tt, (tt, (tt, (((omega arith, each_all CapabilityFits [] tt), tt), (tt, ((tt, tt), (tt, (tt, (tt, (tt, (tt, (tt, ((tt, tt), (tt, (tt, (tt, (tt, ((tt, tt), (tt, (tt, (tt, (tt, ((key_fits, tt), (tt, (tt, (tt, (tt, ((tt, tt), (tt, (tt, (tt, (tt, (tt, (tt, (omega arith, (tt, (tt, (tt, (tt, (tt, (tt, ((omega arith, room_fits), (tt, ((record { reason = tt; room = omega arith; detail = no_bytes }, tt), (tt, (tt, (tt, (tt, ((id_fits, tt), (tt, (tt, (tt, (tt, ((key_fits, tt), (tt, (tt, ((omega arith, omega arith), (tt, (tt, (((omega arith, omega arith), tt), (tt, (tt, (tt, (tt, (tt, ((id_fits, tt), (tt, (tt, ((omega arith, omega arith), (tt, (tt, (((omega arith, omega arith), tt), (tt, (tt, ((tt, tt), (tt, (tt, (tt, (tt, (tt, (tt, ((id_fits, tt), (tt, (tt, ((omega arith, room_fits), (tt, (tt, (tt, (tt, (tt, (tt, (tt, (tt, ((spare_fits, tt), (tt, (tt, (omega arith, (tt, (tt, (((omega arith, spare_can), tt), ((twice_fits, (omega arith, (omega arith, (omega arith, tt))), omega arith), (tt, (tt, (tt, ((spare_fits, tt), (tt, (tt, (tt, (tt, (tt, (tt, (omega arith, (tt, (tt, (tt, ((tt, tt), (tt, (tt, (tt, (tt, ((tt, (tt, (tt, tt))), (tt, (tt, (tt, (tt, (tt, (tt, (tt, (tt, ((key_fits, tt), (tt, ((omega arith, room_fits), tt))))))))))))))))))))))))))))))))))))))))))))))))))))))))))))))))))))))))))))))))))))))))))))))))))))))))))))))))))))))))))))))))))))))))))))))))))))))))))
 
   pub day_keeps : (handler other : H) → LongDayKeeps answer_of after handler other
   unfolding items left_over decided reply_of reply_fault reply_at command_of command_fault command_at
@@ -175,6 +175,8 @@ module _ {H : Type 0} (answer_of : H → Command → Answer) (after : H → Comm
     in_doubt = refl;
     forgotten = refl;
     reported = refl;
+    offered = refl;
+    waiting = refl;
     said = refl;
     withdrawn = refl;
   }
@@ -242,9 +244,9 @@ module _ {H : Type 0} (answer_of : H → Command → Answer) (after : H → Comm
   unfolding items left_over decided reply_of reply_fault reply_at command_of command_fault command_at
   elsewhere handler other = restart 106 0 (NewDevice 0 (spare_at 9) handler four 20) handler other (had_sessions (station_at 3 handler)) refl refl refl refl refl refl
 
-  in_its_place : (handler other : H) → RestartHappens answer_of after 148 1 (NewDevice 1 (spare_at 4) handler four 20) handler other
+  in_its_place : (handler other : H) → RestartHappens answer_of after 153 1 (NewDevice 1 (spare_at 4) handler four 20) handler other
   unfolding items left_over decided reply_of reply_fault reply_at command_of command_fault command_at
-  in_its_place handler other = restart 148 1 (NewDevice 1 (spare_at 4) handler four 20) handler other (station_at 4 handler) refl refl refl refl refl refl
+  in_its_place handler other = restart 153 1 (NewDevice 1 (spare_at 4) handler four 20) handler other (station_at 4 handler) refl refl refl refl refl refl
 
   of_panel : (handler other : H) → RestartHappens answer_of after 122 0 (NewPanel twice (9 ∷ 4 ∷ 20 ∷ [])) handler other
   unfolding items left_over decided reply_of reply_fault reply_at command_of command_fault command_at

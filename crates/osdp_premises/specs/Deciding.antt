@@ -18,7 +18,7 @@ use Rattle.osdp_reader.specs.Table.{command_in, new_address}
 use Rattle.osdp_reader.specs.declared.handler.Answer.{Answer}
 use Rattle.osdp_shared_line.specs.Addresses.{address_in}
 use Rattle.osdp_shared_line.specs.Line.{site_at}
-use Rattle.osdp_calls.specs.Calls.{Call, NewDevice, NewPanel, Next, OfPanel, Step, SubmitEvent, SetBusy, SetHandler, WithdrawEvent, Take, TickDevice, Silence, Pending, after_call, read_by, read_up_to}
+use Rattle.osdp_calls.specs.Calls.{Call, NewDevice, NewPanel, Next, OfPanel, Step, SubmitEvent, SetBusy, SetHandler, LapseEvent, WithdrawEvent, Take, TickDevice, Silence, Pending, after_call, read_by, read_up_to}
 use Rattle.osdp_calls.specs.Lines.{Burst, InUse, Station, ahead_of_device, is_past_for_device, is_past_for_panel}
 use Rattle.osdp_calls.specs.Premises.{unended_of}
 
@@ -134,6 +134,7 @@ module _ {H : Type 0} where
   is_in_order (SetBusy k busy) places l = true
   is_in_order (SetHandler k handler) places l = true
   is_in_order (WithdrawEvent k) places l = true
+  is_in_order (LapseEvent k) places l = true
   is_in_order (Take k bytes now) places l = true
   is_in_order (TickDevice k now) places l = true
   is_in_order (Silence k now) places l = true
@@ -148,6 +149,7 @@ module _ {H : Type 0} where
   is_quiet (SetBusy k busy) places l = true
   is_quiet (SetHandler k handler) places l = true
   is_quiet (WithdrawEvent k) places l = true
+  is_quiet (LapseEvent k) places l = true
   is_quiet (Take k bytes now) places l = true
   is_quiet (TickDevice k now) places l = true
   is_quiet (Silence k now) places l = true
@@ -209,6 +211,7 @@ module _ {H : Type 0} where
   has_addresses (SetBusy k busy) l = true
   has_addresses (SetHandler k handler) l = true
   has_addresses (WithdrawEvent k) l = true
+  has_addresses (LapseEvent k) l = true
   has_addresses (Take k bytes now) l = true
   has_addresses (TickDevice k now) l = true
   has_addresses (Silence k now) l = true

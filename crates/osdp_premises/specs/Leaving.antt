@@ -5,7 +5,7 @@ use Rattle.osdp_bus.specs.Buses.{new_bus}
 use Rattle.osdp_bus.specs.Settings.{IsBusConfig}
 use Rattle.osdp_bus.specs.declared.config.BusConfig.{BusConfig}
 use Rattle.osdp_bus_laws.specs.Calls as bus
-use Rattle.osdp_calls.specs.Calls.{Call, NewDevice, NewPanel, Next, OfPanel, Pending, SetBusy, SetHandler, Silence, SubmitEvent, Take, TickDevice, WithdrawEvent}
+use Rattle.osdp_calls.specs.Calls.{Call, NewDevice, NewPanel, Next, OfPanel, Pending, SetBusy, SetHandler, Silence, SubmitEvent, Take, TickDevice, LapseEvent, WithdrawEvent}
 use Rattle.osdp_calls.specs.Ends.{CanStand, KeepsPanel}
 use Rattle.osdp_calls.specs.OneDevice.{KeepsHandler}
 use Rattle.osdp_calls.specs.Restarts.{KeepsDevice}
@@ -32,6 +32,7 @@ module _ {H : Type 0} where
   keeps_panel (SetBusy i busy) = true
   keeps_panel (SetHandler i handler) = true
   keeps_panel (WithdrawEvent i) = true
+  keeps_panel (LapseEvent i) = true
   keeps_panel (Take i bytes now) = true
   keeps_panel (TickDevice i now) = true
   keeps_panel (Silence i now) = true
@@ -47,6 +48,7 @@ module _ {H : Type 0} where
   keeps_device k (SetBusy i busy) = true
   keeps_device k (SetHandler i handler) = true
   keeps_device k (WithdrawEvent i) = true
+  keeps_device k (LapseEvent i) = true
   keeps_device k (Take i bytes now) = true
   keeps_device k (TickDevice i now) = true
   keeps_device k (Silence i now) = true
@@ -61,6 +63,7 @@ module _ {H : Type 0} where
   keeps_handler k (SubmitEvent i event) = true
   keeps_handler k (SetBusy i busy) = true
   keeps_handler k (WithdrawEvent i) = true
+  keeps_handler k (LapseEvent i) = true
   keeps_handler k (Take i bytes now) = true
   keeps_handler k (TickDevice i now) = true
   keeps_handler k (Silence i now) = true
@@ -72,6 +75,7 @@ module _ {H : Type 0} where
   is_ordinary k (NewDevice i config handler room gap) = not (i == k)
   is_ordinary k (NewPanel config addresses) = false
   is_ordinary k (WithdrawEvent i) = not (i == k)
+  is_ordinary k (LapseEvent i) = not (i == k)
   is_ordinary k (SubmitEvent i event) = true
   is_ordinary k (SetBusy i busy) = true
   is_ordinary k (SetHandler i handler) = true

@@ -1,8 +1,8 @@
 -- A list of calls in which all of it happens that a line knows: two devices, of which the first had sessions with another panel, bytes in pieces,
 -- damage, lost packets and repeated ones, a packet that is read twice, a busy device, an event that is told again, orders and events that are
--- taken back, another handler, a COMSET that is settled and one that is in doubt, a device that restarts where it is, spares of another model that
--- come in a device's place and elsewhere, a panel that restarts, and a reader of another make, whose entry is the last.
-use Rattle.std.specs.Prelude.{◌≡◌, ℕ, true, false, All, List, [], ◌∷◌, ◌++◌, map, length, take, drop, Option, Some, None}
+-- taken back, an event that lapses, another handler, a COMSET that is settled and one that is in doubt, a device that restarts where it is, spares of
+-- another model that come in a device's place and elsewhere, a panel that restarts, and a reader of another make, whose entry is the last.
+use Rattle.std.specs.Prelude.{◌≡◌, ℕ, true, false, All, List, [], ◌∷◌, ◌++◌, map, length, take, drop, option_to_list, Option, Some, None}
 use Rattle.osdp_frame.specs.Packed.{packed}
 use Rattle.osdp_frame.specs.Receiving.{new_line}
 use Rattle.osdp_frame.specs.Spelling.{spelling}
@@ -23,7 +23,7 @@ use Rattle.osdp_reader.specs.State.{new_reader}
 use Rattle.osdp_reader.specs.declared.config.ReaderConfig.{ReaderConfig}
 use Rattle.osdp_reader.specs.declared.handler.Answer.{Answer}
 use Rattle.osdp_shared_line.specs.Line.{site_at}
-use Rattle.osdp_calls.specs.Calls.{Call, NewDevice, NewPanel, Next, OfPanel, Pending, SetBusy, SetHandler, Silence, Step, SubmitEvent, Take, TickDevice, WithdrawEvent, after_calls}
+use Rattle.osdp_calls.specs.Calls.{Call, NewDevice, NewPanel, Next, OfPanel, Pending, SetBusy, SetHandler, Silence, Step, SubmitEvent, Take, TickDevice, LapseEvent, WithdrawEvent, after_calls}
 use Rattle.osdp_calls.specs.Ends.{CanStand}
 use Rattle.osdp_calls.specs.Lines.{InUse, Opening, Station, bus_with}
 use Rattle.osdp_calls.specs.Premises.{AllKeep, IsSetUp}
@@ -312,6 +312,17 @@ module _ {H : Type 0} where
       ∷ calls (OfPanel bus.NextReport) []
       ∷ []
 
+  -- A key is pressed at the spare, which tells it. Its answer is lost, so nobody reports the key. The device gives the key up, which may or may not have been
+  -- heard: it lapses.
+  abbrev pub lapse : H → H → List (Step H)
+  lapse handler other =
+      calls (SubmitEvent 0 key) []
+      ∷ calls (OfPanel (bus.Tick 4566)) []
+      ∷ calls (Take 0 (asks 9 2 (96 ∷ [])) 4567) []
+      ∷ calls (Next 0) (43 ∷ [])
+      ∷ calls (LapseEvent 0) []
+      ∷ []
+
   -- At the end of the day the other device is replaced by a spare too, where it is.
   abbrev pub replaced : H → H → List (Step H)
   replaced handler other = calls (NewDevice 1 (spare_at 4) handler four 20) [] ∷ []
@@ -330,6 +341,7 @@ module _ {H : Type 0} where
       ++ elsewhere handler other
       ++ panel_restart handler other
       ++ strangers handler other
+      ++ lapse handler other
       ++ replaced handler other
 
   -- the accounts of the sessions of an entry, the last of them first
@@ -346,7 +358,7 @@ module _ {H : Type 0} where
 
     -- All of these calls keep the premises, whatever the devices' handlers answer. What they come to: seven sessions have opened, six of the first entry.
     -- In its sessions, the last of them first, so many commands were taken, and so many of them settled, told in doubt, and forgotten by the panel's
-    -- restart; and so many events were reported. The key was told twice.
+    -- restart; and so many events were reported. The key was told twice, and once more in the last session, where it lapsed.
     pub record LongDayKeeps (handler other : H) : Type 0 where
       pub up : IsSetUp (line_in_the_morning handler)
       pub keep : AllKeep answer_of after (long_day handler other) (line_in_the_morning handler)
@@ -362,8 +374,11 @@ module _ {H : Type 0} where
       pub in_doubt : map (λ (a : Account). a.unsettled) (first_sessions handler other) ≡ [] ∷ [] ∷ [] ∷ (away 7 ∷ []) ∷ [] ∷ [] ∷ [] ∷ []
       pub forgotten : map (λ (a : Account). a.forgotten) (first_sessions handler other) ≡ [] ∷ (Cap 0 ∷ []) ∷ [] ∷ [] ∷ [] ∷ [] ∷ [] ∷ []
       pub reported : map (λ (a : Account). a.reported) (first_sessions handler other) ≡ [] ∷ [] ∷ [] ∷ [] ∷ (key ∷ []) ∷ (key ∷ []) ∷ [] ∷ []
+      pub offered : map (λ (a : Account). a.offered) (first_sessions handler other) ≡ (key ∷ []) ∷ [] ∷ [] ∷ [] ∷ (key ∷ []) ∷ (key ∷ []) ∷ [] ∷ []
+      -- what has lapsed waits no more
+      pub waiting : map (λ (t : Station H). t.reader.queue.events) (option_to_list (site_at 0 (line_at_night handler other).stations)) ≡ [] ∷ []
       -- what is said for the reader of another make, or by it, is not among this
-      pub said : length (line_at_night handler other).said ≡ 43
+      pub said : length (line_at_night handler other).said ≡ 45
       pub withdrawn : map (λ (a : Account). a.withdrawn) (first_sessions handler other) ≡ [] ∷ [] ∷ [] ∷ [] ∷ [] ∷ (key ∷ []) ∷ [] ∷ []
 
     -- a call of that list that makes an end of an entry anew, after so many: what restarts cost speaks of the entry before it and after it
@@ -381,5 +396,5 @@ module _ {H : Type 0} where
     pub record RestartsHappen (handler other : H) : Type 0 where
       pub in_place : RestartHappens 63 1 (NewDevice 1 (device_at 4) other four 20) handler other
       pub elsewhere : RestartHappens 106 0 (NewDevice 0 (spare_at 9) handler four 20) handler other
-      pub replaced : RestartHappens 148 1 (NewDevice 1 (spare_at 4) handler four 20) handler other
+      pub replaced : RestartHappens 153 1 (NewDevice 1 (spare_at 4) handler four 20) handler other
       pub panel : RestartHappens 122 0 (NewPanel twice (9 ∷ 4 ∷ 20 ∷ [])) handler other

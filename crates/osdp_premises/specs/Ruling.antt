@@ -12,7 +12,7 @@ use Rattle.osdp_bus_laws.specs.Calls as bus
 use Rattle.osdp_reader.specs.declared.handler.Answer.{Answer}
 use Rattle.osdp_shared_line.specs.Line.{site_at}
 use Rattle.osdp_shared_line.specs.Programs.{Note}
-use Rattle.osdp_calls.specs.Calls.{Call, NewDevice, NewPanel, Next, OfPanel, Pending, SetBusy, SetHandler, Silence, Step, SubmitEvent, Take, TickDevice, WithdrawEvent, after_call}
+use Rattle.osdp_calls.specs.Calls.{Call, NewDevice, NewPanel, Next, OfPanel, Pending, SetBusy, SetHandler, Silence, Step, SubmitEvent, Take, TickDevice, LapseEvent, WithdrawEvent, after_call}
 use Rattle.osdp_calls.specs.Lines.{InUse}
 use Rattle.osdp_calls.specs.Programs.{AllKeepRule, KeepsRule, notes_after}
 use Rattle.osdp_premises.specs.Deciding.{address_asked, each_below, each_other, if_there, is_in_order, is_quiet, is_there_with, some_of, stands_at}
@@ -55,6 +55,7 @@ module _ {H : Type 0} where
   keeps_rule (SetBusy k busy) l notes = true
   keeps_rule (SetHandler k handler) l notes = true
   keeps_rule (WithdrawEvent k) l notes = true
+  keeps_rule (LapseEvent k) l notes = true
   keeps_rule (Take k bytes now) l notes = true
   keeps_rule (TickDevice k now) l notes = true
   keeps_rule (Silence k now) l notes = true

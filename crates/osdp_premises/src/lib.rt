@@ -38,16 +38,17 @@ pub fn rule_is_exact<H: Handler>()
 {}
 
 /// What laws of one life of an end, of one handler and of what is undisturbed ask of a call holds exactly where a test of the call does. These ask that a
-/// device is never made anew, that it keeps its handler, or that nothing of an entry is taken back. Most calls pass all of these. What the law of one
-/// exchange asks holds of each call, but of a panel that is made anew with settings out of their ranges, or with entries that can't be added.
+/// device is never made anew, that it keeps its handler, or that nothing of an entry is taken back and no event of it lapses. Most calls pass all of these.
+/// What the law of one exchange asks holds of each call, but of a panel that is made anew with settings out of their ranges, or with entries that can't be
+/// added.
 pub fn leaving_is_exact<H: Handler>()
     ensures { LeavingIsExact H }
 {}
 
 /// One list of calls in which all of it happens that a line knows keeps all premises, whatever the devices' handlers answer. It has bytes in pieces,
 /// damage, a lost packet and a repeated one, a packet that is read twice, a busy device, an event that is told again, an order and an event that are taken
-/// back, another handler, a COMSET that is settled and one that is in doubt, a device that restarts where it is and one that comes back elsewhere, a panel
-/// that restarts, packets of other makers' machines, and an entry whose reader is one of them.
+/// back, an event that lapses, another handler, a COMSET that is settled and one that is in doubt, a device that restarts where it is and one that comes
+/// back elsewhere, a panel that restarts, packets of other makers' machines, and an entry whose reader is one of them.
 pub fn a_long_day_keeps_the_premises<H: Handler>()
     ensures keeps { (handler other : H) → LongDayKeeps H.answer_of H.after handler other }
     ensures restarts { (handler other : H) → RestartsHappen H.answer_of H.after handler other }

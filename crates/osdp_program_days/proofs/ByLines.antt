@@ -8,7 +8,7 @@ use Rattle.osdp_device.specs.Status.{new_status, status_after, status_answer}
 use Rattle.osdp_device.specs.declared.status.DeviceStatus.{DeviceStatus}
 use Rattle.osdp_line_calls.specs.ReaderSessions as device_sessions
 use Rattle.osdp_calls_instance.specs.LinePrograms.{line_device, line_panel}
-use Rattle.osdp_program_days.specs.ByLines.{DayByLinesKeeps, as_always, day_by_lines, programs}
+use Rattle.osdp_program_days.specs.ByLines.{DayByLinesKeeps, second, day_by_lines, programs}
 use Rattle.osdp_program_days.proofs.Days.{same_calls}
 use Rattle.osdp_program_days.proofs.Fitting.{bytes_fit, nak_fits, one_byte, output_fits}
 
@@ -18,8 +18,8 @@ IsAt k d = line_device.Sound d × (t : Station DeviceStatus) × (site_at k (firs
 
 there : (k : ℕ) (d : device_sessions.Session) → site_at k programs.devices ≡ Some d → IsAt k d
 unfolding decided
-there zero d is = subst (IsAt zero) (some_same (device_sessions.new_session (device_at 3) 4 20 as_always) d is) ((record { goes_on = refl; undecided = refl }, record { gap = omega arith; bytes = λ place. omega arith; some = λ e. absurd (let is = e in cc); last = omega arith }), station_at 3 new_status, refl, refl)
-there (suc zero) d is = subst (IsAt (suc zero)) (some_same (device_sessions.new_session (device_at 4) 4 20 as_always) d is) ((record { goes_on = refl; undecided = refl }, record { gap = omega arith; bytes = λ place. omega arith; some = λ e. absurd (let is = e in cc); last = omega arith }), station_at 4 new_status, refl, refl)
+there zero d is = subst (IsAt zero) (some_same (device_sessions.new_session (device_at 3) 4 20 second) d is) ((record { goes_on = refl; undecided = refl }, record { gap = omega arith; bytes = λ place. omega arith; some = λ e. absurd (let is = e in cc); last = omega arith }), station_at 3 new_status, refl, refl)
+there (suc zero) d is = subst (IsAt (suc zero)) (some_same (device_sessions.new_session (device_at 4) 4 20 second) d is) ((record { goes_on = refl; undecided = refl }, record { gap = omega arith; bytes = λ place. omega arith; some = λ e. absurd (let is = e in cc); last = omega arith }), station_at 4 new_status, refl, refl)
 there (suc (suc k)) d is = absurd (let e = is in cc)
 
 is_line : IsLineOf line_panel line_device programs (first_line new_status)
@@ -28,12 +28,12 @@ is_line = record { bus = refl; devices = there }
 all_fit : AllFit line_panel line_device (owns line_panel line_device day_by_lines) programs
 unfolding items left_over decided reply_of reply_fault reply_at command_of command_fault command_at
 all_fit =
-    (tt, (tt, (tt, (tt, (tt, (tt, ((omega arith, tt), ((bytes_fit (take 5 (asks 3 0 (97 ∷ 0 ∷ []))) refl, tt), ((omega arith, tt), ((bytes_fit (drop 5 (asks 3 0 (97 ∷ 0 ∷ []))) refl, tt), ((omega arith, tt), ((bytes_fit (asks 3 0 (97 ∷ 0 ∷ [])) refl, tt), (tt, (tt, (tt, (tt, (tt, (tt, ((omega arith, tt), ((bytes_fit (asks 4 0 (97 ∷ 0 ∷ [])) refl, tt), (tt, (tt, (((omega arith, one_byte), tt), (tt, (tt, (tt, ((omega arith, tt), ((bytes_fit (83 ∷ 3 ∷ 11 ∷ 0 ∷ 1 ∷ 104 ∷ 0 ∷ 2 ∷ 0 ∷ 0 ∷ 0 ∷ []) refl, tt), ((omega arith, tt), ((tt, tt), (tt, (tt, ((omega arith, tt), ((bytes_fit (asks 3 1 ordered_on) refl, tt), ((omega arith, tt), ((bytes_fit (asks 3 1 ordered_on) refl, tt), (tt, (tt, ((key_fits, tt), ((tt, tt), (tt, (tt, ((omega arith, tt), ((bytes_fit (asks 4 1 (96 ∷ [])) refl, tt), (tt, (tt, (tt, (tt, ((omega arith, tt), ((bytes_fit (asks 3 2 (96 ∷ [])) refl, tt), (tt, (tt, ((tt, tt), (tt, (tt, ((omega arith, tt), ((bytes_fit (asks 3 2 (96 ∷ [])) refl, tt), (tt, (tt, (tt, (tt, ((omega arith, tt), ((bytes_fit (asks 4 2 (96 ∷ [])) refl, tt), (tt, (tt, (tt, (tt, (tt, (tt, (tt, (tt, (tt, (tt, (tt, (tt, (tt, (tt, (omega arith, ((omega arith, tt), ((bytes_fit (asks 4 3 (96 ∷ [])) refl, tt), (tt, (tt, (tt, (tt, ((omega arith, tt), ((bytes_fit (asks 3 0 (97 ∷ 0 ∷ [])) refl, tt), (tt, (tt, (tt, (tt, ((omega arith, tt), ((bytes_fit (asks 3 1 (96 ∷ [])) refl, tt), (tt, (tt, (tt, (tt, (tt, ((omega arith, tt), ((bytes_fit (asks 3 2 (110 ∷ 5 ∷ 128 ∷ 37 ∷ 0 ∷ 0 ∷ [])) refl, tt), (tt, (tt, (tt, (tt, (tt, (tt, ((omega arith, tt), ((bytes_fit (asks 5 0 (97 ∷ 0 ∷ [])) refl, tt), (tt, (tt, (tt, (tt, (tt, ((omega arith, tt), ((bytes_fit (asks 5 1 (98 ∷ 0 ∷ [])) refl, tt), ((refl, (refl, (refl, tt))), (tt, (tt, (tt, (tt, ((omega arith, tt), ((bytes_fit (asks 5 0 (97 ∷ 0 ∷ [])) refl, tt), (tt, (tt, tt)))))))))))))))))))))))))))))))))))))))))))))))))))))))))))))))))))))))))))))))))))))))))))))))))))))))))))))))))))))))))))
+    (tt, (tt, (tt, (tt, (tt, (tt, (omega arith, (bytes_fit (take 5 (asks 3 0 (97 ∷ 0 ∷ []))) refl, (omega arith, (bytes_fit (drop 5 (asks 3 0 (97 ∷ 0 ∷ []))) refl, (omega arith, (bytes_fit (asks 3 0 (97 ∷ 0 ∷ [])) refl, (tt, (tt, (tt, (tt, (tt, (tt, (omega arith, (bytes_fit (asks 4 0 (97 ∷ 0 ∷ [])) refl, (tt, (tt, ((omega arith, one_byte), (tt, (tt, (tt, (omega arith, (bytes_fit (83 ∷ 3 ∷ 11 ∷ 0 ∷ 1 ∷ 104 ∷ 0 ∷ 2 ∷ 0 ∷ 0 ∷ 0 ∷ []) refl, (omega arith, (tt, (tt, (tt, (omega arith, (bytes_fit (asks 3 1 ordered_on) refl, (omega arith, (bytes_fit (asks 3 1 ordered_on) refl, (tt, (tt, (key_fits, (tt, (tt, (tt, (omega arith, (bytes_fit (asks 4 1 (96 ∷ [])) refl, (tt, (tt, (tt, (tt, (omega arith, (bytes_fit (asks 3 2 (96 ∷ [])) refl, (tt, (tt, (tt, (tt, (tt, (omega arith, (bytes_fit (asks 3 2 (96 ∷ [])) refl, (tt, (tt, (tt, (tt, (omega arith, (bytes_fit (asks 4 2 (96 ∷ [])) refl, (tt, (tt, (tt, (tt, (tt, (tt, (tt, (tt, (tt, (tt, (tt, (tt, (tt, (tt, (omega arith, (omega arith, (bytes_fit (asks 4 3 (96 ∷ [])) refl, (tt, (tt, (tt, (tt, (omega arith, (bytes_fit (asks 3 0 (97 ∷ 0 ∷ [])) refl, (tt, (tt, (tt, (tt, (omega arith, (bytes_fit (asks 3 1 (96 ∷ [])) refl, (tt, (tt, (tt, (tt, (tt, (omega arith, (bytes_fit (asks 3 2 (110 ∷ 5 ∷ 128 ∷ 37 ∷ 0 ∷ 0 ∷ [])) refl, (tt, (tt, (tt, (tt, (tt, (tt, (omega arith, (bytes_fit (asks 5 0 (97 ∷ 0 ∷ [])) refl, (tt, (tt, (tt, (tt, (tt, (omega arith, (bytes_fit (asks 5 1 (98 ∷ 0 ∷ [])) refl, ((refl, (refl, (refl, tt))), (tt, (tt, (tt, (tt, (omega arith, (bytes_fit (asks 5 0 (97 ∷ 0 ∷ [])) refl, (tt, (tt, (key_fits, (tt, (tt, (omega arith, (bytes_fit (asks 5 1 (96 ∷ [])) refl, (omega arith, (tt, (tt, (omega arith, (bytes_fit (asks 5 1 (96 ∷ [])) refl, (tt, (tt, tt)))))))))))))))))))))))))))))))))))))))))))))))))))))))))))))))))))))))))))))))))))))))))))))))))))))))))))))))))))))))))))))))))))))))
 
 ranges : AllRanges status_answer status_after (steps_of line_panel line_device day_by_lines programs) (first_line new_status)
 unfolding items left_over decided reply_of reply_fault reply_at command_of command_fault command_at
 ranges =
-    (tt, (tt, (tt, (tt, (tt, (tt, (tt, (tt, (tt, (tt, (tt, (tt, ((id_fits, tt), (tt, (tt, ((tt, tt), (tt, (tt, (tt, (tt, (tt, (tt, (tt, (tt, (tt, (tt, ((id_fits, tt), (tt, (tt, (tt, (tt, (tt, (output_fits, (tt, (tt, (tt, (tt, (tt, (tt, (tt, (tt, (tt, (tt, (tt, (tt, ((tt, tt), (tt, (tt, ((tt, tt), (tt, (tt, (tt, (tt, (tt, (tt, (tt, (tt, (tt, (tt, ((tt, tt), (tt, (tt, (tt, (tt, (tt, (tt, (tt, (tt, ((tt, tt), (tt, (tt, (tt, (tt, (tt, (tt, (tt, (tt, (tt, ((key_fits, tt), (tt, (tt, (tt, (tt, (tt, (tt, (tt, (tt, ((tt, tt), (tt, (tt, (tt, (tt, (tt, (tt, (tt, (tt, (tt, (tt, (tt, (tt, (tt, (omega arith, (tt, (tt, (tt, (tt, (tt, (tt, (tt, (tt, (tt, ((omega arith, room_fits), (tt, ((nak_fits, tt), (tt, (tt, (tt, (tt, (tt, (tt, (tt, (tt, ((id_fits, tt), (tt, (tt, (tt, (tt, (tt, (tt, (tt, (tt, ((key_fits, tt), (tt, (tt, (tt, (tt, ((omega arith, omega arith), (tt, (tt, (tt, (tt, (tt, (((omega arith, omega arith), tt), (tt, (tt, (tt, (tt, (tt, (tt, (tt, (tt, (tt, (tt, (tt, ((id_fits, tt), (tt, (tt, (tt, (tt, (omega arith, (tt, (tt, (tt, (tt, (tt, (((omega arith, each_all CapabilityFits [] tt), tt), (tt, ((twice_fits, (omega arith, (omega arith, (omega arith, tt))), omega arith), (tt, (tt, (tt, (tt, (tt, (tt, (tt, ((id_fits, tt), (tt, (tt, (tt, (tt, tt))))))))))))))))))))))))))))))))))))))))))))))))))))))))))))))))))))))))))))))))))))))))))))))))))))))))))))))))))))))))))))))))))))))))))))))))))))))))))))))))))))))))))))))))))))
+    (tt, (tt, (tt, (tt, (tt, (tt, (tt, (tt, (tt, (tt, (tt, (tt, ((id_fits, tt), (tt, (tt, ((tt, tt), (tt, (tt, (tt, (tt, (tt, (tt, (tt, (tt, (tt, (tt, ((id_fits, tt), (tt, (tt, (tt, (tt, (tt, (output_fits, (tt, (tt, (tt, (tt, (tt, (tt, (tt, (tt, (tt, (tt, (tt, (tt, ((tt, tt), (tt, (tt, ((tt, tt), (tt, (tt, (tt, (tt, (tt, (tt, (tt, (tt, (tt, (tt, ((tt, tt), (tt, (tt, (tt, (tt, (tt, (tt, (tt, (tt, ((tt, tt), (tt, (tt, (tt, (tt, (tt, (tt, (tt, (tt, (tt, ((key_fits, tt), (tt, (tt, (tt, (tt, (tt, (tt, (tt, (tt, ((tt, tt), (tt, (tt, (tt, (tt, (tt, (tt, (tt, (tt, (tt, (tt, (tt, (tt, (tt, (omega arith, (tt, (tt, (tt, (tt, (tt, (tt, (tt, (tt, (tt, ((omega arith, room_fits), (tt, ((nak_fits, tt), (tt, (tt, (tt, (tt, (tt, (tt, (tt, (tt, ((id_fits, tt), (tt, (tt, (tt, (tt, (tt, (tt, (tt, (tt, ((key_fits, tt), (tt, (tt, (tt, (tt, ((omega arith, omega arith), (tt, (tt, (tt, (tt, (tt, (((omega arith, omega arith), tt), (tt, (tt, (tt, (tt, (tt, (tt, (tt, (tt, (tt, (tt, (tt, ((id_fits, tt), (tt, (tt, (tt, (tt, (omega arith, (tt, (tt, (tt, (tt, (tt, (((omega arith, each_all CapabilityFits [] tt), tt), (tt, ((twice_fits, (omega arith, (omega arith, (omega arith, tt))), omega arith), (tt, (tt, (tt, (tt, (tt, (tt, (tt, ((id_fits, tt), (tt, (tt, (tt, (tt, (tt, (tt, (tt, (tt, (tt, ((key_fits, tt), (tt, (tt, (tt, (tt, (tt, (tt, ((tt, tt), (tt, (tt, (tt, (tt, tt)))))))))))))))))))))))))))))))))))))))))))))))))))))))))))))))))))))))))))))))))))))))))))))))))))))))))))))))))))))))))))))))))))))))))))))))))))))))))))))))))))))))))))))))))))))))))))))))))))))
 
 pub day_by_lines_keeps : DayByLinesKeeps
 unfolding items left_over decided reply_of reply_fault reply_at command_of command_fault command_at
@@ -50,4 +50,5 @@ day_by_lines_keeps = record {
   ended = refl;
   acted = refl;
   reported = refl;
+  left = refl;
 }

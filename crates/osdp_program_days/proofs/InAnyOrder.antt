@@ -3,7 +3,7 @@ use Rattle.std.proofs.Common.{◌≡◌, ◌∙◌, ℕ, List, [], ◌∷◌, ma
 use Rattle.osdp_frame.specs.Held.{decided}
 use Rattle.osdp_frame.specs.Items.{items, left_over}
 use Rattle.osdp_msg.specs.CommandTable.{command_at, command_fault, command_of}
-use Rattle.osdp_program_days.proofs.Common.{CapabilityFits, new_program, program_after, program_answer, each_all, Call, NewDevice, NewPanel, Next, OfPanel, Pending, SetBusy, SetHandler, Silence, Step, SubmitEvent, Take, TickDevice, WithdrawEvent, c_device, c_panel, IsLineOf, id_fits, key_fits, twice_fits, owns, steps_of}
+use Rattle.osdp_program_days.proofs.Common.{CapabilityFits, new_program, program_after, program_answer, each_all, Call, NewDevice, NewPanel, Next, OfPanel, Pending, SetBusy, SetHandler, Silence, Step, SubmitEvent, Take, TickDevice, LapseEvent, WithdrawEvent, c_device, c_panel, IsLineOf, id_fits, key_fits, twice_fits, owns, steps_of}
 use Rattle.osdp_msg.specs.ReplyTable.{reply_at, reply_fault, reply_of}
 use Rattle.osdp_entry_numbers.specs.Day.{own_line}
 use Rattle.osdp_entry_numbers.specs.OwnOrder.{OwnStep, own_view}
@@ -21,6 +21,7 @@ module _ {H : Type 0} where
   own_call (SetBusy k busy) places = refl
   own_call (SetHandler k handler) places = refl
   own_call (WithdrawEvent k) places = refl
+  own_call (LapseEvent k) places = refl
   own_call (Take k bytes now) places = refl
   own_call (TickDevice k now) places = refl
   own_call (Silence k now) places = refl

@@ -34,7 +34,7 @@ is_line = record { bus = refl; devices = there }
 ranges : AllRanges program_answer program_after (steps_of c_panel c_device day_in_c programs) (first_line new_program)
 unfolding items left_over decided reply_of reply_fault reply_at command_of command_fault command_at
 ranges =
-    (tt, (tt, (tt, (tt, (tt, (tt, (tt, (tt, ((id_fits, tt), (tt, (tt, ((tt, tt), (tt, (tt, (tt, (tt, (tt, (tt, (tt, (tt, ((id_fits, tt), (tt, (tt, (tt, (tt, (output_fits, (tt, (tt, (tt, (tt, (tt, (tt, (tt, (tt, (tt, (tt, (tt, (tt, (tt, (tt, (tt, ((tt, tt), (tt, (tt, ((tt, tt), (tt, (tt, (tt, (tt, (tt, (tt, (tt, (tt, ((tt, tt), (tt, (tt, (tt, (tt, (tt, (tt, ((tt, tt), (tt, (tt, (tt, (tt, (tt, (tt, (tt, ((key_fits, tt), (tt, (tt, (tt, (tt, (tt, (tt, ((tt, tt), (tt, (tt, (tt, (tt, (tt, (tt, (tt, (tt, (tt, (omega arith, (tt, (tt, (tt, (tt, ((omega arith, room_fits), (tt, ((nak_fits, tt), (tt, (tt, (tt, (tt, (tt, (tt, ((id_fits, tt), (tt, (tt, (tt, (tt, (tt, (tt, ((key_fits, tt), (tt, (tt, (tt, ((omega arith, omega arith), (tt, (tt, (tt, (((omega arith, omega arith), tt), (tt, (tt, (tt, (tt, (tt, (tt, (tt, ((id_fits, tt), (tt, (tt, (tt, (omega arith, (tt, (tt, (tt, (((omega arith, each_all CapabilityFits [] tt), tt), (tt, ((twice_fits, (omega arith, (omega arith, (omega arith, tt))), omega arith), (tt, (tt, (tt, (tt, ((id_fits, tt), (tt, (tt, (tt, tt)))))))))))))))))))))))))))))))))))))))))))))))))))))))))))))))))))))))))))))))))))))))))))))))))))))))))))))))))))))))))))))))))))))))))))))
+    (tt, (tt, (tt, (tt, (tt, (tt, (tt, (tt, ((id_fits, tt), (tt, (tt, ((tt, tt), (tt, (tt, (tt, (tt, (tt, (tt, (tt, (tt, ((id_fits, tt), (tt, (tt, (tt, (tt, (output_fits, (tt, (tt, (tt, (tt, (tt, (tt, (tt, (tt, (tt, (tt, (tt, (tt, (tt, (tt, (tt, ((tt, tt), (tt, (tt, ((tt, tt), (tt, (tt, (tt, (tt, (tt, (tt, (tt, (tt, ((tt, tt), (tt, (tt, (tt, (tt, (tt, (tt, ((tt, tt), (tt, (tt, (tt, (tt, (tt, (tt, (tt, ((key_fits, tt), (tt, (tt, (tt, (tt, (tt, (tt, ((tt, tt), (tt, (tt, (tt, (tt, (tt, (tt, (tt, (tt, (tt, (omega arith, (tt, (tt, (tt, (tt, ((omega arith, room_fits), (tt, ((nak_fits, tt), (tt, (tt, (tt, (tt, (tt, (tt, ((id_fits, tt), (tt, (tt, (tt, (tt, (tt, (tt, ((key_fits, tt), (tt, (tt, (tt, ((omega arith, omega arith), (tt, (tt, (tt, (((omega arith, omega arith), tt), (tt, (tt, (tt, (tt, (tt, (tt, (tt, ((id_fits, tt), (tt, (tt, (tt, (omega arith, (tt, (tt, (tt, (((omega arith, each_all CapabilityFits [] tt), tt), (tt, ((twice_fits, (omega arith, (omega arith, (omega arith, tt))), omega arith), (tt, (tt, (tt, (tt, ((id_fits, tt), (tt, (tt, (tt, (tt, (tt, (tt, (tt, ((key_fits, tt), (tt, (tt, (tt, (tt, (tt, ((tt, tt), (tt, (tt, (tt, tt)))))))))))))))))))))))))))))))))))))))))))))))))))))))))))))))))))))))))))))))))))))))))))))))))))))))))))))))))))))))))))))))))))))))))))))))))))))))))))
 
 pub day_in_c_keeps : DayInCKeeps
 unfolding items left_over decided reply_of reply_fault reply_at command_of command_fault command_at
@@ -51,4 +51,5 @@ day_in_c_keeps = record {
   ended = refl;
   acted = refl;
   reported = refl;
+  left = refl;
 }

@@ -12,17 +12,17 @@ use Rattle.osdp_calls_instance.specs.LinePrograms.{DeviceAnew, PanelAnew, SaysTo
 use Rattle.osdp_calls_instance.specs.OwnCalls.{AtDevice, AtPanel, Programs}
 use Rattle.osdp_premises.specs.LongDay.{device_at, key, twice}
 use Rattle.osdp_program_days.specs.Days.{DayKeeps, Made}
-use Rattle.osdp_program_days.specs.Happening.{Begins, DeviceDoes, DeviceHears, DeviceIsMadeAnew, Happening, HasOutput, Hears, IsBusy, IsMadeAnew, KeyIsPressed, Orders, SeesSilence, Sends, TakesBack, day}
+use Rattle.osdp_program_days.specs.Happening.{Begins, DeviceDoes, DeviceHears, DeviceIsMadeAnew, Happening, HasOutput, Hears, IsBusy, IsMadeAnew, KeyIsPressed, LetsOldGo, Orders, SeesSilence, Sends, TakesBack, day}
 
--- no event grows too old, and nothing is told of the panel
-abbrev pub as_always : Absence
-as_always = record { expire = 0; told = false }
+-- while the panel is gone, events leave that are older than a second, and nothing is told of the panel
+abbrev pub second : Absence
+second = record { expire = 1000; told = false }
 
 -- a panel whose third entry is a device of another make, and two devices
 abbrev pub programs : Programs line_panel line_device
 programs = record {
   panel = after_adds (3 ∷ 4 ∷ 20 ∷ []) (panel_sessions.new_session twice);
-  devices = device_sessions.new_session (device_at 3) 4 20 as_always ∷ device_sessions.new_session (device_at 4) 4 20 as_always ∷ [];
+  devices = device_sessions.new_session (device_at 3) 4 20 second ∷ device_sessions.new_session (device_at 4) 4 20 second ∷ [];
 }
 
 abbrev pub panel : PanelCall → List ℕ → Made line_panel line_device
@@ -50,6 +50,7 @@ by_lines (DeviceDoes k bytes now places) = device_at_moment now k (to_device.Byt
 by_lines (SeesSilence k now) = device_at_moment now k to_device.Silence []
 by_lines (KeyIsPressed k) = device k (to_device.Event key) [] ∷ []
 by_lines (IsBusy k busy) = device k (to_device.Busy busy) [] ∷ []
+by_lines (LetsOldGo k now) = device k (to_device.At now) [] ∷ []
 by_lines (DeviceIsMadeAnew k address) = record { own = AtDevice k (DeviceAnew (device_at address) 4 20); places = [] } ∷ []
 
 abbrev pub day_by_lines : List (Made line_panel line_device)

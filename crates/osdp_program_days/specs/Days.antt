@@ -5,10 +5,10 @@ use Rattle.osdp_msg.specs.declared.event.Event.{Event}
 use Rattle.osdp_msg.specs.declared.reply.Reply.{Reply}
 use Rattle.osdp_msg.specs.declared.reply.Reply.TheVariants as reply
 use Rattle.osdp_bus_laws.specs.Calls as bus
-use Rattle.osdp_ledger.specs.History.{CutOff, End, GivenBack, History, Settled, new_history, runs}
+use Rattle.osdp_ledger.specs.History.{AfterReport, CutOff, End, Exit, GivenBack, History, Lapsed, Left, Settled, new_history, runs}
 use Rattle.osdp_ledger.specs.Ledger.{Card, Order}
 use Rattle.osdp_reader.specs.declared.handler.Answer.{Answer}
-use Rattle.osdp_calls.specs.Calls.{Call, NewDevice, NewPanel, Next, OfPanel, Pending, SetBusy, SetHandler, Silence, Step, SubmitEvent, Take, TickDevice, WithdrawEvent}
+use Rattle.osdp_calls.specs.Calls.{Call, NewDevice, NewPanel, Next, OfPanel, Pending, SetBusy, SetHandler, Silence, Step, SubmitEvent, Take, TickDevice, LapseEvent, WithdrawEvent}
 use Rattle.osdp_calls_instance.specs.OwnCalls.{DeviceKind, OwnCall, PanelKind, Programs, after_own, calls_by}
 use Rattle.osdp_calls.specs.Premises.{AllKeep}
 use Rattle.osdp_calls_ledger.specs.Steps.{steps_from}
@@ -36,6 +36,7 @@ module _ {H : Type 0} where
   reads (SetBusy k busy) = false
   reads (SetHandler k handler) = false
   reads (WithdrawEvent k) = false
+  reads (LapseEvent k) = false
   reads (Take k bytes now) = false
   reads (TickDevice k now) = false
   reads (Silence k now) = false
@@ -68,7 +69,7 @@ module _ {H : Type 0} (P : PanelKind H) (D : DeviceKind H) (answer_of : H → Co
   history_of day w handler = runs (steps_from answer_of after 0 (station_at 3 handler) (steps_of P D day w) (first_line handler)) new_history
 
   -- In four sessions an order was settled, one was given back, a COMSET was settled, and one was cut off when the panel was made anew; the device acted on
-  -- three of these. The key was reported in the first session, and again in the second.
+  -- three of these. A key was reported in the first session, and again in the second, and left. Another lapsed in the fourth, and was reported after that.
   pub record DayKeeps (day : List (Made P D)) (w : Programs P D) (handler : H) : Type 0 where
     pub calls : AreTheirCalls P D answer_of after (owns P D day) w (first_line handler) (steps_of P D day w)
     pub keep : AllKeep answer_of after (steps_of P D day w) (first_line handler)
@@ -76,4 +77,5 @@ module _ {H : Type 0} (P : PanelKind H) (D : DeviceKind H) (answer_of : H → Co
     pub ended : map (λ (e : Order × End). e.1) (history_of day w handler).ended
         ≡ Settled reply.Ack ∷ GivenBack ∷ Settled (reply.Com (record { address = 5; baud_rate = 9600 })) ∷ CutOff ∷ []
     pub acted : map (λ (a : Order × Reply). a.0.place) (history_of day w handler).acted ≡ 0 ∷ 2 ∷ 3 ∷ []
-    pub reported : map {B = ℕ × Event} (λ (told : ℕ × Card). (told.0, told.1.event)) (history_of day w handler).reports ≡ (1, key) ∷ (2, key) ∷ []
+    pub reported : map {B = ℕ × Event} (λ (told : ℕ × Card). (told.0, told.1.event)) (history_of day w handler).reports ≡ (1, key) ∷ (2, key) ∷ (4, key) ∷ []
+    pub left : map {B = ℕ × Exit} (λ (gone : Left). (gone.session, gone.why)) (history_of day w handler).left ≡ (2, AfterReport) ∷ (4, Lapsed) ∷ []

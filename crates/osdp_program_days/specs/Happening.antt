@@ -16,13 +16,15 @@ pub data Happening : Type 0 where
   Hears : List ℕ → ℕ → List ℕ → Happening
   IsMadeAnew : List ℕ → Happening
   -- the device of an entry has one output, which is off; hears bytes at a moment; hears an order that its program decides, and does it; sees the line silent;
-  -- a key is pressed there; it is busy from now on, or isn't any more; and it is made anew at an address
+  -- a key is pressed there; it is busy from now on, or isn't any more; at a moment it lets the oldest event go that waits, where that is older than a second
+  -- and no packet has come for eight; and it is made anew at an address
   HasOutput : ℕ → Happening
   DeviceHears : ℕ → List ℕ → ℕ → List ℕ → Happening
   DeviceDoes : ℕ → List ℕ → ℕ → List ℕ → Happening
   SeesSilence : ℕ → ℕ → Happening
   KeyIsPressed : ℕ → Happening
   IsBusy : ℕ → Bool → Happening
+  LetsOldGo : ℕ → ℕ → Happening
   DeviceIsMadeAnew : ℕ → ℕ → Happening
 
 -- what a device says of itself, and an order: output 0 on, for good
@@ -143,5 +145,18 @@ panel_restart =
     ∷ Hears (answers 5 0 identity) 2443 (31 ∷ [])
     ∷ []
 
+-- A key is pressed, and told, but the answer is lost. The panel says nothing for nine seconds. So the device lets the key go, in doubt. Then the panel asks once
+-- more: the device gives the kept answer, and the key is reported.
+abbrev pub lapse : List Happening
+lapse =
+    KeyIsPressed 0
+    ∷ Sends 2493
+    ∷ DeviceHears 0 (asks 5 1 (96 ∷ [])) 2494 (32 ∷ [])
+    ∷ LetsOldGo 0 12000
+    ∷ Sends 12001
+    ∷ DeviceHears 0 (asks 5 1 (96 ∷ [])) 12002 (34 ∷ [])
+    ∷ Hears (answers 5 1 (83 ∷ 0 ∷ 1 ∷ 49 ∷ [])) 12004 (35 ∷ [])
+    ∷ []
+
 abbrev pub day : List Happening
-day = opening ++ order ++ busy ++ lost ++ restart ++ again ++ move ++ panel_restart
+day = opening ++ order ++ busy ++ lost ++ restart ++ again ++ move ++ panel_restart ++ lapse

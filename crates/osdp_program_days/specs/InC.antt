@@ -5,11 +5,11 @@ use Rattle.osdp_c_values.specs.declared.machine.ReaderMachine.{ReaderMachine}
 use Rattle.osdp_c_values.specs.declared.settings.ReaderSettings.{ReaderSettings}
 use Rattle.osdp_c_values.specs.declared.states.StateList.TheVariants.{Outputs}
 use Rattle.osdp_device.specs.Program.{new_program, program_after, program_answer}
-use Rattle.osdp_calls_instance.specs.CPrograms.{AnswerDone, Begin, Bytes, DeviceCall, DeviceMade, DeviceSilence, DeviceTick, Happens, NextReport, PanelAnew, PanelCall, PanelTick, SetBusyTo, SetStates, SubmitText, TakesBytes, Withdraw, c_device, c_panel, panel_made}
+use Rattle.osdp_calls_instance.specs.CPrograms.{AnswerDone, Begin, Bytes, DeviceCall, DeviceMade, DeviceSilence, DeviceTick, ExpiresEvent, Happens, NextReport, PanelAnew, PanelCall, PanelTick, SetBusyTo, SetStates, SubmitText, TakesBytes, Withdraw, c_device, c_panel, panel_made}
 use Rattle.osdp_calls_instance.specs.OwnCalls.{AtDevice, AtPanel, Programs}
 use Rattle.osdp_premises.specs.LongDay.{four, key, twice}
 use Rattle.osdp_program_days.specs.Days.{DayKeeps, Made}
-use Rattle.osdp_program_days.specs.Happening.{Begins, DeviceDoes, DeviceHears, DeviceIsMadeAnew, Happening, HasOutput, Hears, IsBusy, IsMadeAnew, KeyIsPressed, Orders, SeesSilence, Sends, TakesBack, day}
+use Rattle.osdp_program_days.specs.Happening.{Begins, DeviceDoes, DeviceHears, DeviceIsMadeAnew, Happening, HasOutput, Hears, IsBusy, IsMadeAnew, KeyIsPressed, LetsOldGo, Orders, SeesSilence, Sends, TakesBack, day}
 
 -- a device at this address, by the settings of the call that makes it
 abbrev pub settings_at : ℕ → ReaderSettings
@@ -55,6 +55,7 @@ in_c (DeviceDoes k bytes now places) = device k (TakesBytes bytes now) [] ∷ de
 in_c (SeesSilence k now) = device k (DeviceSilence now) [] ∷ []
 in_c (KeyIsPressed k) = device k (Happens (Ok key)) [] ∷ []
 in_c (IsBusy k busy) = device k (SetBusyTo (if busy then 1 else 0)) [] ∷ []
+in_c (LetsOldGo k now) = device k (ExpiresEvent now 1000) [] ∷ []
 in_c (DeviceIsMadeAnew k address) = device k (DeviceMade four (settings_at address) (record { items = [] })) [] ∷ []
 
 abbrev pub day_in_c : List (Made c_panel c_device)

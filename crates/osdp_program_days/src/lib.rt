@@ -8,7 +8,7 @@ ghost use Rattle.osdp_program_days.specs.InC.{DayInCKeeps};
 
 /// One day's calls for C keep all premises, with losses, damage, a busy device, a COMSET and losses of power at both ends among them. So what is promised of
 /// programs in C holds of it. An order whose packet came damaged and whose answer was lost is acted on once, and settled. A key is told again in the next
-/// session. A COMSET is settled. The panel is made anew while an order is on the wire.
+/// session. A COMSET is settled. The panel is made anew while an order is on the wire. Another key lapses, and is reported after that, by the kept answer.
 pub fn a_day_in_c_keeps_the_premises()
     ensures { DayInCKeeps }
 {}

@@ -1,5 +1,5 @@
 -- What programs call is what the panel's own bus and our devices go by, whatever the numbers of its entries are.
-use Rattle.osdp_programs_ledger.proofs.Common.{◌≡◌, ℕ, cond, List, [], ◌∷◌, map, Option, Some, None, refl, sym, subst, ap, ◌∙◌, inl, inr, Command, BusState, device_of, new_device, BusConfig, Entry, Answer, site_at, some_same, Call, NewDevice, NewPanel, Next, OfPanel, Pending, SetBusy, SetHandler, Silence, Step, SubmitEvent, Take, TickDevice, WithdrawEvent, GoByTheirOwn, Held, device_after, device_after_all, held_by, is_of_device, InUse, Station, CallTheLine, DeviceKind, PanelKind, after_each, bus_after, bus_after_each, each_bus}
+use Rattle.osdp_programs_ledger.proofs.Common.{◌≡◌, ℕ, cond, List, [], ◌∷◌, map, Option, Some, None, refl, sym, subst, ap, ◌∙◌, inl, inr, Command, BusState, device_of, new_device, BusConfig, Entry, Answer, site_at, some_same, Call, NewDevice, NewPanel, Next, OfPanel, Pending, SetBusy, SetHandler, Silence, Step, SubmitEvent, Take, TickDevice, LapseEvent, WithdrawEvent, GoByTheirOwn, Held, device_after, device_after_all, held_by, is_of_device, InUse, Station, CallTheLine, DeviceKind, PanelKind, after_each, bus_after, bus_after_each, each_bus}
 use Rattle.osdp_entry_numbers.specs.Including.{AnyCallsKeep, same_step}
 use Rattle.osdp_entry_numbers.specs.Numbers.{IsIdle}
 use Rattle.osdp_entry_numbers.specs.OwnOrder.{OwnLine, OwnStep, after_all_own, after_own, in_order, own_after, own_view, turned}
@@ -31,6 +31,7 @@ module _ {H : Type 0} where
   bus_same (SetBusy k busy) b = refl
   bus_same (SetHandler k handler) b = refl
   bus_same (WithdrawEvent k) b = refl
+  bus_same (LapseEvent k) b = refl
   bus_same (Take k bytes now) b = refl
   bus_same (TickDevice k now) b = refl
   bus_same (Silence k now) b = refl
@@ -55,6 +56,7 @@ module _ {H : Type 0} where
     device_same k (SetBusy i busy) ordered a d = refl
     device_same k (SetHandler i handler) ordered a d = refl
     device_same k (WithdrawEvent i) ordered a d = refl
+    device_same k (LapseEvent i) ordered a d = refl
     device_same k (Take i bytes now) ordered a d = refl
     device_same k (TickDevice i now) ordered a d = refl
     device_same k (Silence i now) ordered a d = refl

@@ -181,6 +181,9 @@ module _ {H : Type 0} where
     pub withdrawing_event : (s : Site H) → Quietly s (calls answer_of after link.WithdrawEvent s)
     withdrawing_event s = unmoved s (calls answer_of after link.WithdrawEvent s) refl refl refl (Nothing refl)
 
+    pub lapsing_event : (s : Site H) → Quietly s (calls answer_of after link.LapseEvent s)
+    lapsing_event s = unmoved s (calls answer_of after link.LapseEvent s) refl refl refl (Nothing refl)
+
     pub handling : (handler : H) (s : Site H) → Quietly s (calls answer_of after (link.SetHandler handler) s)
     handling handler s = unmoved s (calls answer_of after (link.SetHandler handler) s) refl refl refl (Nothing refl)
 

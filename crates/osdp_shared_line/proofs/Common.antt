@@ -12,7 +12,7 @@ pub use Rattle.osdp_link_laws.specs.Link.{Account, after_move, Delivered, Delive
 pub use Rattle.osdp_link_laws.proofs.Lines.{both, each_all, each_append, each_front, each_map, each_of, each_rest}
 pub use Rattle.osdp_link_laws.proofs.Stages.{Each}
 pub use Rattle.osdp_shared_line.specs.Addresses.{address_in, AreApart, asked_by, asked_in, HasNoOther, in_front, IsAsked, IsFreeFor, IsInOrder, IsNameOf, IsSaid, IsSetUp, IsThere, MayComeTo, NetMoveFits, NetMovesFit, NobodyElseHears, NoTwoAreTogether, Sets, SetsReader, Somewhere, unended}
-pub use Rattle.osdp_shared_line.specs.Line.{address_of, after_net, calls, changed, first_gets, gets, is_command_accepted, is_comset_refused, is_reserved, is_retarget_accepted, is_retarget_refused, is_taken, is_taken_beside, is_told, left_by, link_of, LoseToPanel, LoseToReader, Net, NetMove, Queue, Reopen, RestartPanel, RestartReader, restarts, Retarget, run, SetBusy, SetHandler, Site, site_at, Submit, tagged, takes_up, Tick, ToPanel, ToReader, Withdraw, WithdrawEvent}
+pub use Rattle.osdp_shared_line.specs.Line.{address_of, after_net, calls, changed, first_gets, gets, is_command_accepted, is_comset_refused, is_reserved, is_retarget_accepted, is_retarget_refused, is_taken, is_taken_beside, is_told, left_by, link_of, LoseToPanel, LoseToReader, Net, NetMove, Queue, Reopen, RestartPanel, RestartReader, restarts, Retarget, run, SetBusy, SetHandler, Site, site_at, Submit, tagged, takes_up, Tick, ToPanel, ToReader, Withdraw, LapseEvent, WithdrawEvent}
 pub use Rattle.osdp_msg.specs.declared.limits.Room.{Room}
 pub use Rattle.osdp_msg.specs.declared.command_fields.Communication.{Communication}
 pub use Rattle.osdp_msg.specs.declared.event.Event.{Event}

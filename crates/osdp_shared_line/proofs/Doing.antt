@@ -1,10 +1,10 @@
 -- What each move of a program or of a power failure does to the site that it speaks of.
-use Rattle.osdp_shared_line.proofs.Common.{◌≡◌, ◌≢◌, ◌⊎◌, ℕ, Bool, true, false, cond, [], Option, Some, None, refl, sym, subst, ap, ◌∙◌, inl, inr, arith, ◌||◌, is_some, not, Command, comset_of, ControllerFault, Answer, Link, Move, after_move, LoseToReader, Net, NetMove, Queue, Reopen, RestartPanel, RestartReader, Retarget, SetBusy, SetHandler, Site, Submit, Withdraw, WithdrawEvent, after_net, calls, is_comset_refused, is_retarget_refused, site_at, OpensQuietly, move_of, one_if, view}
+use Rattle.osdp_shared_line.proofs.Common.{◌≡◌, ◌≢◌, ◌⊎◌, ℕ, Bool, true, false, cond, [], Option, Some, None, refl, sym, subst, ap, ◌∙◌, inl, inr, arith, ◌||◌, is_some, not, Command, comset_of, ControllerFault, Answer, Link, Move, after_move, LoseToReader, Net, NetMove, Queue, Reopen, RestartPanel, RestartReader, Retarget, SetBusy, SetHandler, Site, Submit, Withdraw, LapseEvent, WithdrawEvent, after_net, calls, is_comset_refused, is_retarget_refused, site_at, OpensQuietly, move_of, one_if, view}
 use Rattle.osdp_controller.specs.Machine as controllers
 use Rattle.osdp_link_laws.specs.Effects as effects
-use Rattle.osdp_link_laws.specs.Effects.{AnswersBy, HasAddress, HasHandler, HasNewController, HasNewReader, HasTakenBack, HasWithdrawn}
+use Rattle.osdp_link_laws.specs.Effects.{AnswersBy, HasAddress, HasHandler, HasLapsed, HasNewController, HasNewReader, HasTakenBack, HasWithdrawn}
 use Rattle.osdp_link_laws.specs.Link as link
-use Rattle.osdp_shared_line.specs.Effects.{ChangesNoOther, EachDoesAsOnALink, EachRetargets, EachWithdraws, EachWithdrawsEvents, IsChanged}
+use Rattle.osdp_shared_line.specs.Effects.{ChangesNoOther, EachDoesAsOnALink, EachLapses, EachRetargets, EachWithdraws, EachWithdrawsEvents, IsChanged}
 use Rattle.osdp_shared_line.specs.Line as line
 use Rattle.osdp_shared_line.proofs.Changing.{may_retarget}
 use Rattle.osdp_shared_line.proofs.Moving.{each_is_its_own, one_is}
@@ -53,6 +53,14 @@ module _ {H : Type 0} (answer_of : H → Command → Answer) (after : H → Comm
     none = λ n k s t h few. one_after n (WithdrawEvent k) k s t link.WithdrawEvent h tt refl ∙ withdraws.none (view k s n) few;
   }
 
+  each_lapses : effects.LapsesEvents answer_of after → EachLapses answer_of after
+  each_lapses lapses = record {
+    front = λ n k event rest s t h is offered.
+        subst (HasLapsed event rest (view k s n)) (sym (one_after n (LapseEvent k) k s t link.LapseEvent h tt refl))
+        (lapses.front (view k s n) event rest is offered);
+    none = λ n k s t h not_offered. one_after n (LapseEvent k) k s t link.LapseEvent h tt refl ∙ lapses.none (view k s n) not_offered;
+  }
+
   each_retargets : effects.Retargets answer_of after → EachRetargets answer_of after
   each_retargets retargets = record {
     set = λ n k address s t h accepted.
@@ -80,6 +88,7 @@ module _ {H : Type 0} (answer_of : H → Command → Answer) (after : H → Comm
         (sym (one_after n (SetHandler k handler) k s t (link.SetHandler handler) h tt refl)) (does.handler (view k s n) handler);
     withdraws = each_withdraws does.withdraw;
     events = each_withdraws_events does.event;
+    lapses = each_lapses does.lapse;
     retargets = each_retargets does.retarget;
     reader = λ n k config handler room s t h.
         subst (HasNewReader answer_of after config handler room (view k s n))
@@ -113,6 +122,8 @@ module _ {H : Type 0} (answer_of : H → Command → Answer) (after : H → Comm
       others_stay (λ s. false) (calls answer_of after (link.SetBusy busy)) i k (site_at i n.sites) n (λ e. other (e ∙ speaks))
   changes_no_other n (WithdrawEvent i) j k speaks other =
       others_stay (λ s. false) (calls answer_of after link.WithdrawEvent) i k (site_at i n.sites) n (λ e. other (e ∙ speaks))
+  changes_no_other n (LapseEvent i) j k speaks other =
+      others_stay (λ s. false) (calls answer_of after link.LapseEvent) i k (site_at i n.sites) n (λ e. other (e ∙ speaks))
   changes_no_other n (SetHandler i h) j k speaks other =
       others_stay (λ s. false) (calls answer_of after (link.SetHandler h)) i k (site_at i n.sites) n (λ e. other (e ∙ speaks))
   changes_no_other n (Withdraw i) j k speaks other =

@@ -1,5 +1,5 @@
 -- Which moves leave the ends of a site as they are, by each move.
-use Rattle.osdp_shared_line.proofs.Common.{ℕ, refl, subst, ap, NetMove, RestartPanel, RestartReader, SetHandler, Withdraw, WithdrawEvent, IsOrdinaryOf, KeepsDeviceOf, KeepsReaderOf}
+use Rattle.osdp_shared_line.proofs.Common.{ℕ, refl, subst, ap, NetMove, RestartPanel, RestartReader, SetHandler, Withdraw, LapseEvent, WithdrawEvent, IsOrdinaryOf, KeepsDeviceOf, KeepsReaderOf}
 use Rattle.osdp_shared_line.specs.Leaving.{LeavingIsExact, RestartsNoPanel, RestartsNoReader, SetsNoHandler, TakesNothingBack}
 
 module _ {H : Type 0} (k : ℕ) where
@@ -20,7 +20,7 @@ module _ {H : Type 0} (k : ℕ) where
 
   none_disturbs : (move : NetMove H) → IsOrdinaryOf k move → TakesNothingBack k move × RestartsNoReader k move × RestartsNoPanel move
   none_disturbs move is = (
-    (λ e. subst (IsOrdinaryOf k) e is refl, λ e. subst (IsOrdinaryOf k) e is refl),
+    (λ e. subst (IsOrdinaryOf k) e is refl, λ e. subst (IsOrdinaryOf k) e is refl, λ e. subst (IsOrdinaryOf k) e is refl),
     λ config handler room e. subst (IsOrdinaryOf k) e is refl,
     λ settings e. subst (IsOrdinaryOf k) e is,
   )
@@ -28,6 +28,7 @@ module _ {H : Type 0} (k : ℕ) where
   is_ordinary : (move : NetMove H) → TakesNothingBack k move × RestartsNoReader k move × RestartsNoPanel move → IsOrdinaryOf k move
   is_ordinary (Withdraw i) none = λ e. none.0.0 (ap (λ j. Withdraw j) e)
   is_ordinary (WithdrawEvent i) none = λ e. none.0.1 (ap (λ j. WithdrawEvent j) e)
+  is_ordinary (LapseEvent i) none = λ e. none.0.2 (ap (λ j. LapseEvent j) e)
   is_ordinary (RestartReader i config handler room) none = λ e. none.1 config handler room (ap (λ j. RestartReader j config handler room) e)
   is_ordinary (RestartPanel settings) none = none.2 settings refl
   is_ordinary move none = tt

@@ -1,5 +1,5 @@
 -- Each site is its link after every list of moves, so each law of a link is one of each site.
-use Rattle.osdp_shared_line.proofs.Common.{◌≡◌, ℕ, cond, eqb, List, [], ◌∷◌, ◌++◌, Option, Some, None, IfSome, refl, sym, subst, ap, ◌∙◌, inl, inr, eqb_tells, option_map, option_to_list, Packet, Command, comset_of, Answer, MoveFits, MovesFit, SaysWhatFitsIf, Delivered, Delivery, Link, Lost, Move, Repeated, after_move, ReadsWhatIsAsked, IsNoRefusal, RefusesNoNumber, told_by, both, NetMoveFits, NetMovesFit, in_front, LoseToPanel, LoseToReader, Net, NetMove, Queue, Reopen, RestartPanel, RestartReader, Retarget, SetBusy, SetHandler, Site, Submit, Tick, ToPanel, ToReader, Withdraw, WithdrawEvent, address_of, after_net, is_comset_refused, is_retarget_refused, run, site_at, EachIsALink, EachRefusesNoNumber, IsItsLink, moves_at, moves_of, IsMoved, OpensQuietly, front_to_panel, move_of, one_if, own, own_front, own_place, view}
+use Rattle.osdp_shared_line.proofs.Common.{◌≡◌, ℕ, cond, eqb, List, [], ◌∷◌, ◌++◌, Option, Some, None, IfSome, refl, sym, subst, ap, ◌∙◌, inl, inr, eqb_tells, option_map, option_to_list, Packet, Command, comset_of, Answer, MoveFits, MovesFit, SaysWhatFitsIf, Delivered, Delivery, Link, Lost, Move, Repeated, after_move, ReadsWhatIsAsked, IsNoRefusal, RefusesNoNumber, told_by, both, NetMoveFits, NetMovesFit, in_front, LoseToPanel, LoseToReader, Net, NetMove, Queue, Reopen, RestartPanel, RestartReader, Retarget, SetBusy, SetHandler, Site, Submit, Tick, ToPanel, ToReader, Withdraw, LapseEvent, WithdrawEvent, address_of, after_net, is_comset_refused, is_retarget_refused, run, site_at, EachIsALink, EachRefusesNoNumber, IsItsLink, moves_at, moves_of, IsMoved, OpensQuietly, front_to_panel, move_of, one_if, own, own_front, own_place, view}
 use Rattle.osdp_link_laws.specs.Link as link
 use Rattle.osdp_shared_line.specs.Views as views
 use Rattle.osdp_shared_line.proofs.Apart.{Apart}
@@ -65,6 +65,7 @@ module _ {H : Type 0} (answer_of : H → Command → Answer) (after : H → Comm
   move_fits (Queue i e) k s n is fits = one_fits i k s n (link.Queue e) (λ e. tt)
   move_fits (SetBusy i busy) k s n is fits = one_fits i k s n (link.SetBusy busy) (λ e. tt)
   move_fits (WithdrawEvent i) k s n is fits = one_fits i k s n link.WithdrawEvent (λ e. tt)
+  move_fits (LapseEvent i) k s n is fits = one_fits i k s n link.LapseEvent (λ e. tt)
   move_fits (SetHandler i h) k s n is fits = one_fits i k s n (link.SetHandler h) (λ e. tt)
   move_fits (Withdraw i) k s n is fits = one_fits i k s n link.Withdraw (λ e. tt)
   move_fits (Retarget i address) k s n is fits =

@@ -1,6 +1,6 @@
 -- Each move of all is a move of one site's link, or none, where nobody else hears what is in front.
 use Rattle.std.proofs.Common.{◌≡◌, ◌≢◌, ◌<◌, ◌+◌, ℕ, zero, suc, Bool, true, false, cond, ◌==◌, List, [], ◌∷◌, ◌++◌, Option, Some, None, refl, sym, subst, ap, ◌∙◌, inl, inr, arith}
-use Rattle.osdp_shared_line.proofs.Common.{eqb_tells, append-nil, option_map, option_to_list, Room, Packet, Command, Event, comset_of, seen, ticks_in, ControllerConfig, ControllerFault, Closed, Answer, lacks_room, Delivered, Delivery, Link, Lost, Move, Repeated, after_move, lost_at, each_map, each_of, is_false, is_true, Each, LoseToPanel, LoseToReader, Net, Queue, Reopen, RestartPanel, RestartReader, Retarget, SetBusy, SetHandler, Site, Submit, Tick, ToPanel, ToReader, Withdraw, WithdrawEvent, address_of, after_net, calls, changed, gets, is_comset_refused, is_retarget_refused, is_told, link_of, left_by, restarts, site_at, tagged, EachMoveIsItsOwn, IsMoved, IsQuiet, front_to_panel, move_of, one_if, own, own_front, own_place, view}
+use Rattle.osdp_shared_line.proofs.Common.{eqb_tells, append-nil, option_map, option_to_list, Room, Packet, Command, Event, comset_of, seen, ticks_in, ControllerConfig, ControllerFault, Closed, Answer, lacks_room, Delivered, Delivery, Link, Lost, Move, Repeated, after_move, lost_at, each_map, each_of, is_false, is_true, Each, LoseToPanel, LoseToReader, Net, Queue, Reopen, RestartPanel, RestartReader, Retarget, SetBusy, SetHandler, Site, Submit, Tick, ToPanel, ToReader, Withdraw, LapseEvent, WithdrawEvent, address_of, after_net, calls, changed, gets, is_comset_refused, is_retarget_refused, is_told, link_of, left_by, restarts, site_at, tagged, EachMoveIsItsOwn, IsMoved, IsQuiet, front_to_panel, move_of, one_if, own, own_front, own_place, view}
 use Rattle.osdp_controller.specs.Hearing as controller
 use Rattle.osdp_controller.specs.Machine as controllers
 use Rattle.osdp_link_laws.specs.Link as link
@@ -413,6 +413,7 @@ module _ {H : Type 0} (answer_of : H → Command → Answer) (after : H → Comm
       (queued (lacks_room e s.reader.queue) e s (own k s.coming) (own k n.to_panel))
   each_is_its_own n (SetBusy i busy) heard quiet k s is = changes_always i k s (link.SetBusy busy) (calls answer_of after (link.SetBusy busy)) n is refl
   each_is_its_own n (WithdrawEvent i) heard quiet k s is = changes_always i k s link.WithdrawEvent (calls answer_of after link.WithdrawEvent) n is refl
+  each_is_its_own n (LapseEvent i) heard quiet k s is = changes_always i k s link.LapseEvent (calls answer_of after link.LapseEvent) n is refl
   each_is_its_own n (SetHandler i h) heard quiet k s is = changes_always i k s (link.SetHandler h) (calls answer_of after (link.SetHandler h)) n is refl
   each_is_its_own n (Withdraw i) heard quiet k s is = changes_always i k s link.Withdraw (line.withdraws answer_of after) n is refl
   each_is_its_own n (Retarget i address) heard quiet k s is =

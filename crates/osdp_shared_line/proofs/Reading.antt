@@ -1,5 +1,5 @@
 -- Over a round of one site every reader reads, and only that site's own reader answers.
-use Rattle.osdp_shared_line.proofs.Common.{◌≡◌, ◌≢◌, ◌⊎◌, ◌<◌, ◌≤◌, ◌+◌, ℕ, zero, suc, true, false, cond, eqb, List, [], ◌∷◌, ◌++◌, Option, Some, None, IfSome, refl, sym, subst, ap, ◌∙◌, inl, inr, arith, eqb_tells, leb_tells, append-nil, option_to_list, Packet, Command, Answer, SaysWhatFitsIf, Delivered, Link, after_move, ReadsWhatIsAsked, Each, IsThere, NetMovesFit, in_front, Net, NetMove, Site, ToReader, address_of, after_net, changed, left_by, link_of, run, site_at, tagged, all_read, IsMoved, own, own_front, view}
+use Rattle.osdp_shared_line.proofs.Common.{◌≡◌, ◌≢◌, ◌⊎◌, ◌<◌, ◌≤◌, ◌+◌, ℕ, zero, suc, true, false, cond, eqb, List, [], ◌∷◌, ◌++◌, Option, Some, None, IfSome, refl, sym, subst, ap, ◌∙◌, inl, inr, arith, eqb_tells, leb_tells, append-nil, option_to_list, Packet, Command, Answer, SaysWhatFitsIf, Delivered, Link, after_move, ReadsWhatIsAsked, Each, IsThere, NetMovesFit, in_front, Net, Site, ToReader, address_of, after_net, changed, left_by, link_of, run, site_at, tagged, all_read, IsMoved, own, own_front, view}
 use Rattle.osdp_reader.specs.Table as reader
 use Rattle.osdp_link_laws.specs.Link as link
 use Rattle.osdp_shared_line.specs.Line as line

@@ -1,5 +1,5 @@
 -- What holds of each move of all holds of each move of a link that these come to; and a site whose reader never restarts refuses no number.
-use Rattle.osdp_shared_line.proofs.Common.{◌≡◌, ℕ, cond, eqb, List, [], ◌∷◌, Option, Some, None, sym, subst, inl, inr, eqb_tells, option_map, option_to_list, Packet, Command, comset_of, Answer, Delivered, Delivery, Lost, Move, Repeated, KeepsReader, RefusesNoNumberWithoutRestart, both, each_all, each_append, each_map, each_of, Each, LoseToPanel, LoseToReader, Net, NetMove, Queue, Reopen, RestartPanel, RestartReader, Retarget, SetBusy, SetHandler, Site, Submit, Tick, ToPanel, ToReader, Withdraw, WithdrawEvent, address_of, after_net, is_comset_refused, is_retarget_refused, site_at, EachRefusesNoneWithoutRestart, KeepsReaderOf, EachIsALink, moves_at, moves_of, front_to_panel, move_of, one_if, own_front, own_place, view}
+use Rattle.osdp_shared_line.proofs.Common.{◌≡◌, ℕ, cond, eqb, List, [], ◌∷◌, Option, Some, None, sym, subst, inl, inr, eqb_tells, option_map, option_to_list, Packet, Command, comset_of, Answer, Delivered, Delivery, Lost, Move, Repeated, KeepsReader, RefusesNoNumberWithoutRestart, both, each_all, each_append, each_map, each_of, Each, LoseToPanel, LoseToReader, Net, NetMove, Queue, Reopen, RestartPanel, RestartReader, Retarget, SetBusy, SetHandler, Site, Submit, Tick, ToPanel, ToReader, Withdraw, LapseEvent, WithdrawEvent, address_of, after_net, is_comset_refused, is_retarget_refused, site_at, EachRefusesNoneWithoutRestart, KeepsReaderOf, EachIsALink, moves_at, moves_of, front_to_panel, move_of, one_if, own_front, own_place, view}
 use Rattle.osdp_link_laws.specs.Link as link
 use Rattle.osdp_shared_line.specs.Views as views
 
@@ -12,6 +12,7 @@ module _ {H : Type 0} (P : Move H → Type 0) (k : ℕ) where
   HoldsOf (Queue i event) = i ≡ k → P (link.Queue event)
   HoldsOf (SetBusy i busy) = i ≡ k → P (link.SetBusy busy)
   HoldsOf (WithdrawEvent i) = i ≡ k → P link.WithdrawEvent
+  HoldsOf (LapseEvent i) = i ≡ k → P link.LapseEvent
   HoldsOf (SetHandler i handler) = i ≡ k → P (link.SetHandler handler)
   HoldsOf (Withdraw i) = i ≡ k → P link.Withdraw
   HoldsOf (Retarget i address) = i ≡ k → P (link.Retarget address)
@@ -74,6 +75,7 @@ module _ {H : Type 0} (P : Move H → Type 0) (k : ℕ) where
   move_holds (Queue i e) s n holds = one_holds i (link.Queue e) holds
   move_holds (SetBusy i busy) s n holds = one_holds i (link.SetBusy busy) holds
   move_holds (WithdrawEvent i) s n holds = one_holds i link.WithdrawEvent holds
+  move_holds (LapseEvent i) s n holds = one_holds i link.LapseEvent holds
   move_holds (SetHandler i h) s n holds = one_holds i (link.SetHandler h) holds
   move_holds (Withdraw i) s n holds = one_holds i link.Withdraw holds
   move_holds (Retarget i address) s n holds =

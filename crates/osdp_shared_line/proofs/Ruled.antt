@@ -1,5 +1,5 @@
 -- What a program notes holds after what the panel reads, and so after every list of moves.
-use Rattle.osdp_shared_line.proofs.Common.{◌≡◌, ℕ, Bool, true, false, cond, eqb, List, [], ◌∷◌, ◌++◌, Option, Some, refl, sym, subst, ap, ◌∙◌, inl, inr, append_assoc, arith, eqb_tells, ◌&&◌, Packet, Command, Answer, lacks_room, Delivered, Delivery, Lost, Repeated, lost_at, ReadsWhatIsAsked, NoComset, each_of, Each, IsAsked, IsSetUp, IsSaid, IsThere, MayComeTo, NetMovesFit, Sets, Somewhere, asked_in, unended, LoseToPanel, LoseToReader, Net, NetMove, Queue, Reopen, RestartPanel, RestartReader, Retarget, SetBusy, SetHandler, Site, Submit, Tick, ToPanel, ToReader, Withdraw, WithdrawEvent, address_of, after_net, calls, first_gets, gets, site_at, IsKnown, KeepRule, KeepsRule, Note, RestFits, RuleSuffices, all_addresses, is_opened, no_notes, note_after, noted_opened, noted_panel, notes_after}
+use Rattle.osdp_shared_line.proofs.Common.{◌≡◌, ℕ, Bool, true, false, cond, eqb, List, [], ◌∷◌, ◌++◌, Option, Some, refl, sym, subst, ap, ◌∙◌, inl, inr, append_assoc, arith, eqb_tells, ◌&&◌, Packet, Command, Answer, lacks_room, Delivered, Delivery, Lost, Repeated, lost_at, ReadsWhatIsAsked, NoComset, each_of, Each, IsAsked, IsSetUp, IsSaid, IsThere, MayComeTo, NetMovesFit, Sets, Somewhere, asked_in, unended, LoseToPanel, LoseToReader, Net, NetMove, Queue, Reopen, RestartPanel, RestartReader, Retarget, SetBusy, SetHandler, Site, Submit, Tick, ToPanel, ToReader, Withdraw, LapseEvent, WithdrawEvent, address_of, after_net, calls, first_gets, gets, site_at, IsKnown, KeepRule, KeepsRule, Note, RestFits, RuleSuffices, all_addresses, is_opened, no_notes, note_after, noted_opened, noted_panel, notes_after}
 use Rattle.osdp_controller.specs.Hearing as controller
 use Rattle.osdp_controller.specs.declared.report.Report.{Report as ReportTold}
 use Rattle.osdp_link_laws.specs.Link as link
@@ -229,6 +229,8 @@ module _ {H : Type 0} (answer_of : H → Command → Answer) (after : H → Comm
       noted_after (SetBusy i busy) rest rule = quiet_call answer_of after n notes h i (SetBusy i busy) (calls answer_of after (link.SetBusy busy)) (λ k s. refl)
           (λ s at. record { address = refl; left = all_left (unended s); reader = refl; coming = Nothing refl; opens = λ is. is })
       noted_after (WithdrawEvent i) rest rule = quiet_call answer_of after n notes h i (WithdrawEvent i) (calls answer_of after link.WithdrawEvent) (λ k s. refl)
+          (λ s at. record { address = refl; left = all_left (unended s); reader = refl; coming = Nothing refl; opens = λ is. is })
+      noted_after (LapseEvent i) rest rule = quiet_call answer_of after n notes h i (LapseEvent i) (calls answer_of after link.LapseEvent) (λ k s. refl)
           (λ s at. record { address = refl; left = all_left (unended s); reader = refl; coming = Nothing refl; opens = λ is. is })
       noted_after (SetHandler i handler) rest rule =
           quiet_call answer_of after n notes h i (SetHandler i handler) (calls answer_of after (link.SetHandler handler)) (λ k s. refl)

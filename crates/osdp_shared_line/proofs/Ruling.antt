@@ -1,5 +1,5 @@
 -- What a program notes holds after each move.
-use Rattle.osdp_shared_line.proofs.Common.{◌≡◌, ◌≢◌, ◌⊎◌, ℕ, Bool, true, false, cond, List, [], ◌∷◌, ◌++◌, Option, Some, None, refl, sym, subst, ap, ◌∙◌, inl, inr, append_assoc, ◌&&◌, ◌||◌, ◌==◌, is_some, not, Packet, Command, has_comset, comset_of, ControllerFault, State, Closed, Quiet, Idle, Waiting, Pausing, Event, Answer, Delivered, Delivery, Link, Lost, Repeated, lost_at, each_map, each_of, is_false, is_true, IsAsked, IsSaid, IsThere, MayComeTo, Sets, Somewhere, asked_in, unended, LoseToPanel, LoseToReader, Net, NetMove, Queue, Reopen, RestartPanel, RestartReader, Retarget, SetBusy, SetHandler, Site, Submit, Tick, ToPanel, ToReader, Withdraw, WithdrawEvent, address_of, after_net, calls, changed, first_gets, gets, is_command_accepted, is_comset_refused, is_retarget_accepted, is_retarget_refused, is_taken_beside, is_told, left_by, link_of, restarts, site_at, tagged, IsKnown, KeepsRule, Note, also_at, note_after, notes_after, two_addresses, IsQuiet}
+use Rattle.osdp_shared_line.proofs.Common.{◌≡◌, ◌≢◌, ◌⊎◌, ℕ, Bool, true, false, cond, List, [], ◌∷◌, ◌++◌, Option, Some, None, refl, sym, subst, ap, ◌∙◌, inl, inr, append_assoc, ◌&&◌, ◌||◌, ◌==◌, is_some, not, Packet, Command, has_comset, comset_of, ControllerFault, State, Closed, Quiet, Idle, Waiting, Pausing, Event, Answer, each_map, each_of, is_false, is_true, IsAsked, IsSaid, IsThere, MayComeTo, Sets, Somewhere, asked_in, unended, Net, NetMove, Reopen, Retarget, Site, Submit, address_of, after_net, calls, is_command_accepted, is_comset_refused, is_retarget_accepted, is_retarget_refused, is_taken_beside, left_by, link_of, site_at, IsKnown, KeepsRule, Note, also_at, note_after, notes_after, two_addresses, IsQuiet}
 use Rattle.osdp_controller.specs.Machine as controllers
 use Rattle.osdp_controller.specs.States.{is_closed}
 use Rattle.osdp_link_laws.specs.Link as link

@@ -1,10 +1,10 @@
 -- From the beginning over each list of moves: nobody else hears what a site says, and each site is its link.
-use Rattle.osdp_shared_line.proofs.Common.{◌≡◌, ◌≢◌, ◌⊎◌, ◌+◌, ℕ, zero, suc, true, List, [], ◌∷◌, ◌++◌, Option, Some, None, IfSome, refl, sym, subst, ap, ◌∙◌, inl, inr, arith, Room, Packet, CommandFits, Command, ControllerConfig, Answer, lacks_room, MaySubmit, ReadsWhatIsAsked, NoComset, each_all, each_map, each_of, Each, IsAsked, IsInOrder, IsNameOf, IsSaid, IsSetUp, IsThere, MayComeTo, NetMoveFits, NetMovesFit, NobodyElseHears, NoTwoAreTogether, Sets, Somewhere, asked_in, LoseToPanel, LoseToReader, Net, NetMove, Queue, Reopen, RestartPanel, RestartReader, Retarget, SetBusy, SetHandler, Site, Submit, Tick, ToPanel, ToReader, Withdraw, WithdrawEvent, address_of, after_net, restarts, run, site_at, HeardByOwn}
+use Rattle.osdp_shared_line.proofs.Common.{◌≡◌, ◌≢◌, ◌⊎◌, ◌+◌, ℕ, zero, suc, true, List, [], ◌∷◌, ◌++◌, Option, Some, None, IfSome, refl, sym, subst, ap, ◌∙◌, inl, inr, arith, Room, Packet, CommandFits, Command, ControllerConfig, Answer, lacks_room, MaySubmit, ReadsWhatIsAsked, NoComset, each_all, each_map, each_of, Each, IsAsked, IsInOrder, IsNameOf, IsSaid, IsSetUp, IsThere, MayComeTo, NetMoveFits, NetMovesFit, NobodyElseHears, NoTwoAreTogether, Sets, Somewhere, asked_in, LoseToPanel, LoseToReader, Net, NetMove, Queue, Reopen, RestartPanel, RestartReader, Retarget, SetBusy, SetHandler, Site, Submit, Tick, ToPanel, ToReader, Withdraw, LapseEvent, WithdrawEvent, address_of, after_net, restarts, run, site_at, HeardByOwn}
 use Rattle.osdp_link_laws.specs.Link as link
 use Rattle.osdp_shared_line.specs.Line as line
 use Rattle.osdp_shared_line.proofs.Readers.{IsForAll, IsFrom}
 use Rattle.osdp_shared_line.proofs.Apart.{Apart, IsAfter, IsAway, IsClosed, IsKept, IsOwnComset, IsToClosed, IsToDevice, Ordered, each_any, reader_address, with_panel}
-use Rattle.osdp_shared_line.proofs.Changing.{busying, handling, losing, queueing, quiet_change, reopening, restarting, retargeting, set_is, submitting, withdrawing, withdrawing_event}
+use Rattle.osdp_shared_line.proofs.Changing.{busying, handling, losing, queueing, quiet_change, reopening, restarting, retargeting, set_is, submitting, withdrawing, lapsing_event, withdrawing_event}
 use Rattle.osdp_shared_line.proofs.Delivering.{ticking, to_panel, to_reader}
 use Rattle.osdp_shared_line.proofs.Lists.{each_kept}
 use Rattle.osdp_shared_line.proofs.Sites.{some_same}
@@ -71,6 +71,7 @@ module _ {H : Type 0} (answer_of : H → Command → Answer) (after : H → Comm
         (λ s. queueing answer_of after (lacks_room e s.reader.queue) e s) a
     apart_after (SetBusy i busy) n fits a = quiet_change i (line.calls answer_of after (link.SetBusy busy)) n (busying answer_of after busy) a
     apart_after (WithdrawEvent i) n fits a = quiet_change i (line.calls answer_of after link.WithdrawEvent) n (withdrawing_event answer_of after) a
+    apart_after (LapseEvent i) n fits a = quiet_change i (line.calls answer_of after link.LapseEvent) n (lapsing_event answer_of after) a
     apart_after (SetHandler i h) n fits a = quiet_change i (line.calls answer_of after (link.SetHandler h)) n (handling answer_of after h) a
     apart_after (Withdraw i) n fits a = quiet_change i (line.withdraws answer_of after) n (withdrawing answer_of after) a
     apart_after (Retarget i address) n fits a = retargeting answer_of after i address n fits a

@@ -1,5 +1,5 @@
 -- What a program notes holds after what is said and read, and so after every list of moves.
-use Rattle.osdp_shared_line.proofs.Common.{◌≡◌, ◌≢◌, ◌⊎◌, ◌<◌, ℕ, true, List, [], ◌∷◌, ◌++◌, Option, Some, None, IfSome, refl, sym, subst, ap, ◌∙◌, inl, inr, arith, eqb_tells, append-nil, option_to_list, Room, Packet, Command, seen, ticks_in, ControllerConfig, Answer, Delivered, Delivery, Link, Lost, Repeated, lost_at, ReadsWhatIsAsked, each_append, each_map, Each, IsAsked, IsSaid, IsThere, MayComeTo, Sets, SetsReader, Somewhere, unended, LoseToPanel, LoseToReader, Net, NetMove, Queue, Reopen, RestartPanel, RestartReader, Retarget, SetBusy, SetHandler, Site, Submit, Tick, ToPanel, ToReader, Withdraw, WithdrawEvent, address_of, after_net, calls, changed, first_gets, gets, is_comset_refused, is_retarget_refused, is_taken_beside, is_told, left_by, link_of, restarts, site_at, tagged, IsKnown, KeepsRule, Note, also_at, notes_after}
+use Rattle.osdp_shared_line.proofs.Common.{◌≡◌, ◌≢◌, ◌⊎◌, ◌<◌, ℕ, true, List, [], ◌∷◌, ◌++◌, Option, Some, None, IfSome, refl, sym, subst, ap, ◌∙◌, inl, inr, arith, eqb_tells, append-nil, option_to_list, Room, Packet, Command, seen, ticks_in, ControllerConfig, Answer, Delivered, Delivery, Link, Lost, Repeated, lost_at, ReadsWhatIsAsked, each_append, each_map, Each, IsAsked, IsSaid, IsThere, MayComeTo, Sets, SetsReader, Somewhere, unended, Net, RestartPanel, Site, Tick, ToReader, address_of, after_net, changed, is_told, left_by, link_of, restarts, site_at, tagged, IsKnown, KeepsRule, Note, also_at, notes_after}
 use Rattle.osdp_reader.specs.Table as reader
 use Rattle.osdp_link_laws.specs.Link as link
 use Rattle.osdp_shared_line.specs.Line as line

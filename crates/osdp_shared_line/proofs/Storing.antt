@@ -1,5 +1,5 @@
 -- A reader that stores nothing but what it said from where it is goes on so: whatever it hears is to its own address.
-use Rattle.osdp_shared_line.proofs.Common.{◌≡◌, ◌<◌, ℕ, Bool, true, false, eqb, List, [], ◌∷◌, Option, Some, None, IfSome, sym, subst, ◌∙◌, inl, inr, eqb_tells, option_map, option_to_list, Packet, Command, Event, comset_of, ControllerFault, Answer, lacks_room, Delivered, Delivery, Link, Lost, Move, Repeated, after_move, ReadsWhatIsAsked, both, Each, NetMovesFit, LoseToPanel, LoseToReader, Net, NetMove, Queue, Reopen, RestartPanel, RestartReader, Retarget, SetBusy, SetHandler, Site, Submit, Tick, ToPanel, ToReader, Withdraw, WithdrawEvent, address_of, after_net, is_comset_refused, is_retarget_refused, run, site_at, front_to_panel, move_of, one_if, own, own_front, own_place, view}
+use Rattle.osdp_shared_line.proofs.Common.{◌≡◌, ◌<◌, ℕ, Bool, true, false, eqb, List, [], ◌∷◌, Option, Some, None, IfSome, sym, subst, ◌∙◌, inl, inr, eqb_tells, option_map, option_to_list, Packet, Command, comset_of, ControllerFault, Answer, lacks_room, Delivered, Delivery, Link, Lost, Move, Repeated, after_move, ReadsWhatIsAsked, both, Each, NetMovesFit, LoseToPanel, LoseToReader, Net, NetMove, Queue, Reopen, RestartPanel, RestartReader, Retarget, SetBusy, SetHandler, Site, Submit, Tick, ToPanel, ToReader, Withdraw, LapseEvent, WithdrawEvent, address_of, after_net, is_comset_refused, is_retarget_refused, run, site_at, front_to_panel, move_of, one_if, own, own_front, own_place, view}
 use Rattle.osdp_controller.specs.Machine as controllers
 use Rattle.osdp_link_laws.specs.Link as link
 use Rattle.osdp_shared_line.specs.Views as views
@@ -77,6 +77,7 @@ module _ {H : Type 0} (answer_of : H → Command → Answer) (after : H → Comm
   after_one (link.SetHandler handler) l devices own = own
   after_one link.Withdraw l devices own = own
   after_one link.WithdrawEvent l devices own = own
+  after_one link.LapseEvent l devices own = own
   after_one (link.RestartController config room) l devices own = own
   after_one (link.LoseToReader place) l devices own = own
   after_one (link.LoseToController place) l devices own = own
@@ -129,6 +130,7 @@ module _ {H : Type 0} (answer_of : H → Command → Answer) (after : H → Comm
   at_most_one k s (SetHandler i h) n = one i k (link.SetHandler h)
   at_most_one k s (Withdraw i) n = one i k link.Withdraw
   at_most_one k s (WithdrawEvent i) n = one i k link.WithdrawEvent
+  at_most_one k s (LapseEvent i) n = one i k link.LapseEvent
   at_most_one k s (Retarget i address) n =
       both AtMostOne (is_retarget_refused i address s n.sites) [] (one_if i k (link.Retarget address)) tt (one i k (link.Retarget address))
   at_most_one k s (Tick i now) n = one i k (link.Tick now)

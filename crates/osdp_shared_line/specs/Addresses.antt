@@ -17,7 +17,7 @@ use Rattle.osdp_reader_laws.specs.Storing.{StoresItsOwn}
 use Rattle.osdp_link_laws.specs.Headline.{Begins, MoveFits, SaysWhatFitsIf}
 use Rattle.osdp_link_laws.specs.Link as link
 use Rattle.osdp_link_laws.specs.Progress.{NoComset}
-use Rattle.osdp_shared_line.specs.Line.{LoseToPanel, LoseToReader, Net, NetMove, Queue, Reopen, RestartPanel, RestartReader, Retarget, SetBusy, SetHandler, Site, Submit, Tick, ToPanel, ToReader, Withdraw, WithdrawEvent, address_of, after_net, is_command_accepted, is_retarget_accepted, restarts, run, site_at}
+use Rattle.osdp_shared_line.specs.Line.{LoseToPanel, LoseToReader, Net, NetMove, Queue, Reopen, RestartPanel, RestartReader, Retarget, SetBusy, SetHandler, Site, Submit, Tick, ToPanel, ToReader, Withdraw, LapseEvent, WithdrawEvent, address_of, after_net, is_command_accepted, is_retarget_accepted, restarts, run, site_at}
 use Rattle.osdp_shared_line.specs.Views.{HeardByOwn, OpensQuietly, view}
 
 -- one of a list
@@ -123,6 +123,7 @@ module _ {H : Type 0} where
     NetMoveFits (Queue k event) n = Unit {0}
     NetMoveFits (SetBusy k busy) n = Unit {0}
     NetMoveFits (WithdrawEvent k) n = Unit {0}
+    NetMoveFits (LapseEvent k) n = Unit {0}
     NetMoveFits (SetHandler k handler) n = Unit {0}
     NetMoveFits (Withdraw k) n = Unit {0}
     NetMoveFits (Retarget k address) n =

@@ -7,8 +7,8 @@ use Rattle.osdp_controller.specs.declared.config.ControllerConfig.{ControllerCon
 use Rattle.osdp_controller.specs.declared.state.State.TheVariants.{Closed}
 use Rattle.osdp_reader.specs.declared.config.ReaderConfig.{ReaderConfig}
 use Rattle.osdp_reader.specs.declared.handler.Answer.{Answer}
-use Rattle.osdp_link_laws.specs.Effects.{AnswersBy, HasAddress, HasHandler, HasNewController, HasNewReader, HasTakenBack, HasWithdrawn}
-use Rattle.osdp_shared_line.specs.Line.{LoseToReader, Net, NetMove, Queue, Reopen, RestartPanel, RestartReader, Retarget, SetBusy, SetHandler, Site, Submit, Withdraw, WithdrawEvent, after_net, is_retarget_accepted, site_at}
+use Rattle.osdp_link_laws.specs.Effects.{AnswersBy, HasAddress, HasHandler, HasLapsed, HasNewController, HasNewReader, HasTakenBack, HasWithdrawn}
+use Rattle.osdp_shared_line.specs.Line.{LoseToReader, Net, NetMove, Queue, Reopen, RestartPanel, RestartReader, Retarget, SetBusy, SetHandler, Site, Submit, Withdraw, LapseEvent, WithdrawEvent, after_net, is_retarget_accepted, site_at}
 use Rattle.osdp_shared_line.specs.Views.{HeardByOwn, view}
 
 module _ {H : Type 0} where
@@ -21,6 +21,7 @@ module _ {H : Type 0} where
   SpeaksOf k (Withdraw i) = i ≡ k
   SpeaksOf k (Retarget i address) = i ≡ k
   SpeaksOf k (WithdrawEvent i) = i ≡ k
+  SpeaksOf k (LapseEvent i) = i ≡ k
   SpeaksOf k (LoseToReader i place) = i ≡ k
   SpeaksOf k (Reopen i now) = i ≡ k
   SpeaksOf k (RestartReader i config handler room) = i ≡ k
@@ -48,6 +49,13 @@ module _ {H : Type 0} where
           → length s.reader.queue.events ≤ (if s.reader.queue.ever_offered then 1 else 0)
           → view k t (after_net answer_of after (WithdrawEvent k) n) ≡ view k s n
 
+    pub record EachLapses : Type 0 where
+      pub front : (n : Net H) (k : ℕ) (event : Event) (rest : List Event) (s t : Site H) → IsChanged n (LapseEvent k) k s t
+          → s.reader.queue.events ≡ event ∷ rest → s.reader.queue.ever_offered ≡ true
+          → HasLapsed event rest (view k s n) (view k t (after_net answer_of after (LapseEvent k) n))
+      pub none : (n : Net H) (k : ℕ) (s t : Site H) → IsChanged n (LapseEvent k) k s t → s.reader.queue.ever_offered ≡ false
+          → view k t (after_net answer_of after (LapseEvent k) n) ≡ view k s n
+
     -- where neither the bus nor the controller refuses it, and only there
     pub record EachRetargets : Type 0 where
       pub set : (n : Net H) (k address : ℕ) (s t : Site H) → IsChanged n (Retarget k address) k s t
@@ -63,6 +71,7 @@ module _ {H : Type 0} where
           × AnswersBy answer_of after handler s.reader t.reader
       pub withdraws : EachWithdraws
       pub events : EachWithdrawsEvents
+      pub lapses : EachLapses
       pub retargets : EachRetargets
       pub reader : (n : Net H) (k : ℕ) (config : ReaderConfig) (handler : H) (room : Room) (s t : Site H) → IsChanged n (RestartReader k config handler room) k s t
           → HasNewReader answer_of after config handler room (view k s n)

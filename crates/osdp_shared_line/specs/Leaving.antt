@@ -3,7 +3,7 @@ use Rattle.std.specs.Prelude.{◌≢◌, ◌↔◌, ℕ}
 use Rattle.osdp_msg.specs.declared.limits.Room.{Room}
 use Rattle.osdp_controller.specs.declared.config.ControllerConfig.{ControllerConfig}
 use Rattle.osdp_reader.specs.declared.config.ReaderConfig.{ReaderConfig}
-use Rattle.osdp_shared_line.specs.Line.{NetMove, RestartPanel, RestartReader, SetHandler, Withdraw, WithdrawEvent}
+use Rattle.osdp_shared_line.specs.Line.{NetMove, RestartPanel, RestartReader, SetHandler, Withdraw, LapseEvent, WithdrawEvent}
 use Rattle.osdp_shared_line.specs.Restarts.{IsOrdinaryOf, KeepsDeviceOf, KeepsReaderOf}
 
 module _ {H : Type 0} where
@@ -17,9 +17,9 @@ module _ {H : Type 0} where
   abbrev pub RestartsNoPanel : NetMove H → Type 0
   RestartsNoPanel move = (settings : ℕ → ControllerConfig × Room) → move ≢ RestartPanel settings
 
-  -- no command and no event of this site is taken back
+  -- no command and no event of this site is taken back, and no event of it lapses
   abbrev pub TakesNothingBack : ℕ → NetMove H → Type 0
-  TakesNothingBack k move = (move ≢ Withdraw k) × (move ≢ WithdrawEvent k)
+  TakesNothingBack k move = (move ≢ Withdraw k) × (move ≢ WithdrawEvent k) × (move ≢ LapseEvent k)
 
 -- what is asked of moves where a reader never restarts, where a device never changes, and where nothing of a site is disturbed
 pub record LeavingIsExact (H : Type 0) : Type 0 where

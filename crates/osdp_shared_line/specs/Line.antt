@@ -48,6 +48,7 @@ pub data NetMove (H : Type 0) : Type 0 where
   Withdraw : ℕ → NetMove H
   Retarget : (site address : ℕ) → NetMove H
   WithdrawEvent : ℕ → NetMove H
+  LapseEvent : ℕ → NetMove H
   Tick : (site now : ℕ) → NetMove H
   ToReader : ℕ → Delivery → NetMove H
   ToPanel : Delivery → ℕ → NetMove H
@@ -242,6 +243,7 @@ module _ {H : Type 0} where
     after_net (SetHandler k handler) n = change_at k (site_at k n.sites) (calls (link.SetHandler handler)) n
     after_net (Withdraw k) n = change_at k (site_at k n.sites) withdraws n
     after_net (WithdrawEvent k) n = change_at k (site_at k n.sites) (calls link.WithdrawEvent) n
+    after_net (LapseEvent k) n = change_at k (site_at k n.sites) (calls link.LapseEvent) n
     after_net (Retarget k address) n =
         change_unless (λ s. is_retarget_refused k address s n.sites) k (site_at k n.sites) (retargets address) n
     after_net (Tick k now) n = tick_at k now (site_at k n.sites) n

@@ -4,7 +4,7 @@ use Rattle.osdp_msg.specs.declared.command.Command.{Command}
 use Rattle.osdp_reader.specs.declared.handler.Answer.{Answer}
 use Rattle.osdp_link_laws.specs.Refusals.{IsNoRefusal, reports}
 use Rattle.osdp_shared_line.specs.Addresses.{IsSetUp, NetMovesFit}
-use Rattle.osdp_shared_line.specs.Line.{Net, NetMove, RestartPanel, RestartReader, SetHandler, Site, Withdraw, WithdrawEvent, site_at}
+use Rattle.osdp_shared_line.specs.Line.{Net, NetMove, RestartPanel, RestartReader, SetHandler, Site, Withdraw, LapseEvent, WithdrawEvent, site_at}
 use Rattle.osdp_shared_line.specs.Runs.{moves_of}
 use Rattle.osdp_shared_line.specs.Views.{view}
 
@@ -20,10 +20,11 @@ module _ {H : Type 0} where
   KeepsDeviceOf k (RestartReader i config handler room) = i ≢ k
   KeepsDeviceOf k _ = Unit {0}
 
-  -- neither of its ends restarts, and no command or event of it is withdrawn
+  -- neither of its ends restarts, no command or event of it is withdrawn, and no event of it lapses
   abbrev pub IsOrdinaryOf : ℕ → NetMove H → Type 0
   IsOrdinaryOf k (Withdraw i) = i ≢ k
   IsOrdinaryOf k (WithdrawEvent i) = i ≢ k
+  IsOrdinaryOf k (LapseEvent i) = i ≢ k
   IsOrdinaryOf k (RestartReader i config handler room) = i ≢ k
   IsOrdinaryOf k (RestartPanel settings) = ⊥
   IsOrdinaryOf k _ = Unit {0}

@@ -8,7 +8,7 @@ use Rattle.osdp_controller.specs.declared.state.State.TheVariants.{Closed}
 use Rattle.osdp_reader.specs.declared.handler.Answer.{Answer}
 use Rattle.osdp_link_laws.specs.Link as link
 use Rattle.osdp_link_laws.specs.Link.{Delivered, Delivery, Link, Lost, Move, Repeated}
-use Rattle.osdp_shared_line.specs.Line.{LoseToPanel, LoseToReader, Net, NetMove, Queue, Reopen, RestartPanel, RestartReader, Retarget, SetBusy, SetHandler, Site, Submit, Tick, ToPanel, ToReader, Withdraw, WithdrawEvent, address_of, after_net, is_comset_refused, is_retarget_refused, link_of, site_at}
+use Rattle.osdp_shared_line.specs.Line.{LoseToPanel, LoseToReader, Net, NetMove, Queue, Reopen, RestartPanel, RestartReader, Retarget, SetBusy, SetHandler, Site, Submit, Tick, ToPanel, ToReader, Withdraw, LapseEvent, WithdrawEvent, address_of, after_net, is_comset_refused, is_retarget_refused, link_of, site_at}
 
 -- of what is on its way, what this site has said
 abbrev pub own : ℕ → List (ℕ × Packet) → List Packet
@@ -64,6 +64,7 @@ module _ {H : Type 0} where
   move_of k s (SetHandler i handler) n = one_if i k (link.SetHandler handler)
   move_of k s (Withdraw i) n = one_if i k link.Withdraw
   move_of k s (WithdrawEvent i) n = one_if i k link.WithdrawEvent
+  move_of k s (LapseEvent i) n = one_if i k link.LapseEvent
   move_of k s (Retarget i address) n = if is_retarget_refused i address s n.sites then [] else one_if i k (link.Retarget address)
   move_of k s (Tick i now) n = one_if i k (link.Tick now)
   move_of k s (ToReader i how) n = if i == k then own_front k s.coming how else []

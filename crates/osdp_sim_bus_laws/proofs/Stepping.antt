@@ -1,5 +1,5 @@
 -- Each step of a schedule is a list of moves of the sites.
-use Rattle.osdp_sim_bus_laws.proofs.Common.{◌≡◌, ◌≢◌, ◌-◌, ◌&&◌, ◌==◌, not, ℕ, zero, suc, Bool, true, false, if◌then◌else◌, List, [], ◌∷◌, ◌++◌, length, map, Option, Some, None, refl, sym, subst, ap, ◌∙◌, arith, append_assoc, ne_eqb, length-append, slice_get, packets_in, Packet, spelling, Command, is_closed, ControllerFault, Answer, begin_refusal_of, begin_refusal_at, bus_fault, Entry, IsPlainlySaid, LastsOrLeaves, Leaves, ended_commands, ended_in, each_all, each_of, Each, IsQuiet, view, IsBusOf, device_of, packets_on, IsScheduled, lengths_of, handed, SaysFit, moment_after, SimStep, LineState, ReaderSite, StepFits, after_step, fault_of, is_quiet, is_there, reopened, site_begins, tells_session, FollowsSites, IsKnown, IsSiteOf, OneBus, StepsAreMoves, count, moment_of, moves_for}
+use Rattle.osdp_sim_bus_laws.proofs.Common.{◌≡◌, ◌≢◌, ◌-◌, ◌&&◌, ◌==◌, not, ℕ, zero, suc, Bool, true, false, if◌then◌else◌, List, [], ◌∷◌, ◌++◌, length, map, Option, Some, None, refl, sym, subst, ap, ◌∙◌, arith, append_assoc, ne_eqb, length-append, slice_get, packets_in, Packet, spelling, Command, is_closed, ControllerFault, Answer, begin_refusal_of, begin_refusal_at, bus_fault, Entry, IsPlainlySaid, LastsOrLeaves, LeavesCommands, ended_commands, ended_in, each_all, each_of, Each, IsQuiet, view, IsBusOf, device_of, packets_on, IsScheduled, lengths_of, handed, SaysFit, moment_after, SimStep, LineState, ReaderSite, StepFits, after_step, fault_of, is_quiet, is_there, reopened, site_begins, tells_session, FollowsSites, IsKnown, IsSiteOf, OneBus, StepsAreMoves, count, moment_of, moves_for}
 use Rattle.std.specs.Option.{option_map, option_map_or}
 use Rattle.osdp_controller.specs.Machine as controllers
 use Rattle.osdp_controller_laws.proofs.Closed.{may_begin}
@@ -44,7 +44,7 @@ ended_closed : (o : Option Entry) (d : Entry) → o ≡ Some d → has_ended o �
 ended_closed o d is ended = subst (λ p. has_ended p ≡ true) is ended
 
 module _ {H : Type 0} (answer_of : H → Command → Answer) (after : H → Command → H) where
-  leaves_closed : (state : State) (l : link.Link H) → is_closed state ≡ true → LastsOrLeaves state l → Leaves l.account l.controller.waiting l.reader.queue.events
+  leaves_closed : (state : State) (l : link.Link H) → is_closed state ≡ true → LastsOrLeaves state l → LeavesCommands l.account l.controller.waiting
   leaves_closed Closed l e leaves = leaves
   leaves_closed _ l e lasts = absurd cc
 
@@ -53,7 +53,7 @@ module _ {H : Type 0} (answer_of : H → Command → Answer) (after : H → Comm
   begins_by fault now t = line.left_by t (link.reopens fault [] [] now (line.link_of t [] []))
 
   site_begun : (now : ℕ) (u : ReaderSite H) (t : line.Site H) → is_closed t.controller.session.state ≡ true
-      → Leaves t.account t.controller.waiting t.reader.queue.events → IsSiteOf u t
+      → LeavesCommands t.account t.controller.waiting → IsSiteOf u t
       → IsSiteOf (site_begins u) (begins_by None now t)
   site_begun now u t closed leaves is =
       let one : count (is_closed t.controller.session.state) ≡ 1 = ap count closed in
@@ -63,7 +63,7 @@ module _ {H : Type 0} (answer_of : H → Command → Answer) (after : H → Comm
       record {
         reader = is.reader;
         tells = tells_session u.account t.account t.controller.waiting t.reader.queue.events t.earlier is.tells;
-        issued = is.issued ∙ ap (λ cs. ended_commands t.earlier ++ cs) leaves.of_commands.commands
+        issued = is.issued ∙ ap (λ cs. ended_commands t.earlier ++ cs) leaves.commands
             ∙ sym (append_assoc (ended_commands t.earlier) (ended_in t.account) t.controller.waiting);
         ended = omega (arith, ended, more);
         causes = is.causes;

@@ -88,7 +88,8 @@ module _ {H : Type 0} where
     pub asked : AllByRecursion IsPacket (packets_on said)
     pub answered : AllByRecursion IsPacket (packets_on n.to_panel)
 
-  -- what is known of sites after any moves: all that their readers say settles, and a session that is over leaves what the next begins with
+  -- what is known of sites after any moves: all that their readers say settles, and a session that is over leaves the commands that the next
+  -- begins with
   pub record IsKnown (n : Net H) : Type 0 where
     pub plain : All (λ (q : ℕ × Packet). IsPlainlySaid q.1) n.to_panel
     pub leaves : (k : ℕ) (t : line.Site H) → site_at k n.sites ≡ Some t → LastsOrLeaves t.controller.session.state (view k t n)
