@@ -22,7 +22,8 @@ given_up_as card TakenBack = (card, TakenBack) ∷ []
 given_up_as card Lapsed = (card, Lapsed) ∷ []
 given_up_as card _ = []
 
--- it has left as its call says. One that lapses, and that was offered before the ledger began alone, is taken back: in the ledger it was never offered.
+-- it has left as its call says. One that lapses, and that was offered before the ledger began alone, is taken back: in the ledger it was never offered
+-- (`GivesUpAsOffered` says so of all that is taken back).
 abbrev pub LeavesBy : Event × Exit → Card × Exit → Type 0
 LeavesBy call gone = (gone.0.event ≡ call.0) × ((gone.1 ≡ call.1) ⊎ (gone.1 ≡ TakenBack))
 

@@ -9,4 +9,5 @@ pub mod Untold
 pub mod InTurn
 pub mod Restarts
 pub mod Skipping
+pub mod Offering
 pub mod Plain

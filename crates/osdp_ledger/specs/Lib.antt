@@ -2,5 +2,6 @@ pub mod Ledger
 pub mod History
 pub mod Laws
 pub mod Plain
+pub mod Offering
 pub mod Restarts
 pub mod Instance

@@ -4,6 +4,7 @@
 
 ghost use Rattle.osdp_ledger.specs.Instance.{StepsHappen};
 ghost use Rattle.osdp_ledger.specs.Laws.{KeepsEvents, KeepsOrders, SkipsNone, TellsInTurn};
+ghost use Rattle.osdp_ledger.specs.Offering.{GivesUpAsOffered};
 ghost use Rattle.osdp_ledger.specs.Plain.{PlainStepsEndTold, ThrowsNoneAway};
 ghost use Rattle.osdp_ledger.specs.Restarts.{RestartReportsNoMore, RestartsCost};
 
@@ -25,6 +26,11 @@ pub fn keeps_events()
 /// thrown away by a loss of the device's power.
 pub fn skips_none()
     ensures { SkipsNone }
+{}
+
+/// An event that the device's program gives up was taken back where it was never offered, and has lapsed where it was.
+pub fn gives_up_as_offered()
+    ensures { GivesUpAsOffered }
 {}
 
 /// Of the last command that the device acted on in a session, and the last event that it offered in it, at most one isn't told to the panel yet.
