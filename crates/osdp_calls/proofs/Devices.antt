@@ -22,7 +22,7 @@ module _ {H : Type 0} (answer_of : H → Command → Answer) (after : H → Comm
   queued_so true event l k d t s is = is
   queued_so false event l k d t s is =
       read_so is (ap (after_submit event) is.reader)
-      (ap (λ (a : link.Account). record a { queued = a.queued ++ event ∷ []; stayed = a.stayed ++ event ∷ []; kept = a.kept ++ event ∷ [] }) is.account) is.stored
+      (ap (λ (a : link.Account). record a { queued = a.queued ++ event ∷ []; kept = a.kept ++ event ∷ [] }) is.account) is.stored
 
   takes_same : (k : ℕ) (event : Event) (l : InUse H) (n : Net H) → IsNetOf l n
       → site_queues (site_at k n.sites) event ≡ queued_at (site_at k l.stations) event

@@ -1,6 +1,5 @@
 -- Calls of devices tell nothing of events: after each call, and after a call of the panel.
-use Rattle.osdp_calls.proofs.Common.{◌≡◌, ℕ, Bool, true, false, List, [], ◌∷◌, ◌++◌, length, map, not, ◌-◌, ◌&&◌, both, Option, Some, None, refl, sym, subst, ap, Packet, Command, Poll, Event, Reply, Report, BusState, Entry, told_in, passed, items_of, after_silence, after_take, after_tick, Account, front_of, taken, taken_command, after_set_busy, after_set_handler, Answer, Kind, lacks_room, site_at, Call, NewDevice, NewPanel, Next, OfPanel, Pending, SetBusy, SetHandler, Silence, SubmitEvent, Take, TickDevice, LapseEvent, WithdrawEvent, after_call, after_next, after_panel, answers, change_at, first_answered, last_of, made_anew, nexts, noted, queues, read_up_to, lapses_event, withdraws_event, KeepsPanel, InUse, Station}
-use Rattle.std.specs.Prelude.{take}
+use Rattle.osdp_calls.proofs.Common.{◌≡◌, ℕ, Bool, true, false, List, [], ◌∷◌, length, map, not, ◌-◌, ◌&&◌, both, Option, Some, None, refl, sym, subst, ap, Packet, Command, Poll, Event, Reply, Report, BusState, Entry, told_in, passed, items_of, after_silence, after_take, after_tick, Account, front_of, taken, taken_command, after_set_busy, after_set_handler, Answer, Kind, lacks_room, site_at, Call, NewDevice, NewPanel, Next, OfPanel, Pending, SetBusy, SetHandler, Silence, SubmitEvent, Take, TickDevice, LapseEvent, WithdrawEvent, after_call, after_next, after_panel, answers, change_at, first_answered, last_of, made_anew, nexts, noted, queues, read_up_to, lapses_event, withdraws_event, KeepsPanel, InUse, Station}
 use Rattle.osdp_bus_laws.specs.Calls as bus
 use Rattle.osdp_link_laws.specs.Link.{event_lapsed, is_offered_here, lost_at}
 use Rattle.osdp_reader.specs.Queue.{Queue as EventQueue}
@@ -11,13 +10,13 @@ use Rattle.osdp_calls.proofs.Marking.{Agrees, Told, next}
 use Rattle.osdp_calls.proofs.Places.{those}
 use Rattle.osdp_calls.proofs.Marked.{Stands, Tells, call_tells, reported_in, station_changes, tells_as}
 
--- an event that lapses leaves all of an account but what is kept and what is thrown away
+-- an event that lapses leaves all of an account but what is kept
 pub lapsed_keeps : {A : Type 0} (part : Account → A) (q : EventQueue) (a : Account)
-    → part (record a { kept = lost_at (length a.kept - length q.events) a.kept; thrown_away = a.thrown_away ++ take 1 q.events }) ≡ part a
+    → part (record a { kept = lost_at (length a.kept - length q.events) a.kept }) ≡ part a
     → part (event_lapsed q a) ≡ part a
 lapsed_keeps part q a same =
     both (λ (x : Account). part x ≡ part a) (q.ever_offered && not (is_offered_here q a))
-    (record a { kept = lost_at (length a.kept - length q.events) a.kept; thrown_away = a.thrown_away ++ take 1 q.events }) a same refl
+    (record a { kept = lost_at (length a.kept - length q.events) a.kept }) a same refl
 
 -- what is taken, and what is said to it, is no report
 command_reports : (c : Command) (said : Option Reply) (front : List Event) (a : Account) → (taken_command c said front a).reported ≡ a.reported

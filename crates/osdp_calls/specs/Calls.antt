@@ -209,11 +209,7 @@ module _ {H : Type 0} where
   queues true event t = t
   queues false event t = record t {
     reader = after_submit event t.reader;
-    account = record t.account {
-      queued = t.account.queued ++ event ∷ [];
-      stayed = t.account.stayed ++ event ∷ [];
-      kept = t.account.kept ++ event ∷ [];
-    };
+    account = record t.account { queued = t.account.queued ++ event ∷ []; kept = t.account.kept ++ event ∷ [] };
   }
 
   -- the oldest event that was never offered is taken back, where there is one

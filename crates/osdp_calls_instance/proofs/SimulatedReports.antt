@@ -82,7 +82,7 @@ module _ {H : Type 0} where
   lapse_told : (t : Station H) → told_to (lapses_event t) ≡ told_to t
   lapse_told t =
       after_lapse (λ a. told_to (record t { reader = after_lapse_event t.reader; account = a }) ≡ told_to t) t.reader.queue t.account refl
-      (λ kept thrown. refl)
+      (λ kept. refl)
 
   module _ (answer_of : H → Command → Answer) (after : H → Command → H) where
     -- what a device takes is told by nobody

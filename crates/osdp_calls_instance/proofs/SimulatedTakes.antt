@@ -47,7 +47,7 @@ module _ {H : Type 0} where
   lapse_takes : (t : Station H) → taken_to (lapses_event t) ≡ taken_to t
   lapse_takes t =
       after_lapse (λ a. taken_to (record t { reader = after_lapse_event t.reader; account = a }) ≡ taken_to t) t.reader.queue t.account refl
-      (λ kept thrown. refl)
+      (λ kept. refl)
 
   module _ (answer_of : H → Command → Answer) (after : H → Command → H) where
     -- what a call of a device takes

@@ -1,13 +1,13 @@
 -- What each move does to the account of a session, by how its stage comes from the one before it.
-use Rattle.osdp_link_laws.proofs.Common.{◌≡◌, ◌≢◌, ◌⊎◌, ℕ, Bool, true, false, cond, is_some, List, [], ◌∷◌, ◌++◌, length, map, Option, Some, None, Result, Ok, refl, sym, subst, ap, ◌∙◌, inl, inr, arith, append_assoc, append-nil, map-append, Packet, event_in, Command, Event, MsgFault, Reply, exchange_command, submitted_command, seen, ticks, ControllerConfig, Exchange, Opening, Polling, Asking, ControllerFault, Session, State, Closed, Quiet, Idle, Waiting, Pausing, EventQueue, event_for, lacks_room, lapsed, offering, released, unoffered, Room, ReaderState, begun, command_in, kind_of, new_address, outcome, taken, Answer, Kind, IsWithout, asked, Account, Delivered, Delivery, Link, Lost, Move, QueueEvent, Reopen, Repeated, RestartController, RestartReader, Retarget, Submit, Tick, ToController, ToReader, ThrownAway, Withdraw, LapseEvent, WithdrawEvent, Withdrawn, after_move, outstanding_command, reader_restarted, told_by_front, removed_command}
-use Rattle.std.specs.Prelude.{drop, option_to_list, take}
+use Rattle.osdp_link_laws.proofs.Common.{◌≡◌, ◌≢◌, ◌⊎◌, ℕ, Bool, true, false, cond, is_some, List, [], ◌∷◌, ◌++◌, map, Option, Some, None, Result, Ok, refl, sym, subst, ap, ◌∙◌, inl, inr, arith, append_assoc, append-nil, map-append, Packet, event_in, Command, Event, MsgFault, Reply, exchange_command, submitted_command, seen, ticks, ControllerConfig, Exchange, Opening, Polling, Asking, ControllerFault, Session, State, Closed, Quiet, Idle, Waiting, Pausing, EventQueue, event_for, lacks_room, lapsed, offering, released, unoffered, Room, ReaderState, begun, command_in, kind_of, new_address, outcome, taken, Answer, Kind, asked, Account, Delivered, Delivery, Link, Lost, Move, QueueEvent, Reopen, Repeated, RestartController, RestartReader, Retarget, Submit, Tick, ToController, ToReader, ThrownAway, Withdraw, LapseEvent, WithdrawEvent, Withdrawn, after_move, outstanding_command, reader_restarted, told_by_front, removed_command}
+use Rattle.std.specs.Prelude.{option_to_list, take}
 use Rattle.osdp_reader.specs.Queue.{empty_queue}
 use Rattle.osdp_msg.specs.declared.command.Command.TheVariants as command
 use Rattle.osdp_controller.specs.Machine as controllers
 use Rattle.osdp_reader.specs.declared.kind.Kind.TheVariants as kind
 use Rattle.osdp_link_laws.specs.Link as link
 use Rattle.osdp_link_laws.proofs.Accounts.{Accounted, Accounts, EndIs, EventsAre, OrdersAre, gone, hears_tell, reports, ticks_tell}
-use Rattle.osdp_link_laws.proofs.Acting.{leaves_shown, no_event, polled_front, taken_is}
+use Rattle.osdp_link_laws.proofs.Acting.{leaves_shown, moved_queue, no_event, polled_front, taken_is}
 use Rattle.osdp_link_laws.proofs.Coming.{Announces, Due, KeepsDue, MovesTo, Reads, ReadsFront, ReadsTo, Stays, same_either, standing_of, stands, stood}
 use Rattle.osdp_link_laws.proofs.Growing.{GoesOn}
 use Rattle.osdp_link_laws.proofs.Lapsed.{events_lapse, lapsed_keeps}
@@ -15,15 +15,8 @@ use Rattle.osdp_link_laws.proofs.Reports.{tick_so}
 use Rattle.osdp_link_laws.proofs.Restarts.{front_at}
 use Rattle.osdp_link_laws.proofs.Since.{Hears, has_acted}
 use Rattle.osdp_link_laws.proofs.Stages.{After, Asks, Behind, ControllerAt, Fresh, Holds, IsAsked, IsStage, Level, Now, ReaderAt, Rest, Restarted, Rests, Stage, Start, Waits, given_up, given_up_at, number_after, pending, pending_at, shown, unreported_at}
-use Rattle.osdp_link_laws.proofs.Staying.{moved_queue}
 use Rattle.osdp_link_laws.proofs.Ticks.{submitted_is}
 use Rattle.osdp_link_laws.proofs.Withdrawing.{but_oldest_after, splits}
-use Rattle.osdp_link_laws.proofs.Without.{without_drops, without_keeps}
-
--- all but so many of the first are those after them
-pub drop_front : {A : Type 0} (xs ys : List A) → drop (length xs) (xs ++ ys) ≡ ys
-drop_front [] ys = refl
-drop_front (x ∷ xs) ys = drop_front xs ys
 
 -- what was withdrawn, or thrown away, is what waited
 withdrawn_are : (cs : List Command) → map removed_command (map Withdrawn cs) ≡ cs
@@ -103,57 +96,35 @@ module _ (since : Restarted) (at : Stage) (state : State) (ws : List Command) (q
       })
 
   queues : (e : Event) → Accounted since at state ws (record q { events = q.events ++ e ∷ [] })
-      (record t { queued = t.queued ++ e ∷ []; stayed = t.stayed ++ e ∷ []; kept = t.kept ++ e ∷ [] })
+      (record t { queued = t.queued ++ e ∷ []; kept = t.kept ++ e ∷ [] })
   queues e = record {
     orders = h.orders;
     over = h.over;
     events = record {
-      left = h.events.left;
       past = h.events.past;
-      stayed = ap (λ all. all ++ e ∷ []) h.events.stayed ∙ append_assoc h.events.left q.events (e ∷ []);
       kept = ap (λ all. all ++ e ∷ []) h.events.kept ∙ append_assoc h.events.past q.events (e ∷ []);
-      without = h.events.without;
       offered = h.events.offered;
       reported = h.events.reported;
     };
     restarts = h.restarts;
   }
 
-  -- the device restarts: those it had not offered in this session are gone
-  restarts_device : (room : Room) (rest : List Event) → q.events ≡ standing_of since at q.offered ++ rest
-      → Accounted Now at state ws (empty_queue room.messages room.bytes) (reader_restarted t)
-  restarts_device room rest front =
-      let e = h.events in
-      let standing = standing_of since at q.offered in
-      let kept : t.kept ≡ t.offered ++ rest =
-      e.kept ∙ ap (λ es. e.past ++ es) front ∙ sym (append_assoc e.past standing rest) ∙ ap (λ es. es ++ rest) (sym e.offered) in
-      let none : drop (length t.offered) t.kept ≡ rest = ap (drop (length t.offered)) kept ∙ drop_front t.offered rest in
-      let stayed : t.stayed ≡ (e.left ++ standing) ++ rest = e.stayed ∙ ap (λ es. e.left ++ es) front ∙ sym (append_assoc e.left standing rest) in
-      record {
-        orders = h.orders;
-        over = h.over;
-        events = record {
-          left = t.stayed;
-          past = t.offered;
-          stayed = sym (append-nil t.stayed);
-          kept = sym (append-nil t.offered);
-          without = subst (λ es. IsWithout (t.thrown_away ++ drop (length t.offered) t.kept) es t.offered) (sym stayed)
-              (subst (λ es. IsWithout (t.thrown_away ++ es) ((e.left ++ standing) ++ rest) t.offered) (sym none)
-              (subst (IsWithout (t.thrown_away ++ rest) ((e.left ++ standing) ++ rest)) (sym e.offered)
-              (without_drops t.thrown_away (e.left ++ standing) (e.past ++ standing) rest (without_keeps t.thrown_away e.left e.past standing e.without))));
-          offered = sym (append-nil t.offered);
-          reported = e.reported;
-        };
-        restarts = omega arith;
-      }
+  -- the device restarts: those that it had not offered in this session are gone
+  restarts_device : (room : Room) → Accounted Now at state ws (empty_queue room.messages room.bytes) (reader_restarted t)
+  restarts_device room = record {
+    orders = h.orders;
+    over = h.over;
+    events = record { past = t.offered; kept = sym (append-nil t.offered); offered = sym (append-nil t.offered); reported = h.events.reported };
+    restarts = omega arith;
+  }
 
   -- number 0 is heard, or nothing changes
   hears_zero : (new : Restarted) (to : Stage) → KeepsDue since at new to → Accounted new to state ws (unoffered q) t
   hears_zero new to k = record {
     orders = subst (λ (d : Due). OrdersAre d.pend d.owing (gone t ++ ws) t.issued t.taken t.given t.settled) (sym k.due) h.orders;
     over = record { lost = h.over.lost ∙ sym (k.given_up state); quiet = h.over.quiet };
-    events = subst (λ (d : Due). EventsAre [] d.untold q.events t.stayed t.kept t.thrown_away t.offered t.reported) (sym k.due)
-        (subst (λ es. EventsAre es (unreported_at at) q.events t.stayed t.kept t.thrown_away t.offered t.reported)
+    events = subst (λ (d : Due). EventsAre [] d.untold q.events t.kept t.offered t.reported) (sym k.due)
+        (subst (λ es. EventsAre es (unreported_at at) q.events t.kept t.offered t.reported)
         (ap (λ es. cond q.offered es []) k.stood ∙ same_either [] q.offered) h.events);
     restarts = k.restarts t.restarts h.restarts;
   }
@@ -166,7 +137,7 @@ module _ (since : Restarted) (at : Stage) (state : State) (ws : List Command) (q
   lapses rest front =
       let events = events_lapse since at t q rest front h.events in
       let keeps = lapsed_keeps q t in
-      subst (λ u. EventsAre (standing_of since at (lapsed q).offered) (unreported_at at) (lapsed q).events u.stayed u.kept u.thrown_away u.offered u.reported
+      subst (λ u. EventsAre (standing_of since at (lapsed q).offered) (unreported_at at) (lapsed q).events u.kept u.offered u.reported
       → Accounted since at state ws (lapsed q) u) (sym keeps.1)
       (λ e. record { orders = h.orders; over = h.over; events = e; restarts = h.restarts }) events
 
@@ -176,16 +147,13 @@ module _ (since : Restarted) (at : Stage) (state : State) (ws : List Command) (q
 module _ (since : Restarted) (hears : Hears since) (n : ℕ) (y : Exchange) (b : Reply) (x : Exchange) (a : Reply) where
   events_go : (q : EventQueue) (t : Account) (offered : Bool) → q.events ≡ cond q.offered (shown y b) [] ++ (released q).events
       → cond offered (shown x a) [] ≡ shown x a
-      → EventsAre (standing_of since (Behind (After n y b) x) q.offered) [] q.events t.stayed t.kept t.thrown_away t.offered t.reported
-      → EventsAre (standing_of since (Level (After n y b) x a) offered) (shown x a) (released q).events t.stayed t.kept t.thrown_away (t.offered ++ shown x a) t.reported
+      → EventsAre (standing_of since (Behind (After n y b) x) q.offered) [] q.events t.kept t.offered t.reported
+      → EventsAre (standing_of since (Level (After n y b) x a) offered) (shown x a) (released q).events t.kept (t.offered ++ shown x a) t.reported
   events_go q t offered leaves offers e =
       let gone = cond q.offered (shown y b) [] in
       record {
-        left = e.left ++ gone;
         past = e.past ++ gone;
-        stayed = e.stayed ∙ ap (λ es. e.left ++ es) leaves ∙ sym (append_assoc e.left gone (released q).events);
         kept = e.kept ∙ ap (λ es. e.past ++ es) leaves ∙ sym (append_assoc e.past gone (released q).events);
-        without = without_keeps t.thrown_away e.left e.past gone e.without;
         offered = ap (λ es. es ++ shown x a) (e.offered ∙ ap (λ es. e.past ++ cond q.offered es []) (stood since hears n y b x))
             ∙ ap (λ es. (e.past ++ gone) ++ es) (sym offers ∙ ap (λ es. cond offered es []) (sym (stands since hears (After n y b) x a)));
         reported = ap (λ es. es ++ shown x a) (e.reported ∙ append-nil t.reported);
@@ -230,7 +198,7 @@ module _ (fixed : ControllerConfig) {H : Type 0} (answer_of : H → Command → 
         let front = take 1 (released r.queue).events in
         let o = taken answer_of after (Ok c) r p in
         let queue : o.reader.queue ≡ offering None (released r.queue) =
-        moved_queue answer_of after (new_address c) _ ∙ ap (λ told. offering told (released r.queue)) (no_event c (released r.queue).events other) in
+        moved_queue (new_address c) _ ∙ ap (λ told. offering told (released r.queue)) (no_event c (released r.queue).events other) in
         subst (λ q. Accounted since to state ws q (link.taken_command c o.said front t)) (sym queue)
         (subst (λ u. Accounted since to state ws (offering None (released r.queue)) u) (sym (taken_is c o.said front t other))
         (subst (λ s. Accounted since to state ws (offering None (released r.queue)) (record t { taken = t.taken ++ c ∷ []; given = t.given ++ link.given_to c s })) (sym says) (record {
@@ -240,7 +208,7 @@ module _ (fixed : ControllerConfig) {H : Type 0} (answer_of : H → Command → 
             settled = ap (λ pairs. pairs ++ (c, a) ∷ []) (sym (append-nil t.settled) ∙ h.orders.settled);
           };
           over = h.over;
-          events = subst (λ es. EventsAre [] [] (released r.queue).events t.stayed t.kept t.thrown_away es t.reported) (append-nil t.offered)
+          events = subst (λ es. EventsAre [] [] (released r.queue).events t.kept es t.reported) (append-nil t.offered)
               (events_go since hears n y b (Asking c) a r.queue t false leaves refl h.events);
           restarts = h.restarts;
         })))
@@ -323,19 +291,10 @@ module _ (fixed : ControllerConfig) {H : Type 0} (answer_of : H → Command → 
         let q = l.reader.queue in
         let s = stays_so comes in
         let e = s.events in
-        let split = splits q in
         record {
           orders = s.orders;
           over = s.over;
-          events = record {
-            left = e.left;
-            past = e.past;
-            stayed = but_oldest_after q split e.left l.account.stayed e.stayed;
-            kept = but_oldest_after q split e.past l.account.kept e.kept;
-            without = e.without;
-            offered = e.offered;
-            reported = e.reported;
-          };
+          events = record { past = e.past; kept = but_oldest_after q (splits q) e.past l.account.kept e.kept; offered = e.offered; reported = e.reported };
           restarts = s.restarts;
         }
 
@@ -397,11 +356,10 @@ module _ (fixed : ControllerConfig) {H : Type 0} (answer_of : H → Command → 
         stays since at state l.controller.waiting (lapsed l.reader.queue) (link.event_lapsed l.reader.queue l.account)
         (lapses since at state l.controller.waiting l.reader.queue l.account h front.0 front.1) new to comes
     accounts_so (RestartReader config handler room) on (same, is) =
-        let front = front_at fixed since at l.reader held.reader in
         let none = empty_queue room.messages room.bytes in
         subst (λ s. Accounted s to state l.controller.waiting none (reader_restarted l.account)) (sym same)
         (subst (λ z. Accounted Now z state l.controller.waiting none (reader_restarted l.account)) (sym is)
-        (restarts_device since at state l.controller.waiting l.reader.queue l.account h room front.0 front.1))
+        (restarts_device since at state l.controller.waiting l.reader.queue l.account h room))
     accounts_so (RestartController config room) on comes =
         stays since at Closed [] l.reader.queue (link.controller_restarted l.controller l.account)
         (restarts_panel since at state l.controller.waiting l.reader.queue l.account h (option_to_list (outstanding_command state))

@@ -1,5 +1,5 @@
 -- What the account of a session comes to at each stage, and what it comes to after a report.
-use Rattle.osdp_link_laws.proofs.Common.{◌≡◌, ◌⊎◌, List, [], ◌∷◌, ◌++◌, map, Option, Some, None, refl, sym, subst, ap, ◌∙◌, inl, inr, append_assoc, append-nil, cond, option_to_list, Command, Event, EventQueue, Reply, Ticked, Report, State, Closed, IsWithout, asked, Account, Link, Removal, after_report, removed_command}
+use Rattle.osdp_link_laws.proofs.Common.{◌≡◌, ◌⊎◌, List, [], ◌∷◌, ◌++◌, map, Option, Some, None, refl, sym, subst, ap, ◌∙◌, inl, inr, append_assoc, append-nil, cond, option_to_list, Command, Event, EventQueue, Reply, Ticked, Report, State, Closed, asked, Account, Link, Removal, after_report, removed_command}
 use Rattle.osdp_msg.specs.declared.reply.Reply.TheVariants as reply
 use Rattle.osdp_controller.specs.declared.report.Report.TheVariants as report
 use Rattle.osdp_link_laws.proofs.Coming.{Announces, BeginsFrom, Controls, HearsTo, TicksTo, lost_in, reported_in, settled_in, standing_at, standing_of}
@@ -19,21 +19,18 @@ pub record EndIs (given_up : List Command) (state : State) (told forgotten : Lis
   pub lost : told ++ forgotten ≡ given_up
   pub quiet : ((removed ≡ []) × (forgotten ≡ [])) ⊎ (state ≡ Closed)
 
--- the events that stay are those that have left the queue, and those in it; of those that have left no restart has thrown these away; they were all
--- offered, and so were those that stand in front of the queue; and all that was offered is reported, or told on the line
-pub record EventsAre (standing untold queue stay keep thrown offer report : List Event) : Type 0 where
-  pub left : List Event
+-- the events that may be reported are some that have left the queue, and those in it; those that have left were offered, and so were those that stand in
+-- front of the queue; and all that was offered is reported, or told on the line
+pub record EventsAre (standing untold queue keep offer report : List Event) : Type 0 where
   pub past : List Event
-  pub stayed : stay ≡ left ++ queue
   pub kept : keep ≡ past ++ queue
-  pub without : IsWithout thrown left past
   pub offered : offer ≡ past ++ standing
   pub reported : offer ≡ report ++ untold
 
 pub record Accounted (since : Restarted) (at : Stage) (state : State) (ws : List Command) (q : EventQueue) (t : Account) : Type 0 where
   pub orders : OrdersAre (pending_at at) (owed_at at) (gone t ++ ws) t.issued t.taken t.given t.settled
   pub over : EndIs (given_up_at at state) state t.unsettled t.forgotten t.removed
-  pub events : EventsAre (standing_of since at q.offered) (unreported_at at) q.events t.stayed t.kept t.thrown_away t.offered t.reported
+  pub events : EventsAre (standing_of since at q.offered) (unreported_at at) q.events t.kept t.offered t.reported
   pub restarts : HasRestarted since t.restarts
 
 abbrev pub Accounts : {H : Type 0} → Restarted → Stage → Link H → Type 0
@@ -149,11 +146,8 @@ module _ (since : Restarted) (at to : Stage) (old new : State) (ws vs : List Com
     };
     over = reports_over;
     events = record {
-      left = h.events.left;
       past = h.events.past;
-      stayed = h.events.stayed;
       kept = h.events.kept;
-      without = h.events.without;
       offered = h.events.offered ∙ ap (λ es. h.events.past ++ cond q.offered es []) (sym tells.stands);
       reported = h.events.reported ∙ ap (λ es. t.reported ++ es) (sym tells.told) ∙ sym (append_assoc t.reported (reported_in r) (unreported_at to));
     };

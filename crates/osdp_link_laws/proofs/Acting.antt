@@ -1,8 +1,9 @@
 -- What a frame does to the reader: which line of its table it meets, and what the reader keeps.
-use Rattle.osdp_link_laws.proofs.Common.{◌≡◌, ◌≢◌, ◌<◌, ℕ, Bool, false, not, cond, eqb, List, [], ◌∷◌, ◌++◌, drop, take, Option, Some, None, refl, sym, subst, ap, ◌∙◌, inl, inr, arith, ◌||◌, is_some, option_to_list, eqb_tells, next_sequence, Command, Event, Reply, ControllerConfig, Exchange, Opening, Polling, Asking, event_in, ReaderConfig, Answer, Silent, Zero, Repeat, Taken, Busy, Wrong, Queue, event_for, released, ReaderState, Account, given_to, taken_command}
+use Rattle.osdp_link_laws.proofs.Common.{◌≡◌, ◌≢◌, ◌<◌, ◌==◌, ℕ, Bool, false, not, cond, eqb, List, [], ◌∷◌, ◌++◌, drop, take, Option, Some, None, refl, sym, subst, ap, ◌∙◌, inl, inr, arith, ◌||◌, is_some, option_to_list, eqb_tells, next_sequence, Command, Event, Reply, ControllerConfig, Exchange, Opening, Polling, Asking, event_in, ReaderConfig, Answer, Silent, Zero, Repeat, Taken, Busy, Wrong, Queue, event_for, released, ReaderState, Account, given_to, taken_command}
 use Rattle.osdp_msg.specs.declared.command.Command.TheVariants as command
 use Rattle.osdp_msg.specs.declared.event.Event.TheVariants as event
 use Rattle.osdp_reader.specs.Table.{event_or_answer, kind_by_number, kind_of, moved}
+use Rattle.osdp_link_laws.proofs.Lines.{both}
 use Rattle.osdp_link_laws.proofs.Numbers.{is_true, is_false, next_above_zero, next_differs}
 use Rattle.osdp_link_laws.proofs.Stages.{HasActed, Offers, OffersEvent, frame, shown}
 
@@ -104,3 +105,10 @@ pub leaves_shown : (x : Exchange) (a : Reply) (q : Queue) → Offers x a q → q
 leaves_shown Opening a q off = leaves_none [] q off
 leaves_shown Polling a q offers = leaves_event (event_in a) q offers
 leaves_shown (Asking c) a q off = leaves_none [] q off
+
+-- a device that goes to another address takes its queue along
+pub moved_queue : {H : Type 0} (to : Option ℕ) (r : ReaderState H) → (moved to r).queue ≡ r.queue
+moved_queue None r = refl
+moved_queue (Some address) r =
+    both (λ (s : ReaderState _). s.queue ≡ r.queue) (address == r.config.address) r
+    (record r { config = record r.config { address = address }; last = None; stored = None }) refl refl

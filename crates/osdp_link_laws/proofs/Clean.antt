@@ -249,7 +249,7 @@ module _ (fixed : ControllerConfig) {H : Type 0} (answer_of : H → Command → 
   queues_ready : (s : Session) (first : ReaderState H) (full : Bool) (e : Event) (l : Link H) → IsReadied s first l → IsReadied s first (link.queues full e l)
   queues_ready s first true e l h = h
   queues_ready s first false e l h =
-      subst (λ (t : Account). IsReadied s first (record (link.queues false e l) { account = record t { queued = t.queued ++ e ∷ []; stayed = t.stayed ++ e ∷ []; kept = t.kept ++ e ∷ [] } })) (sym h.account)
+      subst (λ (t : Account). IsReadied s first (record (link.queues false e l) { account = record t { queued = t.queued ++ e ∷ []; kept = t.kept ++ e ∷ [] } })) (sym h.account)
       (waits_ready s first l.controller.waiting (queued e l.reader.queue) l h.waiting h)
 
   orders_ready : (s : Session) (first : ReaderState H) (orders : List (Move H)) (l : Link H) → Each IsOrder orders → MovesFit answer_of after orders l → IsReadied s first l

@@ -1,12 +1,11 @@
 -- What each move does to a link, however it stands.
-use Rattle.osdp_link_laws.proofs.Common.{◌≡◌, ◌≢◌, ◌⊎◌, ◌≤◌, ◌<◌, ◌+◌, ℕ, zero, suc, Bool, true, false, cond, eqb, List, [], ◌∷◌, ◌++◌, length, map, drop, Some, None, refl, sym, subst, ap, ◌∙◌, inl, inr, arith, append_assoc, le-ltb, lt-ltb, append-nil, Packet, Room, Command, Event, UnexpectedSequence, ControllerConfig, ControllerFault, NotClosed, OutOfRange, State, Closed, EventQueue, never_offered, released, withdrawn, refused, ReaderState, after_set_handler, new_reader, event_or_answer, is_for_another, kind_by_number, kind_of, ReaderConfig, Answer, Silent, Secured, Zero, Busy, Wrong, ComesTo, AnswersBy, CountsRestarts, EachMoveDoes, HasAddress, HasHandler, HasNewController, HasNewReader, HasWithdrawn, LosesOne, RefusesNumbers, Retargets, ThrowsAway, Withdraws, WithdrawsEvents, Account, Link, RestartController, RestartReader, SetHandler, Withdrawn, after_move, but_oldest, lost_at, reader_restarted, unoffered_in, take, is_offered_here, LapsesEvents, ◌&&◌}
+use Rattle.osdp_link_laws.proofs.Common.{◌≡◌, ◌≢◌, ◌⊎◌, ◌≤◌, ◌<◌, ℕ, zero, suc, Bool, true, false, cond, eqb, List, [], ◌∷◌, ◌++◌, length, map, drop, Some, None, refl, sym, subst, ap, ◌∙◌, inl, inr, arith, append_assoc, le-ltb, lt-ltb, append-nil, Packet, Room, Command, Event, UnexpectedSequence, ControllerConfig, ControllerFault, NotClosed, OutOfRange, State, Closed, EventQueue, released, withdrawn, refused, ReaderState, after_set_handler, new_reader, event_or_answer, is_for_another, kind_by_number, kind_of, ReaderConfig, Answer, Silent, Secured, Zero, Busy, Wrong, ComesTo, AnswersBy, CountsRestarts, EachMoveDoes, HasAddress, HasHandler, HasNewController, HasNewReader, HasWithdrawn, LosesOne, RefusesNumbers, Retargets, Withdraws, WithdrawsEvents, Link, RestartController, RestartReader, SetHandler, Withdrawn, after_move, but_oldest, lost_at, unoffered_in, is_offered_here, LapsesEvents, ◌&&◌}
 use Rattle.std.specs.Prelude.{◌-◌, ◌||◌, if◌then◌else◌, not, option_to_list}
 use Rattle.osdp_controller.specs.Machine as controllers
 use Rattle.osdp_reader.specs.Table as reader
 use Rattle.osdp_link_laws.specs.Link as link
 use Rattle.osdp_link_laws.proofs.Acting.{no_event}
 use Rattle.osdp_link_laws.proofs.Numbers.{is_false, is_true}
-use Rattle.osdp_link_laws.proofs.Accounting.{drop_front}
 use Rattle.osdp_link_laws.proofs.Withdrawing.{place_is}
 use Rattle.osdp_link_laws.proofs.Lapsed.{lapsed_told, lapsed_untold}
 
@@ -62,18 +61,13 @@ module _ {H : Type 0} where
 
     -- ---- restarts
 
-    throws_away : (gone : List Event) (t : Account) → t.kept ≡ t.offered ++ gone → ThrowsAway gone t (reader_restarted t)
-    throws_away gone t is =
-        ap (λ es. record t { kept = t.offered; thrown_away = t.thrown_away ++ es; restarts = t.restarts + 1 })
-        (ap (drop (length t.offered)) is ∙ drop_front t.offered gone)
-
     restarts_reader : (l : Link H) (config : ReaderConfig) (handler : H) (room : Room)
         → HasNewReader answer_of after config handler room l (after_move answer_of after (RestartReader config handler room) l)
     restarts_reader l config handler room = record {
       others = refl;
       reader = record { config = refl; last = refl; stored = refl; queue = refl; busy = refl; handler = refl };
       refuses = refuses_numbers (new_reader config handler room) refl;
-      account = λ gone is. throws_away gone l.account is;
+      account = refl;
     }
 
     restarts_controller : (l : Link H) (config : ControllerConfig) (room : Room)
@@ -104,20 +98,20 @@ none_back _ all why = (refl, refl)
 
 withdrawn_by : (capacity room : ℕ) (offered ever : Bool) (front : List Event) (event : Event) (rest : List Event) → length front ≡ (if ever then 1 else 0)
     → let q : EventQueue = record { events = front ++ event ∷ rest; capacity = capacity; room = room; offered = offered; ever_offered = ever } in
-    ((withdrawn q).events ≡ front ++ rest) × (never_offered q ≡ Some event) × (unoffered_in q ≡ event ∷ rest)
-withdrawn_by capacity room offered false [] event rest few = (refl, refl, refl)
+    ((withdrawn q).events ≡ front ++ rest) × (unoffered_in q ≡ event ∷ rest)
+withdrawn_by capacity room offered false [] event rest few = (refl, refl)
 withdrawn_by capacity room offered false (f ∷ front) event rest few = absurd (omega (arith, few))
 withdrawn_by capacity room offered true [] event rest few = absurd (omega (arith, few))
-withdrawn_by capacity room offered true (f ∷ []) event rest few = (refl, refl, refl)
+withdrawn_by capacity room offered true (f ∷ []) event rest few = (refl, refl)
 withdrawn_by capacity room offered true (f ∷ g ∷ front) event rest few = absurd (omega (arith, few))
 
 none_by : (events : List Event) (capacity room : ℕ) (offered ever : Bool) → length events ≤ (if ever then 1 else 0)
     → let q : EventQueue = record { events = events; capacity = capacity; room = room; offered = offered; ever_offered = ever } in
-    ((withdrawn q).events ≡ events) × (never_offered q ≡ None) × (unoffered_in q ≡ [])
-none_by [] capacity room offered false few = (refl, refl, refl)
+    ((withdrawn q).events ≡ events) × (unoffered_in q ≡ [])
+none_by [] capacity room offered false few = (refl, refl)
 none_by (e ∷ events) capacity room offered false few = absurd (omega (arith, few))
-none_by [] capacity room offered true few = (refl, refl, refl)
-none_by (e ∷ []) capacity room offered true few = (refl, refl, refl)
+none_by [] capacity room offered true few = (refl, refl)
+none_by (e ∷ []) capacity room offered true few = (refl, refl)
 none_by (e ∷ f ∷ events) capacity room offered true few = absurd (omega (arith, few))
 
 -- ---- an address is set
@@ -186,34 +180,25 @@ module _ {H : Type 0} (answer_of : H → Command → Answer) (after : H → Comm
           ∙ lost_there (before ++ front) event rest ∙ append_assoc before front rest
 
       taken : (l : Link H) (front : List Event) (event : Event) (rest : List Event) → l.reader.queue.events ≡ front ++ event ∷ rest
-          → length front ≡ (if l.reader.queue.ever_offered then 1 else 0) → HasWithdrawn front event rest l (link.withdraws_event l)
+          → length front ≡ (if l.reader.queue.ever_offered then 1 else 0) → HasWithdrawn front rest l (link.withdraws_event l)
       taken l front event rest is few =
           let q = l.reader.queue in
-          let by = subst (λ es. ((withdrawn (record q { events = es })).events ≡ front ++ rest) × (never_offered (record q { events = es }) ≡ Some event)
-          × (unoffered_in (record q { events = es }) ≡ event ∷ rest)) (sym is) (withdrawn_by q.capacity q.room q.offered q.ever_offered front event rest few) in
+          let by = subst (λ es. ((withdrawn (record q { events = es })).events ≡ front ++ rest) × (unoffered_in (record q { events = es }) ≡ event ∷ rest)) (sym is)
+          (withdrawn_by q.capacity q.room q.offered q.ever_offered front event rest few) in
           record {
             others = refl;
             reader = ap (λ es. record l.reader { queue = record q { events = es } }) by.0;
-            account = λ stayed kept stays keeps.
-                ap (λ o. record (link.event_withdrawn q l.account) { withdrawn = l.account.withdrawn ++ option_to_list o }) by.1
-                ∙ ap (λ es. record (link.event_withdrawn q l.account) { withdrawn = l.account.withdrawn ++ event ∷ []; stayed = es })
-                (all_but l.account.stayed stayed q front event rest is by.2 stays)
-                ∙ ap (λ es. record l.account { withdrawn = l.account.withdrawn ++ event ∷ []; stayed = stayed ++ (front ++ rest); kept = es })
-                (all_but l.account.kept kept q front event rest is by.2 keeps);
+            account = λ before keeps. ap (λ es. record l.account { kept = es }) (all_but l.account.kept before q front event rest is by.1 keeps);
           }
 
       same_all : (all : List Event) (q : EventQueue) → unoffered_in q ≡ [] → but_oldest q all ≡ all
       same_all all q none = ap (λ es. lost_at (length all - length es) all) none ∙ lost_beyond (length all - 0) all (omega arith)
 
-      nothing : (l : Link H) → let q = l.reader.queue in ((withdrawn q).events ≡ q.events) × (never_offered q ≡ None) × (unoffered_in q ≡ [])
-          → link.withdraws_event l ≡ l
-      nothing l (events, never, tail) =
+      nothing : (l : Link H) → let q = l.reader.queue in ((withdrawn q).events ≡ q.events) × (unoffered_in q ≡ []) → link.withdraws_event l ≡ l
+      nothing l (events, tail) =
           let q = l.reader.queue in
           let t = l.account in
           ap (λ es. record l { reader = record l.reader { queue = record q { events = es } }; account = link.event_withdrawn q t }) events
-          ∙ ap (λ o. record l { account = record (link.event_withdrawn q t) { withdrawn = t.withdrawn ++ option_to_list o } }) never
-          ∙ ap (λ es. record l { account = record (link.event_withdrawn q t) { withdrawn = es } }) (append-nil t.withdrawn)
-          ∙ ap (λ es. record l { account = record t { stayed = es; kept = but_oldest q t.kept } }) (same_all t.stayed q tail)
           ∙ ap (λ es. record l { account = record t { kept = es } }) (same_all t.kept q tail)
 
   lapses_events : LapsesEvents answer_of after
@@ -228,14 +213,14 @@ module _ {H : Type 0} (answer_of : H → Command → Answer) (after : H → Comm
           told = λ past keeps offers. lapsed_told q l.account past event rest is keeps offers;
           untold = λ past keeps offers.
               lapsed_untold q l.account past ever (keeps ∙ ap (λ es. past ++ es) (sym is)) offers
-              ∙ ap (λ es. record l.account { kept = past ++ drop 1 es; thrown_away = l.account.thrown_away ++ take 1 es }) is;
+              ∙ ap (λ es. record l.account { kept = past ++ drop 1 es }) is;
         };
     none = λ l never.
         let q = l.reader.queue in
         let t = l.account in
         (λ i. record l {
           reader = record l.reader { queue = cond (never i) (record q { events = drop 1 q.events; offered = false; ever_offered = false }) q };
-          account = cond (never i && not (is_offered_here q t)) (record t { kept = lost_at (length t.kept - length q.events) t.kept; thrown_away = t.thrown_away ++ take 1 q.events }) t;
+          account = cond (never i && not (is_offered_here q t)) (record t { kept = lost_at (length t.kept - length q.events) t.kept }) t;
         });
   }
 

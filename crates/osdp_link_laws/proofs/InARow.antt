@@ -1,5 +1,5 @@
 -- From the beginning of a first session to each list of moves after it.
-use Rattle.osdp_link_laws.proofs.Common.{◌≡◌, ◌<◌, ℕ, List, [], ◌∷◌, ◌++◌, Option, Some, None, refl, sym, subst, ap, ◌∙◌, append_assoc, append-nil, Packet, Command, Event, ControllerConfig, Polling, ControllerFault, Closed, was_closed, Queue, Answer, EachIsOnce, HoldsOnce, IsOnce, IsWithout, MovesFit, Begins, MoveFits, MaySubmit, IsBeginning, Account, Link, Move, Reopen, after_move, run, unoffered_in, ReadEachOther, CommandsHavePlaces, LastOneLasts, SessionsInARow, all_submitted, ended_commands, ended_in, queued, submitted}
+use Rattle.osdp_link_laws.proofs.Common.{◌≡◌, ◌<◌, ℕ, List, [], ◌∷◌, ◌++◌, Option, Some, None, refl, sym, subst, ap, ◌∙◌, append_assoc, append-nil, Packet, Command, Event, ControllerConfig, Polling, ControllerFault, Closed, was_closed, Answer, EachIsOnce, HoldsOnce, IsOnce, MovesFit, Begins, MoveFits, MaySubmit, IsBeginning, Account, Link, Move, Reopen, after_move, run, ReadEachOther, CommandsHavePlaces, LastOneLasts, SessionsInARow, all_submitted, ended_commands, ended_in, submitted}
 use Rattle.osdp_controller.specs.Machine as controllers
 use Rattle.osdp_link_laws.specs.Link as link
 use Rattle.osdp_link_laws.proofs.Coming.{MovesTo, ReopensTo}
@@ -8,9 +8,6 @@ use Rattle.osdp_link_laws.proofs.Growing.{GoesOn, Grows, goes_on}
 use Rattle.osdp_link_laws.proofs.Lines.{each_of}
 use Rattle.osdp_link_laws.proofs.Moves.{Premises}
 use Rattle.osdp_link_laws.proofs.Once.{Goes, fresh_so, is_once, moving_so}
-use Rattle.osdp_link_laws.proofs.Staying.{events_go}
-use Rattle.osdp_link_laws.proofs.Withdrawing.{IsApart, apart_goes, apart_whole, ever_in_front, queue_is}
-use Rattle.osdp_link_laws.proofs.Without.{without_none}
 use Rattle.osdp_link_laws.proofs.Sessions.{lasts_or_leaves, leaves}
 use Rattle.osdp_link_laws.proofs.Stages.{Fresh, Restarted, Stage, Waits, frame}
 
@@ -31,23 +28,6 @@ begins_on P t u cs es grows (waiting, events, left, commands, waits) = (
   begins_more events t.queued u.queued es waits grows.queued,
 )
 
--- within a session
-abbrev pub StaysApart : {H : Type 0} → Link H → Type 0
-StaysApart {H} l = IsApart l.account.withdrawn [] l.account.queued l.account.stayed (unoffered_in l.reader.queue)
-
-pub begins_apart : (q : Queue) → IsApart [] [] q.events q.events (unoffered_in q)
-begins_apart q = record {
-  older = ever_in_front q;
-  others = ever_in_front q;
-  all_are = queue_is q;
-  stayed_are = queue_is q;
-  without = without_none (ever_in_front q);
-}
-
--- .. so those that stay are those queued, but those withdrawn
-pub stays_whole : {H : Type 0} (l : Link H) → StaysApart l → IsWithout l.account.withdrawn l.account.queued l.account.stayed
-stays_whole {H} l apart = apart_whole l.account.withdrawn [] l.account.queued l.account.stayed (unoffered_in l.reader.queue) apart
-
 -- every command so far has its place
 abbrev Placed : {H : Type 0} → List Command → Link H → Type 0
 Placed {H} cs l = cs ≡ ended_commands l.earlier ++ l.account.issued
@@ -59,11 +39,10 @@ module _ {H : Type 0} (answer_of : H → Command → Answer) (after : H → Comm
     pub device : fixed.address < 127
     pub current : IsDevice answer_of after l
     pub goes : Goes fixed answer_of after l
-    pub apart : StaysApart l
     pub once : EachIsOnce l.earlier
 
   pub is_once_now : (l : Link H) → Stands l → IsOnce l.account
-  is_once_now l h = is_once h.fixed answer_of after l (stays_whole l h.apart) h.goes
+  is_once_now l h = is_once h.fixed answer_of after l h.goes
 
   -- what the ends read of each other's packets, at each device's address
   abbrev pub Assumed : Type 0
@@ -78,15 +57,6 @@ module _ {H : Type 0} (answer_of : H → Command → Answer) (after : H → Comm
     tells = peers.tells;
     plainly = peers.plainly;
   }
-
-  pub apart_on : (move : Move H) (l : Link H) → GoesOn move → StaysApart l → StaysApart (after_move answer_of after move l)
-  apart_on move l on apart =
-      let new = after_move answer_of after move l in
-      let go = events_go answer_of after move l on in
-      subst (λ out. IsApart out [] new.account.queued new.account.stayed (unoffered_in new.reader.queue)) (sym go.withdrawn)
-      (subst (λ all. IsApart (l.account.withdrawn ++ go.took) [] all new.account.stayed (unoffered_in new.reader.queue)) (sym go.queued)
-      (apart_goes (queued move l) go.took l.account.stayed new.account.stayed (unoffered_in l.reader.queue) (unoffered_in new.reader.queue)
-      l.account.withdrawn [] l.account.queued go.stayed apart))
 
   -- .. at a stage that comes so from the one before
   abbrev pub StandsThen : (Restarted → Stage → Type 0) → Link H → Type 0
@@ -103,7 +73,6 @@ module _ {H : Type 0} (answer_of : H → Command → Answer) (after : H → Comm
           device = h.device;
           current = move_there answer_of after move l fits h.current;
           goes = m.0;
-          apart = apart_on move l on h.apart;
           once = subst EachIsOnce (sym grows.1) h.once;
         },
         m.1,
@@ -138,8 +107,7 @@ module _ {H : Type 0} (answer_of : H → Command → Answer) (after : H → Comm
           device = h.current;
           current = h.current;
           goes = b.0;
-          apart = begins_apart l.reader.queue;
-          once = (is_once h.fixed answer_of after l (stays_whole l h.apart) h.goes, h.once);
+          once = (is_once h.fixed answer_of after l h.goes, h.once);
         },
         b.1,
       )
@@ -211,7 +179,6 @@ module _ {H : Type 0} (answer_of : H → Command → Answer) (after : H → Comm
           device = b.address;
           current = b.address;
           goes = new.0;
-          apart = subst (λ t. IsApart t.withdrawn [] t.queued t.stayed (unoffered_in l.reader.queue)) (sym b.account) (begins_apart l.reader.queue);
           once = subst EachIsOnce (sym b.earlier) tt;
         },
         new.1,

@@ -1,11 +1,10 @@
 -- An event lapses: the queue, and the account.
-use Rattle.osdp_link_laws.proofs.Common.{◌≡◌, ◌<◌, ◌≤◌, ◌+◌, ℕ, suc, Bool, true, false, not, cond, List, [], ◌∷◌, ◌++◌, length, drop, take, Option, Some, None, refl, sym, subst, ap, ◌∙◌, inr, arith, append_assoc, append-nil, length-append, lt-ltb, le-ltb, ◌&&◌, Event, Reply, event_in, Exchange, Opening, Polling, Asking, EventQueue, lapsed, Account, event_lapsed, is_offered_here, lost_at}
+use Rattle.osdp_link_laws.proofs.Common.{◌≡◌, ◌<◌, ◌≤◌, ◌+◌, ℕ, suc, Bool, true, false, not, cond, List, [], ◌∷◌, ◌++◌, length, drop, Option, Some, None, refl, sym, subst, ap, ◌∙◌, inr, arith, append_assoc, append-nil, length-append, lt-ltb, le-ltb, ◌&&◌, Event, Reply, event_in, Exchange, Opening, Polling, Asking, EventQueue, lapsed, Account, event_lapsed, is_offered_here, lost_at}
 use Rattle.std.specs.Prelude.{◌-◌, option_to_list}
 use Rattle.osdp_link_laws.proofs.Accounts.{EventsAre}
 use Rattle.osdp_link_laws.proofs.Coming.{standing_of}
 use Rattle.osdp_link_laws.proofs.Stages.{After, Before, Behind, Fresh, Level, Never, Now, Offers, Rest, Restarted, Stage, Start, shown, shown_at, unreported_at}
 use Rattle.osdp_link_laws.proofs.Withdrawing.{place_is}
-use Rattle.osdp_link_laws.proofs.Without.{without_drops, without_keeps}
 
 -- ---- the queue
 
@@ -26,17 +25,16 @@ offers_lapsed x a q is = offers_by x a q.events q.capacity q.room q.offered q.ev
 
 -- ---- the account
 
--- it may keep fewer events, and have thrown more away: all else is the same
+-- fewer events may be reported: all else is the same
 abbrev pub KeepsLess : Account → Account → Type 0
-KeepsLess t u = (all : List Event × List Event) × (u ≡ record t { kept = all.0; thrown_away = all.1 })
+KeepsLess t u = (kept : List Event) × (u ≡ record t { kept = kept })
 
-less_by : (b : Bool) (kept thrown_away : List Event) (t : Account) → KeepsLess t (cond b (record t { kept = kept; thrown_away = thrown_away }) t)
-less_by true kept thrown_away t = ((kept, thrown_away), refl)
-less_by false kept thrown_away t = ((t.kept, t.thrown_away), refl)
+less_by : (b : Bool) (kept : List Event) (t : Account) → KeepsLess t (cond b (record t { kept = kept }) t)
+less_by true kept t = (kept, refl)
+less_by false kept t = (t.kept, refl)
 
 pub lapsed_keeps : (q : EventQueue) (t : Account) → KeepsLess t (event_lapsed q t)
-lapsed_keeps q t =
-    less_by (q.ever_offered && not (is_offered_here q t)) (lost_at (length t.kept - length q.events) t.kept) (t.thrown_away ++ take 1 q.events) t
+lapsed_keeps q t = less_by (q.ever_offered && not (is_offered_here q t)) (lost_at (length t.kept - length q.events) t.kept) t
 
 -- without the first of what stands at the end
 lost_first : (front events : List Event) → lost_at (length (front ++ events) - length events) (front ++ events) ≡ front ++ drop 1 events
@@ -53,23 +51,21 @@ pub lapsed_told : (q : EventQueue) (t : Account) (past : List Event) (e : Event)
 lapsed_told q t past e rest is keeps offers =
     let few : length t.kept < length t.offered + length q.events =
     omega (arith, ap length keeps ∙ length-append past (e ∷ rest), ap length offers ∙ length-append past (e ∷ []), ap length is) in
-    ap (λ b. cond (q.ever_offered && not b) (record t { kept = lost_at (length t.kept - length q.events) t.kept; thrown_away = t.thrown_away ++ take 1 q.events }) t)
+    ap (λ b. cond (q.ever_offered && not b) (record t { kept = lost_at (length t.kept - length q.events) t.kept }) t)
     (lt-ltb (length t.kept) (length t.offered + length q.events) few) ∙ by_ever q.ever_offered
   where
-    by_ever : (ever : Bool) → cond (ever && false) (record t { kept = lost_at (length t.kept - length q.events) t.kept; thrown_away = t.thrown_away ++ take 1 q.events }) t ≡ t
+    by_ever : (ever : Bool) → cond (ever && false) (record t { kept = lost_at (length t.kept - length q.events) t.kept }) t ≡ t
     by_ever true = refl
     by_ever false = refl
 
--- it was not: it is thrown away
+-- it was not: it is gone
 pub lapsed_untold : (q : EventQueue) (t : Account) (past : List Event) → q.ever_offered ≡ true → t.kept ≡ past ++ q.events → t.offered ≡ past
-    → event_lapsed q t ≡ record t { kept = past ++ drop 1 q.events; thrown_away = t.thrown_away ++ take 1 q.events }
+    → event_lapsed q t ≡ record t { kept = past ++ drop 1 q.events }
 lapsed_untold q t past ever keeps offers =
     let many : length t.offered + length q.events ≤ length t.kept =
     omega (arith, ap length keeps ∙ length-append past q.events, ap length offers) in
-    (λ i. cond (ever i && not (le-ltb (length t.kept) (length t.offered + length q.events) many i))
-    (record t { kept = lost_at (length t.kept - length q.events) t.kept; thrown_away = t.thrown_away ++ take 1 q.events }) t)
-    ∙ ap (λ es. record t { kept = es; thrown_away = t.thrown_away ++ take 1 q.events })
-    (ap (λ es. lost_at (length es - length q.events) es) keeps ∙ lost_first past q.events)
+    (λ i. cond (ever i && not (le-ltb (length t.kept) (length t.offered + length q.events) many i)) (record t { kept = lost_at (length t.kept - length q.events) t.kept }) t)
+    ∙ ap (λ es. record t { kept = es }) (ap (λ es. lost_at (length es - length q.events) es) keeps ∙ lost_first past q.events)
 
 -- ---- at a stage of a session
 
@@ -98,7 +94,7 @@ one_stands Now at true = omega arith
 
 module _ (since : Restarted) (at : Stage) (t : Account) where
   abbrev EventsOf : EventQueue → Account → Type 0
-  EventsOf q t = EventsAre (standing_of since at q.offered) (unreported_at at) q.events t.stayed t.kept t.thrown_away t.offered t.reported
+  EventsOf q t = EventsAre (standing_of since at q.offered) (unreported_at at) q.events t.kept t.offered t.reported
 
   abbrev parts : List Event → ℕ → ℕ → Bool → Bool → EventQueue
   parts events capacity room offered ever = record { events = events; capacity = capacity; room = room; offered = offered; ever_offered = ever }
@@ -111,37 +107,24 @@ module _ (since : Restarted) (at : Stage) (t : Account) where
       let keeps : t.kept ≡ h.past ++ e ∷ rest = h.kept ∙ ap (λ es. h.past ++ es) is in
       let offers : t.offered ≡ h.past ++ e ∷ [] = h.offered ∙ ap (λ es. h.past ++ es) (sym one) in
       subst (λ u. EventsOf (lapsed q) u) (sym (lapsed_told q t h.past e rest is keeps offers)) (record {
-        left = h.left ++ e ∷ [];
         past = h.past ++ e ∷ [];
-        stayed = h.stayed ∙ ap (λ es. h.left ++ es) is ∙ sym (append_assoc h.left (e ∷ []) rest) ∙ ap (λ es. (h.left ++ e ∷ []) ++ drop 1 es) (sym is);
         kept = keeps ∙ sym (append_assoc h.past (e ∷ []) rest) ∙ ap (λ es. (h.past ++ e ∷ []) ++ drop 1 es) (sym is);
-        without = without_keeps t.thrown_away h.left h.past (e ∷ []) h.without;
         offered = offers ∙ sym (append-nil (h.past ++ e ∷ []));
         reported = h.reported;
       })
 
-  -- one that was offered in a session before alone is thrown away
+  -- one that was offered in a session before alone is gone
   leaves_unoffered : (events : List Event) (capacity room : ℕ) (offered : Bool) → [] ≡ standing_of since at offered
       → EventsOf (parts events capacity room offered true) t → EventsOf (lapsed (parts events capacity room offered true)) (event_lapsed (parts events capacity room offered true) t)
   leaves_unoffered events capacity room offered none h =
       let q = parts events capacity room offered true in
       let offers : t.offered ≡ h.past = h.offered ∙ ap (λ es. h.past ++ es) (sym none) ∙ append-nil h.past in
-      let apart : events ≡ take 1 events ++ drop 1 events = first_apart events in
-      let stays : t.stayed ≡ (h.left ++ take 1 events) ++ drop 1 events =
-      h.stayed ∙ ap (λ es. h.left ++ es) apart ∙ sym (append_assoc h.left (take 1 events) (drop 1 events)) in
       subst (λ u. EventsOf (lapsed q) u) (sym (lapsed_untold q t h.past refl h.kept offers)) (record {
-        left = h.left ++ take 1 events;
         past = h.past;
-        stayed = stays;
         kept = refl;
-        without = without_drops t.thrown_away h.left h.past (take 1 events) h.without;
         offered = offers ∙ sym (append-nil h.past);
         reported = h.reported;
       })
-    where
-      first_apart : (events : List Event) → events ≡ take 1 events ++ drop 1 events
-      first_apart [] = refl
-      first_apart (e ∷ events) = refl
 
   by_standing : (events : List Event) (capacity room : ℕ) (offered : Bool) (standing rest : List Event) → standing ≡ standing_of since at offered → length standing ≤ 1
       → events ≡ standing ++ rest → EventsOf (parts events capacity room offered true) t

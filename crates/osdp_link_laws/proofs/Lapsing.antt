@@ -80,11 +80,7 @@ module _ {H : Type 0} where
       queues_so : (one two : Bool) (e : Event) (rest : List Event) (room : Room) (l : Link H) → one ≡ false → two ≡ false
           → DifferFor event (link.queues two e (lapses (off event rest room l))) (link.queues one e (off event rest room l))
       queues_so false false e rest room l a b = yet (rest ++ e ∷ []) room (record l {
-        account = record l.account {
-          queued = l.account.queued ++ e ∷ [];
-          stayed = l.account.stayed ++ e ∷ [];
-          kept = l.account.kept ++ e ∷ [];
-        };
+        account = record l.account { queued = l.account.queued ++ e ∷ []; kept = l.account.kept ++ e ∷ [] };
       })
       queues_so true two e rest room l a b = absurd cc
       queues_so false true e rest room l a b = absurd cc

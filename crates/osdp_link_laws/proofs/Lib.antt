@@ -4,7 +4,6 @@ pub mod Stages
 pub mod Lines
 pub mod Numbers
 pub mod Parts
-pub mod Without
 pub mod Withdrawing
 pub mod Acting
 pub mod Taking
@@ -17,7 +16,6 @@ pub mod Moves
 pub mod Deliveries
 pub mod Restarts
 pub mod Growing
-pub mod Staying
 pub mod Accounts
 pub mod Lapsed
 pub mod Accounting

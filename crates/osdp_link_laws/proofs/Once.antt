@@ -1,5 +1,5 @@
 -- Within one session: each move keeps what holds, and what holds says that all is once and in order.
-use Rattle.osdp_link_laws.proofs.Common.{◌≡◌, ◌≤◌, ℕ, [], ◌++◌, length, Option, Some, None, refl, sym, subst, ap, ◌∙◌, inl, arith, append_assoc, option_to_list, Command, Reply, new_session, ControllerConfig, Exchange, Opening, Polling, Asking, ControllerFault, Session, State, Closed, lacks_room, Answer, IsOnce, IsWithout, MoveFits, MaySubmit, Link, LoseToController, LoseToReader, Move, QueueEvent, Reopen, RestartController, RestartReader, Retarget, SetBusy, SetHandler, Submit, Tick, ToController, ToReader, Withdraw, WithdrawEvent, after_move, new_account, LapseEvent}
+use Rattle.osdp_link_laws.proofs.Common.{◌≡◌, ◌≤◌, ℕ, [], ◌++◌, length, Option, Some, None, refl, sym, subst, ap, ◌∙◌, inl, arith, append_assoc, option_to_list, Command, Reply, new_session, ControllerConfig, Exchange, Opening, Polling, Asking, ControllerFault, Session, State, Closed, lacks_room, Answer, IsOnce, MoveFits, MaySubmit, Link, LoseToController, LoseToReader, Move, QueueEvent, Reopen, RestartController, RestartReader, Retarget, SetBusy, SetHandler, Submit, Tick, ToController, ToReader, Withdraw, WithdrawEvent, after_move, new_account, LapseEvent}
 use Rattle.osdp_controller.specs.Machine as controllers
 use Rattle.osdp_link_laws.specs.Link as link
 use Rattle.osdp_link_laws.proofs.Accounting.{accounts_so, withdrawn_first}
@@ -12,7 +12,6 @@ use Rattle.osdp_link_laws.proofs.Moves.{Premises, being_otherwise, not_poll, que
 use Rattle.osdp_link_laws.proofs.Parts.{At, HoldsAtSomeStage, HoldsThen, with_session}
 use Rattle.osdp_link_laws.proofs.Restarts.{front_at, restarting_reader}
 use Rattle.osdp_link_laws.proofs.Stages.{Asks, Behind, ControllerAt, Each, Fresh, Level, Never, Now, Rest, Restarted, Rests, Stage, Waits, number_after, owed, owed_at, pending_at, unreported_at}
-use Rattle.osdp_link_laws.proofs.Without.{without_keeps}
 
 one_owed : (x : Exchange) (a : Reply) → length (owed x a) ≤ 1
 one_owed Opening a = omega arith
@@ -126,8 +125,8 @@ module _ (fixed : ControllerConfig) {H : Type 0} (answer_of : H → Command → 
   moving given move l on fits h = (moving_so given move l on fits h).0
 
   -- what holds of a session says that all is once and in order
-  pub is_once : (l : Link H) → IsWithout l.account.withdrawn l.account.queued l.account.stayed → Goes l → IsOnce l.account
-  is_once l stayed h =
+  pub is_once : (l : Link H) → Goes l → IsOnce l.account
+  is_once l h =
       let t = l.account in
       let at = h.holds.1 in
       let o = h.accounts.orders in
@@ -142,10 +141,6 @@ module _ (fixed : ControllerConfig) {H : Type 0} (answer_of : H → Command → 
           e.kept ∙ ap (λ es. e.past ++ es) front.1 ∙ sym (append_assoc e.past _ front.0) ∙ ap (λ es. es ++ front.0) (sym e.offered ∙ e.reported)
               ∙ append_assoc t.reported (unreported_at at) front.0,
         );
-        stayed = stayed;
-        kept = subst (λ all. IsWithout t.thrown_away all t.kept) (sym e.stayed)
-            (subst (IsWithout t.thrown_away (e.left ++ l.reader.queue.events)) (sym e.kept)
-            (without_keeps t.thrown_away e.left e.past l.reader.queue.events e.without));
       }
 
   -- a session has begun and nothing was sent yet
@@ -167,7 +162,7 @@ module _ (fixed : ControllerConfig) {H : Type 0} (answer_of : H → Command → 
       accounts = subst (Accounted Never Fresh l.controller.session.state l.controller.waiting l.reader.queue) (sym new.account) (record {
         orders = record { issued = refl; answered = refl; settled = refl };
         over = record { lost = refl; quiet = inl (refl, refl) };
-        events = record { left = []; past = []; stayed = refl; kept = refl; without = (refl, refl); offered = sym (same_either [] l.reader.queue.offered); reported = refl };
+        events = record { past = []; kept = refl; offered = sym (same_either [] l.reader.queue.offered); reported = refl };
         restarts = refl;
       });
     },

@@ -6,23 +6,17 @@ use Rattle.osdp_link_laws.proofs.Stages.{Each}
 
 undisturbed_kept : IsKept IsUndisturbed
 undisturbed_kept = record {
-  new = λ ws es. record { forgotten = refl; removed = refl; withdrawn = refl; stayed = refl; kept = refl; thrown_away = refl; restarts = refl };
+  new = λ ws es. record { forgotten = refl; removed = refl; kept = refl; restarts = refl };
   queue = λ e t so. record {
     forgotten = so.forgotten;
     removed = so.removed;
-    withdrawn = so.withdrawn;
-    stayed = ap (λ es. es ++ e ∷ []) so.stayed;
     kept = ap (λ es. es ++ e ∷ []) so.kept;
-    thrown_away = so.thrown_away;
     restarts = so.restarts;
   };
   others = λ t u so. record {
     forgotten = so.forgotten;
     removed = so.removed;
-    withdrawn = so.withdrawn;
-    stayed = so.stayed;
     kept = so.kept;
-    thrown_away = so.thrown_away;
     restarts = so.restarts;
   };
 }

@@ -1,16 +1,15 @@
 -- An event is taken back: the queue, and lists that end with what is in it.
-use Rattle.osdp_link_laws.proofs.Common.{◌≡◌, ◌⊎◌, ℕ, Bool, true, false, List, [], ◌∷◌, ◌++◌, length, take, refl, sym, subst, ap, ◌∙◌, inl, inr, arith, append_assoc, append-nil, length-append, Event, Queue, never_offered, withdrawn, IsWithout, but_oldest, lost_at, unoffered_in}
-use Rattle.std.specs.Prelude.{◌-◌, if◌then◌else◌, option_to_list}
-use Rattle.osdp_link_laws.proofs.Without.{without_drops, without_keeps}
+use Rattle.osdp_link_laws.proofs.Common.{◌≡◌, ◌⊎◌, ℕ, Bool, true, false, List, [], ◌∷◌, ◌++◌, length, take, refl, sym, subst, ap, ◌∙◌, inl, inr, arith, append_assoc, append-nil, length-append, Event, Queue, withdrawn, but_oldest, lost_at, unoffered_in}
+use Rattle.std.specs.Prelude.{◌-◌, if◌then◌else◌}
 
 -- ---- the queue
 
 -- the front, where it was ever offered
-abbrev pub ever_in_front : Queue → List Event
+abbrev ever_in_front : Queue → List Event
 ever_in_front q = if q.ever_offered then take 1 q.events else []
 
 -- one item and others, or none at all
-abbrev pub IsOneOrEmpty : List Event → List Event → Type 0
+abbrev IsOneOrEmpty : List Event → List Event → Type 0
 IsOneOrEmpty one rest = ((e : Event) × (one ≡ e ∷ [])) ⊎ ((one ≡ []) × (rest ≡ []))
 
 -- the queue, with the one that is taken back apart, and without it
@@ -19,9 +18,7 @@ pub record Splits (q : Queue) : Type 0 where
   pub rest : List Event
   pub events : q.events ≡ ever_in_front q ++ (one ++ rest)
   pub new : (withdrawn q).events ≡ ever_in_front q ++ rest
-  pub taken : option_to_list (never_offered q) ≡ one
   pub old_tail : unoffered_in q ≡ one ++ rest
-  pub new_tail : unoffered_in (withdrawn q) ≡ rest
   pub few : IsOneOrEmpty one rest
 
 splits_by : (events : List Event) (capacity room : ℕ) (offered ever : Bool)
@@ -31,9 +28,7 @@ splits_by (e ∷ rest) capacity room offered false = record {
   rest = rest;
   events = refl;
   new = refl;
-  taken = refl;
   old_tail = refl;
-  new_tail = refl;
   few = inl (e, refl);
 }
 splits_by (f ∷ e ∷ rest) capacity room offered true = record {
@@ -41,9 +36,7 @@ splits_by (f ∷ e ∷ rest) capacity room offered true = record {
   rest = rest;
   events = refl;
   new = refl;
-  taken = refl;
   old_tail = refl;
-  new_tail = refl;
   few = inl (e, refl);
 }
 splits_by [] capacity room offered false = record {
@@ -51,9 +44,7 @@ splits_by [] capacity room offered false = record {
   rest = [];
   events = refl;
   new = refl;
-  taken = refl;
   old_tail = refl;
-  new_tail = refl;
   few = inr (refl, refl);
 }
 splits_by _ capacity room offered true = record {
@@ -61,18 +52,12 @@ splits_by _ capacity room offered true = record {
   rest = [];
   events = refl;
   new = refl;
-  taken = refl;
   old_tail = refl;
-  new_tail = refl;
   few = inr (refl, refl);
 }
 
 pub splits : (q : Queue) → Splits q
 splits q = splits_by q.events q.capacity q.room q.offered q.ever_offered
-
--- a queue is its front, where that was ever offered, and those that never were
-pub queue_is : (q : Queue) → q.events ≡ ever_in_front q ++ unoffered_in q
-queue_is q = let s = splits q in s.events ∙ ap (λ l. ever_in_front q ++ l) (sym s.old_tail)
 
 -- ---- lists that end with it
 
@@ -98,7 +83,7 @@ lost_back one rest front (inr (none, nothing)) =
     ∙ subst (λ r. lost_at (length front) (front ++ r) ≡ front ++ r) (sym nothing)
     (subst (λ l. lost_at (length front) l ≡ l) (sym (append-nil front)) (lost_none front)))
 
-pub but_oldest_is : (q : Queue) (s : Splits q) (front all : List Event) → all ≡ front ++ (s.one ++ s.rest) → but_oldest q all ≡ front ++ s.rest
+but_oldest_is : (q : Queue) (s : Splits q) (front all : List Event) → all ≡ front ++ (s.one ++ s.rest) → but_oldest q all ≡ front ++ s.rest
 but_oldest_is q s front all is =
     ap (λ es. lost_at (length all - length es) all) s.old_tail
     ∙ subst (λ l. lost_at (length l - length (s.one ++ s.rest)) l ≡ front ++ s.rest) (sym is) (lost_back s.one s.rest front s.few)
@@ -109,52 +94,3 @@ but_oldest_after q s left all is =
     but_oldest_is q s (left ++ ever_in_front q) all
     (is ∙ ap (λ es. left ++ es) s.events ∙ sym (append_assoc left (ever_in_front q) (s.one ++ s.rest)))
     ∙ append_assoc left (ever_in_front q) s.rest ∙ ap (λ es. left ++ es) (sym s.new)
-
--- ---- events, those of them that weren't taken back, and those that were, which stand before others
-
-pub record IsApart (out before all stayed tail : List Event) : Type 0 where
-  pub older : List Event
-  pub others : List Event
-  pub all_are : all ≡ older ++ tail
-  pub stayed_are : stayed ≡ others ++ tail
-  pub without : IsWithout out older (before ++ others)
-
--- more come at the end, and there are fewer after the others
-abbrev pub Grow : List Event → List Event → List Event → List Event → List Event → List Event → Type 0
-Grow es took s t tail new = (took ≡ []) × (t ≡ s ++ es) × (more : List Event) × (tail ++ es ≡ more ++ new)
-
--- .. or the first of these is taken back
-abbrev pub Lose : List Event → List Event → List Event → List Event → List Event → List Event → Type 0
-Lose es took s t tail new =
-    (es ≡ []) × (e : Event) × (took ≡ e ∷ []) × (tail ≡ e ∷ new) × ((front : List Event) → s ≡ front ++ e ∷ new → t ≡ front ++ new)
-
-abbrev pub Goes : List Event → List Event → List Event → List Event → List Event → List Event → Type 0
-Goes es took s t tail new = Grow es took s t tail new ⊎ Lose es took s t tail new
-
-abbrev pub apart_goes : (es took s t tail new out before all : List Event) → Goes es took s t tail new → IsApart out before all s tail
-    → IsApart (out ++ took) before (all ++ es) t new
-apart_goes es took s t tail new out before all (inl (none, grows, more, is)) a = record {
-  older = a.older ++ more;
-  others = a.others ++ more;
-  all_are = ap (λ l. l ++ es) a.all_are ∙ append_assoc a.older tail es ∙ ap (λ l. a.older ++ l) is ∙ sym (append_assoc a.older more new);
-  stayed_are = grows ∙ ap (λ l. l ++ es) a.stayed_are ∙ append_assoc a.others tail es ∙ ap (λ l. a.others ++ l) is ∙ sym (append_assoc a.others more new);
-  without = subst (λ o. IsWithout o (a.older ++ more) (before ++ (a.others ++ more))) (sym (ap (λ l. out ++ l) none ∙ append-nil out))
-      (subst (IsWithout out (a.older ++ more)) (append_assoc before a.others more)
-      (without_keeps out a.older (before ++ a.others) more a.without));
-}
-apart_goes es took s t tail new out before all (inr (none, e, takes, is, loses)) a = record {
-  older = a.older ++ e ∷ [];
-  others = a.others;
-  all_are = ap (λ l. all ++ l) none ∙ append-nil all ∙ a.all_are ∙ ap (λ l. a.older ++ l) is ∙ sym (append_assoc a.older (e ∷ []) new);
-  stayed_are = loses a.others (a.stayed_are ∙ ap (λ l. a.others ++ l) is);
-  without = subst (λ o. IsWithout (out ++ o) (a.older ++ e ∷ []) (before ++ a.others)) (sym takes)
-      (without_drops out a.older (before ++ a.others) (e ∷ []) a.without);
-}
-
--- those not taken back are all but those that were
-pub apart_whole : (out before all stayed tail : List Event) → IsApart out before all stayed tail → IsWithout out all (before ++ stayed)
-apart_whole out before all stayed tail a =
-    subst (λ l. IsWithout out l (before ++ stayed)) (sym a.all_are)
-    (subst (IsWithout out (a.older ++ tail))
-    (append_assoc before a.others tail ∙ ap (λ l. before ++ l) (sym a.stayed_are))
-    (without_keeps out a.older (before ++ a.others) tail a.without))

@@ -21,10 +21,10 @@ use Rattle.osdp_link_laws.specs.Link.{Account, LapseEvent, Link, LoseToControlle
 
 -- ---- accounts
 
--- a restart of the reader throws these events away, which it had not offered in the session, and is counted; what it had offered stays, and
--- all that is said of commands
-abbrev pub ThrowsAway : List Event → Account → Account → Type 0
-ThrowsAway gone t u = u ≡ record t { kept = t.offered; thrown_away = t.thrown_away ++ gone; restarts = t.restarts + 1 }
+-- a restart of the reader throws the events away that it had not offered in the session, and is counted; what it had offered stays, and all that is
+-- said of commands
+abbrev pub ThrowsAway : Account → Account → Type 0
+ThrowsAway t u = u ≡ record t { kept = t.offered; restarts = t.restarts + 1 }
 
 -- a restart of the controller forgets the outstanding command, and throws away those that waited; all else stays
 abbrev pub Forgets : Option Command → List Command → Account → Account → Type 0
@@ -37,9 +37,9 @@ Forgets outstanding waiting t u = u ≡ record t {
 abbrev pub TakesBack : Command → Account → Account → Type 0
 TakesBack command t u = u ≡ record t { removed = t.removed ++ Withdrawn command ∷ [] }
 
--- an event is withdrawn: it is told so, and leaves the events that stay and those kept, of which these are the ones before the queue; all else stays
-abbrev pub WithdrawsIt : Event → List Event → List Event → List Event → Account → Account → Type 0
-WithdrawsIt event stayed kept queue t u = u ≡ record t { withdrawn = t.withdrawn ++ event ∷ []; stayed = stayed ++ queue; kept = kept ++ queue }
+-- an event is withdrawn: the events that may be reported are those before the queue, and those that it holds now; all else stays
+abbrev pub WithdrawsIt : List Event → List Event → Account → Account → Type 0
+WithdrawsIt before queue t u = u ≡ record t { kept = before ++ queue }
 
 -- ---- machines
 
@@ -98,21 +98,20 @@ module _ {H : Type 0} where
     pub room : next.controller.room ≡ l.controller.room
     pub account : TakesBack command l.account next.account
 
-  -- this event alone has left the queue, from between these; what is offered is so still, and what is stored stays
-  pub record HasWithdrawn (front : List Event) (event : Event) (rest : List Event) (l next : Link H) : Type 0 where
+  -- one event alone has left the queue, from between these; what is offered is so still, and what is stored stays
+  pub record HasWithdrawn (front rest : List Event) (l next : Link H) : Type 0 where
     pub others : SameButReader l next
     pub reader : next.reader ≡ record l.reader { queue = record l.reader.queue { events = front ++ rest } }
-    pub account : (stayed kept : List Event) → l.account.stayed ≡ stayed ++ l.reader.queue.events → l.account.kept ≡ kept ++ l.reader.queue.events
-        → WithdrawsIt event stayed kept (front ++ rest) l.account next.account
+    pub account : (before : List Event) → l.account.kept ≡ before ++ l.reader.queue.events → WithdrawsIt before (front ++ rest) l.account next.account
 
   -- the front has left the queue, nothing is offered any more, and what is stored stays. An event that was offered in this session may be reported
-  -- yet, so its account stays; and else it is thrown away.
+  -- yet, so its account stays; and else it may not.
   pub record HasLapsed (event : Event) (rest : List Event) (l next : Link H) : Type 0 where
     pub others : SameButReader l next
     pub reader : next.reader ≡ record l.reader { queue = record l.reader.queue { events = rest; offered = false; ever_offered = false } }
     pub told : (past : List Event) → l.account.kept ≡ past ++ event ∷ rest → l.account.offered ≡ past ++ event ∷ [] → next.account ≡ l.account
     pub untold : (past : List Event) → l.account.kept ≡ past ++ event ∷ rest → l.account.offered ≡ past
-        → next.account ≡ record l.account { kept = past ++ rest; thrown_away = l.account.thrown_away ++ event ∷ [] }
+        → next.account ≡ record l.account { kept = past ++ rest }
 
   -- the controller has this address, and is as it was: closed, with the commands that wait
   pub record HasAddress (here : ℕ) (l next : Link H) : Type 0 where
@@ -160,7 +159,7 @@ module _ {H : Type 0} where
       pub others : SameButReader l next
       pub reader : IsNewReader config handler room next.reader
       pub refuses : RefusesNumbers next.reader
-      pub account : (gone : List Event) → l.account.kept ≡ l.account.offered ++ gone → ThrowsAway gone l.account next.account
+      pub account : ThrowsAway l.account next.account
 
     -- ---- what each does
 
@@ -180,7 +179,7 @@ module _ {H : Type 0} where
     -- the oldest event that was never offered, in this session or before, where there is one: the front, or the one after a front that was
     pub record WithdrawsEvents : Type 0 where
       pub first : (l : Link H) (front : List Event) (event : Event) (rest : List Event) → l.reader.queue.events ≡ front ++ event ∷ rest
-          → length front ≡ (if l.reader.queue.ever_offered then 1 else 0) → HasWithdrawn front event rest l (after_move answer_of after WithdrawEvent l)
+          → length front ≡ (if l.reader.queue.ever_offered then 1 else 0) → HasWithdrawn front rest l (after_move answer_of after WithdrawEvent l)
       pub none : (l : Link H) → length l.reader.queue.events ≤ (if l.reader.queue.ever_offered then 1 else 0)
           → after_move answer_of after WithdrawEvent l ≡ l
 

@@ -1,6 +1,6 @@
 -- Within each session, opened by ID on a quiet line, whatever is lost, repeated or damaged, whatever the device tells and when it changes,
 -- and whoever restarts: commands and events are once and in order.
-use Rattle.std.specs.Prelude.{◌≡◌, ◌≢◌, ◌≤◌, ◌<◌, ◌⊎◌, ℕ, List, [], ◌∷◌, ◌++◌, length, map, All, IfSome}
+use Rattle.std.specs.Prelude.{◌≡◌, ◌≢◌, ◌≤◌, ◌<◌, ℕ, List, [], ◌∷◌, ◌++◌, length, map, All, IfSome}
 use Rattle.osdp_frame.specs.Packet.{Packet}
 use Rattle.osdp_msg.specs.CommandTable.{CommandFits}
 use Rattle.osdp_msg.specs.Limits.{AreRoom}
@@ -23,26 +23,16 @@ pub record MaySubmit (command : Command) : Type 0 where
 abbrev pub IsBeginning : {A : Type 0} → List A → List A → Type 0
 IsBeginning {A} xs ys = (rest : List A) × (ys ≡ xs ++ rest)
 
--- `kept` is `all` with the items of `out` left out, each at its own place, in their order
-abbrev pub IsWithout : {A : Type 0} → List A → List A → List A → Type 0
-IsWithout {A} out [] kept = (out ≡ []) × (kept ≡ [])
-IsWithout {A} out (x ∷ all) kept =
-    ((rest : List A) × (kept ≡ x ∷ rest) × IsWithout out all rest)
-    ⊎ ((rest : List A) × (out ≡ x ∷ rest) × IsWithout rest all kept)
-
 abbrev pub asked : Command × Reply → Command
 asked p = p.0
 
 -- the commands that the reader has taken are a beginning of those issued; it gave an answer to each of them; of these the settled ones,
--- each with the answer that the reader gave, are all, or all but the last. The events reported are a beginning of those queued, but those
--- that the device has withdrawn, and those that a restart of the reader threw away, or that lapsed, before they were offered.
+-- each with the answer that the reader gave, are all, or all but the last. The events reported are a beginning of those that may be.
 pub record IsOnce (t : Account) : Type 0 where
   pub taken : IsBeginning t.taken t.issued
   pub answered : map asked t.given ≡ t.taken
   pub settled : (more : List (Command × Reply)) × (t.given ≡ t.settled ++ more) × (length more ≤ 1)
   pub reported : IsBeginning t.reported t.kept
-  pub stayed : IsWithout t.withdrawn t.queued t.stayed
-  pub kept : IsWithout t.thrown_away t.stayed t.kept
 
 abbrev pub EachIsOnce : List Account → Type 0
 EachIsOnce [] = Unit {0}

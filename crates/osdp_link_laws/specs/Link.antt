@@ -22,7 +22,7 @@ use Rattle.osdp_reader.specs.declared.config.ReaderConfig.{ReaderConfig}
 use Rattle.osdp_reader.specs.declared.handler.Answer.{Answer}
 use Rattle.osdp_reader.specs.declared.kind.Kind.{Kind}
 use Rattle.osdp_reader.specs.declared.kind.Kind.TheVariants as kind
-use Rattle.osdp_reader.specs.Queue.{Queue as EventQueue, lacks_room, never_offered, released}
+use Rattle.osdp_reader.specs.Queue.{Queue as EventQueue, lacks_room, released}
 use Rattle.osdp_reader.specs.State as readers
 use Rattle.osdp_reader.specs.State.{ReaderState}
 use Rattle.osdp_reader.specs.Table as reader
@@ -36,9 +36,8 @@ pub data Removal : Type 0 where
 -- Of commands: those that waited when it began and those accepted since; those that the reader has taken, POLLs left out, and each with the
 -- answer that the reader gave to it then; those settled, each with its answer; those told unsettled; the one that was outstanding when the
 -- controller restarted; and those that waited after the end and were withdrawn or thrown away.
--- Of events: those in the queue when it began and those accepted since; those of them that the device has withdrawn, and those that it has
--- not; of these, those that no restart of the reader has thrown away before they were offered in this session, and that have not lapsed before,
--- and those that have; those that the reader has offered; and those reported.
+-- Of events: those in the queue when it began and those accepted since; those of them that may be reported in it, since they were offered in it or
+-- may be yet; those that the reader has offered; and those reported. What has become of the others says the ledger (`osdp_ledger`).
 -- And how often the reader has restarted in it.
 pub record Account : Type 0 where
   pub issued : List Command
@@ -49,10 +48,7 @@ pub record Account : Type 0 where
   pub forgotten : List Command
   pub removed : List Removal
   pub queued : List Event
-  pub withdrawn : List Event
-  pub stayed : List Event
   pub kept : List Event
-  pub thrown_away : List Event
   pub offered : List Event
   pub reported : List Event
   pub restarts : ℕ
@@ -67,10 +63,7 @@ new_account waiting events = record {
   forgotten = [];
   removed = [];
   queued = events;
-  withdrawn = [];
-  stayed = events;
   kept = events;
-  thrown_away = [];
   offered = [];
   reported = [];
   restarts = 0;
@@ -158,29 +151,21 @@ but_oldest q events = lost_at (length events - length (unoffered_in q)) events
 
 -- .. after an event was withdrawn
 abbrev pub event_withdrawn : EventQueue → Account → Account
-event_withdrawn q t = record t {
-  withdrawn = t.withdrawn ++ option_to_list (never_offered q);
-  stayed = but_oldest q t.stayed;
-  kept = but_oldest q t.kept;
-}
+event_withdrawn q t = record t { kept = but_oldest q t.kept }
 
 -- the front of the queue was offered in this session: of what is kept, all before the queue were offered, and so was the front
 abbrev pub is_offered_here : EventQueue → Account → Bool
 is_offered_here q t = nat_lt (length t.kept) (length t.offered + length q.events)
 
--- .. after an event lapsed: where it was offered in this session it may be reported yet, and else it is thrown away
+-- .. after an event lapsed: where it was offered in this session it may be reported yet, and else it is gone
 abbrev pub event_lapsed : EventQueue → Account → Account
 event_lapsed q t = if q.ever_offered && not (is_offered_here q t)
-    then record t { kept = lost_at (length t.kept - length q.events) t.kept; thrown_away = t.thrown_away ++ take 1 q.events }
+    then record t { kept = lost_at (length t.kept - length q.events) t.kept }
     else t
 
 -- .. after a restart of the reader: the events that it had not offered in this session are gone
 abbrev pub reader_restarted : Account → Account
-reader_restarted t = record t {
-  kept = t.offered;
-  thrown_away = t.thrown_away ++ drop (length t.offered) t.kept;
-  restarts = t.restarts + 1;
-}
+reader_restarted t = record t { kept = t.offered; restarts = t.restarts + 1 }
 
 -- .. after a restart of the controller: the outstanding command is neither settled nor told unsettled, and those that waited are gone
 abbrev pub outstanding_command : State → Option Command
@@ -210,11 +195,7 @@ module _ {H : Type 0} where
   queues true event l = l
   queues false event l = record l {
     reader = readers.after_submit event l.reader;
-    account = record l.account {
-      queued = l.account.queued ++ event ∷ [];
-      stayed = l.account.stayed ++ event ∷ [];
-      kept = l.account.kept ++ event ∷ [];
-    };
+    account = record l.account { queued = l.account.queued ++ event ∷ []; kept = l.account.kept ++ event ∷ [] };
   }
 
   -- the controller's frame goes after those that are on the way

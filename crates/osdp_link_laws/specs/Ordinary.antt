@@ -27,14 +27,11 @@ IsSteady (LoseToReader place) = ⊥
 IsSteady (LoseToController place) = ⊥
 IsSteady _ = Unit {0}
 
--- no command is forgotten or removed, and no event is withdrawn or thrown away
+-- no command is forgotten or removed, and each event that was queued may be reported
 pub record IsUndisturbed (t : Account) : Type 0 where
   pub forgotten : t.forgotten ≡ []
   pub removed : t.removed ≡ []
-  pub withdrawn : t.withdrawn ≡ []
-  pub stayed : t.stayed ≡ t.queued
   pub kept : t.kept ≡ t.queued
-  pub thrown_away : t.thrown_away ≡ []
   pub restarts : t.restarts ≡ 0
 
 abbrev pub AreUndisturbed : List Account → Type 0

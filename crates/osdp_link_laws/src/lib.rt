@@ -52,9 +52,8 @@ pub fn read_each_other<H: Handler>()
 }
 
 /// Within each session, opened by ID on a quiet line, commands are taken once and in order, settled with the answers that the reader gave to them
-/// then, and events are reported once and in order, but those that the device has withdrawn, and those that a restart of the reader threw away, or that
-/// lapsed, before they were offered. So it is over every list of losses, repeats and detected damage, whatever the device tells, whoever restarts, and
-/// whatever model comes back.
+/// then, and events are reported once and in order. So it is over every list of losses, repeats and detected damage, whatever the device tells, whoever
+/// restarts, and whatever model comes back. Which events may be reported at all, and what becomes of the others, says the ledger (`osdp_link_ledger`).
 pub fn holds_once<H: Handler>()
     ensures { HoldsOnce H.answer_of H.after }
 {

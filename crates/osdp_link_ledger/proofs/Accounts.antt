@@ -1,5 +1,5 @@
 -- The steps of each move come to what its accounts say.
-use Rattle.osdp_link_ledger.proofs.Common.{◌+◌, ◌++◌, ℕ, Bool, true, false, List, [], ◌∷◌, length, take, not, is_some, Option, Some, None, Result, Ok, Err, refl, sym, subst, ap, ◌∙◌, append_assoc, append-nil, option_to_list, Packet, Command, Event, MsgFault, ticks, ControllerFault, event_for, in_doubt, lacks_room, never_offered, released, begun, command_in, event_or_answer, kind_of, outcome, taken, Answer, Kind, History, new_history, runs, steps_on, Card, Order, Step, new_ledger, at_first, runs_then, Events, Begins, MoveFits, MovesFit, Account, Delivered, Delivery, LapseEvent, Link, Lost, Move, QueueEvent, Reopen, Repeated, RestartController, RestartReader, Retarget, Submit, Tick, ToController, ToReader, Withdraw, WithdrawEvent, after_move, front_of, lost_at, outstanding_command, run, ReadEachOther, told_by_front, accepted, all_queued, all_submitted, queued, submitted, unless_full, Assumed, Stands, StandsThen, assumed, begins_so, standing_so, MovesTo, Reads, ReadsFront, Restarted, Stage, LedgerTellsAccounts, acts, after_steps, all_steps, leaves, leaves_and_acts, leaving, opens, queued_before, queues, steps_before, steps_of, submits, submitted_before, ticked, to_reader, told}
+use Rattle.osdp_link_ledger.proofs.Common.{◌+◌, ◌++◌, ℕ, Bool, true, false, List, [], ◌∷◌, length, not, is_some, Option, Some, None, Result, Ok, Err, refl, sym, subst, ap, ◌∙◌, append_assoc, append-nil, option_to_list, Packet, Command, Event, MsgFault, ticks, ControllerFault, event_for, in_doubt, lacks_room, never_offered, released, begun, command_in, event_or_answer, kind_of, outcome, taken, Answer, Kind, History, new_history, runs, steps_on, Card, Order, Step, new_ledger, at_first, runs_then, Events, Begins, MoveFits, MovesFit, Account, Delivered, Delivery, LapseEvent, Link, Lost, Move, QueueEvent, Reopen, Repeated, RestartController, RestartReader, Retarget, Submit, Tick, ToController, ToReader, Withdraw, WithdrawEvent, after_move, front_of, lost_at, outstanding_command, run, ReadEachOther, told_by_front, accepted, all_queued, all_submitted, queued, submitted, unless_full, Assumed, Stands, StandsThen, assumed, begins_so, standing_so, MovesTo, Reads, ReadsFront, Restarted, Stage, LedgerTellsAccounts, acts, after_steps, all_steps, leaves, leaves_and_acts, leaving, opens, queued_before, queues, steps_before, steps_of, submits, submitted_before, ticked, to_reader, told}
 use Rattle.std.specs.Prelude.{◌&&◌, ◌-◌}
 use Rattle.osdp_controller.specs.Hearing as controller
 use Rattle.osdp_controller.specs.Machine as controllers
@@ -128,17 +128,17 @@ module _ {H : Type 0} (answer_of : H → Command → Answer) (after : H → Comm
       by_move WithdrawEvent n =
           let t = link.event_withdrawn l.reader.queue l.account in
           still (link.withdraws_event l) (steps_of answer_of after WithdrawEvent l h.ledger)
-          (withdrawing_event_tally cs es l.earlier (never_offered l.reader.queue) l.reader.queue.ever_offered t.withdrawn t.stayed t.kept l.account h h.ledger i)
+          (withdrawing_event_tally cs es l.earlier (never_offered l.reader.queue) l.reader.queue.ever_offered t.kept l.account h h.ledger i)
       by_move LapseEvent n =
           let q = l.reader.queue in
           let t = l.account in
           still (link.lapses_event l) (steps_of answer_of after LapseEvent l h.ledger)
           (lapsing_event_tally cs es l.earlier (in_doubt q) (q.ever_offered && not (link.is_offered_here q t)) (lost_at (length t.kept - length q.events) t.kept)
-          (t.thrown_away ++ take 1 q.events) t h h.ledger i)
+          t h h.ledger i)
       by_move (RestartReader config handler room) n =
           let t = link.reader_restarted l.account in
           still (link.restarts_reader config handler room l) (steps_of answer_of after (RestartReader config handler room) l h.ledger)
-          (device_tally cs es l.earlier t.kept t.thrown_away t.restarts l.account h i)
+          (device_tally cs es l.earlier t.kept t.restarts l.account h i)
       by_move (RestartController config room) n =
           let state = l.controller.session.state in
           still (link.restarts_controller config room l) (steps_of answer_of after (RestartController config room) l h.ledger)

@@ -258,34 +258,33 @@ module _ (cs : List Command) (es : List Event) (earlier : List Account) where
       ∙ told_removed [] (link.Withdrawn c ∷ []) t
       ∙ (λ i. record (said (record t { removed = t.removed ++ link.Withdrawn c ∷ [] })) { cut_off = in_all (λ t. t.forgotten) earlier ++ append-nil t.forgotten i })
 
-  pub withdrawing_event_tally : (out : Option Event) (ever : Bool) (gone stayed kept : List Event) (t : Account) (h : History) (g : Ledger) → Now t h
-      → Now (record t { withdrawn = gone; stayed = stayed; kept = kept }) (runs (withdraws_event out ever g) h)
-  withdrawing_event_tally None ever gone stayed kept t h g is = is
-  withdrawing_event_tally (Some e) ever gone stayed kept t h g is = is
+  pub withdrawing_event_tally : (out : Option Event) (ever : Bool) (kept : List Event) (t : Account) (h : History) (g : Ledger) → Now t h
+      → Now (record t { kept = kept }) (runs (withdraws_event out ever g) h)
+  withdrawing_event_tally None ever kept t h g is = is
+  withdrawing_event_tally (Some e) ever kept t h g is = is
 
   -- the account of a lapse, whose event may have been offered in this session or before
-  lapsed_account : (old : Bool) (kept thrown : List Event) (t : Account) (h : History) → Now t h
-      → Now (cond old (record t { kept = kept; thrown_away = thrown }) t) h
-  lapsed_account true kept thrown t h is = is
-  lapsed_account false kept thrown t h is = is
+  lapsed_account : (old : Bool) (kept : List Event) (t : Account) (h : History) → Now t h → Now (cond old (record t { kept = kept }) t) h
+  lapsed_account true kept t h is = is
+  lapsed_account false kept t h is = is
 
   lapsed_step : (shown : Bool) (c : Card) (t : Account) (h : History) → Now t h → Now t (steps_on (cond shown (Lapse c) (ledger.WithdrawEvent c)) h)
   lapsed_step true c t h is = is
   lapsed_step false c t h is = is
 
-  pub lapsing_event_tally : (out : Option Event) (old : Bool) (kept thrown : List Event) (t : Account) (h : History) (g : Ledger) → Now t h
-      → Now (cond old (record t { kept = kept; thrown_away = thrown }) t) (runs (lapses_event out g) h)
-  lapsing_event_tally None old kept thrown t h g is = lapsed_account old kept thrown t h is
-  lapsing_event_tally (Some e) old kept thrown t h g is =
+  pub lapsing_event_tally : (out : Option Event) (old : Bool) (kept : List Event) (t : Account) (h : History) (g : Ledger) → Now t h
+      → Now (cond old (record t { kept = kept }) t) (runs (lapses_event out g) h)
+  lapsing_event_tally None old kept t h g is = lapsed_account old kept t h is
+  lapsing_event_tally (Some e) old kept t h g is =
       let c = card_at g.cards e in
       let new = steps_on (gives_up_event c g.shown) h in
-      lapsed_account old kept thrown t new (lapsed_step (ltb c.place g.shown) c t h is)
+      lapsed_account old kept t new (lapsed_step (ltb c.place g.shown) c t h is)
 
   -- ---- power
 
-  pub device_tally : (kept thrown : List Event) (count : ℕ) (t : Account) (h : History) → Now t h
-      → Now (record t { kept = kept; thrown_away = thrown; restarts = count }) (steps_on RestartDevice h)
-  device_tally kept thrown count t h is = is
+  pub device_tally : (kept : List Event) (count : ℕ) (t : Account) (h : History) → Now t h
+      → Now (record t { kept = kept; restarts = count }) (steps_on RestartDevice h)
+  device_tally kept count t h is = is
 
   pub panel_tally : (out waiting : List Command) (on_wire : Bool) (t : Account) (h : History) → EndsAtRestart out waiting (ends_at_restart h.ledger.is_open on_wire h.ledger.ahead)
       → Now t h → Now (record t { forgotten = t.forgotten ++ out; removed = t.removed ++ map link.ThrownAway waiting }) (steps_on (RestartPanel on_wire) h)

@@ -178,7 +178,8 @@ module _ {H : Type 0} (answer_of : H → Command → Answer) (after : H → Comm
     offered = refl;
     waiting = refl;
     said = refl;
-    withdrawn = refl;
+    queued = refl;
+    kept = refl;
   }
 
   -- ---- restarts of that day

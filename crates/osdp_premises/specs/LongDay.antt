@@ -379,7 +379,9 @@ module _ {H : Type 0} where
       pub waiting : map (λ (t : Station H). t.reader.queue.events) (option_to_list (site_at 0 (line_at_night handler other).stations)) ≡ [] ∷ []
       -- what is said for the reader of another make, or by it, is not among this
       pub said : length (line_at_night handler other).said ≡ 45
-      pub withdrawn : map (λ (a : Account). a.withdrawn) (first_sessions handler other) ≡ [] ∷ [] ∷ [] ∷ [] ∷ [] ∷ (key ∷ []) ∷ [] ∷ []
+      -- of two keys that were pressed in the second session one is taken back
+      pub queued : map (λ (a : Account). length a.queued) (first_sessions handler other) ≡ 1 ∷ 0 ∷ 0 ∷ 0 ∷ 1 ∷ 2 ∷ 0 ∷ []
+      pub kept : map (λ (a : Account). length a.kept) (first_sessions handler other) ≡ 1 ∷ 0 ∷ 0 ∷ 0 ∷ 1 ∷ 1 ∷ 0 ∷ []
 
     -- a call of that list that makes an end of an entry anew, after so many: what restarts cost speaks of the entry before it and after it
     pub record RestartHappens (count k : ℕ) (call : Call H) (handler other : H) : Type 0 where

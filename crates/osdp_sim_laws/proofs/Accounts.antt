@@ -112,7 +112,7 @@ tells_issued command a t earlier h = record {
 }
 
 pub tells_queued : (event : Event) (a : Account) (t : link.Account) (earlier : List link.Account) → IsOf a t earlier
-    → IsOf (record a { queued = a.queued ++ event ∷ [] }) (record t { queued = t.queued ++ event ∷ []; stayed = t.stayed ++ event ∷ []; kept = t.kept ++ event ∷ [] }) earlier
+    → IsOf (record a { queued = a.queued ++ event ∷ [] }) (record t { queued = t.queued ++ event ∷ []; kept = t.kept ++ event ∷ [] }) earlier
 tells_queued event a t earlier h = record {
   sessions = h.sessions;
   issued = h.issued;
