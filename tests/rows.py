@@ -8,8 +8,10 @@ row. Then, in any order:
 
     < TEXT      a line of input        > TEXT   a line of standard output
     <- TEXT     without a line's end   ! TEXT   a line of standard error
-    <x FF 53    bytes of input         = 1      the status, where it is not 0
-    <. 1500     milliseconds that pass before the rest of the input
+    <x FF 53    bytes of input         !1 TEXT  its first line, where others may follow
+    <. 1500     milliseconds that      = 1      the status, where it is not 0
+                pass before the rest
+                of the input
 
 Files are named from the top of the repository. {1432*FF} stands for FF 1,432 times; in input \\t, \\r and \\x00 are the bytes. Lines that begin with # are comments."""
 import re
@@ -28,6 +30,7 @@ class Row:
         self.input = self.output = self.errors = b""
         self.pauses = []  # how much of the input has come, and how long nothing more does
         self.status = 0
+        self.is_first = False  # whether of standard error the first line alone is wanted
         self.is_begun = False
 
 
@@ -69,8 +72,9 @@ def rows_of(path):
                 row.pauses.append((len(row.input), int(text) / 1000))
             elif sign == ">":
                 row.output += repeated(text).encode() + b"\n"
-            elif sign == "!":
+            elif sign in ("!", "!1"):
                 row.errors += text.encode() + b"\n"
+                row.is_first = sign == "!1"
             elif sign == "=":
                 row.status = int(text)
             else:
@@ -92,7 +96,8 @@ def output_of(program, row, words):
 
 
 def is_right(program, row, words):
-    got = output_of(program, row, words)
+    output, errors, status = output_of(program, row, words)
+    got = (output, errors[:len(row.errors)] if row.is_first else errors, status)
     wanted = (row.output, row.errors, row.status)
     if got == wanted:
         return True

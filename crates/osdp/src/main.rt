@@ -1,20 +1,19 @@
 //! The program `osdp`: packets read and made, scripts, panels and readers run, lines planned, both ends tested.
 #![tactic(auto)]
 
-use osdp_line_calls::{
-    LineCommand, LineDevice, LineRun, OrderedPanel, WrongSetting, panel_settings, reader_settings,
-    run_lines,
-};
+mod wrong;
+
+use crate::wrong::{after_name, tell_wrong};
+use osdp_line_calls::{LineCommand, LineDevice, LineRun, OrderedPanel, run_lines};
 use osdp_tool::{
-    Choice, Job, VERSION, arguments, choose, format_of, help_text, job, lent, make,
-    unknown_command, without_formats,
+    Choice, Job, VERSION, arguments, choose, format_of, help_text, job, lent, make, without_formats,
 };
 use osdp_tool_inputs::{Reads, do_all, read_words};
-use osdp_tool_plan::{plan, planned};
+use osdp_tool_plan::plan;
 use osdp_tool_script::script;
 use osdp_tool_sim::sim;
 use osdp_tool_streams::{ToolFault, Watched, flush_out, write_out};
-use osdp_tool_test::{form_stop, test};
+use osdp_tool_test::test;
 use osdp_tool_test_panel::test_panel;
 use std::process::ExitCode;
 
@@ -23,11 +22,6 @@ fn print(rt: &HostRuntime, text: &str) -> Result<(), ToolFault> {
     let mut output = Watched::new(rt.stdout());
     write_out(&mut output, text.as_bytes())?;
     flush_out(&mut output)
-}
-
-/// The words after a command's name.
-fn after_name<'a>(words: &'a [&'a str]) -> &'a [&'a str] {
-    words.get(1..).unwrap_or(&[])
 }
 
 /// Answers the lines of standard input, with the settings that the words after the command's name give.
@@ -100,67 +94,11 @@ fn run(rt: &HostRuntime) -> Result<u8, ToolFault> {
     Ok(0)
 }
 
-/// What is wrong with the settings of a panel or a reader.
-fn wrong_setting<'a>(words: &'a [&'a str]) -> Option<WrongSetting<'a>> {
-    match choose(words) {
-        Choice::Panel => panel_settings(after_name(words)).err(),
-        Choice::Reader => reader_settings(after_name(words)).err(),
-        Choice::Help(_)
-        | Choice::Version
-        | Choice::Show
-        | Choice::Check
-        | Choice::Monitor
-        | Choice::Plan
-        | Choice::Test
-        | Choice::Job => None,
-    }
-}
-
-/// Says what is wrong with the words of a plan.
-fn tell_wrong_plan(rt: &HostRuntime, words: &[&str]) {
-    if choose(words) == Choice::Plan {
-        if let Err(wrong) = planned(after_name(words)) {
-            let _ = eprintln!(rt; "{wrong}");
-        }
-    }
-}
-
-/// The first of the words after `test` that cannot stand there.
-fn wrong_test_word<'a>(words: &'a [&'a str]) -> Option<&'a str> {
-    match words {
-        ["script", rest @ ..] => rest.first().copied(),
-        ["panel", rest @ ..] => rest.get(form_stop(rest)).copied(),
-        _ => words.get(form_stop(words)).copied(),
-    }
-}
-
-/// Says which word of a test cannot stand where it is.
-fn tell_wrong_test(rt: &HostRuntime, words: &[&str]) {
-    if choose(words) == Choice::Test {
-        if let Some(word) = wrong_test_word(after_name(words)) {
-            let _ = eprintln!(rt; "osdp: no word of test: {word}; try: osdp help test");
-        }
-    }
-}
-
-/// Says which word names no command, and which words are no settings, where some aren't.
-fn tell_wrong(rt: &HostRuntime, words: &[&str]) {
-    if let Some(word) = unknown_command(words) {
-        let _ = eprintln!(rt; "osdp: no command: {word}; try: osdp help");
-    }
-    if let Some(wrong) = wrong_setting(words) {
-        let _ = eprintln!(rt; "{wrong}");
-    }
-    tell_wrong_plan(rt, words);
-    tell_wrong_test(rt, words);
-}
-
 /// Says more of bad words, after it was said that they are bad.
 fn explain(rt: &HostRuntime) -> Result<(), ToolFault> {
     let arguments = arguments(rt)?;
     let words = lent(rt.alloc(), &arguments)?;
-    tell_wrong(rt, &words);
-    Ok(())
+    tell_wrong(rt, &words)
 }
 
 fn main(rt: HostRuntime) -> ExitCode {
