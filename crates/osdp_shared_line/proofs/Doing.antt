@@ -48,7 +48,7 @@ module _ {H : Type 0} (answer_of : H → Command → Answer) (after : H → Comm
   each_withdraws_events : effects.WithdrawsEvents answer_of after → EachWithdrawsEvents answer_of after
   each_withdraws_events withdraws = record {
     first = λ n k front event rest s t h is few.
-        subst (HasWithdrawn front event rest (view k s n)) (sym (one_after n (WithdrawEvent k) k s t link.WithdrawEvent h tt refl))
+        subst (HasWithdrawn front rest (view k s n)) (sym (one_after n (WithdrawEvent k) k s t link.WithdrawEvent h tt refl))
         (withdraws.first (view k s n) front event rest is few);
     none = λ n k s t h few. one_after n (WithdrawEvent k) k s t link.WithdrawEvent h tt refl ∙ withdraws.none (view k s n) few;
   }

@@ -44,7 +44,7 @@ module _ {H : Type 0} where
     pub record EachWithdrawsEvents : Type 0 where
       pub first : (n : Net H) (k : ℕ) (front : List Event) (event : Event) (rest : List Event) (s t : Site H) → IsChanged n (WithdrawEvent k) k s t
           → s.reader.queue.events ≡ front ++ event ∷ rest → length front ≡ (if s.reader.queue.ever_offered then 1 else 0)
-          → HasWithdrawn front event rest (view k s n) (view k t (after_net answer_of after (WithdrawEvent k) n))
+          → HasWithdrawn front rest (view k s n) (view k t (after_net answer_of after (WithdrawEvent k) n))
       pub none : (n : Net H) (k : ℕ) (s t : Site H) → IsChanged n (WithdrawEvent k) k s t
           → length s.reader.queue.events ≤ (if s.reader.queue.ever_offered then 1 else 0)
           → view k t (after_net answer_of after (WithdrawEvent k) n) ≡ view k s n
