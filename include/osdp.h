@@ -34,7 +34,8 @@
  *             address, and its text. A call for which there is no memory is refused. Then nothing has changed, except that a monitor
  *             stops. docs/SIZES.md has all of these numbers.
  * Stack.      Each call takes at most 4 KiB of stack, except that `osdp_monitor_bytes` takes at most 5, and `osdp_panel_new` and
- *             `osdp_monitor_new` at most 6. What the heap takes of the stack is counted in. This was measured on 64-bit x86.
+ *             `osdp_monitor_new` at most 6. What a heap over malloc takes of the stack is counted in. This was measured and counted on
+ *             64-bit x86.
  * Targets.    The archive is built for 64-bit x86 and ARM. For 32-bit ARM, RISC-V, x86 and WebAssembly, and for 64-bit ARM,
  *             `tools/retarget` lowers the proved module of 64-bit x86: what it makes is tested, and not proved. On a 32-bit target a
  *             count or a length is an `osdp_size`, of 64 bits.
@@ -212,50 +213,50 @@ enum {
 
 /* The codes of commands. */
 enum {
-    OSDP_POLL = 0x60,
-    OSDP_ID = 0x61,
-    OSDP_CAP = 0x62,
-    OSDP_LSTAT = 0x64,
-    OSDP_ISTAT = 0x65,
-    OSDP_OSTAT = 0x66,
-    OSDP_RSTAT = 0x67,
-    OSDP_OUT = 0x68,
-    OSDP_LED = 0x69,
-    OSDP_BUZ = 0x6A,
-    OSDP_TEXT = 0x6B,
-    OSDP_COMSET = 0x6E,
-    OSDP_MFG = 0x80
+    OSDP_POLL = 0x60, /* asks for the next event */
+    OSDP_ID = 0x61, /* asks what the device is */
+    OSDP_CAP = 0x62, /* asks what the device can do */
+    OSDP_LSTAT = 0x64, /* asks for the tamper and the power of the device */
+    OSDP_ISTAT = 0x65, /* asks for the states of the inputs */
+    OSDP_OSTAT = 0x66, /* asks for the states of the outputs */
+    OSDP_RSTAT = 0x67, /* asks for the states of the readers */
+    OSDP_OUT = 0x68, /* says what outputs are to do */
+    OSDP_LED = 0x69, /* says what LEDs are to do */
+    OSDP_BUZ = 0x6A, /* says how a buzzer is to sound */
+    OSDP_TEXT = 0x6B, /* says what a display is to show */
+    OSDP_COMSET = 0x6E, /* sets the address and the rate of the device */
+    OSDP_MFG = 0x80 /* a command of the device's maker */
 };
 
 /* The codes of replies. */
 enum {
-    OSDP_ACK = 0x40,
-    OSDP_NAK = 0x41,
-    OSDP_PDID = 0x45,
-    OSDP_PDCAP = 0x46,
-    OSDP_LSTATR = 0x48,
-    OSDP_ISTATR = 0x49,
-    OSDP_OSTATR = 0x4A,
-    OSDP_RSTATR = 0x4B,
-    OSDP_RAW = 0x50,
-    OSDP_FMT = 0x51,
-    OSDP_KEYPAD = 0x53,
-    OSDP_COM = 0x54,
-    OSDP_BUSY = 0x79,
-    OSDP_MFGREP = 0x90
+    OSDP_ACK = 0x40, /* the command was done; or, to a POLL, there is no event */
+    OSDP_NAK = 0x41, /* the command wasn't done, and why */
+    OSDP_PDID = 0x45, /* what the device is */
+    OSDP_PDCAP = 0x46, /* what the device can do */
+    OSDP_LSTATR = 0x48, /* the tamper and the power of the device */
+    OSDP_ISTATR = 0x49, /* the states of the inputs */
+    OSDP_OSTATR = 0x4A, /* the states of the outputs */
+    OSDP_RSTATR = 0x4B, /* the states of the readers */
+    OSDP_RAW = 0x50, /* the bits of a card */
+    OSDP_FMT = 0x51, /* the characters of a card */
+    OSDP_KEYPAD = 0x53, /* keys that were pressed */
+    OSDP_COM = 0x54, /* confirms a COMSET */
+    OSDP_BUSY = 0x79, /* the command wasn't taken, and is to be sent again; a panel does so by itself */
+    OSDP_MFGREP = 0x90 /* a reply of the device's maker */
 };
 
-/* Why a command wasn't done: the reason of a NAK. The standard says what each means; a device here sends 2, 3, 4, 5 and 9. */
+/* Why a command wasn't done: the reason of a NAK. A device of this library sends 2, 3, 4, 5 and 9. */
 enum {
-    OSDP_NAK_CHECK_CHARACTERS = 1,
-    OSDP_NAK_COMMAND_LENGTH = 2,
-    OSDP_NAK_UNKNOWN_COMMAND = 3,
-    OSDP_NAK_UNEXPECTED_SEQUENCE = 4,
-    OSDP_NAK_SECURITY_BLOCK = 5,
-    OSDP_NAK_SECURITY_CONDITIONS = 6,
-    OSDP_NAK_BIOMETRIC_TYPE = 7,
-    OSDP_NAK_BIOMETRIC_FORMAT = 8,
-    OSDP_NAK_RECORD_NOT_PROCESSED = 9
+    OSDP_NAK_CHECK_CHARACTERS = 1, /* the check characters are wrong */
+    OSDP_NAK_COMMAND_LENGTH = 2, /* the length of the command is wrong */
+    OSDP_NAK_UNKNOWN_COMMAND = 3, /* the command is unknown */
+    OSDP_NAK_UNEXPECTED_SEQUENCE = 4, /* the sequence number isn't expected */
+    OSDP_NAK_SECURITY_BLOCK = 5, /* a security block isn't supported */
+    OSDP_NAK_SECURITY_CONDITIONS = 6, /* the security conditions aren't met */
+    OSDP_NAK_BIOMETRIC_TYPE = 7, /* the biometric type isn't supported */
+    OSDP_NAK_BIOMETRIC_FORMAT = 8, /* the biometric format isn't supported */
+    OSDP_NAK_RECORD_NOT_PROCESSED = 9 /* the command's record can't be processed */
 };
 
 /* A command or a reply: its code and its data. 1,436 bytes. */
@@ -846,6 +847,7 @@ OSDP_CHECKED osdp_status osdp_panel_set_moment(osdp_panel *panel, uint64_t now);
 
 /* A moment, where there is one. 16 bytes. */
 struct osdp_moment {
+    /* The moment, in milliseconds. */
     uint64_t moment;
     /* 1 where there is one, else 0. Where it is 0, `moment` is 0 too. */
     uint64_t present;
@@ -971,8 +973,8 @@ struct osdp_device_config {
  * BUZ and TEXT are answered ACK, and so is an OUT whose outputs are all there, whatever its controls are. Any other OUT is answered NAK 9, and so is each MFG.
  *
  * OSDP_IN_USE: the handle holds a device, which stays. OSDP_BAD_LENGTH (M2): the capabilities have more than 1,432 bytes, or a number that isn't a
- * multiple of three. OSDP_DEVICE_OUT_OF_RANGE (N3): the address, the capacity or the gap. OSDP_DEVICE_NO_MEMORY (N1). In the last three cases the handle
- * stays none.
+ * multiple of three. OSDP_DEVICE_OUT_OF_RANGE (N3): the address, the capacity or the gap is out of its range. OSDP_DEVICE_NO_MEMORY (N1). In the last
+ * three cases the handle stays none.
  */
 OSDP_CHECKED static inline osdp_status osdp_device_new(
     osdp_device *device, const struct osdp_device_config *config, const uint8_t *capabilities, osdp_size length);
@@ -1102,7 +1104,7 @@ enum {
     OSDP_SAID_BUSY = 5,
     /* NAK 4: the number isn't expected. Nothing was taken. */
     OSDP_SAID_WRONG = 6,
-    /* Nothing is said yet: the device has stopped before the command, and the next call answers it. */
+    /* Nothing is said yet: the device has stopped before the command. The next call of `osdp_device_step`, `_tick` or `_silence` answers it. */
     OSDP_SAID_PENDING = 7
 };
 
@@ -1116,7 +1118,7 @@ enum {
     OSDP_ORDER_AGAIN = 2,
     /* The command came with the next number or with 0, and the device has refused it: the burst is a NAK. Do nothing of it. */
     OSDP_ORDER_REFUSED = 3,
-    /* Not yet: the program may set the answer to the command now, and the next call gives it. Do nothing of it before. */
+    /* Not yet: the program may set the answer to the command now, and the next call that answers gives it. Do nothing of it before. */
     OSDP_ORDER_PENDING = 4
 };
 
@@ -1196,9 +1198,9 @@ OSDP_CHECKED osdp_status osdp_device_set_moment(osdp_device *device, uint64_t no
 OSDP_CHECKED osdp_status osdp_device_pending(osdp_device *device, struct osdp_message *command);
 
 /*
- * Each sets the answer to the command before which the last call has stopped, in place of an answer that was set before. The next call gives that answer: once,
- * to that command and no other. It is gone with that packet, also where the packet is answered BUSY. An answer that doesn't belong to the command goes out as
- * NAK 9.
+ * Each sets the answer to the command before which the device has stopped, in place of an answer that was set before. The next call of `osdp_device_step`,
+ * `osdp_device_tick` or `osdp_device_silence` gives that answer: once, to that command and no other. It is gone with that packet, also where the packet is
+ * answered BUSY. An answer that doesn't belong to the command goes out as NAK 9.
  *
  * `done` is an ACK, for OUT, LED, BUZ, TEXT and MFG. `local` is for LSTAT, with the bytes of `osdp_device_set_local`. `list` is for ISTAT, OSTAT and RSTAT: a
  * byte for each input, output or reader, `length` of them, 1,432 at most. `refused` is a NAK for each command: the reasons 2, 3 and 9 go out as they are, all
@@ -1218,6 +1220,8 @@ OSDP_CHECKED static inline osdp_status osdp_device_answer_maker(osdp_device *dev
  * A monitor listens to one line, and speaks on none. What it finds it tells in lines of text, which are those of the program `osdp monitor`: the manual page of
  * that program says what each means. A monitor may begin to listen at any moment: what it hasn't heard it doesn't judge.
  *
+ *     char text[256];
+ *     osdp_size count;
  *     status = .. bytes have come .. ? osdp_monitor_bytes(&monitor, bytes, length) : .. none for the gap .. ? osdp_monitor_silence(&monitor) : OSDP_OK;
  *     while (osdp_monitor_next_text(&monitor, text, sizeof text, &count) == OSDP_OK && count != 0) {
  *         fwrite(text, 1, count, stdout);
@@ -1305,9 +1309,9 @@ struct osdp_block {
  * The heap, which the program supplies. c/heap_malloc.c has one over malloc, and c/heap_pool.c one over a fixed pool. libosdp.a has the one over malloc; a heap
  * of the program's own takes its place. The toolchain has chosen the names.
  *
- * `rattle_alloc` gives a block of `size` bytes at a multiple of `align`, which is a power of two up to 16; or `ok` is false. `rattle_realloc` makes a block one
- * of `size` bytes, whose first `kept` bytes are as they were. It may move the block. Where its `ok` is false the block is as it was. Only the calls of a monitor
- * use `rattle_realloc`. `rattle_dealloc` takes back a block that the two others gave.
+ * `rattle_alloc` gives a block of `size` bytes at a multiple of `align`, which is a power of two up to 16; or `ok` is false. `rattle_realloc` gives a block the size
+ * of `size` bytes; its first `kept` bytes are as they were, and it may move. Where its `ok` is false the block is as it was. Only the calls of a monitor use
+ * `rattle_realloc`. `rattle_dealloc` takes back a block that the two others gave.
  */
 struct osdp_block rattle_alloc(size_t size, size_t align);
 struct osdp_block rattle_realloc(void *block, size_t kept, size_t size, size_t align);
