@@ -11,8 +11,9 @@
  *
  * Words.      A machine is a panel, a device or a monitor. A burst is the bytes of one packet that is to be written. A run is the bytes
  *             that come without a silence as long as the setting `gap`. An entry is the number of a device in its panel. An exchange
- *             is one packet of a panel, its repeats and its answer. An order is taken once the device has answered it, by a NAK too. An
- *             event is offered once an answer carries it that is to be written. docs/PROTOCOL.md has the other words.
+ *             is one packet of a panel, its repeats and its answer. An order is taken once the device has answered it, by a NAK too;
+ *             but NAK 4, NAK 5 and BUSY are no such answers. An event is offered once an answer that carries it is to be written.
+ *             docs/PROTOCOL.md has the other words.
  * Units.      Moments and times are in milliseconds, of any clock that doesn't go backwards. A moment that lies before the greatest
  *             one seen counts as that one. One that lies more than a day after it is refused (the setting `clock_limit`).
  *             Lengths and counts are in bytes where nothing else is said.
@@ -1309,8 +1310,8 @@ struct osdp_block {
  * The heap, which the program supplies. c/heap_malloc.c has one over malloc, and c/heap_pool.c one over a fixed pool. libosdp.a has the one over malloc; a heap
  * of the program's own takes its place. The toolchain has chosen the names.
  *
- * `rattle_alloc` gives a block of `size` bytes at a multiple of `align`, which is a power of two up to 16; or `ok` is false. `rattle_realloc` gives a block the size
- * of `size` bytes; its first `kept` bytes are as they were, and it may move. Where its `ok` is false the block is as it was. Only the calls of a monitor use
+ * `rattle_alloc` gives a block of `size` bytes at a multiple of `align`, which is a power of two up to 16; or `ok` is false. `rattle_realloc` gives a block the
+ * size of `size` bytes. Its first `kept` bytes are as they were, and it may move. Where its `ok` is false the block is as it was. Only the calls of a monitor use
  * `rattle_realloc`. `rattle_dealloc` takes back a block that the two others gave.
  */
 struct osdp_block rattle_alloc(size_t size, size_t align);
