@@ -130,7 +130,7 @@ typedef enum osdp_status {
     OSDP_OK = 0,
     /* The handle holds no machine. */
     OSDP_NO_MACHINE = 1,
-    /* `new` was called on a handle that holds a machine already. It stays. */
+    /* `new` was called on a handle that holds a machine already. That machine stays. */
     OSDP_IN_USE = 2,
     /* The text is that of no command, or of no event. */
     OSDP_BAD_TEXT = 3,
@@ -691,7 +691,7 @@ enum {
     OSDP_FUNCTION_VERSION = 16
 };
 
-/* ---- A panel: the controller's end of a line with up to sixteen readers ---- */
+/* ---- A panel: the controller's end of a line with up to sixteen devices ---- */
 
 /* A panel's handle. All zeros is none: `osdp_panel panel = {0};`. The caller neither reads nor writes its words. 16 bytes. */
 typedef struct osdp_panel {
@@ -939,7 +939,7 @@ OSDP_CHECKED osdp_status osdp_panel_is_closed(osdp_panel *panel, osdp_size entry
  */
 OSDP_CHECKED osdp_status osdp_panel_next_report(osdp_panel *panel, struct osdp_report *report);
 
-/* ---- A device: the reader's end of the link ---- */
+/* ---- A device: the other end of the line, such as a card reader ---- */
 
 /* A device's handle. All zeros is none: `osdp_device device = {0};`. The caller neither reads nor writes its words. 16 bytes. */
 typedef struct osdp_device {
@@ -1311,8 +1311,8 @@ struct osdp_block {
  * of the program's own takes its place. The toolchain has chosen the names.
  *
  * `rattle_alloc` gives a block of `size` bytes at a multiple of `align`, which is a power of two up to 16; or `ok` is false. `rattle_realloc` gives a block the
- * size of `size` bytes. Its first `kept` bytes are as they were, and it may move. Where its `ok` is false the block is as it was. Only the calls of a monitor use
- * `rattle_realloc`. `rattle_dealloc` takes back a block that the two others gave.
+ * size of `size` bytes. Its first `kept` bytes are as they were, and it may move. Where its `ok` is false the block is as it was. Only the calls of a monitor
+ * use `rattle_realloc`. `rattle_dealloc` takes back a block that the two others gave.
  */
 struct osdp_block rattle_alloc(size_t size, size_t align);
 struct osdp_block rattle_realloc(void *block, size_t kept, size_t size, size_t align);

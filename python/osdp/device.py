@@ -1,4 +1,4 @@
-"""A device: the reader's end of the link."""
+"""A device: the other end of the line, such as a card reader."""
 from __future__ import annotations
 
 import ctypes
