@@ -1,66 +1,78 @@
 /*
- * OSDP, the panel's and the device's end of the link and a monitor beside them, for C and for whatever calls C.
+ * OSDP for C, and for any language that calls C: a panel, a device, and a monitor that listens to a line.
  *
- * The functions are proved: what each does is stated over the definitions of the machines, and checked by Rattle's prover. They
- * are in the archive libosdp_c.a, which `rt lib` builds from crates/osdp_c. What stands between a caller and the proof is this
- * page. `./install` puts the archive in place as libosdp.a, with a heap over malloc in it:
+ * The functions are proved: definitions of the machines state what each does, and Rattle's prover has checked that it does so. They
+ * are in the archive libosdp_c.a, which `rt lib` builds from crates/osdp_c. This page alone stands between a caller and the proof,
+ * and it is not proved. `./install` puts the archive in place as libosdp.a, with a heap over malloc in it:
  * cc FILE $(pkg-config --cflags --libs osdp).
  *
  * Nothing here reads, writes, sleeps or keeps a clock. The program reads its port, takes the moment after the read, hands both
- * in, and writes what it is given.
+ * in, and writes the bytes that it is given.
  *
- * Units.      Moments and times are in milliseconds, of any clock that doesn't go backwards; a moment that lies before the
- *             greatest one seen counts as that one, and one that lies more than a day after it is refused (`clock_limit`).
+ * Words.      A machine is a panel, a device or a monitor. A burst is the bytes of one packet that is to be written. A run is the bytes
+ *             that come without a silence as long as the setting `gap`. An entry is the number of a device in its panel. An exchange
+ *             is one packet of a panel, its repeats and its answer. An order is taken once the device has answered it, by a NAK too;
+ *             but NAK 4, NAK 5 and BUSY are no such answers. An event is offered once an answer that carries it is to be written.
+ *             docs/PROTOCOL.md has the other words.
+ * Units.      Moments and times are in milliseconds, of any clock that doesn't go backwards. A moment that lies before the greatest
+ *             one seen counts as that one. One that lies more than a day after it is refused (the setting `clock_limit`).
  *             Lengths and counts are in bytes where nothing else is said.
- * Ownership.  A handle is two words that the caller owns. All zeros is none: no machine. `new` puts a machine on the heap and
- *             into the handle, `free` takes it away. Bytes, texts and structs stay the caller's: nothing keeps a pointer after a
- *             call.
+ * Ownership.  A handle is two words that the caller owns. All zeros is none: it holds no machine. `new` puts a machine on the heap and
+ *             into the handle, and `free` takes it away. Bytes, texts and structs stay the caller's. No call keeps a pointer after it
+ *             returns, and none gives a pointer into a machine: results are copied into the caller's structs.
  * Results.    Each call that can be refused gives a status. A refused call has changed nothing: no machine, no handle, and
- *             nothing that it would have written, except where it says so.
- * Writing.    A struct is written whole but for its arrays: of an array as many bytes as its length says are written, and the
+ *             nothing that it would have written. Where a call does otherwise, its text says so. A status that is named below without
+ *             a reason has the meaning that stands at `osdp_status`.
+ * Writing.    A struct is written whole, except for its arrays: of an array as many bytes are written as its length says, and the
  *             others stay as they were. Nothing beyond a struct is written. No struct that a call reads or writes has padding.
- * Heap.       `osdp_panel_new` takes 6,920 bytes in three blocks, and `osdp_panel_add` 3,059, and 1,435 for each command that may
- *             wait, in four. `osdp_device_new` takes 11,000 bytes, the capabilities and 1,443 for each event that may wait, in five, or in
- *             four without capabilities. With a room in bytes it is 2 for each command and 10 for each event, and the room. `free` gives all
- *             back. No other call of a panel and of a device takes memory. `osdp_monitor_new` takes 26,336 bytes in three, and the calls of a monitor that hear take 2,928 for each
- *             address, and its text. Where there is none, a call says so, and nothing has changed but a monitor, which stops.
- * Stack.      Each call takes at most 4 KiB of stack, but `osdp_monitor_bytes` 5, and `osdp_panel_new` and `osdp_monitor_new` 6, with what the heap
- *             takes, as measured and counted on 64-bit x86.
- * Targets.    64-bit x86 and ARM. What is lowered from the proved module of 64-bit x86 by `tools/retarget` is tested, and not proved: 32-bit ARM, RISC-V, x86
- *             and WebAssembly, and 64-bit ARM. There a count or a length is an `osdp_size`, of 64 bits.
+ * Heap.       `osdp_panel_new` takes 6,920 bytes in three blocks. `osdp_panel_add` takes 3,059 bytes, and 1,435 for each command that may
+ *             wait, in four blocks. With `poll_between_orders` the first takes 1,280 bytes more, in one more block, and the second 1,435
+ *             more for each command that may wait, in two more blocks. `osdp_device_new` takes 11,000 bytes, the capabilities, and 1,443
+ *             for each event that may wait, in five blocks, or in four without capabilities. Where a room in bytes is given, 2 bytes
+ *             for each command and the room stand in place of the 1,435, and the 3,059 are the most. For a device 10 bytes for each
+ *             event and the room stand in place of the 1,443. `free` gives all back. No other call of a panel or a device takes
+ *             memory. `osdp_monitor_new` takes 26,336 bytes in three blocks. The calls by which a monitor hears take 2,928 bytes for each
+ *             address, and its text. A call for which there is no memory is refused. Then nothing has changed, except that a monitor
+ *             stops. docs/SIZES.md has all of these numbers.
+ * Stack.      Each call takes at most 4 KiB of stack, except that `osdp_monitor_bytes` takes at most 5, and `osdp_panel_new` and
+ *             `osdp_monitor_new` at most 6. What a heap over malloc takes of the stack is counted in. This was measured and counted on
+ *             64-bit x86.
+ * Targets.    The archive is built for 64-bit x86 and ARM. For 32-bit ARM, RISC-V, x86 and WebAssembly, and for 64-bit ARM,
+ *             `tools/retarget` lowers the proved module of 64-bit x86: what it makes is tested, and not proved. On a 32-bit target a
+ *             count or a length is an `osdp_size`, of 64 bits.
  *
- * What the caller owes. No proof checks it. Each has what happens otherwise:
+ * What the caller owes. No proof checks it. Each point says what happens otherwise:
  *
- * - A handle is all zeros, or what the calls on it left there. A copy that is used beside it, or words that were changed, are
- *   memory that was freed: anything may happen. The three handles have fields of their own, so that the compiler sees a cast from
- *   one to the other.
- * - A handle is used by one thread at a time, one call at a time, and in no signal handler: each call takes the machine out of
- *   its handle while it runs. So two calls at once find no machine (OSDP_NO_MACHINE), or both find it, and anything may happen.
+ * - A handle is all zeros, or what the calls on it left there. Use no copy of it beside it, and change none of its words: else
+ *   memory is used that was freed, and anything may happen. The three kinds of handle have fields of different names, so that the
+ *   compiler finds one that is used as another.
+ * - A handle is used by one thread at a time, in one call at a time, and in no signal handler, since each call takes the machine
+ *   out of its handle while it runs. Two calls at once find no machine (OSDP_NO_MACHINE), or both find it, and anything may happen.
  *   Another thread may take a handle over where the heap is one that threads may share.
  * - Each pointer is good and aligned: to as much as the call reads or writes, and to memory that is initialised where it is read;
- *   else anything may happen. One to bytes, a text or records may be null where their length is 0; with another
- *   length the call is refused with OSDP_BAD_LENGTH, by the functions at the end of this page. No other may be null.
- * - What one call writes overlaps nothing else that the same call gets: else anything may be written. So the bytes of an answer
- *   aren't given to `osdp_device_step` together with the struct that they stand in: copy them, or take another struct.
+ *   else anything may happen. A pointer to bytes, a text or records may be null where their length is 0. With another length the
+ *   call is refused with OSDP_BAD_LENGTH, by the functions at the end of this page. No other pointer may be null.
+ * - What a call writes overlaps nothing else that the same call gets: else anything may be written. So don't hand the bytes of
+ *   an answer to `osdp_device_step` together with the struct in which they stand. Copy them, or use another struct.
  * - The stack has room (see above): else other memory is overwritten. `struct osdp_report` and `struct osdp_answer` have 2.9 KB
- *   each: make them static where a task's stack is small.
+ *   each. Make them static where a task's stack is small.
  * - `rattle_alloc`, `rattle_realloc` and `rattle_dealloc` (below) are a heap, and `memcpy`, `memmove` and `memset` are those of
  *   C: else anything may happen.
- * - Moments are taken after the read, of a clock that doesn't go backwards. From a moment that is too early gaps and waits are
- *   over too late, and from one that is too late, too early: then packets are cut in two, and answers that come are not waited
- *   for. One that lies more than `clock_limit` after the greatest one seen is refused (OSDP_MOMENT_TOO_FAR), and nothing has
- *   changed: the clock has failed, or the host has slept. In the second case tell `osdp_panel_set_moment` or
- *   `osdp_device_set_moment` the moment, and go on; a panel's sessions are then likely told lost. The first moment may be any, so
- *   take that one with care: until the clock reaches the greatest one seen, time stands still for the machine.
- * - Bursts go out at once, whole and in their order: else the other end reads a packet that was not said, or none.
- * - A machine that isn't freed is leaked.
+ * - Moments are taken after the read, from a clock that doesn't go backwards. Where a moment is too early, gaps and waits end too
+ *   late. Where it is too late, they end too early: packets are cut in two, and answers that come are not waited for. A moment that
+ *   lies more than `clock_limit` after the greatest one seen is refused (OSDP_MOMENT_TOO_FAR), and nothing has changed: the clock
+ *   has failed, or the host has slept. If it has slept, hand the moment to `osdp_panel_set_moment` or `osdp_device_set_moment`, and
+ *   go on. The panel then likely reports its sessions as lost. The first moment may be any, so take it with care: until the clock
+ *   reaches the greatest moment seen, time stands still for the machine.
+ * - Bursts are written at once, whole and in their order: else the other end reads a packet that was never meant, or none.
+ * - Each machine is freed: else its memory is leaked.
  *
- * What is promised of a line, where both ends are these machines and one panel speaks: in each session orders are taken once
- * and in order, each settled with the answer that the device gave, and events are told once and in order, but those that a
- * restart of the device threw away, and those that its program withdrew or let lapse. No order that the panel accepted is taken
- * twice. That holds of any calls, at any moments, however bytes are cut. docs/HEADLINE.md has it, its premises under "What is
- * asked", and what a program does for each: above all a quiet wait of more than twice as long as a packet takes at most until
- * it is read, and a rule for addresses, which docs/PROTOCOL.md has.
+ * What is promised of a line on which one panel speaks, where both ends are these machines. In each session orders are taken once
+ * and in order, and each that is settled has the answer that the device gave. Events are reported once and in order, except those
+ * that a restart of the device threw away, and those that its program withdrew or let lapse. No order that the panel accepted is
+ * taken twice. This holds whatever calls are made, at whatever moments, and however bytes are cut. docs/HEADLINE.md has the promise
+ * in full, and under "What is asked" its premises, and what a program does for each. Above all `quiet_wait` is more than twice the
+ * longest time that a packet takes until it is read, and addresses are given by the rule that docs/PROTOCOL.md has.
  */
 #ifndef OSDP_H
 #define OSDP_H
@@ -79,8 +91,8 @@ extern "C" {
 /* ---- Counts and lengths ---- */
 
 /*
- * A count or a length in the calls and structs. It has 64 bits on each target, and stands at a multiple of 8: where a `size_t` has 64 bits it is one. A struct has
- * the same size and the same bytes on each target, so a pointer of 32 bits in it is followed by four bytes that nobody reads.
+ * A count or a length in the calls and structs. It has 64 bits on each target, and stands at a multiple of 8. Where a `size_t` has 64 bits, it is a
+ * `size_t`. A struct has the same size and the same bytes on each target, so a pointer of 32 bits in it is followed by four bytes that nobody reads.
  */
 #if UINTPTR_MAX > 0xFFFFFFFFu
 typedef size_t osdp_size;
@@ -96,8 +108,8 @@ typedef uint64_t osdp_size;
 /* ---- Statuses ---- */
 
 /*
- * Where a program defines OSDP_CHECK_RESULTS before this page is read, the compiler warns of each call whose status isn't looked at: in C23 and C++17 each
- * compiler, and in the versions before them GCC and Clang. There a cast to void doesn't stop GCC's warning; `if (call(..)) {}` does.
+ * Define OSDP_CHECK_RESULTS before this page is read to have the compiler warn of each call whose status isn't looked at. Every compiler of C23 and C++17
+ * does so, and GCC and Clang for older versions too. For those, GCC still warns where the status is cast to void; write `if (call(..)) {}` there.
  */
 #if !defined OSDP_CHECK_RESULTS
 #define OSDP_CHECKED
@@ -109,209 +121,216 @@ typedef uint64_t osdp_size;
 #define OSDP_CHECKED
 #endif
 
-/* What became of a call. The two digits from 11 on are those of the machines' own refusals: 1 for M, 2 for B, 3 for C, 4 for N, 5 for L. */
+/*
+ * What became of a call. From 11 on the first digit stands for the letter of a refusal of docs/PROTOCOL.md, 1 for M, 2 for B, 3 for C, 4 for N and 5 for L,
+ * and the second is its number: 26 is B6.
+ */
 typedef enum osdp_status {
     /* The call was done. */
     OSDP_OK = 0,
     /* The handle holds no machine. */
     OSDP_NO_MACHINE = 1,
-    /* `new` on a handle that holds a machine. */
+    /* `new` was called on a handle that holds a machine already. That machine stays. */
     OSDP_IN_USE = 2,
     /* The text is that of no command, or of no event. */
     OSDP_BAD_TEXT = 3,
-    /* The code and data are those of a reply that tells no event. */
+    /* The code and data are those of a reply that carries no event. */
     OSDP_NO_EVENT = 4,
-    /* The text is longer than the room for it. The length that it has is written. */
+    /* The text is longer than the room for it. Its length is written all the same, and no text. */
     OSDP_TOO_SMALL = 5,
-    /* No call has stopped before a command, so none is to be answered. */
+    /* No call has stopped before a command since the last answer, so there is no command to answer. */
     OSDP_NOT_ASKED = 7,
-    /* The message is another than the call reads. */
+    /* The message is not of the kind that the call reads, or it has no record at that place. */
     OSDP_OTHER_MESSAGE = 8,
     /* The moment lies further after the greatest one seen than `clock_limit` allows. */
     OSDP_MOMENT_TOO_FAR = 9,
 
     /* M1: the code isn't in the table of commands, or of replies. */
     OSDP_UNKNOWN_CODE = 11,
-    /* M2: more than 1,432 bytes, or a length that the table doesn't allow for the code; or a null pointer where bytes are to be. */
+    /* M2: the data have more than 1,432 bytes, or a length that the table doesn't allow for the code; or what is handed in is too long or has no record; or a
+       pointer is null where bytes are to be. */
     OSDP_BAD_LENGTH = 12,
     /* M3: a count inside the data disagrees with their length. */
     OSDP_BAD_COUNT = 13,
 
-    /* B1: there is no memory for a panel, or for another device of it. */
+    /* B1: there is no memory for a panel, or for one more device of it. */
     OSDP_PANEL_NO_MEMORY = 21,
-    /* B2: sixteen devices are there. */
+    /* B2: the panel has sixteen devices already. */
     OSDP_TOO_MANY = 22,
-    /* B3: the address is that of another device or reserved for one, or a COMSET stands in the way. */
+    /* B3: the address is that of another device or reserved for one; or an address is reserved for this device by an earlier COMSET; or, of
+       `osdp_panel_retarget`, a COMSET waits for this device. */
     OSDP_ADDRESS_TAKEN = 23,
-    /* B4: there is no such entry. */
+    /* B4: the panel has no device of this number. */
     OSDP_NO_ENTRY = 24,
     /* B5: the address is above 126, or a setting is out of its range. */
     OSDP_PANEL_OUT_OF_RANGE = 25,
-    /* B6: a COMSET goes to an address that no device has: 127 and above. */
+    /* B6: the address of a COMSET is 127 or above, which no device has. */
     OSDP_ADDRESS_OUT_OF_RANGE = 26,
 
-    /* C3: as many commands wait as there is room for, or their bytes and those of the command on its way leave no room for this one's. */
+    /* C3: as many commands wait as there is room for; or there is no room for the bytes of this one beside theirs and those of the command on its way; or, with
+       `poll_between_orders`, a COMSET would have to wait for a POLL: order it again later. */
     OSDP_COMMANDS_FULL = 33,
-    /* C4: a POLL, which the panel sends by itself. */
+    /* C4: the command is a POLL, which the panel sends by itself. */
     OSDP_POLL_SUBMITTED = 34,
-    /* C5: the session isn't closed. */
+    /* C5: the session of the device has begun. */
     OSDP_NOT_CLOSED = 35,
 
-    /* N1: there is no memory for a reader. */
+    /* N1: there is no memory for a device. */
     OSDP_DEVICE_NO_MEMORY = 41,
-    /* N2: as many events wait as there is room for. */
+    /* N2: as many events wait as there is room for, or there is no room for the bytes of this one beside theirs. */
     OSDP_EVENTS_FULL = 42,
-    /* N3: the address is above 126, or the capacity or the gap is out of its range. */
+    /* N3: the address is above 126; or the capacity, the room in bytes or the gap is out of its range. */
     OSDP_DEVICE_OUT_OF_RANGE = 43,
 
-    /* L1: there is no memory for a monitor, or for what it heard: then it has stopped. */
+    /* L1: there is no memory for a monitor, or for what it heard. In the second case the monitor has stopped. */
     OSDP_MONITOR_NO_MEMORY = 51,
     /* L2: the monitor has counted 2^60 packets or bytes, and has stopped. */
     OSDP_MONITOR_TOO_LONG = 52,
-    /* L3: what is to be printed is none of the three numbers. */
+    /* L3: `prints` is none of its three numbers. */
     OSDP_MONITOR_OUT_OF_RANGE = 53,
-    /* L4: the monitor has stopped at an earlier call. */
+    /* L4: the monitor stopped at an earlier call. */
     OSDP_MONITOR_STOPPED = 54
 } osdp_status;
 
-/* What a status says, in a few words that end with a zero; never null. In c/osdp_texts.c, and in libosdp.a. */
+/* A status in a few words of English, which end with a zero. Never null, and valid for good. In c/osdp_texts.c, and in libosdp.a. */
 const char *osdp_status_text(osdp_status status);
 
-/* The version of what is linked, as OSDP_VERSION is that of this page. In c/osdp_texts.c, and in libosdp.a. */
+/* The version of the library that is linked, in the form of OSDP_VERSION. Valid for good. In c/osdp_texts.c, and in libosdp.a. */
 const char *osdp_version(void);
 
 /* ---- What both ends share ---- */
 
-/* How much there is at most. */
+/* The largest sizes and counts. */
 enum {
-    /* The data of a message, in bytes. */
+    /* The most bytes of data that a message has. */
     OSDP_MOST_DATA = 1432,
-    /* A packet, in bytes. */
+    /* The most bytes that a packet has. */
     OSDP_MOST_PACKET = 1440,
-    /* The devices of a panel. */
+    /* The most devices that a panel has. */
     OSDP_MOST_DEVICES = 16,
-    /* The text of a message, in bytes; a zero after it is one more. */
+    /* The most bytes that the text of a message has. A zero after it takes one more. */
     OSDP_MOST_TEXT = 5729
 };
 
 /* The codes of commands. */
 enum {
-    OSDP_POLL = 0x60,
-    OSDP_ID = 0x61,
-    OSDP_CAP = 0x62,
-    OSDP_LSTAT = 0x64,
-    OSDP_ISTAT = 0x65,
-    OSDP_OSTAT = 0x66,
-    OSDP_RSTAT = 0x67,
-    OSDP_OUT = 0x68,
-    OSDP_LED = 0x69,
-    OSDP_BUZ = 0x6A,
-    OSDP_TEXT = 0x6B,
-    OSDP_COMSET = 0x6E,
-    OSDP_MFG = 0x80
+    OSDP_POLL = 0x60, /* asks for the next event */
+    OSDP_ID = 0x61, /* asks what the device is */
+    OSDP_CAP = 0x62, /* asks what the device can do */
+    OSDP_LSTAT = 0x64, /* asks for the tamper and the power of the device */
+    OSDP_ISTAT = 0x65, /* asks for the states of the inputs */
+    OSDP_OSTAT = 0x66, /* asks for the states of the outputs */
+    OSDP_RSTAT = 0x67, /* asks for the states of the readers */
+    OSDP_OUT = 0x68, /* says what outputs are to do */
+    OSDP_LED = 0x69, /* says what LEDs are to do */
+    OSDP_BUZ = 0x6A, /* says how a buzzer is to sound */
+    OSDP_TEXT = 0x6B, /* says what a display is to show */
+    OSDP_COMSET = 0x6E, /* sets the address and the rate of the device */
+    OSDP_MFG = 0x80 /* a command of the device's maker */
 };
 
 /* The codes of replies. */
 enum {
-    OSDP_ACK = 0x40,
-    OSDP_NAK = 0x41,
-    OSDP_PDID = 0x45,
-    OSDP_PDCAP = 0x46,
-    OSDP_LSTATR = 0x48,
-    OSDP_ISTATR = 0x49,
-    OSDP_OSTATR = 0x4A,
-    OSDP_RSTATR = 0x4B,
-    OSDP_RAW = 0x50,
-    OSDP_FMT = 0x51,
-    OSDP_KEYPAD = 0x53,
-    OSDP_COM = 0x54,
-    OSDP_BUSY = 0x79,
-    OSDP_MFGREP = 0x90
+    OSDP_ACK = 0x40, /* the command was done; or, to a POLL, there is no event */
+    OSDP_NAK = 0x41, /* the command wasn't done, and why */
+    OSDP_PDID = 0x45, /* what the device is */
+    OSDP_PDCAP = 0x46, /* what the device can do */
+    OSDP_LSTATR = 0x48, /* the tamper and the power of the device */
+    OSDP_ISTATR = 0x49, /* the states of the inputs */
+    OSDP_OSTATR = 0x4A, /* the states of the outputs */
+    OSDP_RSTATR = 0x4B, /* the states of the readers */
+    OSDP_RAW = 0x50, /* the bits of a card */
+    OSDP_FMT = 0x51, /* the characters of a card */
+    OSDP_KEYPAD = 0x53, /* keys that were pressed */
+    OSDP_COM = 0x54, /* confirms a COMSET */
+    OSDP_BUSY = 0x79, /* the command wasn't taken, and is to be sent again; a panel does so by itself */
+    OSDP_MFGREP = 0x90 /* a reply of the device's maker */
 };
 
-/* Why a command wasn't done: the reason of a NAK. */
+/* Why a command wasn't done: the reason of a NAK. A device of this library sends 2, 3, 4, 5 and 9. */
 enum {
-    OSDP_NAK_CHECK_CHARACTERS = 1,
-    OSDP_NAK_COMMAND_LENGTH = 2,
-    OSDP_NAK_UNKNOWN_COMMAND = 3,
-    OSDP_NAK_UNEXPECTED_SEQUENCE = 4,
-    OSDP_NAK_SECURITY_BLOCK = 5,
-    OSDP_NAK_SECURITY_CONDITIONS = 6,
-    OSDP_NAK_BIOMETRIC_TYPE = 7,
-    OSDP_NAK_BIOMETRIC_FORMAT = 8,
-    OSDP_NAK_RECORD_NOT_PROCESSED = 9
+    OSDP_NAK_CHECK_CHARACTERS = 1, /* the check characters are wrong */
+    OSDP_NAK_COMMAND_LENGTH = 2, /* the length of the command is wrong */
+    OSDP_NAK_UNKNOWN_COMMAND = 3, /* the command is unknown */
+    OSDP_NAK_UNEXPECTED_SEQUENCE = 4, /* the sequence number isn't expected */
+    OSDP_NAK_SECURITY_BLOCK = 5, /* a security block isn't supported */
+    OSDP_NAK_SECURITY_CONDITIONS = 6, /* the security conditions aren't met */
+    OSDP_NAK_BIOMETRIC_TYPE = 7, /* the biometric type isn't supported */
+    OSDP_NAK_BIOMETRIC_FORMAT = 8, /* the biometric format isn't supported */
+    OSDP_NAK_RECORD_NOT_PROCESSED = 9 /* the command's record can't be processed */
 };
 
 /* A command or a reply: its code and its data. 1,436 bytes. */
 struct osdp_message {
     /* How many bytes of data there are, 0 to 1,432. */
     uint16_t length;
-    /* 1 where there is a message, else 0; then `length` and `code` are 0 too. */
+    /* 1 where there is a message, else 0. Where it is 0, `length` and `code` are 0 too. */
     uint8_t present;
+    /* The code: OSDP_POLL to OSDP_MFG of a command, OSDP_ACK to OSDP_MFGREP of a reply. */
     uint8_t code;
     uint8_t data[1432];
 };
 
-/* Bytes to write to the line, at once and in their order. 1,444 bytes. */
+/* The bytes of one packet, to be written to the line at once and in their order. 1,444 bytes. */
 struct osdp_burst {
-    /* How many there are, 0 to 1,440. 0: nothing is to be written. */
+    /* How many bytes there are, 0 to 1,440. 0: there is nothing to write. */
     uint32_t length;
     uint8_t bytes[1440];
 };
 
 /*
- * The text of the command that a code and data stand for, as in `OUT 0:5:30`. docs/PROTOCOL.md has the texts.
+ * Writes the text of a command, such as `OUT 0:5:30`. docs/PROTOCOL.md has the texts.
  *
- * `room` is how many bytes may be written to `text`. The text's length is written to `text_length`, and the text to `text`, and a zero after it where
- * there is room for one more byte; the bytes after these stay as they were. OSDP_MOST_TEXT + 1 bytes are room for each text and its zero.
+ * `data` has `length` bytes, and `text` has room for `room` bytes. The length of the text is written to `text_length`, and the text to `text`, with a zero
+ * after it where there is room for one more byte. The bytes after these stay as they were. OSDP_MOST_TEXT + 1 bytes are enough for each text and its zero.
  *
- * OSDP_UNKNOWN_CODE (M1), OSDP_BAD_LENGTH (M2), OSDP_BAD_COUNT (M3): the code and data stand for no command.
- * OSDP_TOO_SMALL: the text is longer than the room; its length is written, and no text.
+ * OSDP_UNKNOWN_CODE (M1), OSDP_BAD_LENGTH (M2), OSDP_BAD_COUNT (M3): the code and data are those of no command; nothing is written.
+ * OSDP_TOO_SMALL: the text is longer than the room. Its length is written, and no text.
  */
 OSDP_CHECKED static inline osdp_status osdp_command_text(uint8_t code, const uint8_t *data, osdp_size length, char *text, osdp_size room, osdp_size *text_length);
 
-/* The same of a reply. An event's text is that of the reply that tells it, as in `KEYPAD 0 31`. */
+/* As `osdp_command_text`, for a reply. The text of an event is that of the reply that carries it, such as `KEYPAD 0 31`. */
 OSDP_CHECKED static inline osdp_status osdp_reply_text(uint8_t code, const uint8_t *data, osdp_size length, char *text, osdp_size room, osdp_size *text_length);
 
 /* ---- The fields of a message ---- */
 
-/* A card's bits: of a RAW. 1,434 bytes. */
+/* The bits of a card: the fields of a RAW. 1,434 bytes. */
 struct osdp_raw {
-    /* Which reader of the device, counted from 0. */
+    /* Which reader of the device has read it, counted from 0. */
     uint8_t reader;
     /* How the bits are to be understood: OSDP_CARD_RAW or OSDP_CARD_WIEGAND. */
     uint8_t format;
-    /* How many bits there are. */
+    /* How many bits there are, 0 to 11,424. */
     uint16_t bits;
-    /* How many bytes they stand in, 0 to 1,428. */
+    /* In how many bytes they stand, 0 to 1,428: bits divided by 8, rounded up. */
     uint16_t length;
     /* The bits, the first in the highest place of the first byte. */
     uint8_t bytes[1428];
 };
 
-/* Pressed keys: of a KEYPAD. 257 bytes. */
+/* Keys that were pressed: the fields of a KEYPAD. 257 bytes. */
 struct osdp_keypad {
     /* Which reader of the device, counted from 0. */
     uint8_t reader;
-    /* How many keys there are, 0 to 255, */
+    /* How many keys there are, 0 to 255. */
     uint8_t count;
-    /* in their order. */
+    /* The keys, in their order. */
     uint8_t digits[255];
 };
 
-/* A card as the reader formatted it: of a FMT. 258 bytes. */
+/* A card as the reader formatted it: the fields of a FMT. 258 bytes. */
 struct osdp_formatted {
     /* Which reader of the device, counted from 0. */
     uint8_t reader;
     /* How the card was drawn: OSDP_CARD_FORWARD or OSDP_CARD_REVERSE. */
     uint8_t direction;
-    /* How many characters there are, 0 to 255, */
+    /* How many characters there are, 0 to 255. */
     uint8_t count;
-    /* in their order. */
+    /* The characters, in their order. */
     uint8_t digits[255];
 };
 
-/* The state of the device itself: of an LSTATR. 2 bytes. */
+/* The state of the device itself: the fields of an LSTATR. 2 bytes. */
 struct osdp_local_state {
     /* OSDP_STATE_NORMAL or OSDP_STATE_TAMPERED. */
     uint8_t tamper;
@@ -319,15 +338,16 @@ struct osdp_local_state {
     uint8_t power;
 };
 
-/* A byte for each input, output or reader: of an ISTATR, an OSTATR or an RSTATR. 1,434 bytes. */
+/* One byte for each input, output or reader: the fields of an ISTATR, an OSTATR or an RSTATR. 1,434 bytes. */
 struct osdp_states {
-    /* How many there are, 0 to 1,432. */
+    /* How many states there are, 0 to 1,432. */
     uint16_t length;
-    /* OSDP_STATE_ACTIVE where the input is active or the output on, else OSDP_STATE_INACTIVE; of a reader OSDP_READER_NORMAL to OSDP_READER_TAMPERED. */
+    /* Of inputs and outputs: OSDP_STATE_ACTIVE where the input is active or the output is on, else OSDP_STATE_INACTIVE. Of readers: OSDP_READER_NORMAL to
+       OSDP_READER_TAMPERED. */
     uint8_t states[1432];
 };
 
-/* What a device is, but for its serial number. 8 bytes. */
+/* What a device is, without its serial number. 8 bytes. */
 struct osdp_product {
     /* The maker's code. */
     uint8_t vendor[3];
@@ -340,30 +360,31 @@ struct osdp_product {
     uint8_t firmware_build;
 };
 
-/* What a device is: of a PDID. 12 bytes. */
+/* What a device is: the fields of a PDID. 12 bytes. */
 struct osdp_pd_id {
+    /* The serial number. */
     uint32_t serial;
     struct osdp_product product;
 };
 
-/* What a device can do in one respect: a record of a PDCAP. 3 bytes. */
+/* What a device can do in one respect: one record of a PDCAP. 3 bytes. */
 struct osdp_capability {
     /* OSDP_FUNCTION_CONTACT_STATUS to OSDP_FUNCTION_VERSION. */
     uint8_t function;
-    /* How far it goes, and how many there are: both as the standard has it for the function. */
+    /* How far the device goes in this respect, and how many it has. The standard says for each function what both numbers mean. */
     uint8_t level;
     uint8_t count;
 };
 
-/* How a device communicates: of a COMSET, and of a COM, which confirms it. 8 bytes. */
+/* The address and the rate of a device: the fields of a COMSET, and of the COM that confirms it. 8 bytes. */
 struct osdp_communication {
-    /* In bits per second. */
+    /* The rate, in bits per second. */
     uint32_t baud_rate;
-    /* The address of the device, 0 to 255; those of devices are 0 to 126. */
+    /* The address, 0 to 255. Devices have the addresses 0 to 126. */
     uint32_t address;
 };
 
-/* A message of a device's maker: of a MFG, and of a MFGREP. 1,434 bytes. */
+/* A message of the device's maker: the fields of a MFG or a MFGREP. 1,434 bytes. */
 struct osdp_maker {
     /* How many bytes follow the maker's code, 0 to 1,429. */
     uint16_t length;
@@ -372,76 +393,85 @@ struct osdp_maker {
     uint8_t bytes[1429];
 };
 
-/* Why a command wasn't done: of a NAK. 1,434 bytes. */
+/* Why a command wasn't done: the fields of a NAK. 1,434 bytes. */
 struct osdp_nak {
-    /* How many bytes of detail there are, 0 to 1,431. */
+    /* How many bytes of detail follow the reason, 0 to 1,431. Mostly none. */
     uint16_t length;
     /* OSDP_NAK_CHECK_CHARACTERS to OSDP_NAK_RECORD_NOT_PROCESSED, or another number. */
     uint8_t reason;
+    /* What else the device tells of the reason. */
     uint8_t detail[1431];
 };
 
-/* What one output is to do: a record of an OUT. 4 bytes. */
+/* What one output is to do: one record of an OUT. 4 bytes. */
 struct osdp_output {
-    /* In 100 ms: how long it lasts, where it is for a time. */
+    /* How long the operation lasts, in 100 ms, where `control` is for a time. */
     uint16_t timer;
-    /* The output of the device, counted from 0. */
+    /* Which output of the device, counted from 0. */
     uint8_t output;
-    /* OSDP_OUTPUT_NO_CHANGE to OSDP_OUTPUT_OFF_FOR_A_TIME. */
+    /* What it is to do: OSDP_OUTPUT_NO_CHANGE to OSDP_OUTPUT_OFF_FOR_A_TIME. */
     uint8_t control;
 };
 
-/* How an LED blinks. Times are in 100 ms. Colors are OSDP_COLOR_OFF to OSDP_COLOR_WHITE. 5 bytes. */
+/* How an LED blinks: it has one color for a time and then another, in turn. Colors are OSDP_COLOR_OFF to OSDP_COLOR_WHITE. 5 bytes. */
 struct osdp_led_state {
-    /* OSDP_LED_NOTHING; of a temporary state OSDP_LED_CANCEL_TEMPORARY or OSDP_LED_SET_TEMPORARY; of the permanent state OSDP_LED_SET_PERMANENT. */
+    /* OSDP_LED_NOTHING; or, of the temporary state, OSDP_LED_CANCEL_TEMPORARY or OSDP_LED_SET_TEMPORARY; or, of the permanent state,
+       OSDP_LED_SET_PERMANENT. */
     uint8_t control;
+    /* How long the first color is on, and how long the second, in 100 ms. */
     uint8_t on_time;
     uint8_t off_time;
+    /* The first color and the second. */
     uint8_t on_color;
     uint8_t off_color;
 };
 
-/* What one LED of a reader is to do: a record of a LED. 14 bytes. */
+/* What one LED of a reader is to do: one record of a LED. 14 bytes. */
 struct osdp_led {
-    /* How long the temporary state lasts, in 100 ms. */
+    /* How long the temporary state lasts, in 100 ms. After that the permanent state is shown. */
     uint16_t timer;
+    /* Which reader of the device, and which LED of it, both counted from 0. */
     uint8_t reader;
     uint8_t led;
+    /* What the LED is to show for a time, and what it is to show for good. */
     struct osdp_led_state temporary;
     struct osdp_led_state permanent;
 };
 
-/* How the buzzer of a reader sounds: a BUZ. Times are in 100 ms. 5 bytes. */
+/* How the buzzer of a reader sounds: the fields of a BUZ. 5 bytes. */
 struct osdp_buzzer {
+    /* Which reader of the device, counted from 0. */
     uint8_t reader;
     /* OSDP_TONE_NONE to OSDP_TONE_DEFAULT. */
     uint8_t tone;
+    /* How long it sounds, and how long it is silent after that, in 100 ms. */
     uint8_t on_time;
     uint8_t off_time;
-    /* How often; 0 means until another command. */
+    /* How often it sounds; 0 means until another command comes. */
     uint8_t count;
 };
 
-/* What the display of a reader shows: a TEXT. 261 bytes. */
+/* What the display of a reader shows: the fields of a TEXT. 261 bytes. */
 struct osdp_text {
+    /* Which reader of the device, counted from 0. */
     uint8_t reader;
-    /* OSDP_TEXT_PERMANENT to OSDP_TEXT_TEMPORARY_WRAPPED. */
+    /* How the text is shown: OSDP_TEXT_PERMANENT to OSDP_TEXT_TEMPORARY_WRAPPED. */
     uint8_t command;
-    /* In seconds, of a temporary text. */
+    /* For how many seconds a temporary text is shown. */
     uint8_t time;
-    /* Where the first character stands, counted from 1. */
+    /* The row and the column of the first character, counted from 1. */
     uint8_t row;
     uint8_t column;
-    /* How many characters there are. */
+    /* How many characters there are, 0 to 255. */
     uint8_t count;
     uint8_t characters[255];
 };
 
 /*
- * Each reads the fields of one reply, such as that of a report, and writes them.
+ * Each reads the fields of one kind of reply, such as the `reply` of a report, and writes them to the struct.
  *
- * OSDP_OTHER_MESSAGE: it is another reply; nothing is written. OSDP_UNKNOWN_CODE (M1), OSDP_BAD_LENGTH (M2), OSDP_BAD_COUNT (M3): it is no reply;
- * where `present` is 0 its code is 0, and no reply has that.
+ * OSDP_OTHER_MESSAGE: it is a reply of another kind. OSDP_UNKNOWN_CODE (M1), OSDP_BAD_LENGTH (M2), OSDP_BAD_COUNT (M3): it is no reply. Nothing is written
+ * in any of these cases. Where `present` is 0 the code is 0, which no reply has, so the call gives OSDP_UNKNOWN_CODE.
  */
 OSDP_CHECKED osdp_status osdp_raw_of(const struct osdp_message *reply, struct osdp_raw *raw);
 OSDP_CHECKED osdp_status osdp_formatted_of(const struct osdp_message *reply, struct osdp_formatted *formatted);
@@ -456,18 +486,18 @@ OSDP_CHECKED osdp_status osdp_com_of(const struct osdp_message *reply, struct os
 OSDP_CHECKED osdp_status osdp_maker_reply_of(const struct osdp_message *reply, struct osdp_maker *maker);
 
 /*
- * Reads the record of a PDCAP at a place, counted from 0: call it for 0, 1, 2 and so on while it gives OSDP_OK.
+ * Reads the record of a PDCAP at the place `at`, counted from 0. Call it for 0, 1, 2 and so on while it gives OSDP_OK.
  *
- * OSDP_OTHER_MESSAGE: it is another reply, or has no record there; nothing is written. Else as above.
+ * OSDP_OTHER_MESSAGE: it is a reply of another kind, or has no record at that place; nothing is written. The other refusals are those of the calls above.
  */
 OSDP_CHECKED osdp_status osdp_capability_of(const struct osdp_message *reply, osdp_size at, struct osdp_capability *capability);
 
 /*
- * Each reads the fields of one command, such as that of an answer, and writes them. The commands without fields of a program's, from OSDP_POLL to
- * OSDP_RSTAT, are told by their code.
+ * Each reads the fields of one kind of command, such as the `command` of an answer, and writes them to the struct. OSDP_POLL to OSDP_RSTAT have no fields
+ * for a program: their code alone tells what they ask for.
  *
- * OSDP_OTHER_MESSAGE: it is another command; nothing is written. OSDP_UNKNOWN_CODE (M1), OSDP_BAD_LENGTH (M2), OSDP_BAD_COUNT (M3): it is no command;
- * where `present` is 0 its code is 0, and no command has that.
+ * OSDP_OTHER_MESSAGE: it is a command of another kind. OSDP_UNKNOWN_CODE (M1), OSDP_BAD_LENGTH (M2), OSDP_BAD_COUNT (M3): it is no command. Nothing is
+ * written in any of these cases. Where `present` is 0 the code is 0, which no command has, so the call gives OSDP_UNKNOWN_CODE.
  */
 OSDP_CHECKED osdp_status osdp_buzzer_of(const struct osdp_message *command, struct osdp_buzzer *buzzer);
 OSDP_CHECKED osdp_status osdp_text_of(const struct osdp_message *command, struct osdp_text *text);
@@ -475,21 +505,21 @@ OSDP_CHECKED osdp_status osdp_comset_of(const struct osdp_message *command, stru
 OSDP_CHECKED osdp_status osdp_maker_of(const struct osdp_message *command, struct osdp_maker *maker);
 
 /*
- * Each reads the record of an OUT, or of a LED, at a place, counted from 0: call it for 0, 1, 2 and so on while it gives OSDP_OK.
+ * Each reads the record of an OUT, or of a LED, at the place `at`, counted from 0. Call it for 0, 1, 2 and so on while it gives OSDP_OK.
  *
- * OSDP_OTHER_MESSAGE: it is another command, or has no record there; nothing is written. OSDP_UNKNOWN_CODE (M1), OSDP_BAD_LENGTH (M2),
- * OSDP_BAD_COUNT (M3): it is no command.
+ * OSDP_OTHER_MESSAGE: it is a command of another kind, or has no record at that place; nothing is written. OSDP_UNKNOWN_CODE (M1), OSDP_BAD_LENGTH (M2),
+ * OSDP_BAD_COUNT (M3): it is no command; nothing is written.
  */
 OSDP_CHECKED osdp_status osdp_output_of(const struct osdp_message *command, osdp_size at, struct osdp_output *output);
 OSDP_CHECKED osdp_status osdp_led_of(const struct osdp_message *command, osdp_size at, struct osdp_led *led);
 
 /*
- * Each writes a command: `osdp_panel_submit(&panel, entry, command.code, command.data, command.length)` orders it. ID and CAP carry one byte, which is 0:
- * the standard has no other for it. One without it is no command (OSDP_BAD_LENGTH). LSTAT, ISTAT, OSTAT and RSTAT carry nothing:
- * `osdp_panel_submit(&panel, entry, OSDP_LSTAT, NULL, 0)` orders one.
+ * Each writes a command to `command`. Then `osdp_panel_submit(&panel, entry, command.code, command.data, command.length)` orders it. `count` is how many
+ * records there are: 1 to 358 of an OUT, 1 to 102 of a LED. ID and CAP carry one byte, which is 0: the standard has no other for it. Without that byte they
+ * are no commands (OSDP_BAD_LENGTH). LSTAT, ISTAT, OSTAT and RSTAT carry nothing: `osdp_panel_submit(&panel, entry, OSDP_LSTAT, NULL, 0)` orders one.
  *
  * OSDP_BAD_LENGTH (M2): there is no record, or more than 358 of an OUT or 102 of a LED, or the maker's bytes are more than 1,429; nothing is written.
- * OSDP_ADDRESS_OUT_OF_RANGE (B6): the address of a COMSET is above 126, which are those that devices have; nothing is written.
+ * OSDP_ADDRESS_OUT_OF_RANGE (B6): the address of a COMSET is above 126, and no device has such an address; nothing is written.
  */
 void osdp_id(struct osdp_message *command);
 void osdp_cap(struct osdp_message *command);
@@ -501,10 +531,11 @@ OSDP_CHECKED osdp_status osdp_comset(uint32_t address, uint32_t baud_rate, struc
 OSDP_CHECKED osdp_status osdp_maker(const struct osdp_maker *maker, struct osdp_message *command);
 
 /*
- * Each writes the reply that tells an event: `osdp_device_event(&device, event.code, event.data, event.length)` puts it after those that wait.
+ * Each writes the reply that carries an event to `event`. Then `osdp_device_event(&device, event.code, event.data, event.length)` puts it after the events
+ * that wait.
  *
- * OSDP_BAD_LENGTH (M2): the length is more than there is room for in the struct; nothing is written. OSDP_BAD_COUNT (M3): the bytes of a card aren't as
- * many as its bits need (bits divided by 8, rounded up); nothing is written.
+ * OSDP_BAD_LENGTH (M2): `length` is more than the struct has room for; nothing is written. OSDP_BAD_COUNT (M3): the bytes of a card aren't as many as its
+ * bits need (bits divided by 8, rounded up); nothing is written.
  */
 OSDP_CHECKED osdp_status osdp_raw(const struct osdp_raw *raw, struct osdp_message *event);
 void osdp_formatted(const struct osdp_formatted *formatted, struct osdp_message *event);
@@ -534,13 +565,13 @@ enum {
     OSDP_OUTPUT_OFF_FOR_A_TIME = 6
 };
 
-/* What becomes of a state of an LED: the control of its temporary state and of its permanent one. */
+/* What becomes of a state of an LED: the `control` of its temporary state and of its permanent one. */
 enum {
-    /* Nothing is set. */
+    /* The state stays as it is. */
     OSDP_LED_NOTHING = 0,
     /* Of the temporary state: it ends. */
     OSDP_LED_CANCEL_TEMPORARY = 1,
-    /* Of the temporary state: it begins, and its timer. */
+    /* Of the temporary state: it begins, and so does its timer. */
     OSDP_LED_SET_TEMPORARY = 2,
     /* Of the permanent state: it is set. */
     OSDP_LED_SET_PERMANENT = 1
@@ -570,9 +601,9 @@ enum {
 enum {
     /* No tone. */
     OSDP_TONE_NONE = 0,
-    /* It is silent. */
+    /* The buzzer is silent. */
     OSDP_TONE_OFF = 1,
-    /* The tone that the reader has. */
+    /* The tone that the reader has by itself. */
     OSDP_TONE_DEFAULT = 2
 };
 
@@ -588,7 +619,7 @@ enum {
     OSDP_TEXT_TEMPORARY_WRAPPED = 4
 };
 
-/* The state of an input, of the device's case and of its power: bytes of an ISTATR and an LSTATR. */
+/* The state of an input or an output, of the device's case and of its power: bytes of an ISTATR, an OSTATR and an LSTATR. */
 enum {
     /* Of an input: it isn't active. Of an output: it is off. */
     OSDP_STATE_INACTIVE = 0,
@@ -612,11 +643,11 @@ enum {
     OSDP_READER_TAMPERED = 2
 };
 
-/* How the bits of a card are to be understood: the format of a RAW; and how a card was drawn: the direction of a FMT. */
+/* How the bits of a card are to be understood, the `format` of a RAW; and how a card was drawn, the `direction` of a FMT. */
 enum {
-    /* The format isn't told. */
+    /* Of a RAW: the format of the bits isn't told. */
     OSDP_CARD_RAW = 0,
-    /* A parity bit, data and a parity bit. */
+    /* Of a RAW: a parity bit, data and a parity bit. */
     OSDP_CARD_WIEGAND = 1,
     /* Of a FMT: it was drawn forward. */
     OSDP_CARD_FORWARD = 0,
@@ -624,7 +655,7 @@ enum {
     OSDP_CARD_REVERSE = 1
 };
 
-/* What a capability is about: the function of each record of a PDCAP. */
+/* What a capability is about: the `function` of a record of a PDCAP. */
 enum {
     /* Inputs. */
     OSDP_FUNCTION_CONTACT_STATUS = 1,
@@ -640,17 +671,17 @@ enum {
     OSDP_FUNCTION_TEXT_OUTPUT = 6,
     /* The clock. */
     OSDP_FUNCTION_TIME_KEEPING = 7,
-    /* Whether CRC is spoken. */
+    /* Whether the device takes packets that end with a CRC. */
     OSDP_FUNCTION_CHECK_CHARACTERS = 8,
     /* Secure Channel. */
     OSDP_FUNCTION_COMMUNICATION_SECURITY = 9,
-    /* The longest packet that it takes. */
+    /* The longest packet that the device takes. */
     OSDP_FUNCTION_RECEIVE_BUFFER = 10,
-    /* The longest message of several parts. */
+    /* The longest message of several parts that the device takes. */
     OSDP_FUNCTION_LARGEST_MESSAGE = 11,
     /* Smart cards. */
     OSDP_FUNCTION_SMART_CARDS = 12,
-    /* Its readers. */
+    /* The readers of the device. */
     OSDP_FUNCTION_READERS = 13,
     /* Biometrics. */
     OSDP_FUNCTION_BIOMETRICS = 14,
@@ -660,9 +691,9 @@ enum {
     OSDP_FUNCTION_VERSION = 16
 };
 
-/* ---- A panel: the controller's end of a line with up to sixteen readers ---- */
+/* ---- A panel: the controller's end of a line with up to sixteen devices ---- */
 
-/* A panel. All zeros is none: `osdp_panel panel = {0};`. Its words are not read or written by the caller. 16 bytes. */
+/* A panel's handle. All zeros is none: `osdp_panel panel = {0};`. The caller neither reads nor writes its words. 16 bytes. */
 typedef struct osdp_panel {
     void *panel;
     osdp_size panel_live;
@@ -677,122 +708,139 @@ enum {
 
 /* The settings of a panel. Times are in milliseconds, 1 to 3,600,000 where nothing else is said. 44 bytes. */
 struct osdp_panel_config {
-    /* OSDP_CHECK_SUM or OSDP_CHECK_CRC: which check the frames end with. */
+    /* Which check the packets of the panel end with: OSDP_CHECK_SUM or OSDP_CHECK_CRC. */
     uint32_t check;
-    /* How long an answer is waited for. */
+    /* How long an answer is waited for, from the `osdp_panel_tick` that gave the packet. */
     uint32_t reply_wait;
-    /* From an answer to the next POLL. */
+    /* How long after an answer the next POLL of that device is due. */
     uint32_t poll_interval;
-    /* How often a frame is sent while no answer comes, 1 to 255. */
+    /* How often a packet is sent, 1 to 255, the first time included, until the session is lost because no answer comes. After a BUSY it is counted anew. */
     uint32_t sends;
-    /* From a BUSY to the next send. */
+    /* How long after a BUSY the packet is sent again. */
     uint32_t busy_wait;
-    /* How often a reader may answer BUSY in one exchange, 0 to 255. */
+    /* How often a device may answer BUSY in one exchange, 0 to 255. One BUSY more loses the session. */
     uint32_t busy_limit;
-    /* How long a device is left quiet before a session opens: more than twice as long as a packet takes at most until it is read. */
+    /* How long a device is left quiet before its session opens: more than twice the longest time that a packet takes until it is read. */
     uint32_t quiet_wait;
-    /* After how long a silence a run of bytes is over. */
+    /* After how long a silence a run of bytes is over: what was begun by then is no packet. */
     uint32_t gap;
     /* How many commands may wait for each device, 1 to 1,024. */
     uint32_t capacity;
-    /* How far a moment may lie after the greatest one seen; 0 stands for a day. */
+    /* How far a moment may lie after the greatest one seen, in milliseconds; 0 stands for a day. Each number is allowed. */
     uint32_t clock_limit;
     /*
-     * 1: between two commands of a device it is asked for its events by a POLL. So commands that come as fast as they go keep none of its cards waiting. A
-     * command that comes before that POLL waits in the panel, and is counted and withdrawn as any that waits; a COMSET among them is refused with
-     * OSDP_COMMANDS_FULL. It takes memory for one more queue of commands for each device. 0: commands go out one after the other.
+     * 0: commands go out one after the other. 1: between two commands of a device a POLL asks it for its events, so that commands which come as fast as they
+     * go keep none of its cards waiting. No other number is allowed. With 1 a command that comes before that POLL waits in the panel; it is counted and
+     * withdrawn as any that waits. A COMSET that would have to wait so is refused with OSDP_COMMANDS_FULL. It takes memory for one more queue of commands for
+     * each device.
      */
     uint32_t poll_between_orders;
 };
 
-/* Writes the default settings: a CRC, 200, 50, 3, 50, 20, 400, 20, room for 64 commands, a day, and no POLLs between commands. */
+/*
+ * Writes the default settings: `check` OSDP_CHECK_CRC, `reply_wait` 200, `poll_interval` 50, `sends` 3, `busy_wait` 50, `busy_limit` 20, `quiet_wait` 400,
+ * `gap` 20, `capacity` 64, `clock_limit` a day, and `poll_between_orders` 0.
+ */
 void osdp_panel_defaults(struct osdp_panel_config *config);
 
 /*
- * A panel without devices. The handle is none before.
+ * Makes a panel without devices, and puts it into the handle, which must be none. The settings are copied.
  *
- * OSDP_IN_USE: the handle holds a panel, which stays. OSDP_PANEL_OUT_OF_RANGE (B5): a setting is out of its range.
- * OSDP_PANEL_NO_MEMORY (B1).
+ * OSDP_IN_USE: the handle holds a panel, which stays. OSDP_PANEL_OUT_OF_RANGE (B5): a setting is out of its range. OSDP_PANEL_NO_MEMORY (B1). In the last two
+ * cases the handle stays none.
  */
 OSDP_CHECKED osdp_status osdp_panel_new(osdp_panel *panel, const struct osdp_panel_config *config);
 
 /*
- * The same with less memory: of the commands that wait for a device, so many bytes may wait together, 1 to 1,467,392. A command has as many as its packet
- * without head and check: a code and the data, as OUT of one output 5. With `osdp_panel_new` each of `capacity` commands has room, however long it is, which
- * are 1,433 bytes. One without room is refused with OSDP_COMMANDS_FULL. The bytes of the command that is on its way count too, unless there is room for each
- * of `capacity` however long.
+ * As `osdp_panel_new`, with less memory: the commands that wait for one device may have `bytes` bytes together, 1 to 1,467,392. A command has as many bytes as
+ * its packet without head and check, which are its code and its data: an OUT of one output has 5. (With `osdp_panel_new` each of `capacity` commands has room,
+ * however long it is, up to 1,433 bytes.) A command without room is refused with OSDP_COMMANDS_FULL. The bytes of the command that is on its way count too,
+ * unless there is room for each of `capacity` commands, however long it is.
  *
- * Those of `osdp_panel_new`.
+ * The refusals are those of `osdp_panel_new`; OSDP_PANEL_OUT_OF_RANGE (B5) also where `bytes` is out of its range.
  */
 OSDP_CHECKED osdp_status osdp_panel_new_with_room(osdp_panel *panel, const struct osdp_panel_config *config, osdp_size bytes);
 
-/* Frees a panel and all that belongs to it; the handle is none after it. OSDP_NO_MACHINE. */
+/* Frees a panel and all that belongs to it. After that the handle is none. OSDP_NO_MACHINE. */
 OSDP_CHECKED osdp_status osdp_panel_free(osdp_panel *panel);
 
 /*
- * Adds a device at an address, 0 to 126, whose session is closed. Its number is written to `entry`: 0 to 15, in the order of adding.
+ * Adds a device at an address, 0 to 126. Its session is closed. Its number is written to `entry`: 0 to 15, in the order of adding. A device can't be taken
+ * away again.
  *
- * OSDP_NO_MACHINE. OSDP_TOO_MANY (B2): sixteen are there. OSDP_PANEL_OUT_OF_RANGE (B5): the address is above 126. OSDP_ADDRESS_TAKEN (B3):
- * it is that of a device or reserved for one. OSDP_PANEL_NO_MEMORY (B1).
+ * OSDP_NO_MACHINE. OSDP_TOO_MANY (B2): the panel has sixteen devices. OSDP_PANEL_OUT_OF_RANGE (B5): the address is above 126. OSDP_ADDRESS_TAKEN (B3):
+ * it is that of another device or reserved for one. OSDP_PANEL_NO_MEMORY (B1). After a refusal `entry` stays as it was.
  */
 OSDP_CHECKED osdp_status osdp_panel_add(osdp_panel *panel, uint32_t address, osdp_size *entry);
 
 /*
- * Begins a session of a device: it is left quiet for `quiet_wait`, then the opening ID goes out in its turn.
+ * Begins a session of a device. The device is left quiet for `quiet_wait`, and then the opening ID goes out when its turn comes. A report says what becomes
+ * of it: OSDP_REPORT_OPENED, or OSDP_REPORT_LOST. The panel begins no session by itself, also not after one was lost.
  *
- * OSDP_NO_MACHINE. OSDP_MOMENT_TOO_FAR. OSDP_NO_ENTRY (B4). OSDP_NOT_CLOSED (C5): its session has begun.
+ * OSDP_NO_MACHINE. OSDP_MOMENT_TOO_FAR. OSDP_NO_ENTRY (B4). OSDP_NOT_CLOSED (C5): the session has begun already.
  */
 OSDP_CHECKED osdp_status osdp_panel_begin(osdp_panel *panel, osdp_size entry, uint64_t now);
 
 /*
- * Puts a command after those that wait for a device, whether or not its session has begun. What becomes of it comes as a report.
+ * Puts a command after those that wait for a device, whether or not its session has begun. It is copied: `data` has `length` bytes. A report says what becomes
+ * of it: OSDP_REPORT_SETTLED, OSDP_REPORT_MOVED, OSDP_REPORT_UNREAD or OSDP_REPORT_LOST. A command that waits while the session is closed goes out once a
+ * session opens, however late: `osdp_panel_withdraw` takes it back before.
  *
- * OSDP_NO_MACHINE. OSDP_UNKNOWN_CODE (M1), OSDP_BAD_LENGTH (M2), OSDP_BAD_COUNT (M3): the code and data stand for no command.
- * OSDP_NO_ENTRY (B4). OSDP_POLL_SUBMITTED (C4): a POLL. OSDP_ADDRESS_OUT_OF_RANGE (B6): a COMSET to an address above 126, where the device would
- * be out of reach. OSDP_ADDRESS_TAKEN (B3): a COMSET to an address of another device or reserved for one, or where one is reserved for this device
- * already. OSDP_COMMANDS_FULL (C3).
+ * OSDP_NO_MACHINE. OSDP_UNKNOWN_CODE (M1), OSDP_BAD_LENGTH (M2), OSDP_BAD_COUNT (M3): the code and data are those of no command. OSDP_NO_ENTRY (B4).
+ * OSDP_POLL_SUBMITTED (C4): it is a POLL. OSDP_ADDRESS_OUT_OF_RANGE (B6): it is a COMSET to an address above 126, where the device would be out of reach.
+ * OSDP_ADDRESS_TAKEN (B3): it is a COMSET to an address of another device or reserved for one, or an address is reserved for this device already.
+ * OSDP_COMMANDS_FULL (C3).
  */
 OSDP_CHECKED static inline osdp_status osdp_panel_submit(osdp_panel *panel, osdp_size entry, uint8_t code, const uint8_t *data, osdp_size length);
 
 /*
- * The same of a command's text, such as `OUT 0:5:30`. Its words have one or more spaces between each two, and it ends after `length` bytes.
+ * As `osdp_panel_submit`, for the text of a command, such as `OUT 0:5:30`. One or more spaces stand between two words. The text ends after `length` bytes,
+ * and needs no zero.
  *
- * OSDP_NO_MACHINE. OSDP_BAD_TEXT: it is the text of no command. The others are those of `osdp_panel_submit`.
+ * OSDP_NO_MACHINE. OSDP_BAD_TEXT: it is the text of no command. The others are those of `osdp_panel_submit`, without M1 to M3.
  */
 OSDP_CHECKED static inline osdp_status osdp_panel_submit_text(osdp_panel *panel, osdp_size entry, const char *text, osdp_size length);
 
 /*
- * Takes back the command that has waited longest for a device: it won't be sent. None (`present` is 0) where none waits, or where its session
- * has begun.
+ * Takes back the command that has waited longest for a device, and writes it to `command`. It won't be sent, no report tells it, and an address that it
+ * reserved is free. Where none waits, or where the session has begun, nothing is taken back, and `present` is 0.
  *
- * OSDP_NO_MACHINE. OSDP_NO_ENTRY (B4).
+ * OSDP_NO_MACHINE. OSDP_NO_ENTRY (B4). After a refusal `command` stays as it was.
  */
 OSDP_CHECKED osdp_status osdp_panel_withdraw(osdp_panel *panel, osdp_size entry, struct osdp_message *command);
 
 /*
- * Sets the address of a device, 0 to 126, and frees the one that is reserved for it.
+ * Sets the address at which the panel looks for a device, 0 to 126, and frees the address that is reserved for it. The session must be closed. Nothing is sent:
+ * the device itself stays where it is.
  *
- * OSDP_NO_MACHINE. OSDP_NO_ENTRY (B4). OSDP_NOT_CLOSED (C5): its session has begun. OSDP_PANEL_OUT_OF_RANGE (B5): the address is above 126.
- * OSDP_ADDRESS_TAKEN (B3): it is that of another device or reserved for one, or a COMSET waits for this one.
+ * OSDP_NO_MACHINE. OSDP_NO_ENTRY (B4). OSDP_NOT_CLOSED (C5): the session has begun. OSDP_PANEL_OUT_OF_RANGE (B5): the address is above 126.
+ * OSDP_ADDRESS_TAKEN (B3): it is that of another device or reserved for one, or a COMSET waits for this device.
  */
 OSDP_CHECKED osdp_status osdp_panel_retarget(osdp_panel *panel, osdp_size entry, uint32_t address);
 
 /*
- * Bytes have come from the line, in any pieces. Each packet that they finish goes to the device of its address. A call with no bytes
- * moves the greatest moment seen, and changes nothing else.
+ * Hands in bytes that have come from the line, in any pieces. Each packet that they finish goes to the device of its address. A call with no bytes
+ * moves the greatest moment seen, and changes nothing else. Take the report that may wait after it (`osdp_panel_next_report`).
  *
- * OSDP_NO_MACHINE. OSDP_MOMENT_TOO_FAR.
+ * OSDP_NO_MACHINE. OSDP_MOMENT_TOO_FAR: no byte was taken.
  */
 OSDP_CHECKED static inline osdp_status osdp_panel_bytes(osdp_panel *panel, const uint8_t *bytes, osdp_size length, uint64_t now);
 
-/* The line was seen silent: the run of bytes is over, and what was begun is no packet. OSDP_NO_MACHINE. OSDP_MOMENT_TOO_FAR. */
+/*
+ * Says that the line was seen silent: the run of bytes is over, and what was begun is no packet. Only a program that sees silence by itself needs it, since
+ * `osdp_panel_tick` and the next bytes end a run by `gap`. OSDP_NO_MACHINE. OSDP_MOMENT_TOO_FAR.
+ */
 OSDP_CHECKED osdp_status osdp_panel_silence(osdp_panel *panel, uint64_t now);
 
-/* What is due at a moment: a burst to write. While a report waits, none. OSDP_NO_MACHINE. OSDP_MOMENT_TOO_FAR. */
+/*
+ * Does what is due at a moment, and writes the burst that is to go out: write it to the line whole before the next call. Its `length` is 0 where nothing is to
+ * go out, as while a report waits. A tick may also leave a report, so take that one too. OSDP_NO_MACHINE. OSDP_MOMENT_TOO_FAR: no burst is written.
+ */
 OSDP_CHECKED osdp_status osdp_panel_tick(osdp_panel *panel, uint64_t now, struct osdp_burst *burst);
 
 /*
- * A moment is seen, however far it lies after the greatest one: of a host that slept. One that lies before the greatest changes nothing.
+ * Sets the greatest moment seen, however far it lies after the one before: for a host that slept, after OSDP_MOMENT_TOO_FAR. One that lies before the greatest
+ * changes nothing.
  *
  * OSDP_NO_MACHINE.
  */
@@ -800,55 +848,58 @@ OSDP_CHECKED osdp_status osdp_panel_set_moment(osdp_panel *panel, uint64_t now);
 
 /* A moment, where there is one. 16 bytes. */
 struct osdp_moment {
+    /* The moment, in milliseconds. */
     uint64_t moment;
-    /* 1 where there is one, else 0; then `moment` is 0 too. */
+    /* 1 where there is one, else 0. Where it is 0, `moment` is 0 too. */
     uint64_t present;
 } OSDP_ALIGNED;
 
 /*
- * The moment at which `osdp_panel_tick` is to be called next, if no call comes before: from then on it gives a burst, leaves a report or ends
- * a run of bytes, and before it doesn't. None where a report waits, and where no tick would do anything.
+ * Writes the moment at which `osdp_panel_tick` is to be called next, if no other call comes before. A tick at that moment or later gives a burst, leaves a
+ * report or ends a run of bytes, and an earlier tick does none of these. It may lie in the past: then tick at once. There is none (`present` is 0) while a
+ * report waits, and where no tick would do anything.
  *
  * OSDP_NO_MACHINE.
  */
 OSDP_CHECKED osdp_status osdp_panel_next_deadline(osdp_panel *panel, struct osdp_moment *deadline);
 
-/* What a report tells. docs/GUIDE.md says what a panel does with each. */
+/* What a report tells: the `kind` of it. docs/GUIDE.md says what a panel does with each. */
 enum {
     /* No report waits. */
     OSDP_REPORT_NONE = 0,
-    /* The session is open. `reply` is the PDID: what the device is. */
+    /* The session is open. `reply` is the PDID, which says what the device is. */
     OSDP_REPORT_OPENED = 1,
-    /* `command` was answered by `reply`, which may be a NAK. */
+    /* `command` was answered by `reply`. Look at it: it may be a NAK, and then nothing was done. */
     OSDP_REPORT_SETTLED = 2,
-    /* `command`, a COMSET, was answered by `reply`, a COM with the same address: the device is there, and the session has ended. Its rate
-       is the COM's, which may be another than was ordered: `osdp_com_of` reads it. */
+    /* `command`, a COMSET, was answered by `reply`, a COM with the same address. The device is at its new address, and the session has ended: begin it again.
+       The device's rate is that of the COM, which may be another than was ordered: `osdp_com_of` reads it. */
     OSDP_REPORT_MOVED = 3,
-    /* The device told an event; `reply` is the reply that tells it. `detail` is OSDP_EVENT_MAYBE_AGAIN where it may have been reported before. */
+    /* The device told an event, which `reply` carries. `detail` is OSDP_EVENT_MAYBE_AGAIN where it may have been reported before, else 0. */
     OSDP_REPORT_EVENT = 4,
-    /* A POLL was answered by `reply`, which is neither an ACK nor an event. */
+    /* A POLL was answered by `reply`, which is neither an ACK nor an event, such as a NAK. */
     OSDP_REPORT_ANSWERED = 5,
-    /* The answer to `command`, or to a POLL where there is none, can't be read. `detail` is its code. What became of `command` is unknown,
-       and it isn't sent again. An address that a COMSET reserved stays reserved until `osdp_panel_retarget`. */
+    /* The answer to `command`, or to a POLL where no command is there, can't be read. `detail` is the code of the answer. What became of `command` is unknown,
+       and it isn't sent again. The session goes on. An address that a COMSET reserved stays reserved until `osdp_panel_retarget`. */
     OSDP_REPORT_UNREAD = 6,
-    /* The session has ended; `detail` is why. What became of `command`, if there is one, is unknown, and it isn't sent again. */
+    /* The session has ended; `detail` says why: OSDP_LOST_NO_REPLY to OSDP_LOST_NUMBER_REFUSED. What became of `command`, if there is one, is unknown, and it
+       isn't sent again. If it is a COMSET, its address stays reserved until `osdp_panel_retarget`. The commands that wait go out in the next session. */
     OSDP_REPORT_LOST = 7
 };
 
-/* Why a session was lost. */
+/* Why a session was lost: the `detail` of OSDP_REPORT_LOST. */
 enum {
-    /* No reply that answers came to the last of the sends. */
+    /* The packet was sent as often as `sends` says, and no reply came that answers it. */
     OSDP_LOST_NO_REPLY = 1,
-    /* The device answered BUSY more often than is allowed. */
+    /* The device answered BUSY more often than `busy_limit` allows. */
     OSDP_LOST_TOO_BUSY = 2,
-    /* The device didn't expect the sequence number: NAK 4. */
+    /* The device answered NAK 4: it didn't expect the sequence number. Mostly it has restarted. */
     OSDP_LOST_NUMBER_REFUSED = 3
 };
 
 /*
- * An event is new, or it may have been reported before: it is the first of its session, and equal in all its bytes to the event of that device that
- * was reported last. A lost session may lose the answer to an event, and the device tells it again then. Make no second order of one that may be
- * told again, within a time that you set. A panel that is made anew has forgotten, and tells the first event of each device as new.
+ * The `detail` of an event that may have been reported before: it is the first of its session, and equal in all its bytes to the event of that device that was
+ * reported last. A lost session may lose the answer that carries an event, and the device sends the event again then. Make no second order of such an event
+ * within a time that you set. A panel that is made anew has forgotten what it reported, and marks no first event.
  */
 enum {
     OSDP_EVENT_MAYBE_AGAIN = 1
@@ -856,282 +907,305 @@ enum {
 
 /* A report. 2,888 bytes. */
 struct osdp_report {
-    /* The device of which it tells. 0 where no report waits. */
+    /* The number of the device of which it tells. 0 where no report waits. */
     osdp_size entry;
     /* OSDP_REPORT_NONE to OSDP_REPORT_LOST. */
     uint32_t kind;
-    /* As the kind says, else 0. Of an event OSDP_EVENT_MAYBE_AGAIN where it may have been reported before. */
+    /* As the kind says: of OSDP_REPORT_EVENT, OSDP_REPORT_UNREAD and OSDP_REPORT_LOST. Else 0. */
     uint32_t detail;
-    /* The command and the reply that the kind names; else none. */
+    /* The command and the reply that the kind names. Else none: `present` is 0. */
     struct osdp_message command;
     struct osdp_message reply;
 };
 
-/* How many devices the panel has. OSDP_NO_MACHINE. */
+/* Writes how many devices the panel has, 0 to 16. OSDP_NO_MACHINE. */
 OSDP_CHECKED osdp_status osdp_panel_entries(osdp_panel *panel, osdp_size *count);
 
-/* The address that a device has now. OSDP_NO_MACHINE. OSDP_NO_ENTRY (B4). */
+/* Writes the address that a device has now. OSDP_NO_MACHINE. OSDP_NO_ENTRY (B4). */
 OSDP_CHECKED osdp_status osdp_panel_address(osdp_panel *panel, osdp_size entry, uint32_t *address);
 
-/* How many commands wait for a device; the one that is under way isn't counted. OSDP_NO_MACHINE. OSDP_NO_ENTRY (B4). */
+/* Writes how many commands wait for a device. The one that is on its way isn't counted. OSDP_NO_MACHINE. OSDP_NO_ENTRY (B4). */
 OSDP_CHECKED osdp_status osdp_panel_waiting(osdp_panel *panel, osdp_size entry, osdp_size *count);
 
-/* Whether the session of a device is closed: 1, else 0. OSDP_NO_MACHINE. OSDP_NO_ENTRY (B4). */
+/*
+ * Writes whether the session of a device is closed: 1 or 0. It is closed until `osdp_panel_begin`, and again once it is lost or the device has moved.
+ * OSDP_NO_MACHINE. OSDP_NO_ENTRY (B4).
+ */
 OSDP_CHECKED osdp_status osdp_panel_is_closed(osdp_panel *panel, osdp_size entry, uint32_t *closed);
 
-/* Takes the report that waits. OSDP_NO_MACHINE. */
+/*
+ * Takes the report that waits, and writes it; its `kind` is OSDP_REPORT_NONE where none waits. At most one waits. Call it after `osdp_panel_bytes`,
+ * `osdp_panel_silence` and `osdp_panel_tick`: while a report waits, the panel sends nothing. OSDP_NO_MACHINE.
+ */
 OSDP_CHECKED osdp_status osdp_panel_next_report(osdp_panel *panel, struct osdp_report *report);
 
-/* ---- A device: the reader's end of the link ---- */
+/* ---- A device: the other end of the line, such as a card reader ---- */
 
-/* A device. All zeros is none: `osdp_device device = {0};`. Its words are not read or written by the caller. 16 bytes. */
+/* A device's handle. All zeros is none: `osdp_device device = {0};`. The caller neither reads nor writes its words. 16 bytes. */
 typedef struct osdp_device {
     void *device;
     osdp_size device_live;
 } osdp_device;
 
-/* What a reader is. 28 bytes. */
+/* The settings of a device, and what it is. 28 bytes. */
 struct osdp_device_config {
-    /* The address on the line, 0 to 126. */
+    /* The address on the line, 0 to 126. After a restart hand in the one where the device was last (`moved` of an answer). */
     uint32_t address;
     /* How many events may wait, 1 to 1,024. */
     uint32_t capacity;
-    /* After how many milliseconds of silence a run of bytes is over, 1 to 3,600,000. */
+    /* After how many milliseconds of silence a run of bytes is over, 1 to 3,600,000. What was begun by then is no packet. */
     uint32_t gap;
-    /* The serial number, which it answers to ID. */
+    /* The serial number, which the device answers to ID. */
     uint32_t serial;
-    /* How many milliseconds a moment may lie after the greatest one seen; 0 stands for a day. */
+    /* How many milliseconds a moment may lie after the greatest one seen; 0 stands for a day. Each number is allowed. */
     uint32_t clock_limit;
-    /* What else it answers to ID. */
+    /* What else the device answers to ID. */
     struct osdp_product product;
 };
 
 /*
- * A reader to which nothing has come. The handle is none before.
+ * Makes a device to which nothing has come, and puts it into the handle, which must be none. The settings and the capabilities are copied.
  *
- * `capabilities` is what it answers to CAP: three bytes for each, as a `struct osdp_capability` has them, so an array of these may be given as bytes;
- * `length` is how many bytes there are. It has no inputs, outputs and readers, no tamper and no failure of power until it is told of them.
+ * `capabilities` is what the device answers to CAP. Each has three bytes, those of a `struct osdp_capability`, so an array of these may be given as bytes.
+ * `length` is how many bytes there are. At first the device has no inputs, outputs and readers, no tamper and no failure of power.
  *
- * Before each command but POLL, ID, CAP and COMSET `osdp_device_step` stops, and the program may set what is said to it (`osdp_device_answer_done` and the
- * others). Where it sets nothing, LED, BUZ and TEXT are answered ACK, and so is an OUT whose outputs are all there, whatever its controls are; each other OUT
- * is answered NAK 9, and so is each MFG.
+ * The device answers POLL, ID, CAP and COMSET by itself, a COMSET at whatever rate. Before each other command `osdp_device_step` stops, and the program may set
+ * the answer (`osdp_device_answer_done` and the others). Where it sets none, LSTAT, ISTAT, OSTAT and RSTAT are answered by the states that are set below. LED,
+ * BUZ and TEXT are answered ACK, and so is an OUT whose outputs are all there, whatever its controls are. Any other OUT is answered NAK 9, and so is each MFG.
  *
- * OSDP_IN_USE: the handle holds a reader, which stays. OSDP_BAD_LENGTH (M2): the capabilities have more than 1,432 bytes, or a number that isn't a
- * multiple of three. OSDP_DEVICE_OUT_OF_RANGE (N3): the address, the capacity or the gap. OSDP_DEVICE_NO_MEMORY (N1).
+ * OSDP_IN_USE: the handle holds a device, which stays. OSDP_BAD_LENGTH (M2): the capabilities have more than 1,432 bytes, or a number that isn't a
+ * multiple of three. OSDP_DEVICE_OUT_OF_RANGE (N3): the address, the capacity or the gap is out of its range. OSDP_DEVICE_NO_MEMORY (N1). In the last
+ * three cases the handle stays none.
  */
 OSDP_CHECKED static inline osdp_status osdp_device_new(
     osdp_device *device, const struct osdp_device_config *config, const uint8_t *capabilities, osdp_size length);
 
 /*
- * The same with less memory: of the events that wait, so many bytes may wait together, 1 to 1,467,392. An event has a code and the data of the reply that
- * tells it, as a card of 26 bits 9. With `osdp_device_new` each of `capacity` events has room, however long it is, which are 1,433 bytes. One without room is
- * refused with OSDP_EVENTS_FULL.
+ * As `osdp_device_new`, with less memory: the events that wait may have `bytes` bytes together, 1 to 1,467,392. An event has as many bytes as the code and the
+ * data of the reply that carries it: a card of 26 bits has 9. (With `osdp_device_new` each of `capacity` events has room, however long it is, up to 1,433
+ * bytes.) An event without room is refused with OSDP_EVENTS_FULL.
  *
- * Those of `osdp_device_new`.
+ * The refusals are those of `osdp_device_new`; OSDP_DEVICE_OUT_OF_RANGE (N3) also where `bytes` is out of its range.
  */
 OSDP_CHECKED static inline osdp_status osdp_device_new_with_room(
     osdp_device *device, const struct osdp_device_config *config, const uint8_t *capabilities, osdp_size length, osdp_size bytes);
 
-/* Frees a reader and all that belongs to it; the handle is none after it. OSDP_NO_MACHINE. */
+/* Frees a device and all that belongs to it. After that the handle is none. OSDP_NO_MACHINE. */
 OSDP_CHECKED osdp_status osdp_device_free(osdp_device *device);
 
 /*
- * Sets what ISTAT, OSTAT and RSTAT are answered from now on: a byte for each input, 1 where it is active; for each output, 1 where it is on; for each
- * reader, 0 where it works. OUT is refused where one of its outputs isn't there. A repeat still has the answer that was given.
+ * Set what ISTAT, OSTAT and RSTAT are answered from now on, where the program sets no other answer. The states have one byte each, `length` of them: for each
+ * input 1 where it is active, for each output 1 where it is on, for each reader 0 where it works. An OUT to an output that isn't there is refused. None of the
+ * calls tells the panel anything: for that, put an event (`osdp_inputs`). A repeat still has the answer that was given.
  *
- * OSDP_NO_MACHINE. OSDP_BAD_LENGTH (M2): more than 1,432.
+ * OSDP_NO_MACHINE. OSDP_BAD_LENGTH (M2): there are more than 1,432.
  */
 OSDP_CHECKED static inline osdp_status osdp_device_set_inputs(osdp_device *device, const uint8_t *states, osdp_size length);
 OSDP_CHECKED static inline osdp_status osdp_device_set_outputs(osdp_device *device, const uint8_t *states, osdp_size length);
 OSDP_CHECKED static inline osdp_status osdp_device_set_readers(osdp_device *device, const uint8_t *states, osdp_size length);
 
-/* Sets what LSTAT is answered from now on: 1 where the device is tampered with, 1 where its power fails, else 0. OSDP_NO_MACHINE. */
+/*
+ * Sets what LSTAT is answered from now on: `tamper` is OSDP_STATE_TAMPERED where the device is tampered with, `power` is OSDP_STATE_POWER_FAILS where its power
+ * fails; else each is OSDP_STATE_NORMAL. OSDP_NO_MACHINE.
+ */
 OSDP_CHECKED osdp_status osdp_device_set_local(osdp_device *device, uint8_t tamper, uint8_t power);
 
-/* Sets whether the reader is busy: 0 not, else it is. A busy reader takes nothing, but repeats its last reply. OSDP_NO_MACHINE. */
+/*
+ * Sets whether the device is busy: 0 for no, any other number for yes. A busy device answers BUSY to new commands and takes none of them. To a repeat it still
+ * gives the answer that was given. OSDP_NO_MACHINE.
+ */
 OSDP_CHECKED osdp_status osdp_device_set_busy(osdp_device *device, uint32_t busy);
 
 /*
- * Puts an event after those that wait: it is told when the panel polls. Its code and data are those of the reply that tells it: LSTATR, ISTATR, OSTATR,
- * RSTATR, RAW, FMT or KEYPAD. It came at the greatest moment that any call has handed in, from which its age counts; one that comes before any
- * was handed in is never too old.
+ * Puts an event after those that wait: it goes out in the answer to a POLL. `code` and `data`, of `length` bytes, are those of the reply that carries it:
+ * LSTATR, ISTATR, OSTATR, RSTATR, RAW, FMT or KEYPAD. The event is copied. Its age counts from the greatest moment that any call has handed in. An event
+ * that is put before any moment was handed in is never too old.
  *
- * OSDP_NO_MACHINE. OSDP_UNKNOWN_CODE (M1), OSDP_BAD_LENGTH (M2), OSDP_BAD_COUNT (M3): the code and data stand for no reply. OSDP_NO_EVENT: for one that
- * tells no event. OSDP_EVENTS_FULL (N2).
+ * OSDP_NO_MACHINE. OSDP_UNKNOWN_CODE (M1), OSDP_BAD_LENGTH (M2), OSDP_BAD_COUNT (M3): the code and data are those of no reply. OSDP_NO_EVENT: the reply
+ * carries no event. OSDP_EVENTS_FULL (N2): the event isn't told.
  */
 OSDP_CHECKED static inline osdp_status osdp_device_event(osdp_device *device, uint8_t code, const uint8_t *data, osdp_size length);
 
 /*
- * The same of an event's text, such as `KEYPAD 0 31`. Its words have one or more spaces between each two, and it ends after `length` bytes.
+ * As `osdp_device_event`, for the text of an event, such as `KEYPAD 0 31`. One or more spaces stand between two words. The text ends after `length` bytes, and
+ * needs no zero.
  *
  * OSDP_NO_MACHINE. OSDP_BAD_TEXT: it is the text of no event. OSDP_EVENTS_FULL (N2).
  */
 OSDP_CHECKED static inline osdp_status osdp_device_event_text(osdp_device *device, const char *text, osdp_size length);
 
-/* The address that the device has now. OSDP_NO_MACHINE. */
+/* Writes the address that the device has now. OSDP_NO_MACHINE. */
 OSDP_CHECKED osdp_status osdp_device_address(osdp_device *device, uint32_t *address);
 
-/* How many events wait, the one that is offered included. OSDP_NO_MACHINE. */
+/* Writes how many events wait. One that went out, and of which the device doesn't know yet whether it came, is counted. OSDP_NO_MACHINE. */
 OSDP_CHECKED osdp_status osdp_device_waiting(osdp_device *device, osdp_size *count);
 
-/* Whether the session of a device is closed: 1 where it refuses each number but 0, as one that is new or has moved, else 0. OSDP_NO_MACHINE. */
+/*
+ * Writes whether the session of the device is closed: 1 where it refuses each number but 0, as a device does that is new or has moved to another address,
+ * else 0. OSDP_NO_MACHINE.
+ */
 OSDP_CHECKED osdp_status osdp_device_is_closed(osdp_device *device, uint32_t *closed);
 
 /*
- * Whether no panel is there at a moment: 1 where the device has answered no packet for 8,000 ms, or none ever, else 0. It answers each command to its own
- * address or to the configuration address that comes whole and undamaged. OSDP_NO_MACHINE. OSDP_MOMENT_TOO_FAR.
+ * Writes whether no panel is there at a moment: 1 where the device has answered no packet for 8,000 ms, or none ever, else 0. It answers each command to its
+ * own address or to the configuration address that comes whole and undamaged. OSDP_NO_MACHINE. OSDP_MOMENT_TOO_FAR.
  */
 OSDP_CHECKED osdp_status osdp_device_is_offline(osdp_device *device, uint64_t now, uint32_t *offline);
 
 /* What became of an event that was too old. */
 enum {
-    /* None is too old. */
+    /* No event was taken off. */
     OSDP_EXPIRED_NONE = 0,
-    /* It was never offered: no answer has told it, and none will. */
+    /* The event was never offered: no answer has carried it, and none will. */
     OSDP_EXPIRED_WITHDRAWN = 1,
-    /* It was offered, and its answer may be lost: the panel may have it or not. */
+    /* The event was offered, and that answer may be lost: the panel may have it or not. */
     OSDP_EXPIRED_IN_DOUBT = 2
 };
 
 /*
- * Takes the oldest event off, where no panel is there at a moment (`osdp_device_is_offline`) and the event has waited for more than `limit` milliseconds, and
- * writes what became of it and the event, as the reply that would have told it. A limit of 0 takes none off. Call it in each turn until it writes
+ * Takes the oldest event off where two things hold: no panel is there at the moment `now` (`osdp_device_is_offline`), and the event has waited for more than
+ * `limit` milliseconds. What became of it is written to `expired`, and the event to `event`, as the reply that would have carried it. A limit of 0 takes none
+ * off. Where none is taken off, `expired` is OSDP_EXPIRED_NONE and `present` is 0. Call it in each turn before bytes are handed in, until it writes
  * OSDP_EXPIRED_NONE: so no card of long ago opens a door.
  *
  *     while (osdp_device_expire_event(&device, now, 30000, &expired, &event) == OSDP_OK && expired != OSDP_EXPIRED_NONE) {
- *         .. the event is told to nobody any more ..
+ *         .. no later session tells this event ..
  *     }
  *
- * OSDP_NO_MACHINE. OSDP_MOMENT_TOO_FAR: nothing has changed.
+ * OSDP_NO_MACHINE. OSDP_MOMENT_TOO_FAR: nothing has changed, and nothing is written.
  */
 OSDP_CHECKED osdp_status osdp_device_expire_event(
     osdp_device *device, uint64_t now, uint64_t limit, uint32_t *expired, struct osdp_message *event);
 
 /*
- * Takes back the oldest event that was never offered, in this session or in one before: no answer has told it, and none will. It is written as the reply that
- * would have told it; where there is none, no message is there. OSDP_NO_MACHINE.
+ * Takes back the oldest event that was never offered, in this session or in one before: no answer has carried it, and none will. It is written to `event` as
+ * the reply that would have carried it. Where there is no such event, `present` is 0. OSDP_NO_MACHINE.
  */
 OSDP_CHECKED osdp_status osdp_device_withdraw_event(osdp_device *device, struct osdp_message *event);
 
 /*
- * Lets the oldest event go where it was ever offered, in this session or in one before: its answer may be lost, so the panel may have it or not. A repeat
- * within this session may still tell it. Where it was never offered no message is there, and nothing changes. OSDP_NO_MACHINE.
+ * Lets the oldest event go if it was ever offered, in this session or in one before, and writes it to `event`. The answer that carried it may be lost, so the
+ * panel may have it or not. A repeat within this session may still tell it. If it was never offered, `present` is 0 and nothing changes. OSDP_NO_MACHINE.
  */
 OSDP_CHECKED osdp_status osdp_device_lapse_event(osdp_device *device, struct osdp_message *event);
 
-/* How a packet was answered. */
+/* How a packet was answered: the `kind` of an answer. */
 enum {
-    /* Nothing is said: no packet that is answered is held any more. */
+    /* Nothing is said, and no packet is left that the device would answer. */
     OSDP_SAID_NONE = 0,
-    /* NAK 5: a security block isn't supported. */
+    /* NAK 5: the packet has a security block, which isn't supported. Nothing was taken. */
     OSDP_SAID_SECURED = 1,
-    /* A command with number 0, which begins anew: it was acted on. */
+    /* A packet with number 0, which begins a session anew. Its command was acted on, or answered NAK where it can't be read. */
     OSDP_SAID_ZERO = 2,
-    /* The stored reply once more. */
+    /* A packet with the number of the last one: the answer that was given goes out once more. Nothing was acted on. */
     OSDP_SAID_REPEAT = 3,
-    /* A command with the next number: it was acted on, once. */
+    /* A packet with the next number. Its command was acted on, once, or answered NAK where it can't be read. */
     OSDP_SAID_TAKEN = 4,
-    /* The reader is busy: nothing was taken. */
+    /* BUSY: the device is busy, and nothing was taken. */
     OSDP_SAID_BUSY = 5,
-    /* NAK 4: the number isn't expected. */
+    /* NAK 4: the number isn't expected. Nothing was taken. */
     OSDP_SAID_WRONG = 6,
-    /* Nothing is said yet: the device has stopped before the command, and the next call answers it. */
+    /* Nothing is said yet: the device has stopped before the command. The next call of `osdp_device_step`, `_tick` or `_silence` answers it. */
     OSDP_SAID_PENDING = 7
 };
 
-/* What the device is to do. */
+/* What the device is to do with the `command` of an answer: the `order` of it. Of ID, CAP and the commands that ask for states there is nothing to do. */
 enum {
-    /* Nothing: a POLL, a command that couldn't be read, or none. */
+    /* Nothing: it is a POLL, a repeat, a command that can't be read, a packet that wasn't taken, or none. */
     OSDP_ORDER_NONE = 0,
-    /* The command came with a number that had its turn: do it, once. */
+    /* The command came with the next number, and was not refused: do it. A repeat of it is never told as an order. */
     OSDP_ORDER_ONCE = 1,
-    /* The command came with number 0, where the same order may come again: do what may be done twice. */
+    /* The command came with number 0, with which the same order may come again, and was not refused: do only what may be done twice. */
     OSDP_ORDER_AGAIN = 2,
-    /* The command came with either number, and the reader has refused it: the burst is a NAK. Nothing of it is to be done. */
+    /* The command came with the next number or with 0, and the device has refused it: the burst is a NAK. Do nothing of it. */
     OSDP_ORDER_REFUSED = 3,
-    /* Nothing yet: the program may set what is said to the command, and the next call says it. Nothing of it is done before. */
+    /* Not yet: the program may set the answer to the command now, and the next call that answers gives it. Do nothing of it before. */
     OSDP_ORDER_PENDING = 4
 };
 
-/* What a device says to a packet, or the command before which it has stopped. 2,900 bytes. */
+/* What a device says to a packet, or before which command it has stopped. 2,900 bytes. */
 struct osdp_answer {
     /* OSDP_SAID_NONE to OSDP_SAID_PENDING. */
     uint32_t kind;
     /* OSDP_ORDER_NONE to OSDP_ORDER_PENDING. */
     uint32_t order;
     /*
-     * 1 where a COMSET was accepted, else 0: the burst is still written at the old rate, and the port is set to the new one after it. The program
-     * keeps the address and the rate in memory that stays, before it writes the burst: a reader that restarts is to be where it was.
+     * 1 where a COMSET was accepted, else 0. Before the program writes the burst it keeps the address and the rate in memory that stays, since a device that
+     * restarts is to be where it was. It writes the burst at the old rate, and then sets the port to the new one.
      */
     uint32_t moved;
-    /* The address and the rate in baud that it set; else 0. */
+    /* The address and the rate, in bits per second, that the COMSET set; else 0. */
     uint32_t address;
     uint32_t baud_rate;
-    /* The command that `order` is about; none where that is OSDP_ORDER_NONE. */
+    /* The command that `order` is about. Where that is OSDP_ORDER_NONE there is none: `present` is 0. */
     struct osdp_message command;
-    /* What is to be written to the line. */
+    /* What is to be written to the line. Its `length` is 0 where nothing is said, and while a command is pending. */
     struct osdp_burst burst;
 };
 
 /*
- * Bytes have come up to a moment. Takes as many of them as it has room for, and writes to `taken` how many; then hands the packets that are whole to
- * the reader, in their order, up to and including the first that it answers, and writes what it says to `answer`. Before a command that the reader doesn't
- * answer by itself it stops once: `kind` is OSDP_SAID_PENDING, and the next call of `osdp_device_step`, `osdp_device_tick` or `osdp_device_silence` answers it.
+ * Hands in bytes that have come up to the moment `now`. The device takes as many of them as it has room for, and how many is written to `taken`; that may be 0.
+ * Then it reads the packets that are whole, in their order, up to and including the first that it answers, and what it says is written to `answer`. Before a
+ * command that it doesn't answer by itself it stops once: `kind` is OSDP_SAID_PENDING, and the next call of `osdp_device_step`, `osdp_device_tick` or
+ * `osdp_device_silence` answers it.
  *
- * The caller calls again with the bytes that weren't taken, at the same moment, until all are taken and nothing is said: `length` 0 is good then.
- * A read that gave no bytes is told as no bytes, and ends no run.
+ * Call it again at the same moment with the bytes that weren't taken, until all are taken and nothing is said; then `length` is 0 in the last calls. A call
+ * with no bytes ends no run: call `osdp_device_tick` after these calls in each turn, also where a read gave no bytes.
  *
- *     size_t at = 0, taken;
+ *     osdp_size at = 0, taken;
  *     while (osdp_device_step(&device, bytes + at, length - at, now, &taken, &answer) == OSDP_OK) {
  *         at += taken;
  *         if (answer.order == OSDP_ORDER_PENDING && .. the lock is jammed ..) {
  *             osdp_device_answer_refused(&device, OSDP_NAK_RECORD_NOT_PROCESSED);
  *         }
  *         if (answer.order == OSDP_ORDER_ONCE) {
- *             .. answer.command is done: before the burst, so that what was answered was done ..
+ *             .. do answer.command before the burst is written: so what was answered was done ..
  *         }
  *         if (answer.moved) {
- *             .. answer.address and answer.baud_rate are kept ..
+ *             .. keep answer.address and answer.baud_rate ..
  *         }
- *         .. answer.burst is written ..
+ *         .. write answer.burst, and then change to the new rate where the device has moved ..
  *         if (at == length && answer.kind == OSDP_SAID_NONE) {
  *             break;
  *         }
  *     }
  *
- * OSDP_NO_MACHINE. OSDP_MOMENT_TOO_FAR.
+ * OSDP_NO_MACHINE. OSDP_MOMENT_TOO_FAR: no byte was taken, and nothing is written.
  */
 OSDP_CHECKED static inline osdp_status osdp_device_step(
     osdp_device *device, const uint8_t *bytes, osdp_size length, uint64_t now, osdp_size *taken, struct osdp_answer *answer);
 
 /*
- * No bytes have come up to a moment: a run after which the line was silent for the gap is over. What the reader says is written as by `osdp_device_step`;
- * where something is said, `osdp_device_step` with no bytes is called until nothing is.
+ * Says that no more bytes have come up to the moment `now`. Where the line was silent for the gap after a run, that run is over, and what was begun is no
+ * packet. What the device says is written to `answer`, as by `osdp_device_step`. Where it says something, call `osdp_device_step` with no bytes until it says
+ * nothing.
  *
- * OSDP_NO_MACHINE. OSDP_MOMENT_TOO_FAR.
+ * OSDP_NO_MACHINE. OSDP_MOMENT_TOO_FAR: nothing is written.
  */
 OSDP_CHECKED osdp_status osdp_device_tick(osdp_device *device, uint64_t now, struct osdp_answer *answer);
 
-/* The line was seen silent: the run is over. Else as `osdp_device_tick`. OSDP_NO_MACHINE. OSDP_MOMENT_TOO_FAR. */
+/* Says that the line was seen silent: the run is over, whatever the gap. Else it is as `osdp_device_tick`. OSDP_NO_MACHINE. OSDP_MOMENT_TOO_FAR. */
 OSDP_CHECKED osdp_status osdp_device_silence(osdp_device *device, uint64_t now, struct osdp_answer *answer);
 
-/* A moment is seen, however far it lies after the greatest one: as `osdp_panel_set_moment`. OSDP_NO_MACHINE. */
+/* Sets the greatest moment seen, however far it lies after the one before, as `osdp_panel_set_moment` does. OSDP_NO_MACHINE. */
 OSDP_CHECKED osdp_status osdp_device_set_moment(osdp_device *device, uint64_t now);
 
 /*
- * The command that the next packet will have acted on, where the reader doesn't answer it by itself; none (`present` is 0) where there is no such
- * command, and while the device is busy. It is that before which `osdp_device_step` stops.
+ * Writes the command that the next packet will have acted on, where the device doesn't answer it by itself. There is none (`present` is 0) where no such
+ * command came, and while the device is busy. It is the command before which `osdp_device_step` stops. Nothing is answered by this call.
  *
  * OSDP_NO_MACHINE.
  */
 OSDP_CHECKED osdp_status osdp_device_pending(osdp_device *device, struct osdp_message *command);
 
 /*
- * Sets what is said to the command before which the last call has stopped, in place of what was set before. It is said once, to that command and no
- * other, and is gone with its packet, also where that is answered BUSY. An answer that doesn't belong to the command is told as NAK 9.
+ * Each sets the answer to the command before which the device has stopped, in place of an answer that was set before. The next call of `osdp_device_step`,
+ * `osdp_device_tick` or `osdp_device_silence` gives that answer: once, to that command and no other. It is gone with that packet, also where the packet is
+ * answered BUSY. An answer that doesn't belong to the command goes out as NAK 9.
  *
- * `done` is an ACK: of OUT, LED, BUZ, TEXT and MFG. `local` is of LSTAT, and `list`, a byte for each input, output or reader, of ISTAT, OSTAT and RSTAT.
- * `refused` is a NAK: reasons 2, 3 and 9 are told as they are, all others as 9. `maker` is of MFG: the three bytes of the maker's code, and his own bytes, 1,429 at most.
+ * `done` is an ACK, for OUT, LED, BUZ, TEXT and MFG. `local` is for LSTAT, with the bytes of `osdp_device_set_local`. `list` is for ISTAT, OSTAT and RSTAT: a
+ * byte for each input, output or reader, `length` of them, 1,432 at most. `refused` is a NAK for each command: the reasons 2, 3 and 9 go out as they are, all
+ * others as 9. `maker` is for MFG: `vendor` is the three bytes of the maker's code, and `bytes` the maker's own bytes, `length` of them, 1,429 at most.
  *
  * OSDP_NO_MACHINE. OSDP_NOT_ASKED: no call has stopped before a command since the last answer. OSDP_BAD_LENGTH (M2): the list or the bytes are too long.
  */
@@ -1144,72 +1218,81 @@ OSDP_CHECKED static inline osdp_status osdp_device_answer_maker(osdp_device *dev
 /* ---- A monitor: what happens on a line, and which end breaks its rules ---- */
 
 /*
- * A monitor listens to one line, and speaks on none. What it finds it tells in lines of text, those of the program `osdp monitor`: its manual page says what
- * each means. A monitor may begin to listen at any moment: what it hasn't heard it doesn't judge.
+ * A monitor listens to one line, and speaks on none. What it finds it tells in lines of text, which are those of the program `osdp monitor`: the manual page of
+ * that program says what each means. A monitor may begin to listen at any moment: what it hasn't heard it doesn't judge.
  *
+ *     char text[256];
+ *     osdp_size count;
  *     status = .. bytes have come .. ? osdp_monitor_bytes(&monitor, bytes, length) : .. none for the gap .. ? osdp_monitor_silence(&monitor) : OSDP_OK;
  *     while (osdp_monitor_next_text(&monitor, text, sizeof text, &count) == OSDP_OK && count != 0) {
  *         fwrite(text, 1, count, stdout);
  *     }
  */
 
-/* A monitor. All zeros is none: `osdp_monitor monitor = {0};`. Its words are not read or written by the caller. 16 bytes. */
+/* A monitor's handle. All zeros is none: `osdp_monitor monitor = {0};`. The caller neither reads nor writes its words. 16 bytes. */
 typedef struct osdp_monitor {
     void *monitor;
     osdp_size monitor_live;
 } osdp_monitor;
 
-/* What has a line of text. Each accusation and each notice has, and each refused byte. */
+/* What has a line of text. With each number, each accusation, each notice and each refused byte has one. */
 enum {
-    /* Nothing else. */
+    /* Nothing else has one. */
     OSDP_PRINTS_FOUND = 0,
-    /* And each packet and skipped byte, but no POLL, and no ACK that answers a POLL. */
+    /* So has each packet and each skipped byte, but no POLL, and no ACK that answers a POLL. */
     OSDP_PRINTS_TALK = 1,
-    /* And each packet and skipped byte. */
+    /* So has each packet and each skipped byte. */
     OSDP_PRINTS_PACKETS = 2
 };
 
 /*
- * A monitor of a line of which nothing was heard. `prints` is OSDP_PRINTS_FOUND to OSDP_PRINTS_PACKETS. `standard` is 0, or another number by which accusations
- * are left out that the standard doesn't ask for: other makers may do otherwise. The handle is none before.
+ * Makes a monitor of a line of which nothing was heard, and puts it into the handle, which must be none. `prints` is OSDP_PRINTS_FOUND to
+ * OSDP_PRINTS_PACKETS. Where `standard` is 0 it makes all accusations. With any other number it leaves out those that the standard doesn't ask
+ * for, since other makers may do otherwise.
  *
- * OSDP_IN_USE: the handle holds a monitor, which stays. OSDP_MONITOR_OUT_OF_RANGE (L3). OSDP_MONITOR_NO_MEMORY (L1).
+ * OSDP_IN_USE: the handle holds a monitor, which stays. OSDP_MONITOR_OUT_OF_RANGE (L3): `prints` is another number. OSDP_MONITOR_NO_MEMORY (L1). In the last
+ * two cases the handle stays none.
  */
 OSDP_CHECKED osdp_status osdp_monitor_new(osdp_monitor *monitor, uint32_t prints, uint32_t standard);
 
-/* Frees a monitor and all that belongs to it; the handle is none after it. OSDP_NO_MACHINE. */
+/* Frees a monitor and all that belongs to it. After that the handle is none. OSDP_NO_MACHINE. */
 OSDP_CHECKED osdp_status osdp_monitor_free(osdp_monitor *monitor);
 
 /*
- * Bytes have come on the line, in any pieces. What is told of the packets that they finish comes after the text that waits.
+ * Hands in bytes that have come on the line, in any pieces. What is told of the packets that they finish comes after the text that waits.
  *
- * It takes memory: a block for each address at the first packet to it, and the text. Where there is none the monitor stops: the text that waited is gone, and
- * each later call that hears or asks gives OSDP_MONITOR_STOPPED. Free it, and make another one.
+ * The call takes memory: a block for each address at the first packet to it, and the text. Where there is none the monitor stops. The text that waited is gone
+ * then, and each later call but `osdp_monitor_next_text`, which gives no text, and `osdp_monitor_free` is refused with OSDP_MONITOR_STOPPED. Free the monitor,
+ * and make another one.
  *
- * OSDP_NO_MACHINE. OSDP_MONITOR_NO_MEMORY (L1), OSDP_MONITOR_TOO_LONG (L2): it has stopped. OSDP_MONITOR_STOPPED (L4): it had stopped before.
+ * OSDP_NO_MACHINE. OSDP_MONITOR_NO_MEMORY (L1), OSDP_MONITOR_TOO_LONG (L2): the monitor has stopped. OSDP_MONITOR_STOPPED (L4): it had stopped before.
  */
 OSDP_CHECKED static inline osdp_status osdp_monitor_bytes(osdp_monitor *monitor, const uint8_t *bytes, osdp_size length);
 
 /*
- * The line was silent for the gap, such as 20 ms: the run of bytes is over, and what was begun is no packet. A monitor has no clock: its program tells it so,
- * once after bytes, since lines of text count the runs. Those of `osdp_monitor_bytes`.
+ * Says that the line was silent for the gap, such as 20 ms: the run of bytes is over, and what was begun is no packet. A monitor has no clock, so its program
+ * tells it. Call it once after bytes, since lines of text count the runs. It takes memory, and its refusals are those of `osdp_monitor_bytes`.
  */
 OSDP_CHECKED osdp_status osdp_monitor_silence(osdp_monitor *monitor);
 
-/* Puts the table of what was heard of each address after the text that waits, and what is amiss by it. Those of `osdp_monitor_bytes`. */
+/*
+ * Puts the table of what was heard of each address after the text that waits, and what is amiss by that table. It takes memory, and its refusals are those of
+ * `osdp_monitor_bytes`.
+ */
 OSDP_CHECKED osdp_status osdp_monitor_table(osdp_monitor *monitor);
 
 /*
- * Takes the next of the text that waits: as many bytes as `room` says, or all where they are fewer. They are written to `text`, and how many they are to
- * `text_length`; a zero comes after them where there is room for one more byte. What had no room waits for the next call, so a line of text may be cut in two.
- * 0 bytes: none waits.
+ * Takes the next of the text that waits: `room` bytes, or all where they are fewer. They are written to `text`, and how many they are to `text_length`. A zero
+ * comes after them where there is room for one more byte. What had no room waits for the next call, so a line of text may be cut in two. Where 0 bytes are
+ * written, none waits.
  *
  * OSDP_NO_MACHINE.
  */
 OSDP_CHECKED static inline osdp_status osdp_monitor_next_text(osdp_monitor *monitor, char *text, osdp_size room, osdp_size *text_length);
 
 /*
- * Whether somebody was accused or something refused so far, or packets came of which none could be judged: 1, else 0. It is what `osdp monitor` ends with.
+ * Writes whether anything was wrong so far: 1 where an end was accused, something was refused, or packets came of which none could be judged,
+ * else 0. `osdp monitor` ends with this number.
  *
  * OSDP_NO_MACHINE. OSDP_MONITOR_STOPPED (L4).
  */
@@ -1217,19 +1300,19 @@ OSDP_CHECKED osdp_status osdp_monitor_is_wrong(osdp_monitor *monitor, uint32_t *
 
 /* ---- What the archive needs from outside ---- */
 
-/* A block of memory, or none where `ok` is false; `block` is the address of some byte then too. */
+/* A block of memory, where `ok` is true. Where it is false there is none, and `block` is the address of some byte, and not null. */
 struct osdp_block {
     bool ok;
     void *block;
 };
 
 /*
- * The heap, which the program supplies: c/heap_malloc.c has it over malloc, c/heap_pool.c over a fixed pool. Both names are the toolchain's.
- * libosdp.a has the one over malloc; a heap of the program's own takes its place.
+ * The heap, which the program supplies. c/heap_malloc.c has one over malloc, and c/heap_pool.c one over a fixed pool. libosdp.a has the one over malloc; a heap
+ * of the program's own takes its place. The toolchain has chosen the names.
  *
- * `rattle_alloc` gives a block of `size` bytes at a multiple of `align`, a power of two up to 16; or `ok` is false. `rattle_realloc`
- * makes a block one of `size` bytes, whose first `kept` bytes are as they were: it may move. Where `ok` is false the block is as it was. The calls of a monitor alone
- * ask for that. `rattle_dealloc` takes back a block that they gave.
+ * `rattle_alloc` gives a block of `size` bytes at a multiple of `align`, which is a power of two up to 16; or `ok` is false. `rattle_realloc` gives a block the
+ * size of `size` bytes. Its first `kept` bytes are as they were, and it may move. Where its `ok` is false the block is as it was. Only the calls of a monitor
+ * use `rattle_realloc`. `rattle_dealloc` takes back a block that the two others gave.
  */
 struct osdp_block rattle_alloc(size_t size, size_t align);
 struct osdp_block rattle_realloc(void *block, size_t kept, size_t size, size_t align);
@@ -1238,9 +1321,9 @@ void rattle_dealloc(void *block);
 /* ---- Null pointers for no bytes ---- */
 
 /*
- * The functions of the archive take no null pointer. Those above that may get one, since there are no bytes, are these. A null
- * pointer becomes one to some byte where the length is 0, so that nothing of it is read or written. With another length the call is
- * refused with OSDP_BAD_LENGTH, and the archive is not called.
+ * The functions of the archive take no null pointer. The functions above that may get one, where there are no bytes, are defined here. Where the length is 0
+ * they hand on a pointer to some byte in place of a null pointer, and nothing of that byte is read or written. With another length they refuse a null pointer
+ * with OSDP_BAD_LENGTH, and don't call the archive.
  */
 OSDP_CHECKED osdp_status osdp_command_text_nonnull(uint8_t code, const uint8_t *data, osdp_size length, char *text, osdp_size room, osdp_size *text_length);
 OSDP_CHECKED osdp_status osdp_reply_text_nonnull(uint8_t code, const uint8_t *data, osdp_size length, char *text, osdp_size room, osdp_size *text_length);
@@ -1264,7 +1347,7 @@ OSDP_CHECKED osdp_status osdp_device_answer_maker_nonnull(osdp_device *device, c
 OSDP_CHECKED osdp_status osdp_monitor_bytes_nonnull(osdp_monitor *monitor, const uint8_t *bytes, osdp_size length);
 OSDP_CHECKED osdp_status osdp_monitor_next_text_nonnull(osdp_monitor *monitor, char *text, osdp_size room, osdp_size *text_length);
 
-/* Whether there is nothing at a pointer, though so many bytes or records are to be there. */
+/* Whether a pointer is null although so many bytes or records are to be there. */
 static inline int osdp_is_missing(const void *pointer, osdp_size length)
 {
     return pointer == NULL && length != 0;

@@ -1,8 +1,11 @@
 """Panel, device and monitor of an OSDP line, over the machines that are proved in Rattle, for test benches.
 
 What is proved is the shared library; this package is ordinary Python over it, by ctypes. Nothing here reads, writes, sleeps or keeps a clock: the program
-reads its port, hands in bytes and the moment, and writes what it is given. Moments and times are whole milliseconds, of any clock that doesn't go backwards.
-docs/GUIDE.md says what a panel and a device do, and what each report asks for.
+reads its port, hands in the bytes and the moment, and writes the bytes that it is given. Moments and times are whole milliseconds, of any clock that doesn't
+go backwards. docs/GUIDE.md says what a panel and a device do, and what each report asks for.
+
+A refused call raises OsdpError, and each docstring names the statuses that it may have. NO_MACHINE is a call after `close`. A number that the library can't be
+handed, since it is negative or too great, raises ValueError.
 
     panel = osdp.Panel()
     door = panel.add(5)

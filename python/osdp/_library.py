@@ -12,7 +12,7 @@ HERE = Path(__file__).resolve().parent
 
 
 class Status(enum.IntEnum):
-    """What became of a call."""
+    """What became of a call. include/osdp.h says at each constant what it means; `str` of an OsdpError says it in a few words."""
 
     OK = 0
     NO_MACHINE = 1
@@ -45,7 +45,7 @@ class Status(enum.IntEnum):
 
 
 class OsdpError(Exception):
-    """A call was refused, and has changed nothing, but that a monitor without memory stops. `status` says why."""
+    """A call was refused; `status` says why. It has changed nothing, except that MONITOR_NO_MEMORY and MONITOR_TOO_LONG stop a monitor."""
 
     def __init__(self, status: Status) -> None:
         super().__init__(library.osdp_status_text(status).decode())
@@ -59,19 +59,19 @@ class MessageStruct(ctypes.Structure):
 
 
 class BurstStruct(ctypes.Structure):
-    """Bytes to write to the line."""
+    """The bytes of one packet, to be written to the line."""
 
     _fields_ = [("length", c_uint32), ("bytes", c_uint8 * 1440)]
 
 
 class RawStruct(ctypes.Structure):
-    """A card's bits."""
+    """The bits of a card."""
 
     _fields_ = [("reader", c_uint8), ("format", c_uint8), ("bits", c_uint16), ("length", c_uint16), ("bytes", c_uint8 * 1428)]
 
 
 class ProductStruct(ctypes.Structure):
-    """What a device is, but for its serial number."""
+    """What a device is, without its serial number."""
 
     _fields_ = [("vendor", c_uint8 * 3), ("model", c_uint8), ("version", c_uint8), ("firmware_major", c_uint8), ("firmware_minor", c_uint8), ("firmware_build", c_uint8)]
 
@@ -107,13 +107,13 @@ class DeviceHandle(ctypes.Structure):
 
 
 class DeviceConfigStruct(ctypes.Structure):
-    """What a device is."""
+    """The settings of a device, and what it is."""
 
     _fields_ = [("address", c_uint32), ("capacity", c_uint32), ("gap", c_uint32), ("serial", c_uint32), ("clock_limit", c_uint32), ("product", ProductStruct)]
 
 
 class AnswerStruct(ctypes.Structure):
-    """What a device says to a packet."""
+    """What a device says to a packet, or before which command it has stopped."""
 
     _fields_ = [("kind", c_uint32), ("order", c_uint32), ("moved", c_uint32), ("address", c_uint32), ("baud_rate", c_uint32), ("command", MessageStruct), ("burst", BurstStruct)]
 
@@ -192,7 +192,7 @@ NO_STATUS = {"osdp_panel_defaults"}
 
 
 def found() -> ctypes.CDLL:
-    """The shared library: the file that OSDP_LIBRARY names, or else the one beside this page, or else that of the system."""
+    """The shared library: the file that the variable OSDP_LIBRARY names, else the one beside this file, else that of the system."""
     named = os.environ.get("OSDP_LIBRARY")
     beside = HERE / NAME
     opened = ctypes.CDLL(named or (str(beside) if beside.exists() else NAME))
@@ -221,12 +221,12 @@ def call(name: str, *words: object) -> None:
 
 
 def whole(number: int, most: int, what: str) -> int:
-    """A number that the library can be handed. Raises ValueError where it isn't one from 0 to `most`: ctypes would cut it."""
+    """The number, where the library can be handed it. Raises ValueError where it isn't from 0 to `most`, since ctypes would cut it."""
     if not 0 <= number <= most:
         raise ValueError(f"{what} is from 0 to {most}, and not {number}")
     return number
 
 
 def moment(now: int) -> int:
-    """A moment that the library can be handed."""
+    """The moment, where the library can be handed it: a number of milliseconds from 0 to 2**64 - 1. Else raises ValueError."""
     return whole(now, 2**64 - 1, "a moment")

@@ -1,4 +1,4 @@
-"""A device: the reader's end of the link."""
+"""A device: the other end of the line, such as a card reader."""
 from __future__ import annotations
 
 import ctypes
@@ -14,7 +14,10 @@ MOST = 2**32 - 1
 
 
 class Said(enum.IntEnum):
-    """How a packet was answered."""
+    """How a packet was answered. NONE: not at all. SECURED: by NAK 5, since it has a security block. ZERO: its number is 0, which begins a session anew, and
+    its command was acted on. REPEAT: it has the number of the last packet, and the answer that was given goes out once more. TAKEN: its number is the next
+    one, and its command was acted on, once. BUSY: by BUSY, and nothing was taken. WRONG: by NAK 4, since its number isn't expected. PENDING: not yet; the
+    device has stopped before the command. Where a command can't be read, ZERO and TAKEN are a NAK."""
 
     NONE = 0
     SECURED = 1
@@ -27,8 +30,9 @@ class Said(enum.IntEnum):
 
 
 class Order(enum.IntEnum):
-    """What the device is to do: nothing; the command, once; the command, which may come again; nothing, since it was refused; nothing yet, since the program
-    may set the answer first."""
+    """What the device is to do with a command. NONE: nothing. ONCE: do it; a repeat of it is never told as an order. AGAIN: it came with number 0, with which
+    the same order may come again, so do only what may be done twice. REFUSED: it is answered by a NAK, so do nothing of it. PENDING: not yet; the program may
+    set the answer first."""
 
     NONE = 0
     ONCE = 1
@@ -38,7 +42,8 @@ class Order(enum.IntEnum):
 
 
 class Expired(enum.IntEnum):
-    """What became of an event that was too old: no answer has told it, or its answer may be lost."""
+    """What became of an event that was too old. WITHDRAWN: no answer has carried it, and none will. IN_DOUBT: an answer has carried it, and that answer may
+    be lost, so the panel may have the event or not."""
 
     WITHDRAWN = 1
     IN_DOUBT = 2
@@ -46,8 +51,9 @@ class Expired(enum.IntEnum):
 
 @dataclass(frozen=True)
 class Answer:
-    """What a device says to a packet. `data` is to be written to the line, and `command` is what `order` is about. `moved` is the address and the rate that a
-    COMSET has set: keep them before the bytes go out, at the old rate."""
+    """What a device says to a packet, or before which command it has stopped. `data` is to be written to the line; it is empty where nothing is said yet.
+    `command` is the one that `order` is about, else None. `moved` is the address and the rate in bits per second that a COMSET has set, else None: keep both
+    in memory that stays, then write `data` at the old rate, and then set the port to the new one."""
 
     said: Said
     order: Order
@@ -63,8 +69,14 @@ def read_answer(struct: AnswerStruct) -> Answer:
 
 
 class Device:
-    """A device at an address from 0 to 126, with room for `capacity` events. `vendor` has three bytes, `firmware` three numbers, and `capabilities` three bytes
-    for each. Where `room` is given, so many bytes of events may wait together, 1 to 1,467,392, which takes less memory: a card of 26 bits has 9.
+    """A device at an address from 0 to 126, with room for `capacity` events, 1 to 1,024. `gap` is after how many milliseconds of silence a run of bytes is
+    over, 1 to 3,600,000; 0 as `clock_limit` stands for a day. `vendor` has three bytes, `firmware` three numbers, and `capabilities` three bytes for each
+    capability. Where `room` is given, the events that wait may have so many bytes together, 1 to 1,467,392, which takes less memory: a card of 26 bits has 9.
+    OsdpError: BAD_LENGTH (of the capabilities), DEVICE_OUT_OF_RANGE, DEVICE_NO_MEMORY.
+
+    The device answers POLL, ID, CAP and COMSET by itself, a COMSET at whatever rate. Before each other command it stops, and the program may set the answer.
+    Where it sets none, LSTAT, ISTAT, OSTAT and RSTAT are answered by the states that were set. LED, BUZ and TEXT are answered ACK, and so is an OUT whose
+    outputs are all there. Any other OUT is answered NAK 9, and so is each MFG.
 
     It is used by one thread at a time. `close` frees it, and so does the end of a `with`; a call after that raises OsdpError, NO_MACHINE."""
 
@@ -104,37 +116,41 @@ class Device:
             self.close()
 
     def set_inputs(self, states: bytes) -> None:
-        """A byte for each input, 1 where it is active. OsdpError: BAD_LENGTH."""
+        """Sets what ISTAT is answered from now on: a byte for each input, 1 where it is active. OsdpError: BAD_LENGTH, of more than 1,432."""
         self._call("set_inputs_nonnull", states, len(states))
 
     def set_outputs(self, states: bytes) -> None:
-        """A byte for each output, 1 where it is on. OsdpError: BAD_LENGTH."""
+        """Sets what OSTAT is answered from now on: a byte for each output, 1 where it is on. OsdpError: BAD_LENGTH, of more than 1,432."""
         self._call("set_outputs_nonnull", states, len(states))
 
     def set_readers(self, states: bytes) -> None:
-        """A byte for each reader, 0 where it works. OsdpError: BAD_LENGTH."""
+        """Sets what RSTAT is answered from now on: a byte for each reader, 0 where it works. OsdpError: BAD_LENGTH, of more than 1,432."""
         self._call("set_readers_nonnull", states, len(states))
 
     def set_local(self, tamper: bool, power: bool) -> None:
-        """Whether the device is tampered with, and whether its power fails."""
+        """Sets what LSTAT is answered from now on: whether the device is tampered with, and whether its power fails."""
         self._call("set_local", tamper, power)
 
     def set_busy(self, busy: bool) -> None:
-        """Whether the device is busy: then it takes nothing, but repeats its last reply."""
+        """Sets whether the device is busy. A busy device answers BUSY to new commands and takes none of them. To a repeat it still gives the answer that was
+        given."""
         self._call("set_busy", busy)
 
     def event(self, text: str) -> None:
-        """Puts an event, by its text, such as `KEYPAD 0 31`, after those that wait. OsdpError: BAD_TEXT, EVENTS_FULL."""
+        """Puts an event, by its text, such as `KEYPAD 0 31`, after those that wait: it goes out in the answer to a POLL. Its age counts from the greatest
+        moment that any call has handed in; put before any, it is never too old. OsdpError: BAD_TEXT, EVENTS_FULL."""
         data = text.encode()
         self._call("event_text_nonnull", data, len(data))
 
     def event_message(self, code: int, data: bytes) -> None:
-        """The same of a code and data. OsdpError: UNKNOWN_CODE, BAD_LENGTH, BAD_COUNT, NO_EVENT, EVENTS_FULL."""
+        """As `event`, for the code and the data of the reply that carries the event. OsdpError: UNKNOWN_CODE, BAD_LENGTH, BAD_COUNT, NO_EVENT, EVENTS_FULL."""
         self._call("event_nonnull", whole(code, 255, "a code"), data, len(data))
 
     def hear(self, data: bytes, now: int) -> Iterator[Answer]:
-        """Hands in bytes, and gives what the device says, answer by answer; go to the end of it. Before a command that the device doesn't answer by itself an
-        answer with `Order.PENDING` comes: until the next one is taken, `answer_done` and the others set what is said. OsdpError: MOMENT_TOO_FAR."""
+        """Hands in bytes that have come up to a moment, and gives what the device says, answer by answer. It is a generator: nothing is handed in before it
+        is iterated over, so go to its end. Before a command that the device doesn't answer by itself comes an answer with `Order.PENDING`. Until the next
+        answer is taken, `answer_done` and the others set the answer to that command. Call `tick` after it in each turn, since a call with no bytes ends no
+        run. OsdpError: MOMENT_TOO_FAR."""
         while True:
             taken, struct = ctypes.c_size_t(), AnswerStruct()
             self._call("step_nonnull", data, len(data), moment(now), ctypes.byref(taken), ctypes.byref(struct))
@@ -145,7 +161,8 @@ class Device:
                 return
 
     def tick(self, now: int) -> Iterator[Answer]:
-        """No bytes have come up to a moment: a run that was silent for the gap is over. Gives what the device says, as `hear`. OsdpError: MOMENT_TOO_FAR."""
+        """Says that no more bytes have come up to a moment. Where the line was silent for the gap after a run, that run is over. Gives what the device says,
+        as `hear` does, and is a generator too. OsdpError: MOMENT_TOO_FAR."""
         struct = AnswerStruct()
         self._call("tick", moment(now), ctypes.byref(struct))
         if struct.kind:
@@ -153,7 +170,7 @@ class Device:
             yield from self.hear(b"", now)
 
     def silence(self, now: int) -> Iterator[Answer]:
-        """The line was seen silent: the run is over. Else as `tick`. OsdpError: MOMENT_TOO_FAR."""
+        """Says that the line was seen silent: the run is over, whatever the gap. Else it is as `tick`. OsdpError: MOMENT_TOO_FAR."""
         struct = AnswerStruct()
         self._call("silence", moment(now), ctypes.byref(struct))
         if struct.kind:
@@ -161,27 +178,29 @@ class Device:
             yield from self.hear(b"", now)
 
     def set_moment(self, now: int) -> None:
-        """A moment is seen, however far it lies after the greatest one."""
+        """Sets the greatest moment seen, however far it lies after the one before: for a host that slept, after MOMENT_TOO_FAR."""
         self._call("set_moment", moment(now))
 
     def answer_done(self) -> None:
-        """The command that is pending is answered ACK. OsdpError: NOT_ASKED."""
+        """Answers the command that is pending by an ACK: an OUT, LED, BUZ, TEXT or MFG. Any other is answered NAK 9. OsdpError: NOT_ASKED."""
         self._call("answer_done")
 
     def answer_local(self, tamper: bool, power: bool) -> None:
-        """An LSTAT that is pending is answered so. OsdpError: NOT_ASKED."""
+        """Answers an LSTAT that is pending by these states. Any other command is answered NAK 9. OsdpError: NOT_ASKED."""
         self._call("answer_local", tamper, power)
 
     def answer_list(self, states: bytes) -> None:
-        """An ISTAT, OSTAT or RSTAT that is pending is answered by these bytes. OsdpError: NOT_ASKED, BAD_LENGTH."""
+        """Answers an ISTAT, OSTAT or RSTAT that is pending by these bytes, 1,432 at most. Any other command is answered NAK 9. OsdpError: BAD_LENGTH,
+        NOT_ASKED."""
         self._call("answer_list_nonnull", states, len(states))
 
     def answer_refused(self, reason: int) -> None:
-        """The command that is pending is answered NAK: 2, 3 and 9 are told as they are, all other reasons as 9. OsdpError: NOT_ASKED."""
+        """Answers the command that is pending by a NAK. The reasons 2, 3 and 9 go out as they are, all others as 9. OsdpError: NOT_ASKED."""
         self._call("answer_refused", whole(reason, 255, "a reason"))
 
     def answer_maker(self, vendor: bytes, data: bytes) -> None:
-        """A MFG that is pending is answered by a message of the maker. OsdpError: NOT_ASKED, BAD_LENGTH."""
+        """Answers a MFG that is pending by a message of the maker: the three bytes of the maker's code, and 1,429 bytes at most. Any other command is
+        answered NAK 9. OsdpError: BAD_LENGTH, NOT_ASKED."""
         if len(vendor) != 3:
             raise ValueError("a vendor has three bytes")
         self._call("answer_maker_nonnull", vendor, data, len(data))
@@ -191,20 +210,21 @@ class Device:
         return self._number("address", ctypes.c_uint32)
 
     def waiting(self) -> int:
-        """How many events wait, the one that is offered included."""
+        """How many events wait. One that went out, and of which the device doesn't know yet whether it came, is counted."""
         return self._number("waiting", ctypes.c_size_t)
 
     def is_closed(self) -> bool:
-        """Whether the session is closed: the device refuses each number but 0."""
+        """Whether the session is closed: the device refuses each number but 0, as one does that is new or has moved to another address."""
         return bool(self._number("is_closed", ctypes.c_uint32))
 
     def is_offline(self, now: int) -> bool:
-        """Whether no panel is there: no packet was answered for 8,000 ms, or none ever. OsdpError: MOMENT_TOO_FAR."""
+        """Whether no panel is there at a moment: the device has answered no packet for 8,000 ms, or none ever. OsdpError: MOMENT_TOO_FAR."""
         return bool(self._number("is_offline", ctypes.c_uint32, moment(now)))
 
     def expire_events(self, now: int, limit: int) -> Iterator[Tuple[Expired, Message]]:
-        """Takes off the events that have waited for more than `limit` milliseconds while no panel is there, and gives what became of each. A limit of 0 takes
-        none off. OsdpError: MOMENT_TOO_FAR."""
+        """Where no panel is there at a moment (`is_offline`), takes off the oldest events, one by one, while they have waited for more than `limit`
+        milliseconds, and gives what became of each. A limit of 0 takes none off. It is a generator: go to its end, in each turn, before `hear`. OsdpError:
+        MOMENT_TOO_FAR."""
         while True:
             how, struct = ctypes.c_uint32(), MessageStruct()
             self._call("expire_event", moment(now), moment(limit), ctypes.byref(how), ctypes.byref(struct))

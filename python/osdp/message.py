@@ -13,7 +13,8 @@ RAW = 0x50
 
 @dataclass(frozen=True)
 class Card:
-    """A card's bits: which reader of the device, how they are to be understood, how many there are, and the bytes that they stand in, the first bit highest."""
+    """The bits of a card. `reader` is which reader of the device has read it, counted from 0. `format` is how the bits are to be understood: 0 where that isn't
+    told, 1 for a parity bit, data and a parity bit. `bits` is how many there are, and `data` the bytes in which they stand, the first bit highest."""
 
     reader: int
     format: int
@@ -23,7 +24,8 @@ class Card:
 
 @dataclass(frozen=True)
 class Message:
-    """A command of a panel, or a reply of a device: its code and its data. `str` gives its text, as docs/PROTOCOL.md has it: `OUT 0:5:30`."""
+    """A command of a panel, or a reply of a device: its code and its data, 1,432 bytes at most. `str` gives its text, as docs/PROTOCOL.md has it: `OUT 0:5:30`.
+    Where the code and data are those of no message, `str` raises OsdpError: UNKNOWN_CODE, BAD_LENGTH, BAD_COUNT."""
 
     code: int
     data: bytes
@@ -36,7 +38,7 @@ class Message:
         return room.raw[: length.value].decode("ascii")
 
     def card(self) -> Optional[Card]:
-        """The card that a reply RAW tells; None of any other message."""
+        """The card that a reply RAW carries. None of any other message. OsdpError: BAD_LENGTH, BAD_COUNT, where the data are those of no RAW."""
         if not self.is_reply or self.code != RAW:
             return None
         raw = RawStruct()

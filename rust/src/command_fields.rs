@@ -29,12 +29,12 @@ macro_rules! records {
 }
 
 records! {
-    /// What outputs are to do: the records of an OUT.
+    /// What outputs are to do: the records of an OUT, one by one, in their order.
     Outputs of Output, osdp_output_of
 }
 
 records! {
-    /// What LEDs are to do: the records of a LED.
+    /// What LEDs are to do: the records of a LED, one by one, in their order.
     Leds of Led, osdp_led_of
 }
 
@@ -43,36 +43,36 @@ records! {
 #[non_exhaustive]
 #[allow(clippy::large_enum_variant)]
 pub enum CommandFields<'a> {
-    /// The next event.
+    /// It asks for the next event.
     Poll,
-    /// What the device is. The byte is kept as it was read.
+    /// It asks what the device is. Its byte is given as it was read.
     Id(u8),
-    /// What the device can do. The byte is kept as it was read.
+    /// It asks what the device can do. Its byte is given as it was read.
     Cap(u8),
-    /// The state of the device itself.
+    /// It asks for the state of the device itself.
     LocalStatus,
-    /// The states of the inputs.
+    /// It asks for the states of the inputs.
     InputStatus,
-    /// The states of the outputs.
+    /// It asks for the states of the outputs.
     OutputStatus,
-    /// The states of the readers.
+    /// It asks for the states of the readers.
     ReaderStatus,
-    /// What outputs are to do.
+    /// It says what outputs are to do.
     Output(Outputs<'a>),
-    /// What LEDs of readers are to do.
+    /// It says what LEDs of readers are to do.
     Led(Leds<'a>),
-    /// How the buzzer of a reader sounds.
+    /// It says how the buzzer of a reader is to sound.
     Buzzer(Buzzer),
-    /// What the display of a reader shows.
+    /// It says what the display of a reader is to show.
     Text(Text),
-    /// The address, and the rate in baud, that the device is to have.
+    /// It says which address, and which rate in bits per second, the device is to have.
     Comset(u8, u32),
-    /// A command of the device's maker: his code, and his bytes.
+    /// A command of the device's maker: the maker's code, and the maker's bytes.
     Maker([u8; 3], &'a [u8]),
 }
 
 impl Command {
-    /// What it asks for.
+    /// What the command asks for, with its fields.
     ///
     /// ```no_run
     /// use osdp::{Command, CommandFields};
@@ -111,7 +111,7 @@ impl Command {
         read.unwrap_or(CommandFields::Poll)
     }
 
-    /// The records of an OUT, in their order; none of another command.
+    /// The records of an OUT, in their order. Another command has none.
     pub fn outputs(&self) -> Outputs<'_> {
         Outputs {
             command: self,
@@ -119,7 +119,7 @@ impl Command {
         }
     }
 
-    /// The records of a LED, in their order; none of another command.
+    /// The records of a LED, in their order. Another command has none.
     pub fn leds(&self) -> Leds<'_> {
         Leds {
             command: self,

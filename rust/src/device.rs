@@ -11,20 +11,20 @@ use core::cell::UnsafeCell;
 use core::ptr::null_mut;
 use core::time::Duration;
 
-/// What a device is.
+/// The settings of a device, and what it is.
 #[derive(Clone, Debug, PartialEq, Eq)]
 pub struct DeviceConfig<'a> {
-    /// The address on the line, 0 to 126.
+    /// The address on the line, 0 to 126. After a restart it is the one where the device was last (`Answer::moved`).
     pub address: u8,
     /// How many events may wait, 1 to 1,024.
     pub capacity: u32,
-    /// After how long a silence a run of bytes is over: 1 ms to an hour, in whole milliseconds.
+    /// After how long a silence a run of bytes is over: 1 ms to an hour; what is left over of a millisecond is cut off.
     pub gap: Duration,
     /// How far a moment may lie after the greatest one seen, 1 ms to 49 days; no time stands for a day.
     pub clock_limit: Duration,
     /// What is answered to ID.
     pub id: PdId,
-    /// What is answered to CAP, at most 477.
+    /// What is answered to CAP: 477 capabilities at most.
     pub capabilities: &'a [Capability],
 }
 
@@ -41,7 +41,7 @@ const NO_ID: PdId = PdId {
 };
 
 impl DeviceConfig<'_> {
-    /// A device at an address, with room for 64 events, a gap of 20 ms, a clock limit of a day, and all other numbers 0. It tells no capabilities.
+    /// The settings of a device at an address, with room for 64 events, a gap of 20 ms, a clock limit of a day, no capabilities, and all other numbers 0.
     pub const fn new(address: u8) -> DeviceConfig<'static> {
         DeviceConfig {
             address,
@@ -54,83 +54,82 @@ impl DeviceConfig<'_> {
     }
 }
 
-/// An event that a device has taken off its queue because it was too old, as the reply that would have told it.
+/// An event that a device has taken off its queue because it was too old, as the reply that would have carried it.
 #[derive(Clone, Debug, PartialEq, Eq)]
 pub enum Expired {
-    /// It was never offered: no answer has told it, and none will.
+    /// The event was never offered: no answer has carried it, and none will.
     Withdrawn(Reply),
-    /// It was offered, and its answer may be lost: the panel may have it or not.
+    /// The event was offered, and that answer may be lost: the panel may have it or not.
     InDoubt(Reply),
 }
 
 numbered! {
     /// How a packet was answered.
     pub enum Said {
-        /// NAK 5: a security block isn't supported.
+        /// NAK 5: the packet has a security block, which isn't supported. Nothing was taken.
         Secured = OSDP_SAID_SECURED,
-        /// A command with number 0, which begins anew: it was acted on.
+        /// A packet with number 0, which begins a session anew. Its command was acted on, or answered NAK where it can't be read.
         Zero = OSDP_SAID_ZERO,
-        /// The stored reply once more.
+        /// A packet with the number of the last one: the answer that was given goes out once more. Nothing was acted on.
         Repeat = OSDP_SAID_REPEAT,
-        /// A command with the next number: it was acted on, once.
+        /// A packet with the next number. Its command was acted on, once, or answered NAK where it can't be read.
         Taken = OSDP_SAID_TAKEN,
-        /// The reader is busy: nothing was taken.
+        /// BUSY: the device is busy, and nothing was taken.
         Busy = OSDP_SAID_BUSY,
-        /// NAK 4: the number isn't expected.
+        /// NAK 4: the number isn't expected. Nothing was taken.
         Wrong = OSDP_SAID_WRONG,
         /// Nothing is said yet: the device has stopped before the command, and the next call answers it.
         Pending = OSDP_SAID_PENDING,
     }
 }
 
-/// What the device is to do.
+/// What the device is to do with a command. Of ID, CAP and the commands that ask for states there is nothing to do.
 #[derive(Clone, Debug, PartialEq, Eq)]
 #[allow(clippy::large_enum_variant)]
 pub enum Order {
-    /// The command came with a number that had its turn: do it, once.
+    /// The command came with the next number, and was not refused: do it. A repeat of it is never told as an order.
     Once(Command),
-    /// The command came with number 0, where the same order may come again: do what may be done twice.
+    /// The command came with number 0, with which the same order may come again, and was not refused: do only what may be done twice.
     Again(Command),
-    /// The command came with either number, and it was refused: the burst is a NAK. Nothing of it is to be done.
+    /// The command came with the next number or with 0, and the device has refused it: the burst is a NAK. Do nothing of it.
     Refused(Command),
-    /// Nothing yet: `answer_next` may set what is said to the command, and the next call says it. Nothing of it is done before.
+    /// Not yet: `answer_next` may set the answer to the command now, and the next call gives it. Do nothing of it before.
     Pending(Command),
 }
 
-/// Where a COMSET put the device: the answer still goes out at the old rate.
+/// Where a COMSET has put the device. The answer still goes out at the old rate; set the port to the new one after it.
 #[derive(Clone, Copy, Debug, PartialEq, Eq)]
 pub struct Moved {
     /// The address from now on.
     pub address: u8,
-    /// The rate from now on, in baud.
+    /// The rate from now on, in bits per second.
     pub baud_rate: u32,
 }
 
-/// What a reader says to a packet. It borrows the device: its burst goes out before the next call.
+/// What a device says to a packet, or before which command it has stopped. It borrows the device: its burst is sent before the next call.
 #[must_use = "its burst goes out before the next call: `send` hands it over"]
 #[derive(Debug)]
 pub struct Answer<'a> {
     /// How the packet was answered.
     pub said: Said,
-    /// What a COMSET that was accepted has set. Keep it in memory that stays, before the burst is sent: a reader that restarts is to be where it was.
+    /// What a COMSET that was accepted has set. Keep it in memory that stays before the burst is sent, since a device that restarts is to be where it was.
     pub moved: Option<Moved>,
     order: Option<Order>,
     unsent: Unsent<'a>,
 }
 
 impl Answer<'_> {
-    /// What came of a command, before the burst is sent. A deed that is quick is done first, and then the answer is sent: so an order that is answered was
-    /// done, also where power is lost in between. `send` tells the same: act on one of the two, and not on both.
+    /// What the device is to do with the command, before the burst is sent. Do what is quick first, and then send the answer: so an order that was answered was
+    /// done, also where power is lost in between. `send` tells the same: act on one of the two, and not on both. None where there is nothing to do.
     pub fn order(&self) -> Option<&Order> {
         self.order.as_ref()
     }
 
-    /// Hands the burst, where there is one, to what writes it to the line. Then it tells what came of a command: whether the device is to do it, or the reader
-    /// has refused it.
+    /// Hands the burst, where there is one, to `write`, which writes it to the line. Then it tells what the device is to do with the command, as `order` does.
     ///
     /// # Errors
     ///
-    /// Those of what writes it.
+    /// Those of `write`.
     pub fn send<E>(self, write: impl FnOnce(&[u8]) -> Result<(), E>) -> Result<Option<Order>, E> {
         self.unsent.send(write)?;
         Ok(self.order)
@@ -141,9 +140,9 @@ impl Answer<'_> {
 #[must_use = "what is said goes out before the next call"]
 #[derive(Debug)]
 pub struct Step<'a> {
-    /// How many of the bytes were taken.
+    /// How many of the bytes were taken. Hand the others in again.
     pub taken: usize,
-    /// What the reader says. None where no packet is left that it answers.
+    /// What the device says. None where no packet is left that it would answer.
     pub answer: Option<Answer<'a>>,
 }
 
@@ -185,10 +184,11 @@ fn no_answer() -> sys::osdp_answer {
     }
 }
 
-/// The device's end of a line. It reads and writes nothing: its program hands bytes and moments in.
+/// The device's end of a line. It reads and writes nothing: its program hands bytes and moments in, and writes what `step` and `tick` give.
 ///
-/// Before each command but POLL, ID, CAP and COMSET `step` stops, and `answer_next` may set what is said to it. Where it sets nothing, LED, BUZ and TEXT are
-/// answered ACK, and so is an OUT whose outputs are all there; each other OUT is answered NAK 9, and so is each MFG.
+/// The device answers POLL, ID, CAP and COMSET by itself, a COMSET at whatever rate. Before each other command `step` stops, and `answer_next` may set the
+/// answer. Where it sets none, LSTAT, ISTAT, OSTAT and RSTAT are answered by the states that were set. LED, BUZ and TEXT are answered ACK, and so is an OUT
+/// whose outputs are all there. Any other OUT is answered NAK 9, and so is each MFG.
 ///
 /// With the feature `heap` it may be moved to another thread, as a panel may.
 #[derive(Debug)]
@@ -198,37 +198,38 @@ pub struct Device(UnsafeCell<sys::osdp_device>);
 #[cfg(feature = "heap")]
 unsafe impl Send for Device {}
 
-/// What is said to a command.
+/// An answer to a command. One that doesn't belong to the command goes out as NAK 9.
 #[derive(Clone, Copy, Debug, PartialEq, Eq)]
 pub enum DeviceAnswer<'a> {
-    /// It is done: of OUT, LED, BUZ, TEXT and MFG.
+    /// An ACK, for OUT, LED, BUZ, TEXT and MFG: the command is done.
     Done,
-    /// Whether the device is tampered with, and whether its power fails: of LSTAT.
+    /// Whether the device is tampered with, and whether its power fails: for LSTAT.
     Local(bool, bool),
-    /// A byte for each input, output or reader: of ISTAT, OSTAT and RSTAT.
+    /// A byte for each input, output or reader, at most 1,432: for ISTAT, OSTAT and RSTAT.
     List(&'a [u8]),
-    /// It isn't done. Reasons 2, 3 and 9 are told as they are, all others as 9.
+    /// A NAK, for each command: it isn't done. The reasons 2, 3 and 9 go out as they are, all others as 9.
     Refused(NakReason),
-    /// The maker's own reply, his code and his bytes: of MFG.
+    /// The maker's own reply, for MFG: the maker's code, and the maker's bytes, at most 1,429.
     Maker([u8; 3], &'a [u8]),
 }
 
 impl Device {
-    /// A reader to which nothing has come. It has no inputs, outputs and readers until it is told of them. It takes memory.
+    /// Makes a device to which nothing has come. It has no inputs, outputs and readers until they are set. It takes memory.
     ///
     /// # Errors
     ///
-    /// `BadLength` for more than 477 capabilities, `OutOfRange`, `NoMemory`.
+    /// `BadLength`: there are more than 477 capabilities. `OutOfRange`: a setting is out of its range. `NoMemory`.
     pub fn new(config: &DeviceConfig<'_>) -> Result<Device, Error> {
         Device::made(config, None)
     }
 
-    /// The same with less memory: of the events that wait, so many bytes may wait together, 1 to 1,467,392. An event has a code and the data of the reply that
-    /// tells it, as a card of 26 bits 9; with `new` there is room for 1,433 of each. One without room is refused with `Full`.
+    /// As `new`, with less memory: the events that wait may have `bytes` bytes together, 1 to 1,467,392. An event has the bytes of the code and the data of the
+    /// reply that carries it: a card of 26 bits has 9. (With `new` each of `capacity` events has room for 1,433 bytes.) An event without room is refused with
+    /// `Full`.
     ///
     /// # Errors
     ///
-    /// `BadLength` for more than 477 capabilities, `OutOfRange`, `NoMemory`.
+    /// Those of `new`; `OutOfRange` also where `bytes` is out of its range.
     pub fn with_room(config: &DeviceConfig<'_>, bytes: usize) -> Result<Device, Error> {
         Device::made(config, Some(bytes))
     }
@@ -262,11 +263,12 @@ impl Device {
         Ok(reader)
     }
 
-    /// Sets what ISTAT is answered: a byte for each input, 1 where it is active.
+    /// Sets what ISTAT is answered from now on: a byte for each input, 1 where it is active. It tells the panel nothing: `submit_event` does, by
+    /// `Reply::Inputs`.
     ///
     /// # Errors
     ///
-    /// `BadLength` for more than 1,432.
+    /// `BadLength`: there are more than 1,432.
     pub fn set_inputs(&mut self, states: &[u8]) -> Result<(), Error> {
         // SAFETY: the handle is ours alone, and so many states are there.
         check(unsafe {
@@ -274,11 +276,12 @@ impl Device {
         })
     }
 
-    /// Sets what OSTAT is answered: a byte for each output, 1 where it is on. OUT is refused where one of its outputs isn't there.
+    /// Sets what OSTAT is answered from now on: a byte for each output, 1 where it is on. An OUT to an output that isn't there is refused, where `answer_next`
+    /// sets no other answer.
     ///
     /// # Errors
     ///
-    /// `BadLength` for more than 1,432.
+    /// `BadLength`: there are more than 1,432.
     pub fn set_outputs(&mut self, states: &[u8]) -> Result<(), Error> {
         // SAFETY: the handle is ours alone, and so many states are there.
         check(unsafe {
@@ -286,11 +289,11 @@ impl Device {
         })
     }
 
-    /// Sets what RSTAT is answered: a byte for each reader, 0 where it works.
+    /// Sets what RSTAT is answered from now on: a byte for each reader, 0 where it works.
     ///
     /// # Errors
     ///
-    /// `BadLength` for more than 1,432.
+    /// `BadLength`: there are more than 1,432.
     pub fn set_readers(&mut self, states: &[u8]) -> Result<(), Error> {
         // SAFETY: the handle is ours alone, and so many states are there.
         check(unsafe {
@@ -298,20 +301,22 @@ impl Device {
         })
     }
 
-    /// Sets what LSTAT is answered: whether the device is tampered with, and whether its power fails.
+    /// Sets what LSTAT is answered from now on: whether the device is tampered with, and whether its power fails.
     pub fn set_local(&mut self, tamper: bool, power: bool) {
         // SAFETY: the handle is ours alone. It holds a machine, so the call isn't refused.
         let _ = unsafe { sys::osdp_device_set_local(self.0.get(), tamper.into(), power.into()) };
     }
 
-    /// Sets whether the reader is busy. A busy reader takes nothing, but repeats its last reply.
+    /// Sets whether the device is busy. A busy device answers BUSY to new commands and takes none of them. To a repeat it still gives the answer that was
+    /// given.
     pub fn set_busy(&mut self, busy: bool) {
         // SAFETY: the handle is ours alone. It holds a machine, so the call isn't refused.
         let _ = unsafe { sys::osdp_device_set_busy(self.0.get(), busy.into()) };
     }
 
-    /// Puts an event, as the reply that tells it, after those that wait: `LocalState`, `Inputs`, `Outputs`, `Readers`, `Raw`, `Formatted` or `Keypad`. It came at
-    /// the greatest moment that any call has handed in, from which its age counts; one that comes before any was handed in is never too old.
+    /// Puts an event after those that wait, as the reply that carries it: `LocalState`, `Inputs`, `Outputs`, `Readers`, `Raw`, `Formatted` or `Keypad`. It
+    /// goes out in the answer to a POLL. Its age counts from the greatest moment that any call has handed in. An event that is put before any moment was
+    /// handed in is never too old.
     ///
     /// ```no_run
     /// use osdp::{Card, Device, Error, Reply, card};
@@ -324,18 +329,17 @@ impl Device {
     ///
     /// # Errors
     ///
-    /// `BadLength`, as of `Reply::write`; `NoEvent`, `Full`.
+    /// `BadLength`, as of `Reply::write`. `NoEvent`: it is another reply. `Full`: the event isn't told.
     pub fn submit_event(&mut self, event: &Reply) -> Result<(), Error> {
         let event = event.write()?;
         self.event(event.code(), event.data())
     }
 
-    /// Puts an event, by the code and data of the reply that tells it, after those that wait. It came at the greatest moment that any call has handed in,
-    /// from which its age counts; one that comes before any was handed in is never too old.
+    /// As `submit_event`, for the code and the data of the reply that carries the event.
     ///
     /// # Errors
     ///
-    /// `UnknownCode`, `BadLength`, `BadCount`, `NoEvent`, `Full`.
+    /// `UnknownCode`, `BadLength`, `BadCount`: the code and data are those of no reply. `NoEvent`: the reply carries no event. `Full`.
     pub fn event(&mut self, code: u8, data: &[u8]) -> Result<(), Error> {
         // SAFETY: the handle is ours alone, and the data have so many bytes.
         check(unsafe {
@@ -343,11 +347,11 @@ impl Device {
         })
     }
 
-    /// Puts an event, by its text, after those that wait.
+    /// As `submit_event`, for the text of an event, such as `KEYPAD 0 31`.
     ///
     /// # Errors
     ///
-    /// `BadText`, `Full`.
+    /// `BadText`: it is the text of no event. `Full`.
     pub fn event_text(&mut self, text: &str) -> Result<(), Error> {
         // SAFETY: the handle is ours alone, and the text has so many bytes.
         check(unsafe {
@@ -355,7 +359,7 @@ impl Device {
         })
     }
 
-    /// How many events wait, the one that is offered included.
+    /// How many events wait. One that went out, and of which the device doesn't know yet whether it came, is counted.
     pub fn waiting(&self) -> usize {
         let mut count = 0;
         // SAFETY: the handle is ours alone, and the count is one. It holds a machine, so the call isn't refused.
@@ -363,7 +367,7 @@ impl Device {
         count
     }
 
-    /// Whether its session is closed: it refuses each number but 0, as one that is new or has moved.
+    /// Whether the session is closed: the device refuses each number but 0, as one does that is new or has moved to another address.
     pub fn is_closed(&self) -> bool {
         let mut closed = 0;
         // SAFETY: the handle is ours alone, and the number is one. It holds a machine, so the call isn't refused.
@@ -384,12 +388,12 @@ impl Device {
         Ok(offline != 0)
     }
 
-    /// Takes the oldest event off, where no panel is there at a moment (`is_offline`) and the event has waited for longer than a limit. A limit of no time
-    /// takes none off. Call it in each turn until it answers `None`: so no card of long ago opens a door.
+    /// Takes the oldest event off where two things hold: no panel is there at the moment (`is_offline`), and the event has waited for longer than the limit. A
+    /// limit of no time takes none off. Call it in each turn before bytes are handed in, until it gives `None`: so no card of long ago opens a door.
     ///
     /// # Errors
     ///
-    /// `MomentTooFar`: nothing has changed.
+    /// `MomentTooFar`.
     pub fn expire_event(&mut self, now: Moment, limit: Duration) -> Result<Option<Expired>, Error> {
         let limit = u64::try_from(limit.as_millis()).unwrap_or(u64::MAX);
         let (mut expired, mut event) = (0, no_message());
@@ -411,8 +415,8 @@ impl Device {
         })
     }
 
-    /// Takes back the oldest event that was never offered, in this session or in one before: no answer has told it, and none will. It is given as the reply
-    /// that would have told it.
+    /// Takes back the oldest event that was never offered, in this session or in one before: no answer has carried it, and none will. It is given as the reply
+    /// that would have carried it. None where there is no such event.
     pub fn withdraw_event(&mut self) -> Option<Reply> {
         let mut event = no_message();
         // SAFETY: the handle is ours alone, and the event is one. It holds a machine, so the call isn't refused.
@@ -420,8 +424,8 @@ impl Device {
         Reply::from_sys(&event)
     }
 
-    /// Lets the oldest event go where it was ever offered, in this session or in one before: its answer may be lost, so the panel may have it or not. A
-    /// repeat within this session may still tell it.
+    /// Lets the oldest event go if it was ever offered, in this session or in one before, and gives it. The answer that carried it may be lost, so the panel
+    /// may have it or not. A repeat within this session may still tell it. If it was never offered, it gives `None` and changes nothing.
     pub fn lapse_event(&mut self) -> Option<Reply> {
         let mut event = no_message();
         // SAFETY: the handle is ours alone, and the event is one. It holds a machine, so the call isn't refused.
@@ -437,7 +441,8 @@ impl Device {
         address as u8
     }
 
-    /// The command that the next packet will have acted on, where the reader doesn't answer it by itself. None while the device is busy.
+    /// The command before which `step` stops: that which the next packet will have acted on, where the device doesn't answer it by itself. None where no such
+    /// command came, and while the device is busy.
     pub fn pending(&self) -> Option<Command> {
         let mut command = no_message();
         // SAFETY: the handle is ours alone, and the command is one. It holds a machine, so the call isn't refused.
@@ -445,8 +450,8 @@ impl Device {
         Command::from_sys(&command)
     }
 
-    /// Sets what is said to the command before which the last call has stopped (`Order::Pending`), in place of what was set before. It is said once, to
-    /// that command and no other.
+    /// Sets the answer to the command before which the last call has stopped (`Order::Pending`), in place of an answer that was set before. The next call gives
+    /// that answer: once, to that command and no other. It is gone with that packet, also where the packet is answered BUSY.
     ///
     /// # Errors
     ///
@@ -476,8 +481,9 @@ impl Device {
         })
     }
 
-    /// Takes bytes that have come up to a moment: how many, and what the reader says to the packets that are whole, up to and including
-    /// the first that it answers. Call it again with the others, at the same moment, until all are taken and nothing is said.
+    /// Hands in bytes that have come up to a moment. The device takes as many of them as it has room for. Then it reads the packets that are whole, in their
+    /// order, up to and including the first that it answers. Call it again at the same moment with the bytes that weren't taken, until all are taken and
+    /// nothing is said. A call with no bytes ends no run: call `tick` after these calls in each turn, also where a read gave no bytes.
     ///
     /// ```no_run
     /// # use osdp::{Answer, Command, Device, Error, Moment, Order, Step};
@@ -504,7 +510,7 @@ impl Device {
     /// }
     /// ```
     ///
-    /// An answer that is forgotten is warned of, and no other call is made before it is sent:
+    /// The compiler warns of an answer that is forgotten, and no other call of the device compiles before it is sent:
     ///
     /// ```compile_fail
     /// # #![deny(unused_must_use)]
@@ -548,8 +554,8 @@ impl Device {
         Ok(step_of(taken, &answer))
     }
 
-    /// No bytes have come up to a moment: a run after which the line was silent for the gap is over. Where something is said, call `step` with
-    /// no bytes until nothing is.
+    /// Says that no more bytes have come up to a moment. Where the line was silent for the gap after a run, that run is over, and what was begun is no packet.
+    /// Where the device says something, call `step` with no bytes until it says nothing.
     ///
     /// # Errors
     ///
@@ -561,7 +567,7 @@ impl Device {
         Ok(step_of(0, &answer))
     }
 
-    /// The line was seen silent: the run is over. Else as `tick`.
+    /// Says that the line was seen silent: the run is over, whatever the gap. Else it is as `tick`.
     ///
     /// # Errors
     ///
@@ -573,7 +579,7 @@ impl Device {
         Ok(step_of(0, &answer))
     }
 
-    /// A moment is seen, however far it lies after the greatest one: of a host that slept.
+    /// Sets the greatest moment seen, however far it lies after the one before: for a host that slept, after `MomentTooFar`.
     pub fn set_moment(&mut self, now: Moment) {
         // SAFETY: the handle is ours alone. It holds a machine, so the call isn't refused.
         let _ = unsafe { sys::osdp_device_set_moment(self.0.get(), now.as_millis()) };

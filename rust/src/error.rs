@@ -3,45 +3,49 @@
 use crate::sys;
 use core::fmt;
 
-/// Why a call is refused. A refused call has changed nothing, but that a `Monitor` without memory stops.
+/// Why a call is refused. A refused call has changed nothing, with two exceptions: a `Monitor` stops by `NoMemory` and by `TooLong`, and `Site::act` has
+/// taken back orders.
 #[derive(Clone, Copy, Debug, PartialEq, Eq)]
 #[non_exhaustive]
 pub enum Error {
     /// The text is that of no command, or of no event.
     BadText,
-    /// The reply tells no event.
+    /// The reply carries no event.
     NoEvent,
     /// The code isn't in the table of commands, or of replies.
     UnknownCode,
-    /// A length that isn't allowed.
+    /// A length isn't allowed: there are more data than the message may have, or there is no record.
     BadLength,
     /// A count inside the data disagrees with their length.
     BadCount,
-    /// There is no memory.
+    /// There is no memory. A monitor that hears has stopped then.
     NoMemory,
-    /// Sixteen devices are there.
+    /// The panel has sixteen devices already.
     TooManyDevices,
-    /// The address is that of another device or reserved for one, or a COMSET stands in the way.
+    /// The address is that of another device or reserved for one; or an address is reserved for this device by an earlier COMSET; or, of `Panel::retarget`, a
+    /// COMSET waits for this device.
     AddressTaken,
-    /// The panel has no such device.
+    /// The panel has no such device, as where the number is of another panel.
     NoEntry,
-    /// An address is above 126, or a setting is out of its range.
+    /// An address is above 126, or a setting or a room in bytes is out of its range.
     OutOfRange,
-    /// A COMSET goes to an address that no device has: 127 and above.
+    /// The address of a COMSET is 127 or above, which no device has.
     AddressOutOfRange,
-    /// As many commands or events wait as there is room for.
+    /// As many commands or events wait as there is room for, or there is no room for the bytes of this one. With `poll_between_orders` also a COMSET that
+    /// would have to wait for a POLL: order it again later.
     Full,
-    /// A POLL, which the panel sends by itself.
+    /// The command is a POLL, which the panel sends by itself.
     PollSubmitted,
-    /// The session isn't closed.
+    /// The session of the device has begun.
     NotClosed,
-    /// No command waits for an answer.
+    /// No call has stopped before a command since the last answer, so there is no command to answer.
     NotAsked,
-    /// The moment lies further after the greatest one seen than the setting allows: a clock has failed, or the host slept.
+    /// The moment lies further after the greatest one seen than `clock_limit` allows: a clock has failed, or the host slept. If it slept, call `set_moment`,
+    /// and go on.
     MomentTooFar,
     /// A monitor has counted 2^60 packets or bytes, and has stopped.
     TooLong,
-    /// The monitor has stopped at an earlier call.
+    /// The monitor stopped at an earlier call.
     Stopped,
     /// A status that this crate doesn't know.
     Other(u32),

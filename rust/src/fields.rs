@@ -18,7 +18,7 @@ pub use crate::sys::{
 pub struct Text(sys::osdp_text);
 
 impl Text {
-    /// A text for good, at row 1 and column 1 of the first reader. None where it has more than 255 bytes.
+    /// A text that is shown for good, on one row, from row 1 and column 1 on, at the first reader. None where it has more than 255 bytes.
     pub fn new(characters: &[u8]) -> Option<Text> {
         let mut text = sys::osdp_text {
             reader: 0,
@@ -33,7 +33,7 @@ impl Text {
         Some(Text(text))
     }
 
-    /// The same for so many seconds.
+    /// The same text, shown for so many seconds.
     pub fn for_seconds(mut self, seconds: u8) -> Text {
         self.0.command = match self.0.command {
             text::PERMANENT_WRAPPED | text::TEMPORARY_WRAPPED => text::TEMPORARY_WRAPPED,
@@ -43,7 +43,7 @@ impl Text {
         self
     }
 
-    /// The same, which goes on in the next row.
+    /// The same text, which goes on in the next row where one row is too short.
     pub fn wrapped(mut self) -> Text {
         self.0.command = match self.0.command {
             text::TEMPORARY | text::TEMPORARY_WRAPPED => text::TEMPORARY_WRAPPED,
@@ -52,13 +52,13 @@ impl Text {
         self
     }
 
-    /// The same at another reader of the device, counted from 0.
+    /// The same text at another reader of the device, counted from 0.
     pub fn at_reader(mut self, reader: u8) -> Text {
         self.0.reader = reader;
         self
     }
 
-    /// The same at another row and column, counted from 1.
+    /// The same text from another row and column on, both counted from 1.
     pub fn at(mut self, row: u8, column: u8) -> Text {
         (self.0.row, self.0.column) = (row, column);
         self
@@ -77,7 +77,7 @@ impl Text {
         self.0.reader
     }
 
-    /// How it is shown, as `text` has it.
+    /// How it is shown, as `named::text` has it.
     pub fn command(&self) -> u8 {
         self.0.command
     }
@@ -124,7 +124,7 @@ numbered! {
     pub enum NakReason {
         /// 1: the check characters are wrong.
         CheckCharacters = OSDP_NAK_CHECK_CHARACTERS,
-        /// 2: the length of the command.
+        /// 2: the length of the command is wrong.
         CommandLength = OSDP_NAK_COMMAND_LENGTH,
         /// 3: the command is unknown.
         UnknownCommand = OSDP_NAK_UNKNOWN_COMMAND,
@@ -134,16 +134,16 @@ numbered! {
         SecurityBlock = OSDP_NAK_SECURITY_BLOCK,
         /// 6: the security conditions are not met.
         SecurityConditions = OSDP_NAK_SECURITY_CONDITIONS,
-        /// 7: the biometric type.
+        /// 7: the biometric type is not supported.
         BiometricType = OSDP_NAK_BIOMETRIC_TYPE,
-        /// 8: the biometric format.
+        /// 8: the biometric format is not supported.
         BiometricFormat = OSDP_NAK_BIOMETRIC_FORMAT,
         /// 9: the command's record can't be processed.
         RecordNotProcessed = OSDP_NAK_RECORD_NOT_PROCESSED,
     }
 }
 
-/// A command wasn't done: the reason, and what else the device tells of it.
+/// Why a command wasn't done: the reason, and what else the device tells of it.
 #[derive(Clone, Copy, Debug, PartialEq, Eq)]
 pub struct Nak {
     number: u8,
@@ -151,14 +151,14 @@ pub struct Nak {
 }
 
 impl Nak {
-    /// One for a reason, with these bytes of detail. None where there are more than 1,431.
+    /// A NAK for a reason, with these bytes of detail. None where there are more than 1,431.
     pub fn new(reason: NakReason, detail: &[u8]) -> Option<Nak> {
         let number = reason.number() as u8;
         let detail = Bytes::new(detail).filter(|detail| detail.len() < detail.bytes.len())?;
         Some(Nak { number, detail })
     }
 
-    /// The reason; none where it is another than 1 to 9.
+    /// The reason. None where its number isn't 1 to 9.
     pub fn reason(&self) -> Option<NakReason> {
         NakReason::of(self.number.into())
     }
@@ -168,18 +168,19 @@ impl Nak {
         self.number
     }
 
-    /// What else is told of it; mostly nothing.
+    /// What else is told of the reason; mostly nothing.
     pub fn detail(&self) -> &[u8] {
         &self.detail
     }
 }
 
-/// A card's bits, as a reader of the device has read them.
+/// The bits of a card, as a reader of the device has read them.
 #[derive(Clone, Copy)]
 pub struct Card(sys::osdp_raw);
 
 impl Card {
-    /// A card of so many bits. None where the bytes aren't as many as the bits need, or are more than 1,428.
+    /// A card of so many bits, 0 to 11,424. `format` is as `named::card` has it. None where the bytes aren't as many as the bits need (bits divided by 8,
+    /// rounded up), or are more than 1,428.
     pub fn new(reader: u8, format: u8, bits: u16, bytes: &[u8]) -> Option<Card> {
         let mut card = sys::osdp_raw {
             reader,
@@ -281,12 +282,12 @@ impl fmt::Debug for Bytes {
     }
 }
 
-/// What a device can do, in the order in which it tells it.
+/// What a device can do, in the order in which it tells it: the records of a PDCAP.
 #[derive(Clone, Copy, Debug, PartialEq, Eq)]
 pub struct Capabilities(Bytes);
 
 impl Capabilities {
-    /// These. None where there are more than 477.
+    /// These capabilities. None where there are more than 477.
     pub fn new(capabilities: &[Capability]) -> Option<Capabilities> {
         let mut held = Bytes::new(&[])?;
         held.length = u16::try_from(capabilities.len() * 3).ok()?;
@@ -300,7 +301,7 @@ impl Capabilities {
         &self.0
     }
 
-    /// One by one.
+    /// The capabilities, one by one.
     pub fn iter(&self) -> impl Iterator<Item = Capability> + '_ {
         self.0.chunks_exact(3).map(|told| Capability {
             function: told[0],
@@ -310,14 +311,14 @@ impl Capabilities {
     }
 }
 
-/// A reply. Each can be made, so that a program's decisions can be tested without a line.
+/// A reply, with its fields. A program can make each of them, so that its decisions can be tested without a line.
 #[derive(Clone, Copy, Debug, PartialEq, Eq)]
 #[non_exhaustive]
 #[allow(clippy::large_enum_variant)]
 pub enum Reply {
-    /// Done, or nothing to tell.
+    /// The command was done; or, to a POLL, there is nothing to tell.
     Ack,
-    /// Not done, and why.
+    /// The command wasn't done, and why.
     Nak(Nak),
     /// What the device is.
     PdId(PdId),
@@ -333,17 +334,17 @@ pub enum Reply {
     Readers(Bytes),
     /// A card's bits.
     Raw(Card),
-    /// A card's characters: the reader of the device, the direction in which it was drawn (`named::card`), and the characters.
+    /// The characters of a card: the reader of the device, the direction in which the card was drawn (`named::card`), and the characters, at most 255.
     Formatted(u8, u8, Bytes),
-    /// Pressed keys, at a reader of the device.
+    /// Keys that were pressed: the reader of the device, and the keys in their order, at most 255.
     Keypad(u8, Bytes),
-    /// The address, and the rate in baud, from now on.
+    /// The address, and the rate in bits per second, from now on: it confirms a COMSET.
     Com(u8, u32),
-    /// Not taken: to be sent again.
+    /// The device is busy, and the command wasn't taken: it is to be sent again. A panel does so by itself.
     Busy,
-    /// The maker's own: his code, and his bytes.
+    /// The maker's own reply: the maker's code, and the maker's bytes, at most 1,429.
     Maker([u8; 3], Bytes),
-    /// Another reply.
+    /// Another reply, as its code and data.
     Other(RawReply),
 }
 
@@ -365,11 +366,11 @@ fn spelled(told: &Capability) -> [u8; 3] {
 }
 
 impl Reply {
-    /// The reply of a code and data.
+    /// The reply of a code and its data.
     ///
     /// # Errors
     ///
-    /// `UnknownCode`, `BadLength`, `BadCount`: they are none.
+    /// `UnknownCode`, `BadLength`, `BadCount`: the code and data are those of no reply.
     pub fn read(code: u8, data: &[u8]) -> Result<Reply, Error> {
         RawReply::raw(code, data).map(Reply::from)
     }

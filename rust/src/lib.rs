@@ -1,7 +1,7 @@
 //! Panel, device and monitor of an OSDP line, over machines that are proved in Rattle.
 //!
 //! This crate links `libosdp_c.a`, which `rt lib` builds from `crates/osdp_c`. What is proved is the archive; this crate is ordinary Rust, with
-//! `unsafe` calls into it. `docs/GUIDE.md` says what a panel and a device do, and what each report asks for.
+//! `unsafe` calls into it, which is tested. `docs/GUIDE.md` says what a panel and a device do, and what each report asks for.
 //!
 //! ```no_run
 //! use core::time::Duration;
@@ -51,7 +51,7 @@
 //! # }
 //! ```
 //!
-//! It is `no_std`. Its feature `heap`, which is on by default, gives the machines memory of the program's global allocator; without it the
+//! The crate is `no_std`. With the feature `heap`, which is on by default, the machines take memory of the program's global allocator. Without it the
 //! program links a heap of its own, such as `c/heap_pool.c`.
 #![no_std]
 

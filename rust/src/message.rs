@@ -100,11 +100,11 @@ macro_rules! message {
                 (message.present != 0).then_some($name(*message))
             }
 
-            /// The one of a code and data.
+            /// The message of a code and its data.
             ///
             /// # Errors
             ///
-            /// `UnknownCode`, `BadLength`, `BadCount`: they are none.
+            /// `UnknownCode`, `BadLength`, `BadCount`: the code and data are those of no such message.
             pub fn raw(code: u8, data: &[u8]) -> Result<$name, Error> {
                 judge(sys::$call, code, data)?;
                 Ok($name(message_of(code, data)))
@@ -121,7 +121,7 @@ macro_rules! message {
             }
         }
 
-        /// Its text, as `docs/PROTOCOL.md` has it.
+        /// The text of the message, as `docs/PROTOCOL.md` has it: `OUT 0:5:30`.
         impl fmt::Display for $name {
             fn fmt(&self, f: &mut fmt::Formatter<'_>) -> fmt::Result {
                 write_text(f, sys::$call, &self.0)
@@ -197,7 +197,7 @@ impl Command {
         Command(message_of(sys::OSDP_RSTAT as u8, &[]))
     }
 
-    /// What the outputs are to do.
+    /// Says what outputs are to do: an OUT of 1 to 358 records.
     ///
     /// # Errors
     ///
@@ -209,7 +209,7 @@ impl Command {
         Ok(Command(message))
     }
 
-    /// What LEDs of readers are to do.
+    /// Says what LEDs of readers are to do: a LED of 1 to 102 records.
     ///
     /// # Errors
     ///
@@ -221,19 +221,19 @@ impl Command {
         Ok(Command(message))
     }
 
-    /// How the buzzer of a reader sounds.
+    /// Says how the buzzer of a reader is to sound.
     pub fn buzzer(buzzer: &Buzzer) -> Command {
         // SAFETY: a `Buzzer` is an `osdp_buzzer`, and the message is apart.
         written(|message| unsafe { sys::osdp_buzzer(buzzer, message) })
     }
 
-    /// What the display of a reader shows.
+    /// Says what the display of a reader is to show.
     pub fn text(text: &Text) -> Command {
         // SAFETY: a `Text` is an `osdp_text`, and the message is apart.
         written(|message| unsafe { sys::osdp_text(text.as_sys(), message) })
     }
 
-    /// The address, and the rate in baud, that a device is to have.
+    /// Says which address, 0 to 126, and which rate, in bits per second, a device is to have.
     ///
     /// # Errors
     ///
@@ -245,7 +245,7 @@ impl Command {
         Ok(Command(message))
     }
 
-    /// A command of the device's maker: his code, and his bytes.
+    /// A command of the device's maker: the maker's code, and the maker's bytes, at most 1,429.
     ///
     /// # Errors
     ///
@@ -265,7 +265,7 @@ impl Command {
     }
 }
 
-/// Bytes to write to the line, at once and in their order. It derefs to them.
+/// The bytes of one packet, to be written to the line at once and in their order. It derefs to them.
 struct Burst(sys::osdp_burst);
 
 impl Burst {
@@ -289,8 +289,9 @@ impl core::ops::Deref for Burst {
     }
 }
 
-/// What a call has to send, if there is a burst. It borrows the panel or the device: while it is to be sent, no other call of that machine is compiled.
-/// The compiler warns where it isn't used at all, and not where it is dropped by `let _ =`, by `..` in a pattern, or by an early return: then the burst is lost.
+/// What a call has to send: a burst, or nothing. It borrows the panel or the device: while it is to be sent, no other call of that machine compiles. The
+/// compiler warns where it isn't used at all. It doesn't warn where it is dropped by `let _ =`, by `..` in a pattern, or by an early return: then the burst
+/// is lost.
 #[must_use = "its burst goes out before the next call: `send` hands it over"]
 #[derive(Debug)]
 pub struct Unsent<'a> {
@@ -306,11 +307,11 @@ impl Unsent<'_> {
         }
     }
 
-    /// Hands the burst, where there is one, to what writes it to the line, at once and in its order. Tells whether there was one.
+    /// Hands the burst, where there is one, to `write`, which writes it to the line, whole and at once. Tells whether there was one.
     ///
     /// # Errors
     ///
-    /// Those of what writes it.
+    /// Those of `write`.
     pub fn send<E>(self, write: impl FnOnce(&[u8]) -> Result<(), E>) -> Result<bool, E> {
         match self.burst {
             Some(burst) => write(&burst).map(|()| true),

@@ -5,15 +5,15 @@ use crate::sys;
 use core::cell::UnsafeCell;
 use core::ptr::null_mut;
 
-/// What has a line of text. Each accusation and each notice has, and each refused byte.
+/// What has a line of text. Each accusation, each notice and each refused byte has one in each case.
 #[derive(Clone, Copy, Debug, Default, PartialEq, Eq)]
 pub enum Prints {
-    /// Nothing else.
+    /// Nothing else has one.
     #[default]
     Found,
-    /// And each packet and skipped byte, but no POLL, and no ACK that answers a POLL.
+    /// So has each packet and each skipped byte, but no POLL, and no ACK that answers a POLL.
     Talk,
-    /// And each packet and skipped byte.
+    /// So has each packet and each skipped byte.
     Packets,
 }
 
@@ -29,8 +29,8 @@ impl Prints {
 
 /// A monitor of one line, which tells what happens there and which end breaks its rules, in the lines of text of the program `osdp monitor`.
 ///
-/// It may begin to listen at any moment: what it hasn't heard it doesn't judge. Its program hands it the bytes that both ends say, and tells it where the
-/// line was silent for the gap. Text that was told waits until it is taken.
+/// It may begin to listen at any moment: what it hasn't heard it doesn't judge. Its program hands it the bytes that both ends send, and tells it where the
+/// line was silent for the gap. The text waits until `next_text` takes it.
 ///
 /// With the feature `heap` it may be moved to another thread, as a `Panel` may.
 ///
@@ -63,8 +63,8 @@ pub struct Monitor {
 unsafe impl Send for Monitor {}
 
 impl Monitor {
-    /// A monitor of a line of which nothing was heard. With `standard` it leaves out accusations that the standard doesn't ask for: other makers may do
-    /// otherwise. It takes memory.
+    /// Makes a monitor of a line of which nothing was heard. With `standard` it leaves out the accusations that the standard doesn't ask for, since other
+    /// makers may do otherwise. It takes memory.
     ///
     /// # Errors
     ///
@@ -82,7 +82,7 @@ impl Monitor {
         Ok(monitor)
     }
 
-    /// Bytes have come on the line, in any pieces. It takes memory: a block for each address at the first packet to it, and the text.
+    /// Hands in bytes that have come on the line, in any pieces. It takes memory: a block for each address at the first packet to it, and the text.
     ///
     /// # Errors
     ///
@@ -93,7 +93,8 @@ impl Monitor {
         check(unsafe { sys::osdp_monitor_bytes_nonnull(self.handle.get(), start, length) })
     }
 
-    /// The line was silent for the gap: the run of bytes is over.
+    /// Says that the line was silent for the gap, such as 20 ms: the run of bytes is over, and what was begun is no packet. Call it once after bytes, since
+    /// lines of text count the runs.
     ///
     /// # Errors
     ///
@@ -103,7 +104,7 @@ impl Monitor {
         check(unsafe { sys::osdp_monitor_silence(self.handle.get()) })
     }
 
-    /// Puts the table of what was heard of each address after the text that waits, and what is amiss by it.
+    /// Puts the table of what was heard of each address after the text that waits, and what is amiss by that table.
     ///
     /// # Errors
     ///
@@ -113,7 +114,7 @@ impl Monitor {
         check(unsafe { sys::osdp_monitor_table(self.handle.get()) })
     }
 
-    /// Takes the next of the text that waits: as much as there is room for, and gives it. It is empty where none waits. A line of text may be cut in two.
+    /// Takes the next of the text that waits, as much as there is room for, and gives it. It is empty where none waits. A line of text may be cut in two.
     pub fn next_text<'a>(&mut self, room: &'a mut [u8]) -> &'a [u8] {
         let mut count = 0;
         // SAFETY: the handle is ours alone, and the room has so many bytes. It holds a machine, so the call isn't refused.
@@ -128,7 +129,7 @@ impl Monitor {
         &room[..count]
     }
 
-    /// Whether somebody was accused or something refused so far, or packets came of which none could be judged.
+    /// Whether anything was wrong so far: an end was accused, something was refused, or packets came of which none could be judged.
     ///
     /// # Errors
     ///

@@ -35,11 +35,11 @@ numbers! {
 numbers! {
     /// What becomes of a state of an LED: the control of its temporary state and of its permanent one.
     led {
-        /// Nothing is set.
+        /// The state stays as it is.
         NOTHING = OSDP_LED_NOTHING,
         /// Of the temporary state: it ends.
         CANCEL_TEMPORARY = OSDP_LED_CANCEL_TEMPORARY,
-        /// Of the temporary state: it begins, and its timer.
+        /// Of the temporary state: it begins, and so does its timer.
         SET_TEMPORARY = OSDP_LED_SET_TEMPORARY,
         /// Of the permanent state: it is set.
         SET_PERMANENT = OSDP_LED_SET_PERMANENT,
@@ -73,9 +73,9 @@ numbers! {
     tone {
         /// No tone.
         NONE = OSDP_TONE_NONE,
-        /// It is silent.
+        /// The buzzer is silent.
         OFF = OSDP_TONE_OFF,
-        /// The tone that the reader has.
+        /// The tone that the reader has by itself.
         DEFAULT = OSDP_TONE_DEFAULT,
     }
 }
@@ -95,7 +95,7 @@ numbers! {
 }
 
 numbers! {
-    /// The state of an input, of the device's case and of its power: bytes of an ISTATR and an LSTATR.
+    /// The state of an input or an output, of the device's case and of its power: bytes of an ISTATR, an OSTATR and an LSTATR.
     state {
         /// Of an input: it isn't active. Of an output: it is off.
         INACTIVE = OSDP_STATE_INACTIVE,
@@ -123,11 +123,11 @@ numbers! {
 }
 
 numbers! {
-    /// How the bits of a card are to be understood: the format of a RAW; and how a card was drawn: the direction of a FMT.
+    /// How the bits of a card are to be understood, the format of a RAW; and how a card was drawn, the direction of a FMT.
     card {
-        /// The format isn't told.
+        /// Of a RAW: the format of the bits isn't told.
         RAW = OSDP_CARD_RAW,
-        /// A parity bit, data and a parity bit.
+        /// Of a RAW: a parity bit, data and a parity bit.
         WIEGAND = OSDP_CARD_WIEGAND,
         /// Of a FMT: it was drawn forward.
         FORWARD = OSDP_CARD_FORWARD,
@@ -153,17 +153,17 @@ numbers! {
         TEXT_OUTPUT = OSDP_FUNCTION_TEXT_OUTPUT,
         /// The clock.
         TIME_KEEPING = OSDP_FUNCTION_TIME_KEEPING,
-        /// Whether CRC is spoken.
+        /// Whether the device takes packets that end with a CRC.
         CHECK_CHARACTERS = OSDP_FUNCTION_CHECK_CHARACTERS,
         /// Secure Channel.
         COMMUNICATION_SECURITY = OSDP_FUNCTION_COMMUNICATION_SECURITY,
-        /// The longest packet that it takes.
+        /// The longest packet that the device takes.
         RECEIVE_BUFFER = OSDP_FUNCTION_RECEIVE_BUFFER,
-        /// The longest message of several parts.
+        /// The longest message of several parts that the device takes.
         LARGEST_MESSAGE = OSDP_FUNCTION_LARGEST_MESSAGE,
         /// Smart cards.
         SMART_CARDS = OSDP_FUNCTION_SMART_CARDS,
-        /// Its readers.
+        /// The readers of the device.
         READERS = OSDP_FUNCTION_READERS,
         /// Biometrics.
         BIOMETRICS = OSDP_FUNCTION_BIOMETRICS,

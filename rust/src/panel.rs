@@ -14,32 +14,32 @@ use core::time::Duration;
 
 pub use crate::sys::Check;
 
-/// The settings of a panel. Each time is 1 ms to an hour, in whole milliseconds.
+/// The settings of a panel. Each time is 1 ms to an hour where nothing else is said; what is left over of a millisecond is cut off.
 #[derive(Clone, Copy, Debug, PartialEq, Eq)]
 pub struct PanelConfig {
-    /// Which check the frames end with.
+    /// Which check the packets of the panel end with.
     pub check: Check,
-    /// How long an answer is waited for.
+    /// How long an answer is waited for, from the `Panel::tick` that gave the packet.
     pub reply_wait: Duration,
-    /// From an answer to the next POLL.
+    /// How long after an answer the next POLL of that device is due.
     pub poll_interval: Duration,
-    /// How often a frame is sent while no answer comes, 1 to 255.
+    /// How often a packet is sent, 1 to 255, the first time included, until the session is lost because no answer comes. After a BUSY it is counted anew.
     pub sends: u8,
-    /// From a BUSY to the next send.
+    /// How long after a BUSY the packet is sent again.
     pub busy_wait: Duration,
-    /// How often a device may answer BUSY in one exchange.
+    /// How often a device may answer BUSY in one exchange, 0 to 255. One BUSY more loses the session.
     pub busy_limit: u8,
-    /// How long a device is left quiet before a session opens.
+    /// How long a device is left quiet before its session opens: more than twice the longest time that a packet takes until it is read.
     pub quiet_wait: Duration,
-    /// After how long a silence a run of bytes is over.
+    /// After how long a silence a run of bytes is over: what was begun by then is no packet.
     pub gap: Duration,
     /// How many commands may wait for each device, 1 to 1,024.
     pub capacity: u32,
     /// How far a moment may lie after the greatest one seen, 1 ms to 49 days; no time stands for a day.
     pub clock_limit: Duration,
-    /// Whether a device is asked for its events, by a POLL, between two of its commands. So commands that come as fast as they go keep none of its cards waiting.
-    /// A command that comes before that POLL waits in the panel, and is counted and withdrawn as any that waits; a COMSET among them is refused as one without
-    /// room. It takes memory for one more queue of commands for each device. By default commands go out one after the other.
+    /// Whether a POLL asks a device for its events between two of its commands, so that commands which come as fast as they go keep none of its cards waiting.
+    /// Then a command that comes before that POLL waits in the panel; it is counted and withdrawn as any that waits. A COMSET that would have to wait so is
+    /// refused with `Full`. It takes memory for one more queue of commands for each device. By default commands go out one after the other.
     pub poll_between_orders: bool,
 }
 
@@ -98,7 +98,7 @@ impl Default for PanelConfig {
     }
 }
 
-/// A device of a panel. Another panel refuses it.
+/// The number of a device in its panel. Another panel refuses it with `NoEntry`.
 #[derive(Clone, Copy, Debug, PartialEq, Eq, PartialOrd, Ord, Hash)]
 pub struct EntryNumber {
     panel: u32,
@@ -106,7 +106,7 @@ pub struct EntryNumber {
 }
 
 impl EntryNumber {
-    /// Its number, in the order of adding, from 0.
+    /// The number, counted from 0 in the order of adding.
     pub fn index(self) -> usize {
         self.index
     }
@@ -118,45 +118,48 @@ static PANELS: AtomicU32 = AtomicU32::new(0);
 numbered! {
     /// Why a session was lost.
     pub enum LostCause {
-        /// No reply that answers came to the last of the sends.
+        /// The packet was sent as often as `sends` says, and no reply came that answers it.
         NoReply = OSDP_LOST_NO_REPLY,
-        /// The device answered BUSY more often than is allowed.
+        /// The device answered BUSY more often than `busy_limit` allows.
         TooBusy = OSDP_LOST_TOO_BUSY,
-        /// The device didn't expect the sequence number: NAK 4.
+        /// The device answered NAK 4: it didn't expect the sequence number. Mostly it has restarted.
         NumberRefused = OSDP_LOST_NUMBER_REFUSED,
     }
 }
 
-/// What a device's controller tells.
+/// What a panel tells of a device. `docs/GUIDE.md` says what a panel's program does with each.
 #[derive(Clone, Debug, PartialEq, Eq)]
 #[non_exhaustive]
 #[allow(clippy::large_enum_variant)]
 pub enum Report {
-    /// The session is open, with what the device is.
+    /// The session is open, and the device said what it is.
     Opened(PdId),
-    /// A command was answered. The reply may be a NAK.
+    /// The command was answered by the reply. Look at it: it may be a NAK, and then nothing was done.
     Settled(Command, Reply),
-    /// A COMSET was confirmed: the device is at its new address, and the session has ended.
+    /// The command, a COMSET, was answered by the reply, a `Reply::Com` with the same address. The device is at its new address, and the session has ended:
+    /// begin it again. The device's rate is that of the reply, which may be another than was ordered.
     Moved(Command, Reply),
     /// The device told an event.
     Event {
-        /// The reply that tells it.
+        /// The reply that carries the event.
         event: Reply,
         /// Whether it may have been reported before: it is the first of its session, and equal in all its bytes to the event of that device that was
-        /// reported last. A lost session may lose the answer to an event, and the device tells it again then. Make no second order of it within a time
-        /// that you set. A panel that is made anew has forgotten, and tells the first event of each device as new.
+        /// reported last. A lost session may lose the answer that carries an event, and the device sends the event again then. Make no second order of
+        /// such an event within a time that you set. A panel that is made anew has forgotten what it reported, and marks no first event.
         maybe_again: bool,
     },
-    /// A POLL was answered by something that is neither an ACK nor an event.
+    /// A POLL was answered by a reply that is neither an ACK nor an event, such as a NAK.
     Answered(Reply),
-    /// The answer to a command, or to a POLL where there is none, can't be read.
+    /// The answer to a command, or to a POLL where there is no command, can't be read. What became of the command is unknown, and it isn't sent again. The
+    /// session goes on. An address that a COMSET reserved stays reserved until `Panel::retarget`.
     Unread {
-        /// The command.
+        /// The command; none where a POLL was answered.
         command: Option<Command>,
         /// The code of the answer.
         code: u8,
     },
-    /// The session has ended. What became of the command, if there is one, is unknown, and it isn't sent again.
+    /// The session has ended, for this reason. What became of the command, if there is one, is unknown, and it isn't sent again. If it is a COMSET, its address
+    /// stays reserved until `Panel::retarget`. The commands that wait go out in the next session.
     Lost(LostCause, Option<Command>),
 }
 
@@ -186,13 +189,13 @@ fn report_of(panel: u32, raw: &sys::osdp_report) -> Option<(EntryNumber, Report)
     Some((EntryNumber { panel, index }, report))
 }
 
-/// The panel's end of a line with up to sixteen devices. It reads and writes nothing: its program hands bytes and moments in.
+/// The panel's end of a line with up to sixteen devices. It reads and writes nothing: its program hands bytes and moments in, and writes what `tick` gives.
 ///
 /// With the feature `heap` it may be moved to another thread: its memory is that of the program's global allocator, which every thread may use. Without
 /// it the program's own heap may be one of a single thread, so there it stays on the thread that made it.
 ///
-/// What is only asked takes `&self`. A call takes the machine out of its handle while it runs: the handle is of one thread at a time, since a `Panel` isn't `Sync`,
-/// and no call makes another one.
+/// A call that only asks takes `&self`. While it runs, it takes the machine out of its handle all the same. That is safe, since a `Panel` isn't `Sync`, so that
+/// one thread at a time has the handle, and since no call makes another one.
 #[derive(Debug)]
 pub struct Panel {
     handle: UnsafeCell<sys::osdp_panel>,
@@ -205,11 +208,11 @@ pub struct Panel {
 unsafe impl Send for Panel {}
 
 impl Panel {
-    /// A panel without devices. It takes memory.
+    /// Makes a panel without devices. It takes memory.
     ///
     /// # Errors
     ///
-    /// `OutOfRange` for a setting, `NoMemory`.
+    /// `OutOfRange`: a setting is out of its range. `NoMemory`.
     pub fn new(config: &PanelConfig) -> Result<Panel, Error> {
         let settings = config.to_sys()?;
         let panel = Panel::none();
@@ -218,13 +221,13 @@ impl Panel {
         Ok(panel)
     }
 
-    /// The same with less memory: of the commands that wait for a device, so many bytes may wait together, 1 to 1,467,392. A command has a code and its data,
-    /// as OUT of one output 5; with `new` there is room for 1,433 of each. One without room is refused with `Full`. The bytes of the command that is on its
-    /// way count too, unless there is room for each command however long.
+    /// As `new`, with less memory: the commands that wait for one device may have `bytes` bytes together, 1 to 1,467,392. A command has the bytes of its code
+    /// and its data: an OUT of one output has 5. (With `new` each of `capacity` commands has room for 1,433 bytes.) A command without room is refused with
+    /// `Full`. The bytes of the command that is on its way count too, unless there is room for each command, however long it is.
     ///
     /// # Errors
     ///
-    /// `OutOfRange` for a setting or the bytes, `NoMemory`.
+    /// `OutOfRange`: a setting or `bytes` is out of its range. `NoMemory`.
     pub fn with_room(config: &PanelConfig, bytes: usize) -> Result<Panel, Error> {
         let settings = config.to_sys()?;
         let panel = Panel::none();
@@ -252,11 +255,12 @@ impl Panel {
         }
     }
 
-    /// Adds a device at an address, 0 to 126, whose session is closed. It takes memory.
+    /// Adds a device at an address, 0 to 126. Its session is closed. It takes memory. A device can't be taken away again.
     ///
     /// # Errors
     ///
-    /// `TooManyDevices`, `OutOfRange`, `AddressTaken`, `NoMemory`.
+    /// `TooManyDevices`: there are sixteen. `OutOfRange`: the address is above 126. `AddressTaken`: it is that of another device or reserved for one.
+    /// `NoMemory`.
     pub fn add(&mut self, address: u8) -> Result<EntryNumber, Error> {
         let mut entry = 0;
         // SAFETY: the handle is ours alone, and the entry is written.
@@ -267,23 +271,25 @@ impl Panel {
         })
     }
 
-    /// Begins a session of a device.
+    /// Begins a session of a device. The device is left quiet for `quiet_wait`, and then the opening ID goes out when its turn comes. `Report::Opened` or
+    /// `Report::Lost` says what becomes of it. The panel begins no session by itself, also not after one was lost.
     ///
     /// # Errors
     ///
-    /// `NoEntry`, `NotClosed`, `MomentTooFar`.
+    /// `MomentTooFar`; `NoEntry`; `NotClosed`: the session has begun already.
     pub fn begin(&mut self, entry: EntryNumber, now: Moment) -> Result<(), Error> {
         let index = self.index(entry)?;
         // SAFETY: the handle is ours alone.
         check(unsafe { sys::osdp_panel_begin(self.handle.get(), index, now.as_millis()) })
     }
 
-    /// Puts a command after those that wait for a device.
+    /// Puts a command after those that wait for a device, whether or not its session has begun. A report says what becomes of it. A command that waits while
+    /// the session is closed goes out once a session opens, however late: `withdraw` takes it back before.
     ///
     /// # Errors
     ///
-    /// `NoEntry`; `PollSubmitted`; `AddressOutOfRange` for a COMSET to an address above 126, where the device would be out of reach; `AddressTaken`;
-    /// `Full`.
+    /// `NoEntry`. `PollSubmitted`: it is a POLL. `AddressOutOfRange`: it is a COMSET to an address above 126, where the device would be out of reach.
+    /// `AddressTaken`: it is a COMSET to an address of another device or reserved for one, or an address is reserved for this device already. `Full`.
     pub fn submit(&mut self, entry: EntryNumber, command: &Command) -> Result<(), Error> {
         let index = self.index(entry)?;
         let (code, data) = (command.code(), command.data());
@@ -299,11 +305,11 @@ impl Panel {
         })
     }
 
-    /// Puts a command, by its text, after those that wait for a device.
+    /// As `submit`, for the text of a command, such as `OUT 0:5:30`.
     ///
     /// # Errors
     ///
-    /// `BadText`, and those of `submit`.
+    /// `BadText`: it is the text of no command. The others are those of `submit`.
     pub fn submit_text(&mut self, entry: EntryNumber, text: &str) -> Result<(), Error> {
         let index = self.index(entry)?;
         // SAFETY: the handle is ours alone, and the text has so many bytes.
@@ -317,7 +323,8 @@ impl Panel {
         })
     }
 
-    /// Takes back the command that has waited longest for a device. None where none waits, or where its session has begun.
+    /// Takes back the command that has waited longest for a device. It won't be sent, no report tells it, and an address that it reserved is free. None where
+    /// none waits, or where the session has begun.
     ///
     /// # Errors
     ///
@@ -330,11 +337,13 @@ impl Panel {
         Ok(Command::from_sys(&command))
     }
 
-    /// Sets the address of a device, 0 to 126, and frees the one that is reserved for it.
+    /// Sets the address at which the panel looks for a device, 0 to 126, and frees the address that is reserved for it. The session must be closed. Nothing is
+    /// sent: the device itself stays where it is.
     ///
     /// # Errors
     ///
-    /// `NoEntry`, `NotClosed`, `OutOfRange`, `AddressTaken`.
+    /// `NoEntry`. `NotClosed`: the session has begun. `OutOfRange`: the address is above 126. `AddressTaken`: it is that of another device or reserved for one,
+    /// or a COMSET waits for this device.
     pub fn retarget(&mut self, entry: EntryNumber, address: u8) -> Result<(), Error> {
         let index = self.index(entry)?;
         // SAFETY: the handle is ours alone.
@@ -363,7 +372,7 @@ impl Panel {
         Ok(address as u8)
     }
 
-    /// How many commands wait for a device; the one that is under way isn't counted.
+    /// How many commands wait for a device. The one that is on its way isn't counted.
     ///
     /// # Errors
     ///
@@ -376,7 +385,7 @@ impl Panel {
         Ok(count)
     }
 
-    /// Whether the session of a device is closed.
+    /// Whether the session of a device is closed: until `begin`, and again once it is lost or the device has moved.
     ///
     /// # Errors
     ///
@@ -389,11 +398,12 @@ impl Panel {
         Ok(closed != 0)
     }
 
-    /// Bytes have come from the line, in any pieces.
+    /// Hands in bytes that have come from the line, in any pieces. A call with no bytes moves the greatest moment seen, and changes nothing else. Take the
+    /// report that may wait after it (`next_report`).
     ///
     /// # Errors
     ///
-    /// `MomentTooFar`.
+    /// `MomentTooFar`: no byte was taken.
     pub fn on_bytes(&mut self, bytes: &[u8], now: Moment) -> Result<(), Error> {
         let (start, length) = (bytes.as_ptr(), bytes.len());
         // SAFETY: the handle is ours alone, and so many bytes are there.
@@ -402,7 +412,8 @@ impl Panel {
         })
     }
 
-    /// The line was seen silent: the run of bytes is over.
+    /// Says that the line was seen silent: the run of bytes is over, and what was begun is no packet. Only a program that sees silence by itself needs it,
+    /// since `tick` and the next bytes end a run by the setting `gap`.
     ///
     /// # Errors
     ///
@@ -412,7 +423,8 @@ impl Panel {
         check(unsafe { sys::osdp_panel_silence(self.handle.get(), now.as_millis()) })
     }
 
-    /// What is due at a moment: a burst to send. While a report waits, none.
+    /// Does what is due at a moment, and gives the burst that is to be sent, if there is one. While a report waits, there is none. A tick may also leave a
+    /// report, so take that one too.
     ///
     /// ```no_run
     /// # use osdp::{Error, Moment, Panel};
@@ -423,7 +435,7 @@ impl Panel {
     /// }
     /// ```
     ///
-    /// One that is forgotten is warned of, and no other call is made before it is sent:
+    /// The compiler warns of a burst that is forgotten, and no other call of the panel compiles before it is sent:
     ///
     /// ```compile_fail
     /// # #![deny(unused_must_use)]
@@ -455,13 +467,16 @@ impl Panel {
         Ok(Unsent::from_sys(&burst))
     }
 
-    /// A moment is seen, however far it lies after the greatest one: of a host that slept.
+    /// Sets the greatest moment seen, however far it lies after the one before: for a host that slept, after `MomentTooFar`. One that lies before the greatest
+    /// changes nothing.
     pub fn set_moment(&mut self, now: Moment) {
         // SAFETY: the handle is ours alone. It holds a machine, so the call isn't refused.
         let _ = unsafe { sys::osdp_panel_set_moment(self.handle.get(), now.as_millis()) };
     }
 
-    /// The moment at which `tick` is to be called next, if no call comes before.
+    /// The moment at which `tick` is to be called next, if no other call comes before. A tick at that moment or later gives a burst, leaves a report or ends a
+    /// run of bytes, and an earlier tick does none of these. It may lie in the past: then tick at once. None while a report waits, and where no tick would do
+    /// anything.
     pub fn next_deadline(&self) -> Option<Moment> {
         let mut deadline = sys::osdp_moment {
             moment: 0,
@@ -472,7 +487,8 @@ impl Panel {
         (deadline.present != 0).then_some(Moment::from_millis(deadline.moment))
     }
 
-    /// Takes the report that waits, with the device of which it tells.
+    /// Takes the report that waits, with the device of which it tells. At most one waits. Call it after `on_bytes`, `on_silence` and `tick`: while a report
+    /// waits, the panel sends nothing.
     pub fn next_report(&mut self) -> Option<(EntryNumber, Report)> {
         let mut report = sys::osdp_report {
             entry: 0,

@@ -34,11 +34,11 @@ fn raw(card: &Card) -> Result<RawReply, Error> {
 }
 
 impl Reply {
-    /// Its code and data.
+    /// The code and the data of the reply.
     ///
     /// # Errors
     ///
-    /// `BadLength`: more characters, keys or bytes than the reply has room for: 255 of a FMT and of a KEYPAD, 1,429 of a maker.
+    /// `BadLength`: there are more characters, keys or bytes than the reply has room for: 255 of a FMT and of a KEYPAD, 1,429 of a maker's reply.
     pub fn write(&self) -> Result<RawReply, Error> {
         match self {
             Reply::Ack => joined(sys::OSDP_ACK, []),

@@ -1,5 +1,5 @@
-//! What makers of panels write each time above a panel: which sessions begin when, which devices are online since when, and states that a device gets again
-//! whose session opens anew. The words are those of the proved crate `osdp_site`, in Rattle; this is ordinary Rust over the calls of a panel.
+//! What each maker of a panel writes above it: when sessions begin, since when devices are online, and the states that a device gets again where its session
+//! opens anew. The words are those of the proved crate `osdp_site`, in Rattle. This is ordinary Rust over the calls of a panel.
 
 use crate::error::Error;
 use crate::fields::{Buzzer, Led, LedState, Output};
@@ -20,15 +20,15 @@ const PAUSE: Duration = Duration::from_secs(1);
 /// Why a site refuses to want something. A refused call has changed nothing.
 #[derive(Clone, Copy, Debug, PartialEq, Eq)]
 pub enum SiteError {
-    /// There is no such entry.
+    /// The site has no such entry.
     NoEntry,
     /// As many states are wanted of the device as there is room for: 16.
     Full,
-    /// Several outputs or LEDs in one command: each is wanted by itself.
+    /// The command is of several outputs or LEDs. Want each of them by a command of its own.
     Several,
-    /// It lasts for a time, so it is an order and no state.
+    /// What the command says lasts for a time, so it is an order and no state. Give it by `Site::order`.
     Timed,
-    /// The command says nothing that holds from then on.
+    /// The command says nothing that holds from then on, so it is no state.
     NoState,
 }
 
@@ -51,12 +51,12 @@ impl core::error::Error for SiteError {}
 pub enum Presence {
     /// Its session opened then, and is open.
     Online(Moment),
-    /// Its session was lost or moved then, and none has opened since; or none ever has, and the site was made then.
+    /// Its session was lost then, or its device moved then, and no session has opened since. Or none ever has opened, and the site was made then.
     Offline(Moment),
 }
 
 impl Presence {
-    /// Whether it is there.
+    /// Whether the device is online.
     pub fn is_online(self) -> bool {
         matches!(self, Presence::Online(_))
     }
@@ -188,17 +188,18 @@ impl Place {
     }
 }
 
-/// What a panel's program wants of its devices, and when their sessions begin. Its entries are those of one panel, which has so many.
+/// What a panel's program wants of its devices, and when their sessions begin. A site belongs to one panel, and `ENTRIES` is how many devices that panel has. A
+/// site leaves further devices alone. Where the panel has fewer, the site is due all the time, so that `wait_until` never waits.
 ///
-/// The program says once how an LED, an output, a buzzer or a text is to be, hands on each report, and calls `act` in each turn, before `Panel::tick`. It takes
-/// no memory of the heap.
+/// The program says once how an LED, an output, a buzzer or a text is to be. It hands on each report, and calls `act` in each turn, before `Panel::tick`. A
+/// site takes no memory of the heap.
 pub struct Site<const ENTRIES: usize> {
     places: [Place; ENTRIES],
     pause: Duration,
 }
 
 impl<const ENTRIES: usize> Site<ENTRIES> {
-    /// All devices are offline since this moment, and their sessions are due. The pause from a session that has ended to the next is a second.
+    /// A site whose devices are all offline since this moment, and whose sessions are due. After a session has ended, the next one is due a second later.
     pub fn new(now: Moment) -> Site<ENTRIES> {
         let place = Place {
             wanted: [State::NONE; ROOM],
@@ -213,7 +214,7 @@ impl<const ENTRIES: usize> Site<ENTRIES> {
         }
     }
 
-    /// The same with another pause.
+    /// The same site with another pause from a session that has ended to the next one.
     pub fn with_pause(self, pause: Duration) -> Site<ENTRIES> {
         Site { pause, ..self }
     }
@@ -222,20 +223,21 @@ impl<const ENTRIES: usize> Site<ENTRIES> {
         self.places.get(entry.index())
     }
 
-    /// From now on a device is to be as the command says: an OUT or LED of one record, a BUZ or a TEXT. It stands in place of what was wanted of the same output,
-    /// LED, buzzer or text before. Where the device is online, the next `act` submits it; and once again after each opening of its session.
+    /// Says that a device is to be from now on as the command says: an OUT or LED of one record, a BUZ or a TEXT. That stands in place of what was wanted of
+    /// the same output, LED, buzzer or text before. Where the device is online, the next `act` submits it. It is submitted once again after each opening of
+    /// the session.
     ///
     /// # Errors
     ///
-    /// `NoEntry`; `Several`; `Timed` for what lasts for a time: it is an order, and an OUT that opens a door for five seconds would open it again after each
-    /// session that was lost; `NoState` for a command that says nothing that holds from then on; `Full`.
+    /// `NoEntry`. `Several`. `Timed`: it lasts for a time, so it is an order; as a state, an OUT that opens a door for five seconds would open it again after
+    /// each lost session. `NoState`: the command says nothing that holds from then on. `Full`: 16 states are wanted of the device already.
     pub fn wants(&mut self, entry: EntryNumber, command: &Command) -> Result<(), SiteError> {
         let place = self.places.get_mut(entry.index());
         place.ok_or(SiteError::NoEntry)?.wants(State::of(command)?)
     }
 
-    /// A report of the panel, at the moment at which it came. Where the device is online or offline by it and wasn't before, that is told, once. A session that is
-    /// lost or moved makes the next one due after the pause.
+    /// Heeds a report of the panel, at the moment at which it came. Where the device has come online or gone offline by it, that is told, once. After a
+    /// session that was lost, or whose device moved, the next one is due after the pause.
     pub fn heed(&mut self, entry: EntryNumber, report: &Report, now: Moment) -> Option<Presence> {
         let place = self.places.get_mut(entry.index())?;
         let presence = match report {
@@ -256,7 +258,7 @@ impl<const ENTRIES: usize> Site<ENTRIES> {
         Some(presence)
     }
 
-    /// Takes the report that waits, as `Panel::next_report`, and heeds it: with it comes what has changed by it.
+    /// Takes the report that waits, as `Panel::next_report` does, and heeds it. The third part is what `heed` tells.
     pub fn next_report(
         &mut self,
         panel: &mut Panel,
@@ -267,12 +269,12 @@ impl<const ENTRIES: usize> Site<ENTRIES> {
         Some((entry, report, change))
     }
 
-    /// An order: a command that is submitted once. Whether the panel took it. One for a device that is offline is refused, since it would be stale once that is
-    /// online again; so is one for which there is no room.
+    /// Gives an order: a command that is submitted once. Tells whether the panel accepted it. It isn't submitted, and the call gives false, where the device is
+    /// offline, since the order would be stale once the device is online again. The call gives false too where the panel has no room for the order (`Full`).
     ///
     /// # Errors
     ///
-    /// Those of `Panel::submit` but `Full`.
+    /// Those of `Panel::submit`, but not `Full`.
     pub fn order(
         &self,
         panel: &mut Panel,
@@ -289,19 +291,20 @@ impl<const ENTRIES: usize> Site<ENTRIES> {
         }
     }
 
-    /// Up to when nothing is to be done, if nothing comes: until the site or its panel is due, and at most up to a moment.
+    /// The moment until which the program may wait for bytes: the earliest of when the site is due, when its panel is due, and `most`.
     pub fn wait_until(&self, panel: &Panel, most: Moment) -> Moment {
         let due = [self.next_deadline(), panel.next_deadline()];
         due.into_iter().flatten().fold(most, Moment::min)
     }
 
-    /// Begins each session that is due. Orders that wait for its device are stale, and are taken back: a program that is to be told of them withdraws them
-    /// before. Then what is wanted of each device that is online, and wasn't submitted since its session opened, goes to the panel in the order in which it was
-    /// wanted. What the panel refuses, as where its queue is full, and what comes after it is left for the next call.
+    /// Begins each session that is due. Before that it takes back the orders that wait for the device, since they are stale. A program that wants to know of
+    /// them withdraws them itself before. Then, for each device that is online, what is wanted and wasn't submitted since the session opened goes to the
+    /// panel, in the order in which it was wanted. Where the panel refuses one, as where its queue is full, that one and those after it are left for the next
+    /// call.
     ///
     /// # Errors
     ///
-    /// `MomentTooFar`. The session is due still.
+    /// `MomentTooFar`: the session is still due, but the orders that waited for the device were taken back.
     pub fn act(&mut self, panel: &mut Panel, now: Moment) -> Result<(), Error> {
         for (entry, place) in panel.entries().zip(&mut self.places) {
             place.act(panel, entry, now)?;
@@ -309,12 +312,13 @@ impl<const ENTRIES: usize> Site<ENTRIES> {
         Ok(())
     }
 
-    /// The earliest moment from which on `act` begins a session. None where each has begun.
+    /// The earliest moment at which a session is due, so that `act` begins it. None where no session is due, now or later.
     pub fn next_deadline(&self) -> Option<Moment> {
         self.places.iter().filter_map(|place| place.begins).min()
     }
 
-    /// Whether a session of a device is due: the next `act` begins it. A program whose device may be elsewhere sets its address and its rate before.
+    /// Whether a session of a device is due at a moment: the next `act` begins it. A program whose device may be elsewhere calls `Panel::retarget` and sets
+    /// the rate of its port before that.
     pub fn is_due(&self, entry: EntryNumber, now: Moment) -> bool {
         let begins = self.place(entry).and_then(|place| place.begins);
         begins.is_some_and(|begins| begins <= now)
@@ -325,16 +329,16 @@ impl<const ENTRIES: usize> Site<ENTRIES> {
         Some(self.place(entry)?.presence)
     }
 
-    /// Whether a device is online, and all that is wanted of it was submitted since its session opened.
+    /// Whether a device is online, and all that is wanted of it was submitted since its session opened. That it was answered isn't told.
     pub fn is_refreshed(&self, entry: EntryNumber) -> bool {
         self.place(entry)
             .is_some_and(|place| place.presence.is_online() && place.done == place.count)
     }
 }
 
-/// Commands as panels mostly give them, of the first LED and the buzzer of the first reader.
+/// Commands as panels mostly give them. They are for the first LED and the buzzer of the first reader.
 impl Command {
-    /// An output is on for so many tenths of a second: an order.
+    /// An output, counted from 0, is to be on for so many tenths of a second: an order.
     ///
     /// # Errors
     ///
@@ -347,7 +351,7 @@ impl Command {
         }])
     }
 
-    /// The LED has a color from now on: a state.
+    /// The LED is to have a color (`named::color`) from now on: a state.
     ///
     /// # Errors
     ///
@@ -359,7 +363,7 @@ impl Command {
         }])
     }
 
-    /// The LED has a color for so many tenths of a second: an order.
+    /// The LED is to have a color (`named::color`) for so many tenths of a second: an order.
     ///
     /// # Errors
     ///
@@ -372,7 +376,7 @@ impl Command {
         }])
     }
 
-    /// The buzzer sounds, half a second on and half a second off, until it is told otherwise, or is silent: states.
+    /// The buzzer is to sound, half a second on and half a second off, until another command comes; or, by false, it is to be silent. Both are states.
     pub fn sound(sounds: bool) -> Command {
         Command::buzzer(&Buzzer {
             reader: 0,

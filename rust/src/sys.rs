@@ -184,7 +184,7 @@ macro_rules! structs {
     };
 }
 
-/// The check that frames end with.
+/// The check that packets end with.
 #[repr(u32)]
 #[derive(Clone, Copy, Debug, PartialEq, Eq)]
 pub enum Check {
@@ -204,28 +204,30 @@ structs! {
     #[derive(Debug)]
     osdp_panel, 16 { panel: *mut c_void, panel_live: usize, }
 
-    /// The settings of a panel. Times are in milliseconds, 1 to 3,600,000.
+    /// The settings of a panel. Times are in milliseconds, 1 to 3,600,000 where nothing else is said.
     #[derive(Clone, Copy, Debug, PartialEq, Eq)]
     osdp_panel_config, 44 {
-        /// Which check the frames end with.
+        /// Which check the packets of the panel end with.
         check: Check,
-        /// How long an answer is waited for.
+        /// How long an answer is waited for, from the tick that gave the packet.
         reply_wait: u32,
-        /// From an answer to the next POLL.
+        /// How long after an answer the next POLL of that device is due.
         poll_interval: u32,
-        /// How often a frame is sent while no answer comes, 1 to 255.
+        /// How often a packet is sent, 1 to 255, the first time included, until the session is lost because no answer comes.
         sends: u32,
-        /// From a BUSY to the next send.
+        /// How long after a BUSY the packet is sent again.
         busy_wait: u32,
-        /// How often a reader may answer BUSY in one exchange, 0 to 255.
+        /// How often a device may answer BUSY in one exchange, 0 to 255.
         busy_limit: u32,
-        /// How long a device is left quiet before a session opens.
+        /// How long a device is left quiet before its session opens.
         quiet_wait: u32,
         /// After how long a silence a run of bytes is over.
         gap: u32,
         /// How many commands may wait for each device, 1 to 1,024.
         capacity: u32,
+        /// How far a moment may lie after the greatest one seen; 0 stands for a day. Each number is allowed.
         clock_limit: u32,
+        /// 1 where a POLL stands between two commands of a device, else 0.
         poll_between_orders: u32,
     }
 
@@ -277,7 +279,7 @@ structs! {
     #[derive(Clone, Copy)]
     osdp_states, 1434 { length: u16, states: [u8; 1432], }
 
-    /// What a device is, but for its serial number.
+    /// What a device is, without its serial number.
     #[derive(Clone, Copy, Debug, Default, PartialEq, Eq)]
     osdp_product, 8 {
         /// The maker's code.
@@ -308,9 +310,9 @@ structs! {
     osdp_capability, 3 {
         /// What it is about, as `named::function` has it: 1 to 16.
         function: u8,
-        /// How far it goes, as the standard has it for the function.
+        /// How far the device goes in this respect, as the standard has it for the function.
         level: u8,
-        /// How many there are, as the standard has it for the function.
+        /// How many the device has, as the standard has it for the function.
         count: u8,
     }
 
@@ -326,7 +328,7 @@ structs! {
     /// What one output is to do: a record of an OUT.
     #[derive(Clone, Copy, Debug, Default, PartialEq, Eq)]
     osdp_output, 4 {
-        /// In 100 ms: how long it lasts, where it is for a time.
+        /// How long the operation lasts, in 100 ms, where `control` is for a time.
         timer: u16,
         /// The output of the device, counted from 0.
         output: u8,
@@ -337,11 +339,11 @@ structs! {
     /// How an LED blinks. Times are in 100 ms. Colors are those of `named::color`.
     #[derive(Clone, Copy, Debug, Default, PartialEq, Eq)]
     osdp_led_state, 5 {
-        /// What becomes of it, as `named::led` has it.
+        /// What becomes of this state, as `named::led` has it.
         control: u8,
-        /// How long it has the first color.
+        /// How long it has the first color, in 100 ms.
         on_time: u8,
-        /// How long it has the second color.
+        /// How long it has the second color, in 100 ms.
         off_time: u8,
         /// The first color.
         on_color: u8,
@@ -371,11 +373,11 @@ structs! {
         reader: u8,
         /// What sounds, as `named::tone` has it: 0 to 2.
         tone: u8,
-        /// In 100 ms.
+        /// How long it sounds, in 100 ms.
         on_time: u8,
-        /// In 100 ms.
+        /// How long it is silent after that, in 100 ms.
         off_time: u8,
-        /// How often; 0 means until another command.
+        /// How often it sounds; 0 means until another command comes.
         count: u8,
     }
 
