@@ -5,6 +5,8 @@ pub mod Buses
 pub mod Panels
 pub mod Raised
 pub mod Alike
+pub mod AlikeCalls
+pub mod NewPanels
 pub mod Following
 pub mod Reading
 pub mod Keeping
