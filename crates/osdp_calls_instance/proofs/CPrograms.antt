@@ -1,5 +1,5 @@
 -- Calls for C are calls of a line in use.
-use Rattle.osdp_calls_instance.proofs.Common.{◌≡◌, ℕ, Bool, true, false, cond, List, [], ◌∷◌, map, Option, Some, None, Result, Ok, Err, refl, sym, subst, ap, ◌∙◌, arith, command_of, Command, Event, BusState, new_bus, add_refusal, after_add, changed_unless, BusConfig, BusFault, is_asked, pending_of, turned_by, with_question, program_after, program_answer, Received, after_silence, after_take, after_tick, each_all, Each, lacks_room, ReaderState, after_lapse_event, after_withdraw_event, Answer, Call, OfPanel, SetHandler, Take, TickDevice, Silence, Held, takes_event, AddsMakeTheBus, NoneRefused, AreDeviceCalls, ArePanelCalls, IsOfDevice, IsOfPanel, bus_after_each, device_after_each}
+use Rattle.osdp_calls_instance.proofs.Common.{◌≡◌, ℕ, Bool, true, false, cond, List, [], ◌∷◌, map, Option, Some, None, Result, Ok, Err, refl, sym, subst, ap, ◌∙◌, inl, inr, ◌⊎◌, arith, command_of, Command, Event, BusState, new_bus, add_refusal, after_add, changed_unless, BusConfig, BusFault, is_asked, pending_of, turned_by, with_question, program_after, program_answer, Received, after_silence, after_take, after_tick, each_all, Each, lacks_room, ReaderState, after_lapse_event, after_withdraw_event, Answer, Call, OfPanel, SetHandler, Take, TickDevice, Silence, Held, takes_event, AddsMakeTheBus, NoneRefused, AreDeviceCalls, ArePanelCalls, IsOfDevice, IsOfPanel, bus_after_each, device_after_each}
 use Rattle.osdp_msg.specs.NakReasons.{reason_of}
 use Rattle.osdp_msg.specs.declared.fault.MsgFault.{MsgFault}
 use Rattle.osdp_bus.specs.declared.fault.BusFault.TheVariants as fault
@@ -8,7 +8,7 @@ use Rattle.osdp_device.specs.Ages.{after_expiry}
 use Rattle.osdp_device.specs.declared.program.ProgramAnswers.{ProgramAnswers}
 use Rattle.osdp_device.specs.declared.question.Question.{Question}
 use Rattle.osdp_device.specs.declared.question.Question.TheVariants.{Answered, Asked, NotAsked}
-use Rattle.osdp_orders.specs.Orders.{AddEnds, PanelState, new_orders, with_new_queue}
+use Rattle.osdp_orders.specs.Orders.{AddEnds, after_add as orders_add, PanelState, new_orders, with_new_queue}
 use Rattle.osdp_orders_laws.proofs.OfBus.{calls_of_the_bus}
 use Rattle.osdp_orders_laws.specs.OfTheBus.{bus_calls}
 use Rattle.osdp_reader.specs.declared.handler.Answer.TheVariants as answer
@@ -28,7 +28,7 @@ use Rattle.osdp_c_values.specs.declared.status.Status.TheVariants as status
 use Rattle.arrayvec.specs.ArrayVec.{ArrayVec}
 use Rattle.osdp_calls_instance.proofs.LinePrograms.{bus_same, own_device, panels_own}
 use Rattle.osdp_calls_instance.specs.CPrograms as c
-use Rattle.osdp_calls_instance.specs.CPrograms.{AddsEach, DeviceCall, MakesAnew, MakesAnewBy, PanelCall, answer_calls, c_device, c_panel, device_call, device_calls, event_calls, event_read, expiry_calls, if_read, leaving_call, orders_with, panel_call, panel_calls, settle_calls, settles_by, submitted, told_states}
+use Rattle.osdp_calls_instance.specs.CPrograms.{AddsEach, AddsInUse, DeviceCall, MakesAnew, MakesAnewBy, PanelCall, answer_calls, c_device, c_panel, device_call, device_calls, event_calls, event_read, expiry_calls, if_read, leaving_call, orders_with, panel_call, panel_calls, settle_calls, settles_by, submitted, told_states}
 
 -- ---- a panel
 
@@ -80,6 +80,10 @@ reads_so : (H : Type 0) (entry : ℕ) (r : Result Command MsgFault) (m : PanelMa
 reads_so H entry (Ok command) m = submits_so H entry (Some command) m
 reads_so H entry (Err fault) m = refl
 
+unless_bus : (o : Option BusFault) (m next : PanelMachine) → (changed_unless o m next).bus ≡ changed_unless o m.bus next.bus
+unless_bus None m next = refl
+unless_bus (Some f) m next = refl
+
 panel_is : (H : Type 0) (call : PanelCall) (m : PanelMachine) → (panel_call call m).machine.bus ≡ bus_after_each {H = H} (panel_calls call m) m.bus
 panel_is H (c.Begin entry now) m =
     let x = panel.panel_of m in
@@ -98,6 +102,8 @@ panel_is H (c.PanelTick now) m =
     let x = panel.panel_of m in
     moment_bus (accepts now m.clock) now (panel.ticks now) m
     ∙ at_moment H (accepts now m.clock) (bus_calls (bus.Tick now) x) (panel.ticks now x).machine.bus m (calls_of_the_bus x (bus.Tick now))
+panel_is H (c.Adds address) m =
+    unless_bus (add_refusal (device_address address) m.bus) m (panel.with_panel (orders_add (device_address address) (panel.panel_of m)) m)
 panel_is H _ m = refl
 
 pub panels_are : {H : Type 0} → ArePanelCalls (c_panel {H = H})
@@ -105,6 +111,42 @@ panels_are {H} = record {
   end = λ call m. each_all (IsOfPanel {H = H}) (panel_calls call m) (panel_end H call m);
   bus = λ call m fits. panel_is H call m;
 }
+
+-- ---- a device is added in use
+
+module _ (address : ℕ) (m : PanelMachine) (answer : ℕ) (next : Option PanelMachine) (x' : PanelState) (is : next ≡ Some (panel.with_panel x' m)) where
+  abbrev IsAdded : Type 0
+  IsAdded =
+      ((answer ≡ number (c.adds address m).status) × (next ≡ Some (c.adds address m).machine))
+      ⊎ ((answer ≡ number (status.Panel fault.NoMemory)) × (next ≡ Some m))
+
+  refused : (f : BusFault) → (add_refusal address m.bus ≡ Some f) × (x' ≡ panel.panel_of m) → answer ≡ number (status.Panel f) → IsAdded
+  refused f ends told =
+      inl (
+        told ∙ ap (λ o. number (panel.status_of o)) (sym ends.0),
+        is ∙ ap (λ x. Some (panel.with_panel x m)) ends.1
+        ∙ ap (λ o. Some (changed_unless o m (panel.with_panel (orders_add address (panel.panel_of m)) m))) (sym ends.0),
+      )
+
+  added_in_use : (r : Result ℕ BusFault) → AddEnds address (panel.panel_of m) x' r → answer ≡ number (panel.added_status r) → IsAdded
+  added_in_use (Ok entry) ends told =
+      inl (
+        told ∙ ap (λ o. number (panel.status_of o)) (sym ends.0),
+        is ∙ ap (λ x. Some (panel.with_panel x m)) ends.2
+        ∙ ap (λ o. Some (changed_unless o m (panel.with_panel (orders_add address (panel.panel_of m)) m))) (sym ends.0),
+      )
+  added_in_use (Err fault.NoMemory) ends told = inr (told, is ∙ ap (λ x. Some (panel.with_panel x m)) ends)
+  added_in_use (Err fault.TooMany) ends told = refused fault.TooMany ends told
+  added_in_use (Err fault.AddressTaken) ends told = refused fault.AddressTaken ends told
+  added_in_use (Err fault.NoEntry) ends told = refused fault.NoEntry ends told
+  added_in_use (Err fault.OutOfRange) ends told = refused fault.OutOfRange ends told
+  added_in_use (Err fault.AddressOutOfRange) ends told = refused fault.AddressOutOfRange ends told
+  added_in_use (Err fault.Full) ends told = refused fault.Full ends told
+  added_in_use (Err fault.PollSubmitted) ends told = refused fault.PollSubmitted ends told
+  added_in_use (Err fault.NotClosed) ends told = refused fault.NotClosed ends told
+
+pub adds_in_use : AddsInUse
+adds_in_use address m answer next out out' (r, x', ends, told, is, written) = added_in_use (device_address address) m answer next x' is r ends told
 
 -- ---- a panel made anew
 

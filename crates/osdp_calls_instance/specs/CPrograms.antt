@@ -1,5 +1,5 @@
 -- Programs in C: their calls, each by the definition that its contract in `osdp_c` cites, and which calls of a line in use they are.
-use Rattle.std.specs.Prelude.{◌≡◌, ℕ, Bool, true, false, not, ◌==◌, if◌then◌else◌, List, [], ◌∷◌, map, Option, Some, None, Result, Ok, Err}
+use Rattle.std.specs.Prelude.{◌≡◌, ◌⊎◌, ℕ, Bool, true, false, not, ◌==◌, if◌then◌else◌, List, [], ◌∷◌, map, Option, Some, None, Result, Ok, Err}
 use Rattle.arrayvec.specs.ArrayVec.{ArrayVec}
 use Rattle.osdp_msg.specs.CommandTable.{command_of}
 use Rattle.osdp_msg.specs.NakReasons.{reason_of}
@@ -8,7 +8,9 @@ use Rattle.osdp_msg.specs.declared.command.Command.{Command}
 use Rattle.osdp_msg.specs.declared.event.Event.{Event}
 use Rattle.osdp_msg.specs.declared.fault.MsgFault.{MsgFault}
 use Rattle.osdp_msg.specs.declared.limits.Room.{Room}
+use Rattle.osdp_bus.specs.Machine.{add_refusal, changed_unless}
 use Rattle.osdp_bus.specs.declared.config.BusConfig.{BusConfig}
+use Rattle.osdp_bus.specs.declared.fault.BusFault.TheVariants as fault
 use Rattle.osdp_bus_laws.specs.Calls as bus
 use Rattle.osdp_device.specs.Deciding.{is_asked, pending_of}
 use Rattle.osdp_device.specs.Program.{new_program, program_after, program_answer}
@@ -18,7 +20,7 @@ use Rattle.osdp_device.specs.declared.program.ProgramAnswers.{ProgramAnswers}
 use Rattle.osdp_device.specs.declared.question.Question.{Question}
 use Rattle.osdp_device.specs.declared.question.Question.TheVariants.{Answered, Asked, NotAsked}
 use Rattle.osdp_device.specs.declared.status.DeviceStatus.{DeviceStatus}
-use Rattle.osdp_orders.specs.Orders.{OrdersState, new_orders, with_new_queue}
+use Rattle.osdp_orders.specs.Orders.{OrdersState, after_add, new_orders, with_new_queue}
 use Rattle.osdp_orders_laws.specs.OfTheBus.{bus_calls}
 use Rattle.osdp_reader.specs.State.{ReaderState}
 use Rattle.osdp_reader.specs.declared.handler.Answer.{Answer}
@@ -43,8 +45,9 @@ use Rattle.osdp_calls_instance.specs.OwnCalls.{ArePanelCalls, DeviceKind, PanelK
 
 -- ---- a panel
 
--- the calls of a panel's handle: of a text what was read of it, and `Looks` for each call that only tells something. Made anew: freed, made with
--- these settings, with POLLs between orders or not and with this limit of its clock, and its devices added, all done.
+-- the calls of a panel's handle: of a text what was read of it, and `Looks` for each call that only tells something. `Adds` is an `osdp_panel_add` that
+-- finds memory. Made anew: freed, made with these settings, with POLLs between orders or not and with this limit of its clock, and its devices added,
+-- all done.
 pub data PanelCall : Type 0 where
   Begin : ℕ → ℕ → PanelCall
   Submit : ℕ → ℕ → List ℕ → PanelCall
@@ -58,6 +61,7 @@ pub data PanelCall : Type 0 where
   SetPanelMoment : ℕ → PanelCall
   LooksAt : ℕ → PanelCall
   Looks : PanelCall
+  Adds : ℕ → PanelCall
   PanelAnew : Bool → BusConfig → ℕ → List ℕ → PanelCall
 
 -- orders with a queue for each of these devices, where they wait for POLLs
@@ -71,6 +75,13 @@ panel_made between config limit addresses = record {
   bus = bus_with config addresses;
   clock = new_clock limit;
   sent = tt;
+}
+
+-- a device is added, or refused
+abbrev pub adds : ℕ → PanelMachine → Done PanelMachine
+adds address m = record {
+  status = panel.status_of (add_refusal address m.bus);
+  machine = changed_unless (add_refusal address m.bus) m (panel.with_panel (after_add address (panel.panel_of m)) m);
 }
 
 -- each by its definition
@@ -87,6 +98,7 @@ panel_call NextReport m = panel.on_bus panel.reports m
 panel_call (SetPanelMoment now) m = panel.sets_moment now m
 panel_call (LooksAt entry) m = panel.on_bus (panel.looks_at entry) m
 panel_call Looks m = panel.on_bus panel.does m
+panel_call (Adds address) m = adds (device_address address) m
 panel_call (PanelAnew between config limit addresses) m = record { status = status.Done; machine = panel_made between config limit addresses }
 
 -- a call at a moment that is not accepted is none
@@ -116,6 +128,7 @@ panel_calls NextReport m = OfPanel bus.NextReport ∷ []
 panel_calls (SetPanelMoment now) m = OfPanel (bus.OnBytes [] now) ∷ []
 panel_calls (LooksAt entry) m = []
 panel_calls Looks m = []
+panel_calls (Adds address) m = OfPanel (bus.Add (device_address address)) ∷ []
 panel_calls (PanelAnew between config limit addresses) m = NewPanel config addresses ∷ []
 
 abbrev pub c_panel : {H : Type 0} → PanelKind H
@@ -146,6 +159,13 @@ MakesAnewBy config_of NewEnds = (settings : PanelSettings) (m : PanelMachine) (f
 pub record MakesAnew : Type 0 where
   pub each : MakesAnewBy bus_config_of panel.NewPanelEnds
   pub bytes : (bytes : ℕ) → MakesAnewBy (bus_config_with bytes) (panel.NewPanelWith bytes)
+
+-- an `osdp_panel_add` to a panel in use is `Adds`, or it finds no memory and leaves the panel as it is
+abbrev pub AddsInUse : Type 0
+AddsInUse = (address : ℕ) (m : PanelMachine) (answer : ℕ) (next : Option PanelMachine) (out out' : ℕ)
+    → panel.AddsTo (device_address address) (Some m) answer next out out'
+    → let done = panel_call (Adds address) m in
+    ((answer ≡ number done.status) × (next ≡ Some done.machine)) ⊎ ((answer ≡ number (status.Panel fault.NoMemory)) × (next ≡ Some m))
 
 -- ---- a device
 

@@ -3,7 +3,7 @@
 //! So the premises are not empty, and the theorem of any calls names what such programs call. The functions do nothing: their contracts are laws.
 #![tactic(auto)]
 
-ghost use Rattle.osdp_calls_instance.specs.CPrograms.{MakesAnew, PanelCallsAreCalls, c_device, c_panel};
+ghost use Rattle.osdp_calls_instance.specs.CPrograms.{AddsInUse, MakesAnew, PanelCallsAreCalls, c_device, c_panel};
 ghost use Rattle.osdp_calls_instance.specs.Fitting.{CallsForCFit, LinesFit};
 ghost use Rattle.osdp_calls_instance.specs.Instance.{SomeCallsKeep};
 ghost use Rattle.osdp_calls_instance.specs.LinePrograms.{LinesAreThese, PanelLinesAreCalls, line_device, line_panel};
@@ -53,8 +53,10 @@ fn stands_on_calls<H: Handler>()
 /// handle is the calls that `panel_calls` and `device_calls` name. What is promised of them then is law `c_programs_hold_once` of `osdp_programs_ledger`.
 /// An order that waits for a POLL is no call yet: it is one of the tick that sends the POLL. An event that is too old lapses where it was
 /// ever offered, and else it is taken back. A panel whose handle is freed, made and given its devices, each call done, is one made anew, whether it is made with
-/// room for each command or for so many bytes of them, and with POLLs between orders or not.
+/// room for each command or for so many bytes of them, and with POLLs between orders or not. A device that is added in use is one of the bus; where memory
+/// ends the panel stays as it is.
 pub fn calls_for_c_are_calls()
+    ensures added { AddsInUse }
     ensures anew { MakesAnew }
     ensures line { CallTheLine c_panel c_device program_answer program_after }
 {

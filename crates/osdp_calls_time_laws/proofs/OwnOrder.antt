@@ -7,7 +7,7 @@ use Rattle.osdp_msg.specs.CommandTable.{command_at, command_fault, command_of}
 use Rattle.osdp_msg.specs.ReplyTable.{reply_at, reply_fault, reply_of}
 use Rattle.osdp_bus_laws.specs.Calls as bus
 use Rattle.osdp_entry_numbers.specs.Day.{day, own_line}
-use Rattle.osdp_entry_numbers.specs.Numbers.{has_entry, named, renumbered}
+use Rattle.osdp_entry_numbers.specs.Numbers.{is_of_line, renumbered}
 use Rattle.osdp_entry_numbers.specs.OwnOrder.{AllOwnKeep, OwnKeeps, OwnLine, OwnStep, after_own, in_order, own_view, turned}
 use Rattle.osdp_entry_numbers.proofs.Day.{any_order}
 use Rattle.osdp_entry_numbers.proofs.Following.{Follows, set_up_follows, still_follows}
@@ -42,7 +42,7 @@ module _ {H : Type 0} where
 
   module _ (w : ℕ) (t : Timed H) (c : Clock) (ordered : List ℕ) (a : OwnLine H) (follows : Follows a) where
     is_made : (call : Call H) → KeepsClock w call t c (own_view a) → IsMade w t c (turned call a) (in_order call ordered a)
-    is_made (OfPanel call) clock = by_test (has_entry (named call) a.bus)
+    is_made (OfPanel call) clock = by_test (is_of_line call a.bus)
       where
         config : a.bus.config ≡ (turned (OfPanel call) a).bus.config
         config = sym (ap (λ (b : BusState). b.config) follows.same)

@@ -125,7 +125,7 @@ module _ {H : Type 0} (answer_of : H → Command → Answer) (after : H → Comm
       same = refl;
     };
     keep = keep_all day (own_line handler) refl
-        ((tt, tt, tt), ((tt, tt, tt), ((omega arith, tt, λ accepted. refl), ((tt, tt, tt), ((tt, tt, tt), ((tt, tt, tt), ((tt, tt, tt), ((tt, tt, tt), (((id_fits, tt), tt, tt), ((tt, tt, tt), ((tt, tt, tt), ((tt, tt, tt), (((twice_fits, (omega arith, (omega arith, (omega arith, tt))), omega arith), at_noon, tt), ((tt, tt, tt), ((((omega arith, each_all CapabilityFits [] tt), tt), tt, tt), ((tt, tt, tt), ((tt, tt, tt), ((tt, tt, tt), (((twice_fits, (omega arith, (omega arith, (omega arith, tt))), omega arith), at_four, tt), ((tt, tt, tt), ((tt, tt, tt), ((tt, tt, tt), (((id_fits, tt), tt, tt), ((tt, tt, tt), ((tt, tt, tt), ((tt, tt, tt), ((tt, tt, tt), (((key_fits, tt), tt, tt), ((tt, tt, tt), tt)))))))))))))))))))))))))))));
+        ((tt, tt, tt), ((tt, tt, tt), ((omega arith, tt, λ accepted. refl), ((tt, tt, tt), ((tt, tt, tt), ((tt, tt, tt), ((tt, tt, tt), ((tt, tt, tt), (((id_fits, tt), tt, tt), ((tt, tt, tt), ((tt, tt, tt), ((tt, tt, tt), (((twice_fits, (omega arith, (omega arith, (omega arith, tt))), omega arith), at_noon, tt), ((tt, tt, tt), ((((omega arith, each_all CapabilityFits [] tt), tt), tt, tt), ((tt, tt, tt), ((tt, tt, tt), ((tt, tt, tt), (((twice_fits, (omega arith, (omega arith, (omega arith, tt))), omega arith), at_four, tt), ((tt, tt, tt), ((tt, tt, tt), ((tt, tt, tt), (((id_fits, tt), tt, tt), ((tt, tt, tt), ((tt, tt, tt), ((tt, tt, tt), ((tt, tt, tt), (((key_fits, tt), tt, tt), ((tt, tt, tt), (((twice_fits, (omega arith, (omega arith, (omega arith, tt))), omega arith), at_noon, tt), ((tt, tt, tt), ((tt, tt, λ free. (_, refl, refl)), ((tt, tt, tt), ((tt, tt, tt), ((tt, tt, tt), (((id_fits, tt), tt, tt), ((tt, tt, tt), tt)))))))))))))))))))))))))))))))))))));
     between = not_before handler;
     fewer = not_fewer handler;
     turned = not_turned handler;
@@ -133,5 +133,7 @@ module _ {H : Type 0} (answer_of : H → Command → Answer) (after : H → Comm
     would_ask = refl;
     left_out = refl;
     back = refl;
+    none_again = refl;
+    added = refl;
     steps = refl;
   }

@@ -2,7 +2,8 @@
 use Rattle.std.proofs.Common.{◌≡◌, ◌⊎◌, ℕ, true, false, cond, is_some, List, [], ◌∷◌, ◌++◌, append-nil, map, option_map, Option, Some, None, refl, sym, subst, ap, ◌∙◌, inl, inr}
 use Rattle.osdp_entry_numbers.proofs.Common.{option_map_or, Packet, Command, BusState, device_of, after_begin_at, after_retarget_at, after_submit_at, begin_refusal_of, changed_unless, entry_withdraws, retarget_refusal_of, submit_refusal_of, withdrawal_of, BusConfig, Entry, sound_call, SoundBus, each_of, Each, Answer, changed, site_at, Call, NewDevice, NewPanel, Next, OfPanel, Step, after_call, after_next, after_panel, all_hear, asked_at, begins_with, begun_of, change_at, changes_at, is_to_begin, issues, last_of, noted, panel_says, read_by, said_at, said_for, takes_back, withdrawn, CanStand, Burst, InUse, Station, AllKeep, AreInOrder, IsAsked, IsFreeFor, IsNoOthers, IsOfOthers, IsSaid, IsThere, Keeps, MayBeAt, PanelInRange, said_bus, changed_same, AnyCallsKeep, as_they_stand, same_step, IsNewPanel, has_entry, named, renumbered, turn_of, AllOwnKeep, LeavesAlone, OwnKeeps, OwnLine, after_own, asked_in}
 use Rattle.osdp_bus_laws.specs.Calls as bus
-use Rattle.osdp_entry_numbers.proofs.Following.{has_turn, new_sound}
+use Rattle.osdp_entry_numbers.specs.Numbers.{is_of_line}
+use Rattle.osdp_entry_numbers.proofs.NewPanels.{has_turn, new_sound}
 use Rattle.osdp_entry_numbers.proofs.Panels.{IsNoAdd, max_zero}
 use Rattle.osdp_entry_numbers.proofs.Turning.{asked_to, call_to, retarget_first, same_numbers, sent_to, submit_first, turned_to}
 
@@ -26,6 +27,10 @@ reads_none (bus.Submit i command) k b is = refl
 reads_none (bus.Withdraw i) k b is = refl
 reads_none (bus.Retarget i address) k b is = refl
 reads_none _ k b is = absurd (let e = is in cc)
+
+in_line : (call : bus.Call) (b : BusState) → IsNoAdd call → is_of_line call b ≡ has_entry (named call) b
+in_line (bus.Add address) b added = absurd added
+in_line _ b added = refl
 
 same_panel : (config : BusConfig) (xs : List ℕ) → CanStand {H = ℕ} (NewPanel config xs) → IsNewPanel config xs xs as_they_stand
 same_panel config xs stands = record { settings = stands.0; none_refused = stands.1; numbers = same_numbers; sorted = λ i a at. at }
@@ -164,10 +169,11 @@ module _ {H : Type 0} where
       })
   absent_same _ k ps l is none = absurd (let e = is in cc)
 
-  leaves_same : (call : bus.Call) (first : ℕ) (l : InUse H) → LeavesAlone (OfPanel call) (beside first l)
-  leaves_same (bus.Submit k command) first l = λ accepted. submit_first k command first l.bus ∙ accepted
-  leaves_same (bus.Retarget k address) first l = λ accepted. retarget_first k address first l.bus ∙ accepted
-  leaves_same _ first l = tt
+  leaves_same : (call : bus.Call) (first : ℕ) (l : InUse H) → IsNoAdd call → LeavesAlone (OfPanel call) (beside first l)
+  leaves_same (bus.Add address) first l added = absurd added
+  leaves_same (bus.Submit k command) first l added = λ accepted. submit_first k command first l.bus ∙ accepted
+  leaves_same (bus.Retarget k address) first l added = λ accepted. retarget_first k address first l.bus ∙ accepted
+  leaves_same _ first l added = tt
 
   module _ (answer_of : H → Command → Answer) (after : H → Command → H) where
     no_add : (call : bus.Call) → PanelInRange answer_of after call → IsNoAdd call
@@ -225,14 +231,14 @@ module _ {H : Type 0} where
 
         as_it_is : has_entry (named call) l.bus ≡ true → Beside (record { call = OfPanel call; places = ps }) first l
         as_it_is has =
-            let is : cond (has_entry (named call) l.bus) (renumbered as_they_stand.ordered call) (bus.OnBytes [] 0) ≡ call =
-            ap (λ x. cond x (renumbered as_they_stand.ordered call) (bus.OnBytes [] 0)) has ∙ same_call call in
+            let is : cond (is_of_line call l.bus) (renumbered as_they_stand.ordered call) (bus.OnBytes [] 0) ≡ call =
+            ap (λ x. cond x (renumbered as_they_stand.ordered call) (bus.OnBytes [] 0)) (in_line call l.bus added ∙ has) ∙ same_call call in
             let x = panel_to first l (turned_sound l sound) call ps added in
             record {
               keeps = record {
                 keeps = subst (λ c. Keeps answer_of after (record { call = OfPanel c; places = ps }) (on_turn f l)) (sym is) (panel_keeps call ps f l x.read k);
                 fits = tt;
-                leaves = leaves_same call first l;
+                leaves = leaves_same call first l added;
               };
               next = x.next;
               same = (λ i. record { bus = own_bus i; numbers = as_they_stand; line = (ap (λ c. after_panel c ps (on_turn f l)) is ∙ x.same) i });
@@ -243,8 +249,8 @@ module _ {H : Type 0} where
         by_entry i names (Some d) at = as_it_is (ap (λ x. has_entry x l.bus) names ∙ ap (λ (o : Option Entry). is_some o) at)
         by_entry i names None none =
             let lost : has_entry (named call) l.bus ≡ false = ap (λ x. has_entry x l.bus) names ∙ ap (λ (o : Option Entry). is_some o) none in
-            let is : cond (has_entry (named call) l.bus) (renumbered as_they_stand.ordered call) (bus.OnBytes [] 0) ≡ bus.OnBytes [] 0 =
-            ap (λ x. cond x (renumbered as_they_stand.ordered call) (bus.OnBytes [] 0)) lost in
+            let is : cond (is_of_line call l.bus) (renumbered as_they_stand.ordered call) (bus.OnBytes [] 0) ≡ bus.OnBytes [] 0 =
+            ap (λ x. cond x (renumbered as_they_stand.ordered call) (bus.OnBytes [] 0)) (in_line call l.bus added ∙ lost) in
             let plain = absent_same call i ps l names none in
             record {
               keeps = record {
@@ -256,7 +262,7 @@ module _ {H : Type 0} where
                   in_range = tt;
                 });
                 fits = tt;
-                leaves = leaves_same call first l;
+                leaves = leaves_same call first l added;
               };
               next = f;
               same = (λ j. record {

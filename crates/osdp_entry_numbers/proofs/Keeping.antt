@@ -1,5 +1,5 @@
 -- The ledger of each device, read off a panel whose entries stand in an order of its own, is that of its link.
-use Rattle.osdp_entry_numbers.proofs.Common.{◌≡◌, ◌⊎◌, ℕ, true, false, inl, inr, List, [], ◌∷◌, ◌++◌, map, Some, refl, sym, subst, ap, ◌∙◌, Command, device_of, Entry, Answer, Order, RestartPanel, after, new_ledger, AreAllowed, History, new_history, runs, after_steps, all_steps, queued_before, outstanding_command, Net, NetMove, RestartsPanel, after_net, site_at, some_same, is_there, IsIdle, AllOwnKeep, OwnLine, OwnStep, after_all_own, after_own, in_order, turned, all_own_given_up, IsOfPanel, OwnOrderDoesTheSame, OwnOrderKeepsApart, OwnOrderKeepsLedger, own_along, own_steps, own_steps_from}
+use Rattle.osdp_entry_numbers.proofs.Common.{◌≡◌, ◌⊎◌, ℕ, true, false, inl, inr, List, [], ◌∷◌, ◌++◌, map, option_map, Option, Some, refl, sym, subst, ap, ◌∙◌, Command, device_of, Entry, Answer, Order, RestartPanel, after, new_ledger, AreAllowed, History, new_history, runs, after_steps, all_steps, queued_before, outstanding_command, Net, NetMove, RestartsPanel, after_net, site_at, some_same, is_there, IsIdle, AllOwnKeep, OwnLine, OwnStep, after_all_own, after_own, in_order, turned, all_own_given_up, IsOfPanel, OwnOrderDoesTheSame, OwnOrderKeepsApart, OwnOrderKeepsLedger, own_along, own_steps, own_steps_from}
 use Rattle.std.specs.Prelude.{is_some, option_to_list}
 use Rattle.osdp_reader.specs.State.{ReaderState}
 use Rattle.osdp_ledger.specs.Ledger as ledger
@@ -20,6 +20,8 @@ use Rattle.osdp_calls_ledger.proofs.GivenUp.{exits_so}
 use Rattle.osdp_calls_ledger.proofs.Keeping.{allowed_without, before_still, runs_without, switched_on}
 use Rattle.osdp_calls_ledger.proofs.Seen.{in_turn, seen, seen_at, seen_of_link}
 use Rattle.osdp_calls_ledger.proofs.Shows.{Shown, Shows, shows_as, then_shows}
+use Rattle.osdp_entry_numbers.specs.Numbers.{as_seen}
+use Rattle.osdp_entry_numbers.proofs.Raised.{caught_up, get_raised}
 use Rattle.osdp_entry_numbers.proofs.Entries.{FromOther, IsEntry, IsIdleOne, from_other}
 use Rattle.osdp_entry_numbers.proofs.Following.{Follows, does_the_same, own_line_under, set_up_follows, still_follows}
 use Rattle.osdp_entry_numbers.proofs.Reading.{own_commands, own_events, own_gone}
@@ -75,24 +77,34 @@ module _ {H : Type 0} (answer_of : H → Command → Answer) (after_command : H 
       all_follow steps (after_own answer_of after_command step a)
       (still_follows answer_of after_command step.call step.places step.ordered step.numbers a f keep.0).follows keep.1
 
-  -- ---- what the panel has of an entry is what the line has, or both are idle
+  -- ---- what the panel has of an entry is what the line has but for the moment, or both are idle
 
-  whole_entry : (k : ℕ) (d : Entry) (a : OwnLine H) → Follows a → (e : Entry) → device_of k a.line.bus ≡ Some e → IsOfPanel k d a
-      → (e ≡ d) ⊎ (IsIdle e × IsIdle d)
-  whole_entry k d a f e at (inl is) =
-      by_other (from_other e (device_of (a.numbers.own k) a.bus) (device_of k a.line.bus) at (own_line_under a f k))
-    where
-      by_other : FromOther (device_of (a.numbers.own k) a.bus) e → (e ≡ d) ⊎ (IsIdle e × IsIdle d)
-      by_other (IsEntry there) = inl (some_same e d (sym there ∙ is))
-      by_other (IsIdleOne none idle) = absurd (let both = sym none ∙ is in cc)
-  whole_entry k d a f e at (inr (none, idle)) =
-      by_other (from_other e (device_of (a.numbers.own k) a.bus) (device_of k a.line.bus) at (own_line_under a f k))
-    where
-      by_other : FromOther (device_of (a.numbers.own k) a.bus) e → (e ≡ d) ⊎ (IsIdle e × IsIdle d)
-      by_other (IsEntry there) = absurd (let both = sym none ∙ there in cc)
-      by_other (IsIdleOne nobody also) = inr (also, idle)
+  abbrev IsSameEntry : Entry → Entry → Type 0
+  IsSameEntry e d = (as_seen 0 e ≡ as_seen 0 d) ⊎ (IsIdle e × IsIdle d)
 
-  ahead_same : (e d : Entry) → (e ≡ d) ⊎ (IsIdle e × IsIdle d)
+  whole_entry : (k : ℕ) (d : Entry) (a : OwnLine H) → Follows a → (e : Entry) → device_of k a.line.bus ≡ Some e → IsOfPanel k d a → IsSameEntry e d
+  whole_entry k d a f e at is =
+      by_panel (device_of (a.numbers.own k) (caught_up a.bus)) is
+      (from_other (as_seen m e) (device_of (a.numbers.own k) (caught_up a.bus)) (device_of k (caught_up a.line.bus))
+      (get_raised m a.line.bus.devices.entries k ∙ ap (option_map (as_seen m)) at) (own_line_under a f k)) (get_raised g a.bus.devices.entries (a.numbers.own k))
+    where
+      m : ℕ
+      m = a.line.bus.greatest
+
+      g : ℕ
+      g = a.bus.greatest
+
+      idle_too : IsIdle (as_seen m e) → IsIdle e
+      idle_too idle = record { closed = idle.closed; waiting = idle.waiting; reserved = idle.reserved }
+
+      by_panel : (o : Option Entry) → IsOfPanel k d a → FromOther o (as_seen m e) → o ≡ option_map (as_seen g) (device_of (a.numbers.own k) a.bus) → IsSameEntry e d
+      by_panel o (inl own) (IsEntry there) raised =
+          inl (ap (as_seen 0) (some_same (as_seen m e) (as_seen g d) (sym there ∙ raised ∙ ap (option_map (as_seen g)) own)))
+      by_panel o (inl own) (IsIdleOne none idle) raised = absurd (let both = sym none ∙ raised ∙ ap (option_map (as_seen g)) own in let x = both in cc)
+      by_panel o (inr (none, idle)) (IsEntry there) raised = absurd (let both = sym there ∙ raised ∙ ap (option_map (as_seen g)) none in let x = both in cc)
+      by_panel o (inr (none, idle)) (IsIdleOne nobody also) raised = inr (idle_too also, idle)
+
+  ahead_same : (e d : Entry) → IsSameEntry e d
       → option_to_list (outstanding_command e.controller.session.state) ++ e.controller.waiting ≡ option_to_list (outstanding_command d.controller.session.state) ++ d.controller.waiting
   ahead_same e d (inl same) = ap (λ (x : Entry). option_to_list (outstanding_command x.controller.session.state) ++ x.controller.waiting) same
   ahead_same e d (inr (one, other)) =

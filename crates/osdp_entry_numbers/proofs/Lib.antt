@@ -3,6 +3,10 @@ pub mod Entries
 pub mod Hearing
 pub mod Buses
 pub mod Panels
+pub mod Raised
+pub mod Alike
+pub mod AlikeCalls
+pub mod NewPanels
 pub mod Following
 pub mod Reading
 pub mod Keeping

@@ -1,9 +1,10 @@
 -- A list of calls of a panel with an entry of another make between two of ours, which is made anew with one of ours left out, and then with all entries in
--- another order.
+-- another order, and that adds one in use.
 use Rattle.std.specs.Prelude.{◌≡◌, ℕ, zero, suc, true, false, is_some, [], ◌∷◌, List, Some, None, take}
 use Rattle.osdp_msg.specs.declared.command.Command.{Command}
 use Rattle.osdp_msg.specs.declared.command.Command.TheVariants.{Cap}
 use Rattle.osdp_msg.specs.declared.reply.Reply.TheVariants as reply
+use Rattle.osdp_controller.specs.declared.report.Report.TheVariants.{Opened}
 use Rattle.osdp_bus.specs.Buses.{device_of}
 use Rattle.osdp_bus_laws.specs.Calls as bus
 use Rattle.osdp_ledger.specs.Ledger as ledger
@@ -63,7 +64,8 @@ module _ {H : Type 0} where
 
   -- Sessions of the device of another make and of that at 4 begin, in the panel's order. An order to the device at 4 goes out, and the panel is made anew with
   -- another order of its entries, and none for that device. The device reads the order, acts on it, and queues an event. The panel hears its answer, and
-  -- refuses to begin a session of it. It is made anew with all entries in a third order. The session opens, and the event is reported.
+  -- refuses to begin a session of it. It is made anew with all entries in a third order. The session opens, and the event is reported. It is made anew without
+  -- an entry for that device once more, adds one in use, and a session of it opens.
   abbrev pub day : List (OwnStep H)
   day =
       does (OfPanel (bus.Begin 1 0)) []
@@ -95,6 +97,14 @@ module _ {H : Type 0} where
       ∷ does (Take 1 (asks 4 1 (96 ∷ [])) 865) []
       ∷ does (Next 1) (6 ∷ [])
       ∷ does (OfPanel (bus.OnBytes (answers 4 1 (83 ∷ 0 ∷ 1 ∷ 49 ∷ [])) 867)) (7 ∷ [])
+      ∷ record { call = NewPanel twice (20 ∷ 3 ∷ []); places = []; ordered = 3 ∷ 4 ∷ 20 ∷ []; numbers = without }
+      ∷ does (OfPanel (bus.OnBytes (answers 4 1 (83 ∷ 0 ∷ 1 ∷ 49 ∷ [])) 867)) (7 ∷ [])
+      ∷ does (OfPanel (bus.Add 4)) []
+      ∷ does (OfPanel (bus.Begin 2 869)) []
+      ∷ does (OfPanel (bus.Tick 1269)) []
+      ∷ does (Take 1 (asks 4 0 (97 ∷ 0 ∷ [])) 1270) []
+      ∷ does (Next 1) (8 ∷ [])
+      ∷ does (OfPanel (bus.OnBytes (answers 4 0 (69 ∷ 1 ∷ 2 ∷ 3 ∷ 4 ∷ 5 ∷ 6 ∷ 0 ∷ 0 ∷ 0 ∷ 7 ∷ 8 ∷ 9 ∷ [])) 1272)) (9 ∷ [])
       ∷ []
 
   module _ (answer_of : H → Command → Answer) (after : H → Command → H) where
@@ -119,7 +129,10 @@ module _ {H : Type 0} where
       -- the panel has no entry for the device at 4, and has one again
       pub left_out : device_of 2 (line_after 13 handler).bus ≡ None
       pub back : is_some (device_of 0 (line_after 19 handler).bus) ≡ true
+      -- once more it has none; one that is added is the third, and its session opens
+      pub none_again : device_of 2 (line_after 31 handler).bus ≡ None
+      pub added : (line_after 37 handler).bus.devices.report ≡ Some (2, Opened (device_at 4).id)
       -- the ledger of the device at 4
       pub steps : own_steps_from answer_of after 1 (station_at 4 handler) day (own_line handler)
           ≡ ledger.Submit order ∷ ledger.Open ∷ ledger.RestartPanel true ∷ ledger.Act order (reply.PdCap (record { capabilities = (device_at 4).caps })) ∷ ledger.Queue card
-          ∷ ledger.RestartPanel false ∷ ledger.Open ∷ ledger.Offers card ∷ ledger.Report card ∷ []
+          ∷ ledger.RestartPanel false ∷ ledger.Open ∷ ledger.Offers card ∷ ledger.Report card ∷ ledger.RestartPanel false ∷ ledger.Open ∷ []

@@ -1,8 +1,9 @@
 -- The numbers of entries: those that the panel has, and those that they would have if ours came first, in the order of our devices.
-use Rattle.std.specs.Prelude.{◌≡◌, ℕ, Bool, true, is_some, List, [], Option, Some, None}
+use Rattle.std.specs.Prelude.{◌≡◌, ℕ, Bool, true, false, is_some, List, [], Option, Some, None}
 use Rattle.osdp_controller.specs.declared.report.Report.{Report}
 use Rattle.osdp_controller.specs.declared.state.State.TheVariants.{Closed}
 use Rattle.osdp_bus.specs.Buses.{BusState, device_of, new_bus}
+use Rattle.osdp_bus.specs.Machine.{new_device}
 use Rattle.osdp_bus.specs.Settings.{IsBusConfig}
 use Rattle.osdp_bus.specs.declared.config.BusConfig.{BusConfig}
 use Rattle.osdp_bus.specs.declared.entry.Entry.{Entry}
@@ -35,6 +36,14 @@ pub record IsIdle (d : Entry) : Type 0 where
   pub waiting : d.controller.waiting ≡ []
   pub reserved : d.reserved ≡ None
 
+-- an entry as if its controller had seen this moment
+abbrev pub as_seen : ℕ → Entry → Entry
+as_seen moment d = record d { controller = record d.controller { session = record d.controller.session { greatest = moment } } }
+
+-- an entry that nobody has used since it was added at this address: but for the moment it is as a new one
+abbrev pub IsUnused : ℕ → BusConfig → Entry → Type 0
+IsUnused address config d = as_seen 0 d ≡ new_device address config
+
 -- a call of the panel, by other numbers
 abbrev pub renumbered : (ℕ → ℕ) → bus.Call → bus.Call
 renumbered f (bus.Begin entry now) = bus.Begin (f entry) now
@@ -54,6 +63,11 @@ named _ = None
 abbrev pub has_entry : Option ℕ → BusState → Bool
 has_entry None b = true
 has_entry (Some entry) b = is_some (device_of entry b)
+
+-- the call is one of the line with all entries, too: there an entry isn't added, since it stands there already
+abbrev pub is_of_line : bus.Call → BusState → Bool
+is_of_line (bus.Add address) b = false
+is_of_line call b = has_entry (named call) b
 
 -- a report, by the other number of its entry
 abbrev pub renumbers : (ℕ → ℕ) → ℕ × Report → ℕ × Report

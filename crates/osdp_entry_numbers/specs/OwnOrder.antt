@@ -1,16 +1,18 @@
--- A panel whose entries stand in an order of its own, with entries of others between ours, and some of ours left out. It goes by its own bus. Beside that
--- stands the same line with our entries first, in the order of our devices. There an idle entry stands for each device that is left out.
-use Rattle.std.specs.Prelude.{◌≡◌, ℕ, if◌then◌else◌, List, [], ◌∷◌, Option, None, option_map}
+-- A panel whose entries stand in an order of its own, with entries of others between ours, and some of ours left out, of which it may add one in use. It goes
+-- by its own bus. Beside that stands the same line with our entries first, in the order of our devices. There an idle entry stands for each device that is
+-- left out.
+use Rattle.std.specs.Prelude.{◌≡◌, ℕ, if◌then◌else◌, List, [], ◌∷◌, length, Option, None, Some, option_map}
 use Rattle.osdp_msg.specs.declared.command.Command.{Command}
-use Rattle.osdp_bus.specs.Buses.{BusState}
-use Rattle.osdp_bus.specs.Machine.{retarget_refusal_at, submit_refusal_at}
+use Rattle.osdp_bus.specs.Buses.{BusState, device_of}
+use Rattle.osdp_bus.specs.Machine.{add_refusal, retarget_refusal_at, submit_refusal_at}
 use Rattle.osdp_bus.specs.declared.config.BusConfig.{BusConfig}
+use Rattle.osdp_bus.specs.declared.entry.Entry.{Entry}
 use Rattle.osdp_bus_laws.specs.Calls as bus
 use Rattle.osdp_reader.specs.declared.handler.Answer.{Answer}
 use Rattle.osdp_calls.specs.Calls.{Call, NewPanel, OfPanel, Step, after_call, asked_at}
 use Rattle.osdp_calls.specs.Lines.{InUse, bus_with}
 use Rattle.osdp_calls.specs.Premises.{IsSetUp, Keeps}
-use Rattle.osdp_entry_numbers.specs.Numbers.{IsNewPanel, Numbers, has_entry, named, renumbered, turn_of}
+use Rattle.osdp_entry_numbers.specs.Numbers.{IsNewPanel, IsUnused, Numbers, is_of_line, renumbered, turn_of}
 
 -- the panel's own bus, the numbers of its entries, and the line with entries in the order of devices
 pub record OwnLine (H : Type 0) : Type 0 where
@@ -35,9 +37,9 @@ module _ {H : Type 0} where
   abbrev pub own_view : OwnLine H → InUse H
   own_view a = record a.line { bus = a.bus }
 
-  -- the call by the order of devices. One that names an entry that the panel doesn't have is refused: it brings nothing
+  -- the call by the order of devices. One that names an entry that the panel doesn't have is refused: it brings nothing. Nor does one that adds an entry
   abbrev pub in_order : Call H → List ℕ → OwnLine H → Call H
-  in_order (OfPanel call) ordered a = OfPanel (if has_entry (named call) a.bus then renumbered a.numbers.ordered call else bus.OnBytes [] 0)
+  in_order (OfPanel call) ordered a = OfPanel (if is_of_line call a.bus then renumbered a.numbers.ordered call else bus.OnBytes [] 0)
   in_order (NewPanel config addresses) ordered a = NewPanel config ordered
   in_order call ordered a = call
 
@@ -69,12 +71,15 @@ module _ {H : Type 0} where
   Fits (NewPanel config addresses) ordered n = IsNewPanel config addresses ordered n
   Fits _ ordered n = Unit {0}
 
-  -- The panel accepts no COMSET and no `retarget` to the address of an entry that is left out.
+  -- The panel accepts no COMSET and no `retarget` to the address of an entry that is left out. One that it adds is the next that is left out: it is at this
+  -- address, and nobody has used it.
   abbrev pub LeavesAlone : Call H → OwnLine H → Type 0
   LeavesAlone (OfPanel (bus.Submit entry command)) a =
       submit_refusal_at entry command a.bus ≡ None → submit_refusal_at (a.numbers.ordered entry) command a.line.bus ≡ None
   LeavesAlone (OfPanel (bus.Retarget entry address)) a =
       retarget_refusal_at entry address a.bus ≡ None → retarget_refusal_at (a.numbers.ordered entry) address a.line.bus ≡ None
+  LeavesAlone (OfPanel (bus.Add address)) a = add_refusal address a.bus ≡ None
+      → (d : Entry) × (device_of (a.numbers.ordered (length a.bus.devices.entries)) a.line.bus ≡ Some d) × IsUnused address a.bus.config d
   LeavesAlone _ a = Unit {0}
 
   -- a line that is set up, with the panel's own bus

@@ -20,7 +20,7 @@ use Rattle.osdp_calls.specs.Lines.{Station}
 use Rattle.osdp_calls_ledger.specs.GivenUp.{given_up_by}
 use Rattle.osdp_calls_ledger.specs.Promises.{HoldsOnce}
 use Rattle.osdp_calls_ledger.specs.Steps.{panel_restarts, panel_steps, steps_of}
-use Rattle.osdp_entry_numbers.specs.Numbers.{IsIdle, renumbered, renumbers}
+use Rattle.osdp_entry_numbers.specs.Numbers.{IsIdle, as_seen, renumbered, renumbers}
 use Rattle.osdp_entry_numbers.specs.OwnOrder.{AllOwnKeep, IsOwnSetUp, OwnLine, OwnStep, after_all_own, after_own, turned}
 
 -- the panel loses power, with an order of this entry on the wire, or not; of one that it doesn't have none is
@@ -84,10 +84,11 @@ module _ {H : Type 0} where
         (j k : ℕ) (s t : Station H) → j ≢ k → site_at j end.line.stations ≡ Some s → site_at k end.line.stations ≡ Some t
         → s.reader.config.address ≢ t.reader.config.address
 
-  -- What is asked of the line with our entries first is asked of what the panel has: each entry is the same by its other number, one that is left out is
-  -- idle, and the report that waits is the same. A call tells the same, and at a tick the same goes out.
+  -- What is asked of the line with our entries first is asked of what the panel has: each entry is the same by its other number, but for the greatest moment
+  -- that its controller has seen, one that is left out is idle, and the report that waits is the same. A call tells the same, and at a tick the same goes out.
   pub record DoesTheSame (a : OwnLine H) : Type 0 where
-    pub entries : (i : ℕ) (d : Entry) → device_of i a.bus ≡ Some d → device_of (a.numbers.ordered i) a.line.bus ≡ Some d
+    pub entries : (i : ℕ) (d : Entry) → device_of i a.bus ≡ Some d
+        → (e : Entry) × (device_of (a.numbers.ordered i) a.line.bus ≡ Some e) × (as_seen a.bus.greatest e ≡ as_seen a.bus.greatest d)
     pub left_out : (k : ℕ) (d : Entry) → device_of (a.numbers.own k) a.bus ≡ None → device_of k a.line.bus ≡ Some d → IsIdle d
     pub waits : a.line.bus.devices.report ≡ option_map (renumbers a.numbers.ordered) a.bus.devices.report
     pub told : (call : bus.Call) → told_in (renumbered a.numbers.ordered call) (turned (OfPanel call) a).bus ≡ map (renumbers a.numbers.ordered) (told_in call a.bus)

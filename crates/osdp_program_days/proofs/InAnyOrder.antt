@@ -40,7 +40,7 @@ is_line = record { bus = refl; devices = there }
 fits : AllFit program_answer program_after own_day (own_line new_program)
 unfolding items left_over decided reply_of reply_fault reply_at command_of command_fault command_at
 fits =
-    ((tt, tt, tt), ((tt, tt, tt), ((omega arith, tt, λ accepted. refl), ((tt, tt, tt), ((tt, tt, tt), ((tt, tt, tt), ((tt, tt, tt), ((tt, tt, tt), ((tt, tt, tt), ((tt, tt, tt), (((id_fits, tt), tt, tt), ((tt, tt, tt), ((tt, tt, tt), ((tt, tt, tt), ((tt, tt, tt), ((tt, tt, tt), (((twice_fits, (omega arith, (omega arith, (omega arith, tt))), omega arith), at_noon, tt), ((tt, tt, tt), ((((omega arith, each_all CapabilityFits [] tt), tt), tt, tt), ((tt, tt, tt), ((tt, tt, tt), ((tt, tt, tt), ((tt, tt, tt), ((tt, tt, tt), (((twice_fits, (omega arith, (omega arith, (omega arith, tt))), omega arith), at_four, tt), ((tt, tt, tt), ((tt, tt, tt), ((tt, tt, tt), ((tt, tt, tt), (((id_fits, tt), tt, tt), ((tt, tt, tt), ((tt, tt, tt), ((tt, tt, tt), ((tt, tt, tt), ((tt, tt, tt), ((tt, tt, tt), (((key_fits, tt), tt, tt), ((tt, tt, tt), ((tt, tt, tt), ((tt, tt, tt), tt))))))))))))))))))))))))))))))))))))))))
+    ((tt, tt, tt), ((tt, tt, tt), ((omega arith, tt, λ accepted. refl), ((tt, tt, tt), ((tt, tt, tt), ((tt, tt, tt), ((tt, tt, tt), ((tt, tt, tt), ((tt, tt, tt), ((tt, tt, tt), (((id_fits, tt), tt, tt), ((tt, tt, tt), ((tt, tt, tt), ((tt, tt, tt), ((tt, tt, tt), ((tt, tt, tt), (((twice_fits, (omega arith, (omega arith, (omega arith, tt))), omega arith), at_noon, tt), ((tt, tt, tt), ((((omega arith, each_all CapabilityFits [] tt), tt), tt, tt), ((tt, tt, tt), ((tt, tt, tt), ((tt, tt, tt), ((tt, tt, tt), ((tt, tt, tt), (((twice_fits, (omega arith, (omega arith, (omega arith, tt))), omega arith), at_four, tt), ((tt, tt, tt), ((tt, tt, tt), ((tt, tt, tt), ((tt, tt, tt), (((id_fits, tt), tt, tt), ((tt, tt, tt), ((tt, tt, tt), ((tt, tt, tt), ((tt, tt, tt), ((tt, tt, tt), ((tt, tt, tt), (((key_fits, tt), tt, tt), ((tt, tt, tt), ((tt, tt, tt), ((tt, tt, tt), (((twice_fits, (omega arith, (omega arith, (omega arith, tt))), omega arith), at_noon, tt), ((tt, tt, tt), ((tt, tt, tt), ((tt, tt, λ free. (_, refl, refl)), ((tt, tt, tt), ((tt, tt, tt), ((tt, tt, tt), ((tt, tt, tt), (((id_fits, tt), tt, tt), ((tt, tt, tt), ((tt, tt, tt), ((tt, tt, tt), tt))))))))))))))))))))))))))))))))))))))))))))))))))))
 
 pub day_in_any_order_keeps : DayInAnyOrderKeeps
 unfolding items left_over decided reply_of reply_fault reply_at command_of command_fault command_at
@@ -55,4 +55,5 @@ day_in_any_order_keeps = record {
   ended = refl;
   acted = refl;
   reported = refl;
+  sessions = refl;
 }

@@ -12,7 +12,7 @@ use Rattle.osdp_calls_instance.specs.LinePrograms.{DeviceAnew, PanelAnew, SaysTo
 use Rattle.osdp_calls_instance.specs.OwnCalls.{AtDevice, AtPanel, Programs}
 use Rattle.osdp_premises.specs.LongDay.{device_at, key, twice}
 use Rattle.osdp_program_days.specs.Days.{DayKeeps, Made}
-use Rattle.osdp_program_days.specs.Happening.{Begins, DeviceDoes, DeviceHears, DeviceIsMadeAnew, Happening, HasOutput, Hears, IsBusy, IsMadeAnew, KeyIsPressed, LetsOldGo, Orders, SeesSilence, Sends, TakesBack, day}
+use Rattle.osdp_program_days.specs.Happening.{Begins, DeviceDoes, DeviceHears, DeviceIsMadeAnew, GetsOneMore, Happening, HasOutput, Hears, IsBusy, IsMadeAnew, KeyIsPressed, LetsOldGo, Orders, SeesSilence, Sends, TakesBack, day}
 
 -- while the panel is gone, events leave that are older than a second, and nothing is told of the panel
 abbrev pub second : Absence
@@ -44,6 +44,7 @@ by_lines (TakesBack entry) = panel (to_panel.Withdraw entry) [] ∷ []
 by_lines (Sends now) = panel_at now to_panel.Tick []
 by_lines (Hears bytes now places) = panel_at now (to_panel.Bytes (record { items = bytes })) places
 by_lines (IsMadeAnew addresses) = record { own = AtPanel (PanelAnew twice addresses); places = [] } ∷ []
+by_lines (GetsOneMore address) = panel (to_panel.Add address) [] ∷ []
 by_lines (HasOutput k) = device k (to_device.Outputs (record { items = 0 ∷ [] })) [] ∷ []
 by_lines (DeviceHears k bytes now places) = device_at_moment now k (to_device.Bytes (record { items = bytes })) places
 by_lines (DeviceDoes k bytes now places) = device_at_moment now k (to_device.Bytes (record { items = bytes })) places

@@ -7,14 +7,15 @@ use Rattle.osdp_premises.specs.LongDay.{answers, asks, away}
 
 -- Moments are milliseconds. Where an end reads, the places stand in what was said on the line: those of the packets that it reads.
 pub data Happening : Type 0 where
-  -- the panel begins a session of an entry at a moment; orders; takes an order back; sends what is due at a moment; hears bytes at a moment; and is made anew
-  -- with entries at these addresses
+  -- the panel begins a session of an entry at a moment; orders; takes an order back; sends what is due at a moment; hears bytes at a moment; is made anew with
+  -- entries at these addresses; and gets one more at an address
   Begins : ℕ → ℕ → Happening
   Orders : ℕ → Command → Happening
   TakesBack : ℕ → Happening
   Sends : ℕ → Happening
   Hears : List ℕ → ℕ → List ℕ → Happening
   IsMadeAnew : List ℕ → Happening
+  GetsOneMore : ℕ → Happening
   -- the device of an entry has one output, which is off; hears bytes at a moment; hears an order that its program decides, and does it; sees the line silent;
   -- a key is pressed there; it is busy from now on, or isn't any more; at a moment it lets the oldest event go that waits, where that is older than a second
   -- and no packet has come for eight; and it is made anew at an address

@@ -1,5 +1,5 @@
 -- The day of `osdp_entry_numbers` by calls for C: a panel with an entry of another make between two of ours is made anew in another order, without the entry of a
--- device whose order is on the wire, and then with all entries in a third order.
+-- device whose order is on the wire, and then with all entries in a third order. It is made anew without that entry once more, and adds it in use.
 use Rattle.std.specs.Prelude.{◌≡◌, ℕ, false, List, [], ◌∷◌, flat_map, map}
 use Rattle.osdp_msg.specs.declared.command.Command.TheVariants.{Cap}
 use Rattle.osdp_msg.specs.declared.event.Event.{Event}
@@ -18,11 +18,12 @@ use Rattle.osdp_entry_numbers.specs.Promises.{own_steps_from}
 use Rattle.osdp_premises.specs.LongDay.{answers, asks, key, station_at, twice}
 use Rattle.osdp_programs_ledger.specs.OwnOrder.{AreOwnCalls}
 use Rattle.osdp_program_days.specs.Days.{Made, owns, steps_of}
-use Rattle.osdp_program_days.specs.Happening.{Begins, DeviceHears, Happening, Hears, IsMadeAnew, KeyIsPressed, Orders, Sends, identity}
+use Rattle.osdp_program_days.specs.Happening.{Begins, DeviceHears, GetsOneMore, Happening, Hears, IsMadeAnew, KeyIsPressed, Orders, Sends, identity}
 use Rattle.osdp_program_days.specs.InC.{device_at, in_c, minute}
 
 -- The sessions of the device of another make and of that at 4 begin, in the panel's order. An order to the device at 4 goes out, and the panel is made anew without
 -- its entry. The device acts on the order, and a key is pressed there. The panel is made anew with all entries. The session opens, and the key is reported.
+-- The panel is made anew without the entry once more, hears the answer again, and adds the entry in use. Its session opens.
 abbrev pub day : List Happening
 day =
     Begins 1 0
@@ -47,6 +48,13 @@ day =
     ∷ Sends 864
     ∷ DeviceHears 1 (asks 4 1 (96 ∷ [])) 865 (6 ∷ [])
     ∷ Hears (answers 4 1 (83 ∷ 0 ∷ 1 ∷ 49 ∷ [])) 867 (7 ∷ [])
+    ∷ IsMadeAnew (20 ∷ 3 ∷ [])
+    ∷ Hears (answers 4 1 (83 ∷ 0 ∷ 1 ∷ 49 ∷ [])) 867 (7 ∷ [])
+    ∷ GetsOneMore 4
+    ∷ Begins 2 869
+    ∷ Sends 1269
+    ∷ DeviceHears 1 (asks 4 0 (97 ∷ 0 ∷ [])) 1270 (8 ∷ [])
+    ∷ Hears (answers 4 0 identity) 1272 (9 ∷ [])
     ∷ []
 
 abbrev pub day_in_c : List (Made c_panel c_device)
@@ -78,11 +86,12 @@ own_day = map own_step (steps_of c_panel c_device day_in_c programs)
 abbrev pub history : History
 history = runs (own_steps_from program_answer program_after 1 (station_at 4 new_program) own_day (own_line new_program)) new_history
 
--- These calls keep the premises that are asked as if our entries came first. The device at 4 acted on its order, which was cut off as the panel lost its entry; and the
--- key was reported in its second session.
+-- These calls keep the premises that are asked as if our entries came first. The device at 4 acted on its order, which was cut off as the panel lost its entry; the
+-- key was reported in its second session; and a third opened by the entry that was added in use.
 pub record DayInAnyOrderKeeps : Type 0 where
   pub calls : AreOwnCalls c_panel c_device program_answer program_after (owns c_panel c_device day_in_c) programs (own_line new_program) own_day
   pub keep : AllOwnKeep program_answer program_after own_day (own_line new_program)
   pub ended : map (λ (e : Order × End). e.1) history.ended ≡ CutOff ∷ []
   pub acted : map (λ (a : Order × Reply). a.0.place) history.acted ≡ 0 ∷ []
   pub reported : map {B = ℕ × Event} (λ (told : ℕ × Card). (told.0, told.1.event)) history.reports ≡ (2, key) ∷ []
+  pub sessions : history.sessions ≡ 3

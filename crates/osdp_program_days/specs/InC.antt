@@ -5,11 +5,11 @@ use Rattle.osdp_c_values.specs.declared.machine.ReaderMachine.{ReaderMachine}
 use Rattle.osdp_c_values.specs.declared.settings.ReaderSettings.{ReaderSettings}
 use Rattle.osdp_c_values.specs.declared.states.StateList.TheVariants.{Outputs}
 use Rattle.osdp_device.specs.Program.{new_program, program_after, program_answer}
-use Rattle.osdp_calls_instance.specs.CPrograms.{AnswerDone, Begin, Bytes, DeviceCall, DeviceMade, DeviceSilence, DeviceTick, ExpiresEvent, Happens, NextReport, PanelAnew, PanelCall, PanelTick, SetBusyTo, SetStates, SubmitText, TakesBytes, Withdraw, c_device, c_panel, panel_made}
+use Rattle.osdp_calls_instance.specs.CPrograms.{Adds, AnswerDone, Begin, Bytes, DeviceCall, DeviceMade, DeviceSilence, DeviceTick, ExpiresEvent, Happens, NextReport, PanelAnew, PanelCall, PanelTick, SetBusyTo, SetStates, SubmitText, TakesBytes, Withdraw, c_device, c_panel, panel_made}
 use Rattle.osdp_calls_instance.specs.OwnCalls.{AtDevice, AtPanel, Programs}
 use Rattle.osdp_premises.specs.LongDay.{four, key, twice}
 use Rattle.osdp_program_days.specs.Days.{DayKeeps, Made}
-use Rattle.osdp_program_days.specs.Happening.{Begins, DeviceDoes, DeviceHears, DeviceIsMadeAnew, Happening, HasOutput, Hears, IsBusy, IsMadeAnew, KeyIsPressed, LetsOldGo, Orders, SeesSilence, Sends, TakesBack, day}
+use Rattle.osdp_program_days.specs.Happening.{Begins, DeviceDoes, DeviceHears, DeviceIsMadeAnew, GetsOneMore, Happening, HasOutput, Hears, IsBusy, IsMadeAnew, KeyIsPressed, LetsOldGo, Orders, SeesSilence, Sends, TakesBack, day}
 
 -- a device at this address, by the settings of the call that makes it
 abbrev pub settings_at : ℕ → ReaderSettings
@@ -49,6 +49,7 @@ in_c (TakesBack entry) = panel (Withdraw entry) [] ∷ []
 in_c (Sends now) = panel (PanelTick now) [] ∷ panel NextReport [] ∷ []
 in_c (Hears bytes now places) = panel (Bytes bytes now) places ∷ panel NextReport [] ∷ []
 in_c (IsMadeAnew addresses) = panel (PanelAnew false twice minute addresses) [] ∷ []
+in_c (GetsOneMore address) = panel (Adds address) [] ∷ []
 in_c (HasOutput k) = device k (SetStates Outputs (0 ∷ [])) [] ∷ []
 in_c (DeviceHears k bytes now places) = device k (TakesBytes bytes now) places ∷ []
 in_c (DeviceDoes k bytes now places) = device k (TakesBytes bytes now) [] ∷ device k AnswerDone [] ∷ device k (DeviceTick now) places ∷ []

@@ -19,7 +19,8 @@ pub fn a_day_by_lines_keeps_the_premises()
 {}
 
 /// Another day's calls for C keep what is asked where entries stand in any order. The entry of a device of another make stands between two of ours. The panel is made anew
-/// in another order, without the entry of a device whose order is on the wire, and then with all entries in a third order.
+/// in another order, without the entry of a device whose order is on the wire, and then with all entries in a third order. It is made anew without that
+/// entry once more, adds it in use, and a session of it opens.
 pub fn a_day_in_c_has_entries_in_any_order()
     ensures { DayInAnyOrderKeeps }
 {}

@@ -54,10 +54,10 @@ pub fn runs_hold_once<H: Handler>()
     osdp_link_laws::holds_once::<H>();
 }
 
-/// What programs in C are promised holds, too, where the panel's entries stand in any order, with entries of others between ours, and where the panel is made
-/// anew in another order, or without some of ours. It holds of each of our devices, with the entry that the panel has of it, if it has one. The premises are
-/// those of law `own_order_holds_once` of `osdp_entry_numbers`. Calls of programs that keep the premises of any calls keep these, where the panel's entries could be
-/// added as they stand.
+/// What programs in C are promised holds, too, where the panel's entries stand in any order, with entries of others between ours, and where the panel is
+/// made anew in another order, or without some of ours, which it may add in use. It holds of each of our devices, with the entry that the panel has of
+/// it, if it has one. The premises are those of law `own_order_holds_once` of `osdp_entry_numbers`. Calls of programs that keep the premises of any calls
+/// keep these, where the panel's entries could be added as they stand.
 pub fn c_programs_hold_once_in_any_order()
     ensures calls { OwnProgramsHoldOnce c_panel c_device program_answer program_after }
     ensures less { AnyProgramsKeep c_panel c_device program_answer program_after }
