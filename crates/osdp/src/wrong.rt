@@ -125,9 +125,7 @@ fn message_stop(words: &[&str]) -> usize {
 fn make_stop(words: &[&str]) -> usize {
     let head = slots_stop(&[Slot::Number(0, 127), Slot::Number(0, 3)], words);
     match words.get(head..).unwrap_or(&[]) {
-        ["sum" | "crc", message @ ..] if head == 2 => {
-            words.len() - message.len() + message_stop(message)
-        }
+        ["sum" | "crc", message @ ..] if head == 2 => message_stop(message).saturating_add(3),
         _ => head,
     }
 }
