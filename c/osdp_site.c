@@ -146,13 +146,17 @@ bool osdp_site_heed(osdp_site *site, const struct osdp_report *report, uint64_t 
     return true;
 }
 
-/* Orders that wait are taken back, and the session begins. */
-static void begin_anew(osdp_panel *panel, size_t number, uint64_t now)
+/* Orders that wait are taken back, and the session begins. At a moment that the panel refuses nothing is done: a call with no bytes asks whether it does. */
+static bool begin_anew(osdp_panel *panel, size_t number, uint64_t now)
 {
     static struct osdp_message stale;
+    if (osdp_panel_bytes(panel, NULL, 0, now) == OSDP_MOMENT_TOO_FAR) {
+        return false;
+    }
     while (osdp_panel_withdraw(panel, number, &stale) == OSDP_OK && stale.present) {
     }
     (void)osdp_panel_begin(panel, number, now);
+    return true;
 }
 
 /* What is wanted and not submitted yet goes to the panel, up to the first that it refuses. */
@@ -170,9 +174,8 @@ static void refresh(struct osdp_site_entry *entry, osdp_panel *panel, size_t num
 void osdp_site_act(osdp_site *site, osdp_panel *panel, uint64_t now)
 {
     for (size_t i = 0; i < site->count; i++) {
-        if (osdp_site_is_due(site, i, now)) {
+        if (osdp_site_is_due(site, i, now) && begin_anew(panel, i, now)) {
             site->entries[i].begins = UINT64_MAX;
-            begin_anew(panel, i, now);
         }
         refresh(&site->entries[i], panel, i);
     }

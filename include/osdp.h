@@ -766,7 +766,7 @@ OSDP_CHECKED osdp_status osdp_panel_free(osdp_panel *panel);
 
 /*
  * Adds a device at an address, 0 to 126. Its session is closed. Its number is written to `entry`: 0 to 15, in the order of adding. A device can't be taken
- * away again.
+ * away again. One may be added while sessions of others go on, at an address that no other device has had since the panel was made.
  *
  * OSDP_NO_MACHINE. OSDP_TOO_MANY (B2): the panel has sixteen devices. OSDP_PANEL_OUT_OF_RANGE (B5): the address is above 126. OSDP_ADDRESS_TAKEN (B3):
  * it is that of another device or reserved for one. OSDP_PANEL_NO_MEMORY (B1). After a refusal `entry` stays as it was.

@@ -101,7 +101,8 @@ bool osdp_site_heed(osdp_site *site, const struct osdp_report *report, uint64_t 
 /*
  * Begins each session that is due. Orders that wait for its device are stale, and are taken back: a program that is to be told of them withdraws them
  * before. Then what is wanted of each device that is online, and wasn't submitted since its session opened, goes to the panel in the order in which it was
- * wanted. What the panel refuses, as where its queue is full, and what comes after it is left for the next call.
+ * wanted. What the panel refuses, as where its queue is full, and what comes after it is left for the next call. At a moment that the panel refuses
+ * (OSDP_MOMENT_TOO_FAR) no order is taken back, and the sessions stay due.
  */
 void osdp_site_act(osdp_site *site, osdp_panel *panel, uint64_t now);
 

@@ -175,6 +175,7 @@ impl Place {
     /// Begins a session that is due, and submits what is wanted to a device that is online.
     fn act(&mut self, panel: &mut Panel, entry: EntryNumber, now: Moment) -> Result<(), Error> {
         if self.begins.is_some_and(|begins| begins <= now) {
+            panel.on_bytes(&[], now)?; // a moment that the panel refuses takes no order back
             while panel.withdraw(entry)?.is_some() {}
             match panel.begin(entry, now) {
                 Ok(()) | Err(Error::NotClosed) => self.begins = None,
@@ -304,7 +305,7 @@ impl<const ENTRIES: usize> Site<ENTRIES> {
     ///
     /// # Errors
     ///
-    /// `MomentTooFar`: the session is still due, but the orders that waited for the device were taken back.
+    /// `MomentTooFar`: the sessions are still due, and no order was taken back.
     pub fn act(&mut self, panel: &mut Panel, now: Moment) -> Result<(), Error> {
         for (entry, place) in panel.entries().zip(&mut self.places) {
             place.act(panel, entry, now)?;

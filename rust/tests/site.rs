@@ -1,5 +1,5 @@
 //! A site over a panel and a device, which are joined in memory: what is refused; that states come once after each opening, the latest of each, and in their
-//! order, also where the panel has room for one command; that orders for a time are not repeated; and when sessions begin.
+//! order, also where the panel has room for one command; that orders for a time are not repeated; when sessions begin; and that a moment too far ahead takes nothing back.
 mod settings;
 
 use osdp::{
@@ -220,4 +220,19 @@ fn the_next_session_is_due_after_the_pause() {
     // the opening ID is due 400 ms after the session has begun
     assert_eq!(site.wait_until(&line.panel, at(2000)), at(400));
     assert_eq!(site.wait_until(&line.panel, at(300)), at(300));
+}
+
+#[test]
+fn a_moment_too_far_ahead_takes_nothing_back() {
+    let mut line = line();
+    line.panel.on_bytes(&[], at(1000)).unwrap();
+    let sound = Command::sound(false);
+    line.panel.submit(line.door, &sound).unwrap();
+    let late = at(1000 + 2 * 86_400_000); // a panel allows a day by default
+    let acted = line.site.act(&mut line.panel, late);
+    assert_eq!(acted, Err(Error::MomentTooFar));
+    assert_eq!(line.site.next_deadline(), Some(at(1000)));
+    assert_eq!(line.panel.withdraw(line.door), Ok(Some(sound)));
+    assert_eq!(line.site.act(&mut line.panel, at(1001)), Ok(()));
+    assert_eq!(line.site.next_deadline(), None);
 }

@@ -1,5 +1,6 @@
 /* A site (osdp_site.h) over a panel and a device of this library, which are joined in memory: what is refused; that states come once after each opening, the latest of
- * each, and in their order, also where the panel has room for one command; that orders for a time are not repeated; and when sessions begin. */
+ * each, and in their order, also where the panel has room for one command; that orders for a time are not repeated; when sessions begin; and that a moment which
+ * lies too far ahead takes nothing back. */
 #include <string.h>
 
 #include "demands.h"
@@ -190,6 +191,30 @@ static void pauses(void)
     demand(!osdp_site_heed(&other, &report, 1400) && two[0].begins == 1550);
 }
 
+/* At a moment that lies too far ahead nothing is taken back, and the session stays due: it begins once the clock is right. */
+static void keeps_what_waits(void)
+{
+    static struct osdp_message command;
+    static struct osdp_site_entry one[1];
+    osdp_panel far;
+    osdp_site its;
+    size_t entry;
+    uint32_t closed;
+    struct osdp_panel_config config;
+    osdp_panel_defaults(&config); /* a moment may lie a day after the one before */
+    demand(osdp_panel_new(&far, &config) == OSDP_OK && osdp_panel_add(&far, 5, &entry) == OSDP_OK);
+    demand(osdp_panel_bytes(&far, NULL, 0, 1000) == OSDP_OK && osdp_panel_submit_text(&far, entry, "LSTAT", 5) == OSDP_OK);
+    osdp_site_new(&its, one, 1, 1000);
+    osdp_site_act(&its, &far, 1000 + 2 * 86400000ull);
+    demand(osdp_site_is_due(&its, 0, 1000) && osdp_panel_is_closed(&far, entry, &closed) == OSDP_OK && closed == 1);
+    demand(osdp_panel_withdraw(&far, entry, &command) == OSDP_OK && command.present);
+    demand(osdp_panel_submit_text(&far, entry, "LSTAT", 5) == OSDP_OK);
+    osdp_site_act(&its, &far, 1001);
+    demand(osdp_site_next_deadline(&its) == UINT64_MAX && osdp_panel_is_closed(&far, entry, &closed) == OSDP_OK && closed == 0);
+    demand(osdp_panel_withdraw(&far, entry, &command) == OSDP_OK && !command.present);
+    demand(osdp_panel_free(&far) == OSDP_OK);
+}
+
 int main(void)
 {
     struct osdp_panel_config config;
@@ -207,6 +232,7 @@ int main(void)
     lives();
     comes_back();
     pauses();
+    keeps_what_waits();
     demand(osdp_panel_free(&panel) == OSDP_OK && osdp_device_free(&device) == OSDP_OK);
     return 0;
 }
