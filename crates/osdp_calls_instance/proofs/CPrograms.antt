@@ -125,7 +125,7 @@ module _ (address : ℕ) (m : PanelMachine) (answer : ℕ) (next : Option PanelM
       inl (
         told ∙ ap (λ o. number (panel.status_of o)) (sym ends.0),
         is ∙ ap (λ x. Some (panel.with_panel x m)) ends.1
-        ∙ ap (λ o. Some (changed_unless o m (panel.with_panel (orders_add address (panel.panel_of m)) m))) (sym ends.0),
+            ∙ ap (λ o. Some (changed_unless o m (panel.with_panel (orders_add address (panel.panel_of m)) m))) (sym ends.0),
       )
 
   added_in_use : (r : Result ℕ BusFault) → AddEnds address (panel.panel_of m) x' r → answer ≡ number (panel.added_status r) → IsAdded
@@ -133,7 +133,7 @@ module _ (address : ℕ) (m : PanelMachine) (answer : ℕ) (next : Option PanelM
       inl (
         told ∙ ap (λ o. number (panel.status_of o)) (sym ends.0),
         is ∙ ap (λ x. Some (panel.with_panel x m)) ends.2
-        ∙ ap (λ o. Some (changed_unless o m (panel.with_panel (orders_add address (panel.panel_of m)) m))) (sym ends.0),
+            ∙ ap (λ o. Some (changed_unless o m (panel.with_panel (orders_add address (panel.panel_of m)) m))) (sym ends.0),
       )
   added_in_use (Err fault.NoMemory) ends told = inr (told, is ∙ ap (λ x. Some (panel.with_panel x m)) ends)
   added_in_use (Err fault.TooMany) ends told = refused fault.TooMany ends told
