@@ -57,7 +57,7 @@ for file in panel.py reader.py lines.py door.hex; do
 done
 # the pages that the helps and the manual pages name
 helps=$(for command in show check make sim panel reader; do "$1" help "$command"; done; cat man/*.1 examples/panel.py)
-for page in $(grep -o 'docs/[A-Z]*\.md' <<<"$helps" | sort -u); do
+for page in $(grep -o 'docs/[A-Z_]*\.md' <<<"$helps" | sort -u); do
   cmp -s "$page" "$there/share/osdp/$page" || fail "share/osdp has no $page, or another one"
 done
 [ -x "$there/share/osdp/examples/panel.py" ] || fail 'panel.py is no program'
