@@ -110,6 +110,12 @@ build leak tests/c/leak.c c/heap_malloc.c "$archive" "${checked[@]}" &&
   fi
 
 examples/c/build "$work" -Werror >"$work/said" 2>&1 || { cat "$work/said"; fail "an example in C was not built"; }
+# .. and compile without a word where a pointer has 32 bits, and an `osdp_size` is no `size_t`
+mkdir "$work/gnu" && : >"$work/gnu/stubs-32.h" # glibc's headers ask for it, and it isn't there for each target
+for file in examples/c/*.c; do
+  "$CC" -m32 -std=c11 -Wall -Wextra -Werror -pedantic -O2 -fsyntax-only -Iinclude -I"$work" -I"/usr/include/$("$CC" -print-multiarch)" "$file" 2>"$work/said" ||
+    { cat "$work/said"; fail "$file for 32 bits says something"; }
+done
 passes python3 tests/c_monitor.py "$work/monitor_checked" "$work/listen"
 for words in "listen" "listen /dev/null 9600 gap 30" "panel" "panel /dev/null 9600 5 gap" "panel /dev/null 9600 5 check none" "reader /dev/null 9600 cap 1:2" "reader /dev/null"; do
   "$work/"$words >"$work/said" 2>&1

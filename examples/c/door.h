@@ -6,7 +6,7 @@
 #include "osdp_site.h"
 
 struct door {
-    size_t entry;
+    osdp_size entry;
     struct stand *stand;
     bool may_order;         /* whether its session is open, and it is the device that stood there before */
     bool is_other;          /* whether another device than that one answers there */

@@ -55,7 +55,7 @@ static void take_answer(const struct osdp_answer *answer)
 static void hear(const uint8_t *bytes, size_t length, uint64_t now)
 {
     static struct osdp_answer answer;
-    size_t at = 0, taken;
+    osdp_size at = 0, taken;
     while (osdp_device_step(&device, bytes + at, length - at, now, &taken, &answer) == OSDP_OK) {
         at += taken;
         take_answer(&answer);

@@ -65,7 +65,7 @@ static size_t given_count(size_t entry)
 
 void tell_ends(struct osdp_panel *panel, const char *cause)
 {
-    size_t waiting;
+    osdp_size waiting;
     for (size_t i = 0; known_reader(i) != NULL && osdp_panel_waiting(panel, i, &waiting) == OSDP_OK; i++) {
         for (; given[i] != NULL; order_ended(i)) {
             if (given_count(i) > waiting) {

@@ -182,7 +182,7 @@ static void tell_last_ends(const char *cause)
 /* Adds a reader, by the address that its word is. */
 static void add_reader(const char *word)
 {
-    size_t entry;
+    osdp_size entry;
     uint32_t name = number(word, "address");
     if (name > 126) {
         stop(BAD_WORDS, "bad address: %s is above 126", word);

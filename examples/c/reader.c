@@ -113,7 +113,7 @@ static void act(const struct osdp_answer *answer, uint64_t now)
 static void hear(const uint8_t *bytes, size_t length, uint64_t now)
 {
     static struct osdp_answer answer;
-    size_t at = 0, taken;
+    osdp_size at = 0, taken;
     while (osdp_device_step(&reader, bytes + at, length - at, now, &taken, &answer) == OSDP_OK) {
         at += taken;
         act(&answer, now);

@@ -77,7 +77,8 @@ static void end_search(struct known *reader, bool is_found, uint64_t now)
 
 void begin_search(uint32_t rate, uint64_t now, bool is_idle)
 {
-    size_t entry, next;
+    osdp_size entry;
+    size_t next;
     uint64_t begins = next_search(rate);
     if (begins > now || (!is_idle && now - begins < PATIENCE)) {
         return;

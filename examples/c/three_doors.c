@@ -95,7 +95,7 @@ static osdp_status make(uint64_t now)
     osdp_status status = osdp_panel_new(&panel, &config);
     osdp_site_new(&site, entries, DOORS, now);
     osdp_color(OSDP_COLOR_RED, &red);
-    for (size_t i = 0, door; i < DOORS && status == OSDP_OK; i++) {
+    for (osdp_size i = 0, door; i < DOORS && status == OSDP_OK; i++) {
         status = osdp_panel_add(&panel, (uint32_t)i + 1, &door);
         (void)osdp_site_wants(&site, i, &red);
         take_contact(i, false, now);

@@ -55,12 +55,12 @@ char **take_words(int *count, char **words, int least, const char *usage, const 
     return words;
 }
 
-typedef osdp_status text_call(uint8_t, const uint8_t *, size_t, char *, size_t, size_t *);
+typedef osdp_status text_call(uint8_t, const uint8_t *, osdp_size, char *, osdp_size, osdp_size *);
 
 static const char *text_of(text_call *call, const struct osdp_message *message)
 {
     static char text[6145];
-    size_t length;
+    osdp_size length;
     if (call(message->code, message->data, message->length, text, sizeof text - 1, &length) != OSDP_OK) {
         return "no text";
     }
@@ -92,7 +92,7 @@ void tell_report(const struct osdp_report *report)
 {
     static const char *const names[] = { "", "opened", "settled", "moved", "event", "answered", "unread", "lost" };
     static const char *const causes[] = { "", "no-reply", "too-busy", "number-refused" };
-    tell("%s %zu", names[report->kind & 7], report->entry + 1);
+    tell("%s %zu", names[report->kind & 7], (size_t)report->entry + 1);
     if (report->kind == OSDP_REPORT_LOST) {
         tell(" %s", causes[report->detail & 3]);
     } else if (report->kind == OSDP_REPORT_UNREAD) {
