@@ -264,8 +264,7 @@ void osdp_device_turn(osdp_device *device, const uint8_t *bytes, size_t length, 
     static const uint8_t none[1] = { 0 };
     static struct osdp_answer answer;
     if (hear(device, bytes, length, now, takes) == OSDP_MOMENT_TOO_FAR) {
-        (void)osdp_device_set_moment(device, now);
-        (void)hear(device, bytes, length, now, takes);
+        (void)osdp_device_set_moment(device, now); /* the bytes are left: an answer to them would keep what is too old from leaving */
     }
     if (osdp_device_tick(device, now, &answer) == OSDP_OK && answer.kind != OSDP_SAID_NONE) {
         takes(&answer, now);

@@ -143,7 +143,10 @@ void osdp_site_turn(
 /* What a program does with what its device says: it acts, and then writes `answer->burst`. What it sets for a command that is pending is answered. */
 typedef void osdp_device_takes(const struct osdp_answer *answer, uint64_t now);
 
-/* The same of a device's loop: the bytes are handed over until all are taken and nothing is said, and then what the moment brings. */
+/*
+ * The same of a device's loop: the bytes are handed over until all are taken and nothing is said, and then what the moment brings. Where the moment lies too far
+ * ahead the bytes are left, and a panel sends them again: so events that have become too old leave first (`osdp_device_expire_event`, before the next turn).
+ */
 void osdp_device_turn(osdp_device *device, const uint8_t *bytes, size_t length, uint64_t now, osdp_device_takes *takes);
 
 /* ---- Commands as panels mostly give them ---- */

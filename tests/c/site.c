@@ -1,6 +1,6 @@
 /* A site (osdp_site.h) over a panel and a device of this library, which are joined in memory: what is refused; that states come once after each opening, the latest of
  * each, and in their order, also where the panel has room for one command; that orders for a time are not repeated; when sessions begin; and that a moment which
- * lies too far ahead takes nothing back. */
+ * lies too far ahead takes nothing back, and lets a device's old events go. */
 #include <string.h>
 
 #include "demands.h"
@@ -215,6 +215,28 @@ static void keeps_what_waits(void)
     demand(osdp_panel_free(&far) == OSDP_OK);
 }
 
+/* After a moment that lies too far ahead an event that has become too old leaves before a panel is answered, which would be told it. */
+static void lets_go(void)
+{
+    static struct osdp_message event;
+    static const uint8_t asks[] = { 0x53, 5, 8, 0, 0, OSDP_ID, 0, 0x3F }; /* a panel begins anew */
+    const struct osdp_device_config reader = { .address = 5, .capacity = 2, .gap = 20 };
+    const uint64_t late = 1000 + 2 * 86400000ull;
+    osdp_device sleeper = { 0 };
+    uint32_t expired;
+    demand(osdp_device_new(&sleeper, &reader, NULL, 0) == OSDP_OK);
+    osdp_device_turn(&sleeper, asks, 0, 1000, take_answer);
+    demand(osdp_device_event_text(&sleeper, "KEYPAD 0 31", 11) == OSDP_OK);
+    length = 0;
+    demand(osdp_device_expire_event(&sleeper, late, 30000, &expired, &event) == OSDP_MOMENT_TOO_FAR);
+    osdp_device_turn(&sleeper, asks, sizeof asks, late, take_answer);
+    demand(length == 0);
+    demand(osdp_device_expire_event(&sleeper, late, 30000, &expired, &event) == OSDP_OK && expired == OSDP_EXPIRED_WITHDRAWN);
+    osdp_device_turn(&sleeper, asks, sizeof asks, late, take_answer);
+    demand(length > 5 && answered[5] == OSDP_PDID);
+    demand(osdp_device_free(&sleeper) == OSDP_OK);
+}
+
 int main(void)
 {
     struct osdp_panel_config config;
@@ -233,6 +255,7 @@ int main(void)
     comes_back();
     pauses();
     keeps_what_waits();
+    lets_go();
     demand(osdp_panel_free(&panel) == OSDP_OK && osdp_device_free(&device) == OSDP_OK);
     return 0;
 }
