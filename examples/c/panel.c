@@ -154,6 +154,7 @@ static void turn(struct lines *lines)
     if (osdp_panel_bytes(speaks, bytes, count, now) == OSDP_MOMENT_TOO_FAR) {
         (void)osdp_panel_set_moment(speaks, now); /* the program was stopped for more than a day */
     }
+    (void)osdp_panel_set_moment(&panel, now); /* the line's panel too while the other one speaks: in this turn it may begin sessions again */
     take_found(now);
     take_reports();
     take_orders(lines);
