@@ -1,7 +1,7 @@
 #!/usr/bin/env bash
 # A maker's panel over a line that loses, damages and repeats 5% of all bursts makes no second order for a card, and no card is missing: the small panel in C,
 # with the sanitizers, on a port in simulated time (`tests/c/repeated.c`), and that in Rattle (`repeated.py`). The panel in C without its test for cards that
-# may have been told before makes second orders there, so the run can fail. The small device in C lets a card go that nobody has asked for in time. Takes the path of the program, beside which the crates stand. The archive is that which `c.sh` has built.
+# may have been told before makes second orders there, so the run can fail. The small device in C, and the reader with keys, let a card go that nobody has asked for in time. Takes the path of the program, beside which the crates stand. The archive is that which `c.sh` has built.
 set -u
 crates=$(cd "$(dirname "$1")/../.." && pwd) || exit 1
 cd "$(dirname "$0")/.." || exit 1
@@ -28,6 +28,8 @@ fi
 wanted='29950 withdrawn RAW 0 0 26 12345640 30050 sent 45 sent 40 sent 50 61150 in doubt RAW 0 0 26 65432180 61250 sent 45 sent 40'
 build device examples/c/{door_device,kept}.c tests/c/stale.c && passes "$work/device" PORT 9600 &&
   { [ "$(tr '\n' ' ' <"$work/said")" = "$wanted " ] || { cat "$work/said"; fail 'the device lets cards go otherwise'; }; }
+build keypad examples/c/{keypad_reader,kept}.c tests/c/stale.c '-DCARD="RAW 0 0 26 "' && passes "$work/keypad" PORT 9600 5 &&
+  { [ "$(tr '\n' ' ' <"$work/said")" = "$wanted " ] || { cat "$work/said"; fail 'the reader with keys lets cards go otherwise'; }; }
 
 timeout 100 python3 -B tests/repeated.py "$crates"/osdp_example_panel/out/osdp_example_panel "$crates"/osdp_example_device/out/osdp_example_device 400 1 || failed=1
 exit "$failed"

@@ -1,13 +1,19 @@
-/* A device with a card reader, a keypad and a relay: `keypad_reader PORT RATE ADDRESS`. A line `RAW 0 0 26 12345640` is a card, `KEYPAD 0 31323334` are keys, and
- * `ISTATR 01` the door's contact. The relay, output 0, is on for the time that is ordered. LED and buzzer are told as they are ordered. */
+/* A device with a card reader, a keypad and a relay: `keypad_reader [--keep FILE] PORT RATE ADDRESS`. A line `RAW 0 0 26 12345640` is a card, `KEYPAD 0 31323334`
+ * are keys, and `ISTATR 01` the door's contact. The relay, output 0, is on for the time that is ordered. LED and buzzer are told as they are ordered. A COMSET
+ * gives the device another address and rate, which FILE keeps. What has waited for 30 s while no panel is there is told to nobody any more. */
 #include <string.h>
 
+#include "kept.h"
 #include "osdp_site.h"
 #include "port.h"
 #include "words.h"
 
+#define TOO_OLD 30000 /* how long an event may wait while no panel is there, in milliseconds */
+
 static osdp_device device;
 static int port;
+static uint32_t rate;    /* of the port */
+static const char *kept; /* the file that keeps address and rate, if one is named */
 static uint64_t relay_ends = UINT64_MAX; /* when the relay goes off; UINT64_MAX while it is off */
 
 /* Whether an output may be switched so: the relay for a time, or off. A door may not stand open for good. */
@@ -38,22 +44,38 @@ static void take_out(const struct osdp_answer *answer, uint64_t now)
     }
 }
 
-/* The device does what it is to do, and then what it says goes out: so an order that is answered was done. */
+/* The device does what it is to do, and then what it says goes out: so an order that is answered was done. A new place is kept before the panel is told. */
 static void take_answer(const struct osdp_answer *answer, uint64_t now)
 {
+    if (answer->moved) {
+        keep(kept, answer->address, has_rate(answer->baud_rate) ? answer->baud_rate : rate);
+    }
     take_out(answer, now);
     if (answer->order == OSDP_ORDER_ONCE && (answer->command.code == OSDP_LED || answer->command.code == OSDP_BUZ)) {
         tell("%s\n", command_text(&answer->command));
     }
     write_all(port, &answer->burst);
+    rate = answer->moved && set_rate(port, answer->baud_rate) ? answer->baud_rate : rate;
 }
 
-/* A card, keys or the contact, by its text: it is told to the next POLL. What the contact is from now on is the answer to ISTAT, too. */
+/* A card that has waited for too long, while no panel was there, would open the door when the panel comes back. */
+static void let_go(uint64_t now)
+{
+    static struct osdp_message event;
+    uint32_t expired;
+    while (osdp_device_expire_event(&device, now, TOO_OLD, &expired, &event) == OSDP_OK && expired != OSDP_EXPIRED_NONE) {
+        tell("%s %s\n", expired == OSDP_EXPIRED_WITHDRAWN ? "withdrawn" : "in doubt", reply_text(&event));
+    }
+}
+
+/* A card, keys or the contact, by its text: it is told to the next POLL. What the contact is from now on is the answer to ISTAT, also where as many events wait
+ * as may. */
 static void take_line(const char *line)
 {
     uint8_t contact[1];
-    bool told = !tell_refusal(osdp_device_event_text(&device, line, strlen(line)));
-    if (told && strncmp(line, "ISTATR ", 7) == 0 && digits(line + 7, contact, 1) == 1) {
+    osdp_status status = osdp_device_event_text(&device, line, strlen(line));
+    (void)tell_refusal(status);
+    if (status != OSDP_BAD_TEXT && strncmp(line, "ISTATR ", 7) == 0 && digits(line + 7, contact, 1) == 1) {
         (void)osdp_device_set_inputs(&device, contact, 1);
     }
 }
@@ -63,22 +85,25 @@ int main(int count, char **words)
     static struct lines lines;
     static const uint8_t off[1] = { 0 };
     uint8_t bytes[4096];
-    words = take_words(&count, words, 3, "keypad_reader PORT RATE ADDRESS\n", NULL);
+    words = take_words(&count, words, 3, "keypad_reader [--keep FILE] PORT RATE ADDRESS\n", &kept);
     struct osdp_device_config config = { .address = number(words[2], "address"), .capacity = 64, .gap = 20, .serial = 1, .product.vendor = { 'S', 'I', 'M' } };
+    rate = number(words[1], "rate");
+    (void)read_kept(kept, &config.address, &rate);
     osdp_status status = osdp_device_new(&device, &config, NULL, 0);
     if (status != OSDP_OK || osdp_device_set_outputs(&device, off, 1) != OSDP_OK || osdp_device_set_inputs(&device, off, 1) != OSDP_OK) {
         stop(OUT_OF_MEMORY, "%s", osdp_status_text(status));
     }
-    port = open_port(words[0], number(words[1], "rate"));
+    port = open_port(words[0], rate);
     for (;;) {
         size_t length = read_port(port, &lines, 10, bytes, sizeof bytes);
         uint64_t now = moment(); /* after the read: not before it */
-        for (const char *line = next_line(&lines); line != NULL; line = next_line(&lines)) {
-            take_line(line);
-        }
+        let_go(now); /* before anything is heard: so a panel that is back gets no card of long ago */
         if (relay_ends <= now) {
             switch_relay(false, UINT64_MAX);
         }
         osdp_device_turn(&device, bytes, length, now, take_answer);
+        for (const char *line = next_line(&lines); line != NULL; line = next_line(&lines)) {
+            take_line(line);
+        }
     }
 }

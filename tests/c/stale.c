@@ -1,5 +1,6 @@
-/* A port in simulated time for examples/c/door_device.c, which runs on it as it stands. A card that no panel asks for leaves after 30 s, as withdrawn, and the
- * panel that comes then isn't told it. One that was offered, and whose panel has gone, leaves as in doubt. Prints what the device says, between marks. */
+/* A port in simulated time for examples/c/door_device.c and keypad_reader.c, which run on it as they stand. A card that no panel asks for leaves after 30 s, as
+ * withdrawn, and the panel that comes then isn't told it. One that was offered, and whose panel has gone, leaves as in doubt. Prints what the device says, between
+ * marks. */
 #include "port.h"
 
 #include <stdio.h>
@@ -7,17 +8,21 @@
 
 #include "words.h"
 
+#ifndef CARD
+#define CARD "card " /* what stands before a card's digits in a line */
+#endif
+
 static const struct {
     uint64_t at;
     const char *line, *mark;
     uint8_t packet[9]; /* its checksum is made here */
 } steps[] = {
-    { 0, "card 12345640", NULL, { 0 } },
+    { 0, CARD "12345640", NULL, { 0 } },
     { 29950, NULL, "29950", { 0 } },
     { 30050, NULL, "30050", { 0 } },
     { 31000, NULL, NULL, { 0x53, 5, 8, 0, 0, 0x61, 0 } },
     { 31100, NULL, NULL, { 0x53, 5, 7, 0, 1, 0x60 } },
-    { 31200, "card 65432180", NULL, { 0 } },
+    { 31200, CARD "65432180", NULL, { 0 } },
     { 31300, NULL, NULL, { 0x53, 5, 7, 0, 2, 0x60 } },
     { 61150, NULL, "61150", { 0 } },
     { 61250, NULL, "61250", { 0 } },
