@@ -17,7 +17,7 @@ static const struct {
 static osdp_panel panel;
 static osdp_site site;
 static struct osdp_site_entry entries[DOORS];
-static uint64_t held[DOORS]; /* when a door is held open; UINT64_MAX while it is closed, and once its buzzer sounds */
+static uint64_t held[DOORS]; /* when a door is held open; UINT64_MAX while it is closed, and UINT64_MAX - 1 once its buzzer sounds */
 
 static bool may_enter(const struct osdp_raw *card, size_t door)
 {
@@ -48,11 +48,13 @@ static void sound(size_t door, bool sounds)
     (void)osdp_site_wants(&site, door, &command);
 }
 
-/* The door's contact, as an event or an answer tells it. */
+/* The door's contact, as an event or an answer tells it. That a door is still open, as where another input has changed or its reader was away, is no news. */
 static void take_contact(size_t door, bool open, uint64_t now)
 {
-    held[door] = open ? now + HELD : UINT64_MAX;
-    sound(door, false);
+    if (!open || held[door] == UINT64_MAX) {
+        held[door] = open ? now + HELD : UINT64_MAX;
+        sound(door, false);
+    }
 }
 
 static void take_report(const struct osdp_report *report, bool has_changed, uint64_t now)
@@ -79,7 +81,7 @@ static void watch(uint64_t now)
 {
     for (size_t door = 0; door < DOORS; door++) {
         if (held[door] <= now) {
-            held[door] = UINT64_MAX;
+            held[door] = UINT64_MAX - 1;
             sound(door, true);
         }
     }
