@@ -23,8 +23,12 @@ struct ring {
 
 static struct ring from_line, from_keys;
 static volatile uint32_t ticks, wraps;
-static struct {
-    uint32_t mark, address, rate;
+enum { MARK = 0x4F534450 };
+static volatile struct {
+    uint32_t mark; /* MARK where the first of both places is kept, MARK + 1 where the second is */
+    struct {
+        uint32_t address, rate;
+    } places[2];
 } kept __attribute__((section(".noinit")));
 
 static void hear(uint32_t port, struct ring *ring)
@@ -114,26 +118,35 @@ void board_show(const char *text)
     }
 }
 
+/* What was sent goes out at the old rate: the port doesn't tell when the byte under way has gone, so the time of two bytes and a millisecond is waited for. */
 void board_set_rate(uint32_t rate)
 {
+    while (REGISTER(LINE + STATE) & IS_FULL) {
+    }
+    uint32_t begin = ticks, wait = 2 * 10 * REGISTER(LINE + DIVIDER) / (CLOCK / 1000) + 2;
+    while (ticks - begin < wait) {
+    }
     REGISTER(LINE + DIVIDER) = rate > 0 && rate <= CLOCK / 16 ? CLOCK / rate : CLOCK / 9600;
 }
 
 _Bool board_kept(uint32_t *address, uint32_t *rate)
 {
-    if (kept.mark != 0x4F534450) {
+    uint32_t which = kept.mark - MARK;
+    if (which > 1) {
         return 0;
     }
-    *address = kept.address;
-    *rate = kept.rate;
+    *address = kept.places[which].address;
+    *rate = kept.places[which].rate;
     return 1;
 }
 
+/* The place that isn't kept is written, and then one word makes it the one that is: a reset in between leaves the old one whole. */
 void board_keep(uint32_t address, uint32_t rate)
 {
-    kept.address = address;
-    kept.rate = rate;
-    kept.mark = 0x4F534450;
+    uint32_t which = kept.mark == MARK;
+    kept.places[which].address = address;
+    kept.places[which].rate = rate;
+    kept.mark = MARK + which;
 }
 
 void board_sleep(void)

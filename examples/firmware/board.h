@@ -14,7 +14,7 @@ size_t board_read(uint8_t *bytes, size_t room);
 /* Sends bytes to the line, and returns once the last is handed over. */
 void board_write(const uint8_t *bytes, size_t length);
 
-/* The line's rate, in bits per second. */
+/* The line's rate, in bits per second, once what was sent has gone out at the rate before. */
 void board_set_rate(uint32_t rate);
 
 /* The next key that was pressed, or 0. */
@@ -29,7 +29,8 @@ uint32_t board_stack(void);
 /* Sleeps until something has come or a millisecond is over. */
 void board_sleep(void);
 
-/* The address and the rate that stay over a reset; false where nothing was kept. A device that is sold keeps them in flash. */
+/* The address and the rate that stay over a reset; false where nothing was kept. A device that is sold keeps them in flash. A reset while they
+ * are kept leaves those before or the new ones, and no mixture. */
 _Bool board_kept(uint32_t *address, uint32_t *rate);
 void board_keep(uint32_t address, uint32_t rate);
 

@@ -97,11 +97,11 @@ int main(void)
     for (;;) {
         size_t length = board_read(bytes, sizeof bytes);
         uint64_t now = board_moment(); /* after the read: not before it */
+        let_go(now); /* before anything is heard, and before keys: an event that is put before any moment is never too old */
         take_keys();
         if (relay_ends <= now) {
             switch_relay(false, UINT64_MAX);
         }
-        let_go(now);
         osdp_device_turn(&device, bytes, length, now, take_answer);
         board_sleep();
     }
