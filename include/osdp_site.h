@@ -3,6 +3,10 @@
  * again whose session opens anew. The words are those of the proved crate osdp_site, in Rattle. This page and c/osdp_site.c are plain C over the calls of a
  * panel: tested, and not proved. They take no memory: the caller owns the site and its entries.
  *
+ * `osdp_site_act`, `osdp_site_turn` and `osdp_device_turn` keep reports and answers in static memory, so that a small stack is enough. One thread at a time makes
+ * these calls, also for different panels and devices, and `takes` doesn't make them: else a report of one panel is taken for that of another. A program with a
+ * thread for each line holds a lock over the call, or makes the calls of osdp.h by itself.
+ *
  * The program says once how an LED, an output, a buzzer or a text is to be (`osdp_site_wants`), hands on each report (`osdp_site_heed`), and calls
  * `osdp_site_act` in each turn, before `osdp_panel_tick`:
  *
