@@ -118,6 +118,12 @@ void board_show(const char *text)
     }
 }
 
+/* The divider has 20 bits, and is 16 at least. */
+_Bool board_has_rate(uint32_t rate)
+{
+    return rate >= 300 && rate <= CLOCK / 16;
+}
+
 /* What was sent goes out at the old rate: the port doesn't tell when the byte under way has gone, so the time of two bytes and a millisecond is waited for. */
 void board_set_rate(uint32_t rate)
 {
@@ -126,7 +132,7 @@ void board_set_rate(uint32_t rate)
     uint32_t begin = ticks, wait = 2 * 10 * REGISTER(LINE + DIVIDER) / (CLOCK / 1000) + 2;
     while (ticks - begin < wait) {
     }
-    REGISTER(LINE + DIVIDER) = rate > 0 && rate <= CLOCK / 16 ? CLOCK / rate : CLOCK / 9600;
+    REGISTER(LINE + DIVIDER) = board_has_rate(rate) ? CLOCK / rate : CLOCK / 9600;
 }
 
 _Bool board_kept(uint32_t *address, uint32_t *rate)

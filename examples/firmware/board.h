@@ -14,6 +14,9 @@ size_t board_read(uint8_t *bytes, size_t room);
 /* Sends bytes to the line, and returns once the last is handed over. */
 void board_write(const uint8_t *bytes, size_t length);
 
+/* Whether the line may have this rate, in bits per second. */
+_Bool board_has_rate(uint32_t rate);
+
 /* The line's rate, in bits per second, once what was sent has gone out at the rate before. */
 void board_set_rate(uint32_t rate);
 

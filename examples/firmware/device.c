@@ -7,6 +7,7 @@
 enum { ADDRESS = 5, RATE = 9600, EVENTS = 4, KEY_BYTES = 4, TOO_OLD = 30000 }; /* an event of one key has four bytes */
 
 static osdp_device device;
+static uint32_t rate = RATE; /* of the line */
 static uint64_t relay_ends = UINT64_MAX; /* when the relay goes off; UINT64_MAX while it is off */
 
 static void switch_relay(bool on, uint64_t ends)
@@ -37,16 +38,18 @@ static void take_out(const struct osdp_answer *answer, uint64_t now)
     }
 }
 
-/* The device does what it is to do, and then what it says goes out: so an order that is answered was done. A new address is kept before the panel is told. */
+/* The device does what it is to do, and then what it says goes out: so an order that is answered was done. A new address is kept before the panel is told. Where
+ * the line can't have the rate of a COMSET, it keeps its own. */
 static void take_answer(const struct osdp_answer *answer, uint64_t now)
 {
     if (answer->moved) {
-        board_keep(answer->address, answer->baud_rate);
+        rate = board_has_rate(answer->baud_rate) ? answer->baud_rate : rate;
+        board_keep(answer->address, rate);
     }
     take_out(answer, now);
     board_write(answer->burst.bytes, answer->burst.length);
     if (answer->moved) {
-        board_set_rate(answer->baud_rate);
+        board_set_rate(rate);
     }
 }
 
@@ -86,7 +89,6 @@ int main(void)
     static uint8_t bytes[256];
     struct osdp_device_config config = { ADDRESS, EVENTS, 20, 1, 0, { { 'S', 'I', 'M' }, 1, 1, 0, 1, 0 } };
     static const struct osdp_capability capabilities[] = { { OSDP_FUNCTION_OUTPUT_CONTROL, 1, 1 }, { OSDP_FUNCTION_CHECK_CHARACTERS, 1, 0 } };
-    uint32_t rate = RATE;
     (void)board_kept(&config.address, &rate);
     board_set_rate(rate);
     if (osdp_device_new_with_room(&device, &config, (const uint8_t *)capabilities, sizeof capabilities, EVENTS * KEY_BYTES) != OSDP_OK) {
