@@ -180,8 +180,8 @@ static void read_lines(struct lines *lines)
         lines->skips = true;
     }
     ssize_t count = read(STDIN_FILENO, lines->held + lines->length, sizeof lines->held - lines->length - 1);
-    if (count < 0 && errno == EINTR) {
-        return;
+    if (count < 0 && (errno == EINTR || errno == EAGAIN)) {
+        return; /* another program that has the same terminal has read first */
     }
     lines->ended = count <= 0;
     lines->length += count > 0 ? (size_t)count : 0;
