@@ -340,7 +340,7 @@ def kept_before(c, _):
 
 
 def another_device(c, _):
-    """Another device at a reader's place gets no order until a line allows it; what it is, is kept then."""
+    """Another device at a reader's place gets no order until a line allows it; what it is, is kept then. None is sent to the address of one that is kept."""
     with tempfile.TemporaryDirectory() as folder, Line(all_words(c)) as line:
         kept = Path(folder) / "panel"
         kept.write_text("5 at 5 9600 is 53494D 1 77\n9 at 9 9600\n")
@@ -351,6 +351,9 @@ def another_device(c, _):
         asks(kept.read_text().startswith("5 at 5 9600 is 53494D 1 77\n"), "another: it was kept before it was allowed")
         panel.say("1 accept\n1 OUT 0:2:2")
         asks(line.run(has(panel, "settled 1 OUT 0:2:2 = ACK")), "another: after the word it gets no order")
+        panel.say("1 COMSET 9 9600")
+        said = "refused a device that is kept, and isn't in the list, may have that address"
+        asks(line.run(has(panel, said, "not taken 1 COMSET 9 9600")), f"another: it is sent where a device may be that is kept: {panel.lines[-12:]}")
         asks(kept.read_text() == "5 at 5 9600 is 53494D 1 0\n9 at 9 9600\n", f"another: the file has {kept.read_text()!r}")
         asks(taken(reader) == ["taken OUT 0:2:2"], f"another: the reader has taken {taken(reader)}")
 

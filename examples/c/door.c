@@ -92,7 +92,7 @@ void take_line(osdp_panel *panel, struct door *door, const char *line)
     if (strcmp(line, "accept") == 0 && door->is_other) {
         note_door(door);
     } else if (sscanf(line, "move %3u %6u", &address, &rate) == 2 && address <= 126 && has_rate(rate) && door->may_order && door->stand->count == 1
-        && osdp_comset(address, rate, &comset) == OSDP_OK) {
+        && !is_taken(stands, count, door->stand, address) && osdp_comset(address, rate, &comset) == OSDP_OK) {
         may_move(door->stand, (struct place){ address, rate });
         if (!keep_door() || tell_refusal(osdp_panel_submit(panel, door->entry, comset.code, comset.data, comset.length))) {
             stands_at(door->stand, place_of(door->stand));

@@ -177,6 +177,16 @@ struct stand *stand_of(struct stand *stands, size_t *count, size_t most, uint32_
     return stand;
 }
 
+bool is_taken(const struct stand *stands, size_t count, const struct stand *stand, uint32_t address)
+{
+    for (size_t i = 0; i < count; i++) {
+        if (&stands[i] != stand && (stands[i].places[0].address == address || place_of(&stands[i]).address == address)) {
+            return true;
+        }
+    }
+    return false;
+}
+
 void may_move(struct stand *stand, struct place place)
 {
     stand->places[1] = place_of(stand);

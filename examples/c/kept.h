@@ -35,6 +35,9 @@ bool keep_stands(const char *path, const struct stand *stands, size_t count);
  * others are as many as there may be. */
 struct stand *stand_of(struct stand *stands, size_t *count, size_t most, uint32_t name, uint32_t rate);
 
+/* Whether another device than this one may be at an address, by what is kept: no device may be sent there. */
+bool is_taken(const struct stand *stands, size_t count, const struct stand *stand, uint32_t address);
+
 /* A COMSET goes out to a device: it may be at this place too. */
 void may_move(struct stand *stand, struct place place);
 

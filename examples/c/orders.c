@@ -90,6 +90,9 @@ static const char *refusal(const struct known *reader, const char *text)
     if (!is_comset(text, &place)) {
         return NULL;
     }
+    if (is_kept_apart(place.address)) {
+        return "a device that is kept, and isn't in the list, may have that address";
+    }
     return has_rate(place.rate) ? comset_refusal() : "no such rate";
 }
 
@@ -107,12 +110,14 @@ static void tell_why(osdp_status status, size_t entry, const char *text)
     }
 }
 
-/* Hands the panel an order. Whether it was taken. Where a COMSET leads is kept before it can go out. */
+/* Hands the panel an order. Whether it was taken. Where a COMSET leads is kept before it can go out, but not where the panel refuses it for its address: no
+ * loss of power may leave such a place. */
 static bool submit(struct osdp_panel *panel, size_t entry, const char *text)
 {
     struct known *reader = known_reader(entry);
     struct place place;
-    bool moves = is_comset(text, &place) && reader->stand->count == 1;
+    bool moves = is_comset(text, &place) && reader->stand->count == 1 && place.address <= 126 &&
+        (reader_at(place.address) == 0 || reader_at(place.address) == entry + 1);
     if (moves && !comset_goes(reader, place)) {
         comset_over(reader);
         tell("refused its place can't be kept\n");

@@ -67,6 +67,11 @@ size_t reader_at(uint32_t address)
     return 0;
 }
 
+bool is_kept_apart(uint32_t address)
+{
+    return reader_at(address) == 0 && is_taken(stands, stand_count, NULL, address);
+}
+
 /* The reader is this device. */
 static void note_device(struct stand *stand, const struct osdp_pd_id *id)
 {

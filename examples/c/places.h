@@ -37,6 +37,9 @@ struct known *known_reader(size_t entry);
 /* Who has an address, or may have it: a reader's number, from 1; 0 where nobody has. */
 size_t reader_at(uint32_t address);
 
+/* Whether a device that is kept, and isn't in the list, may have an address: it may be on the line still. */
+bool is_kept_apart(uint32_t address);
+
 /* Whether another device than the reader has answered its opening, which is told: it gets no order, unless it is allowed. Else the device is the reader. */
 bool tell_other(struct known *reader, const struct osdp_report *opened);
 void allow_other(struct known *reader);
