@@ -32,7 +32,7 @@ static void take_out(const struct osdp_answer *answer, uint64_t now)
         if (answer->order == OSDP_ORDER_PENDING && !may_be_done(&record)) {
             (void)osdp_device_answer_refused(&device, OSDP_NAK_RECORD_NOT_PROCESSED);
         } else if (answer->order == OSDP_ORDER_ONCE) {
-            bool on = record.control == OSDP_OUTPUT_ON_FOR_A_TIME;
+            bool on = record.control == OSDP_OUTPUT_ON_FOR_A_TIME && record.timer > 0; /* a timer of 0 ends it */
             switch_relay(on, on ? now + 100u * record.timer : UINT64_MAX);
         }
     }
