@@ -25,13 +25,13 @@ int main(void)
 static osdp_panel panel;
 static struct door door;
 
-/* Orders the door's strike, its output 0, on for three seconds. Where as many orders wait as may, the door stays closed. */
+/* Orders the door's strike, its output 0, on for three seconds. Where as many orders wait as may, that is told, and the door stays closed. */
 static void open_door(void)
 {
     static struct osdp_message command;
     const struct osdp_output strike = { .output = 0, .control = OSDP_OUTPUT_ON_FOR_A_TIME, .timer = 30 };
     (void)osdp_out(&strike, 1, &command);
-    (void)osdp_panel_submit(&panel, door.entry, command.code, command.data, command.length);
+    (void)tell_refusal(osdp_panel_submit(&panel, door.entry, command.code, command.data, command.length));
 }
 
 /* Takes what the panel reports, and does what is to be done about it. */
