@@ -6,6 +6,11 @@ import termios
 
 from lines import stop
 
+for end, way in enumerate((os.O_WRONLY, os.O_RDONLY, os.O_RDONLY)):  # a stream that is closed stays one that fails: else the port would take its number
+    try:
+        os.fstat(end)
+    except OSError:
+        os.open(os.devnull, way)
 PIECE = 2048  # how many bytes a read takes at most: a line to the programs has 8,192 characters at most, and a byte two of them
 
 
