@@ -10,6 +10,8 @@ from typing import Tuple
 
 NAME = "libosdp.so.0"
 HERE = Path(__file__).resolve().parent
+if ctypes.sizeof(c_size_t) != 8:  # the library writes 64 bits for each count, which would go beyond a `c_size_t`
+    raise ImportError("the package osdp needs a Python of 64 bits")
 
 
 class Status(enum.IntEnum):
