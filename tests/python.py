@@ -310,6 +310,9 @@ def judge_monitor():
 def judge_example():
     done = subprocess.run([sys.executable, TOP / "python/examples/session.py"], capture_output=True, text=True)
     tell("the example", "OPENED: None PDID 53494D 0 0 1 0 0 0\ndone: OUT 0:5:30\nSETTLED: OUT 0:5:30 ACK\nEVENT: None KEYPAD 0 31\n", done.stdout + done.stderr)
+    for name in ("door_panel", "door_device"):
+        done = subprocess.run([sys.executable, "-B", TOP / f"python/examples/{name}.py", "port", "9600", "5"], capture_output=True, text=True)
+        tell(f"{name} with a word too many", (2, "bad words: --help tells the right ones\n"), (done.returncode, done.stderr))
 
 
 if __name__ == "__main__":

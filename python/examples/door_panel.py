@@ -9,7 +9,7 @@ HERE = Path(__file__).resolve().parent
 sys.path[:0] = [str(HERE.parent), str(HERE.parent.parent / "examples")]
 
 import osdp  # noqa: E402
-from lines import Lines, moment, number, take_words, tell  # noqa: E402
+from lines import BAD_WORDS, Lines, moment, number, stop, take_words, tell  # noqa: E402
 from port import Port  # noqa: E402
 
 CARDS = (bytes.fromhex("12345640"), bytes.fromhex("65432180"))
@@ -39,7 +39,9 @@ def take_reports(panel, door, now):
 
 
 def main():
-    path, rate = take_words(__doc__, 2)
+    path, rate, *more = take_words(__doc__, 2)
+    if more:
+        stop("bad words: --help tells the right ones", BAD_WORDS)
     port, lines, panel = Port(path, number(rate, "rate")), Lines(), osdp.Panel(poll_between_orders=1)  # a card waits for no orders
     door, begins = panel.add(5), 0
     while True:
