@@ -98,12 +98,14 @@ def bad_lists(panel_words):
 
 
 def closed_streams(panel_words):
-    """The port never takes the place of standard input, output or error that is closed: nothing but packets goes out."""
-    for closed, status in ((0, 128 + signal.SIGTERM), (1, 3), (2, 128 + signal.SIGTERM)):
+    """The port never takes the place of standard input, output or error that is closed: nothing but packets goes out. Nor is standard input read where it
+    can't be, as under `nohup`."""
+    for closed, status in ((0, 128 + signal.SIGTERM), (1, 3), (2, 128 + signal.SIGTERM), (None, 128 + signal.SIGTERM)):
         terminal = Terminal()
         device = Device(terminal)
-        streams = {"stdin": subprocess.DEVNULL, "stdout": subprocess.DEVNULL, "stderr": subprocess.PIPE}
-        panel = started(panel_words, terminal, ["5"], *PANEL, **streams, preexec_fn=lambda: os.close(closed))
+        streams = {"stdin": os.open(os.devnull, os.O_WRONLY if closed is None else os.O_RDONLY), "stdout": subprocess.DEVNULL, "stderr": subprocess.PIPE}
+        panel = started(panel_words, terminal, ["5"], *PANEL, **streams, preexec_fn=lambda: closed is None or os.close(closed))
+        os.close(streams["stdin"])
         asks(device.until([], lambda: panel.process.poll() is not None or len(device.asked) > 5, 30), f"closed streams: with {closed} closed no session opens")
         device.until([], lambda: panel.process.poll() is not None, 2 if status == 3 else 0)
         panel.process.terminate()
