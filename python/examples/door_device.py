@@ -65,6 +65,7 @@ class Door:
         while True:
             read, typed = self.port.wait(lines, 0.01)
             typed, now = list(typed), moment()  # after the read: not before it
+            self.device.set_moment(now)  # so it is taken too where the program was stopped for more than a day
             for how, event in self.device.expire_events(now, TOO_OLD):
                 tell(f"{how.name.lower().replace('_', ' ')} {event}")
             self.take(self.device.hear(read, now))

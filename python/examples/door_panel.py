@@ -38,6 +38,13 @@ def take_reports(panel, door, now):
     return begins
 
 
+def moment_for(panel):
+    """This moment, which the panel takes too where the program was stopped for more than a day."""
+    now = moment()
+    panel.set_moment(now)
+    return now
+
+
 def main():
     path, rate, *more = take_words(__doc__, 2)
     if more:
@@ -48,13 +55,13 @@ def main():
         if begins is not None and begins <= moment():
             while panel.withdraw(door):  # orders of long ago open no door
                 pass
-            panel.begin(door, moment())
+            panel.begin(door, moment_for(panel))
             begins = None
         until = [each for each in (panel.next_deadline(), begins) if each is not None]
         read, typed = port.wait(lines, max(min(until) - moment(), 0) / 1000 if until else None)
         for _ in typed:
             tell("refused line")
-        now = moment()  # after the read: not before it
+        now = moment_for(panel)  # after the read: not before it
         panel.hear(read, now)
         ended = take_reports(panel, door, now)
         port.write(panel.tick(now))
