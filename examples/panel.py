@@ -61,7 +61,7 @@ class Panel:
             tell(f"refused no reader {which}: they are 1 to {len(self.orders)}")
         elif not self.is_open[which]:
             tell("refused session not open")
-        elif text.startswith("COMSET"):
+        elif text.lstrip().startswith("COMSET"):
             tell("refused COMSET: osdp-port does it")
         else:
             self.orders[which].append(text)

@@ -6,6 +6,13 @@ import termios
 
 from lines import stop
 
+for end in range(3):  # a stream that is closed is over or fails from now on: else the port would take its number, and what is told would go out on the line
+    try:
+        os.fstat(end)
+    except OSError:
+        os.open(os.devnull, os.O_RDONLY)
+if fcntl.fcntl(0, fcntl.F_GETFL) & os.O_ACCMODE == os.O_WRONLY:  # so `nohup` leaves standard input: nothing comes from it
+    os.dup2(os.open(os.devnull, os.O_RDONLY), 0)
 PIECE = 2048  # how many bytes a read takes at most: a line to the programs has 8,192 characters at most, and a byte two of them
 
 

@@ -4,11 +4,12 @@
 - Its structs, functions and numbers are those of include/osdp.h.
 - Each public name has a docstring, and each public call types.
 - A session between both ends: an order is done once, an event is told once, where answers are lost too; a device keeps what it is told, and lets old events go.
-- Each refusal comes as an OsdpError with its status, and changes nothing; what ctypes would cut is no number for it.
+- Each refusal comes as an OsdpError with its status, also to another process, and changes nothing; what ctypes would cut is no number for it.
 - A monitor tells what the rows of `osdp monitor` have.
 - The example prints what docs/GUIDE.md promises of such a session."""
 import ctypes
 import inspect
+import pickle
 import re
 import subprocess
 import sys
@@ -207,12 +208,18 @@ def judge_refusals():
     refused("a closed device", osdp.Status.NO_MACHINE, device.waiting)
     refused("a closed panel", osdp.Status.NO_MACHINE, panel.tick, 0)
     for what, call in (("a code of 256", lambda: osdp.Panel().submit_message(0, 256)), ("a moment below 0", lambda: osdp.Panel().tick(-1)),
-                       ("an address of 2**32", lambda: osdp.Device(2**32)), ("a vendor of two bytes", lambda: osdp.Device(5, vendor=b"SI"))):
+                       ("an address of 2**32", lambda: osdp.Device(2**32)), ("a vendor of two bytes", lambda: osdp.Device(5, vendor=b"SI")),
+                       ("an entry below 0", lambda: osdp.Panel().begin(-1, 0)), ("an entry of 2**64", lambda: osdp.Panel().waiting(2**64)),
+                       ("a tamper of 256", lambda: osdp.Device(5).set_local(256, 0)), ("a busy of 2**32", lambda: osdp.Device(5).set_busy(2**32)),
+                       ("a text of code 0x168", lambda: str(osdp.Message(0x168, bytes.fromhex("00051E00"), False)))):
         try:
             call()
             faults.append(f"{what} is taken")
         except ValueError:
             pass
+    error = osdp.OsdpError(osdp.Status.NO_ENTRY)
+    copied = pickle.loads(pickle.dumps(error))
+    tell("a refusal in another process", (osdp.OsdpError, error.status, str(error)), (type(copied), copied.status, str(copied)))
 
 
 def judge_rooms():
@@ -303,6 +310,9 @@ def judge_monitor():
 def judge_example():
     done = subprocess.run([sys.executable, TOP / "python/examples/session.py"], capture_output=True, text=True)
     tell("the example", "OPENED: None PDID 53494D 0 0 1 0 0 0\ndone: OUT 0:5:30\nSETTLED: OUT 0:5:30 ACK\nEVENT: None KEYPAD 0 31\n", done.stdout + done.stderr)
+    for name in ("door_panel", "door_device"):
+        done = subprocess.run([sys.executable, "-B", TOP / f"python/examples/{name}.py", "port", "9600", "5"], capture_output=True, text=True)
+        tell(f"{name} with a word too many", (2, "bad words: --help tells the right ones\n"), (done.returncode, done.stderr))
 
 
 if __name__ == "__main__":

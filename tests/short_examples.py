@@ -89,11 +89,30 @@ def bad_lists(panel_words):
         ended(started(panel_words, terminal, [addresses], *PANEL, stderr=subprocess.PIPE), 2, said, f"the list {addresses}")
     device, panel = Device(terminal), started(panel_words, terminal, ["5"], *PANEL)
     device.until([panel], opened(panel, 1))
-    for order, why in (("9 OUT 0:2:0", "refused no reader 9: they are 1 to 1"), ("1 COMSET 7 9600", "refused COMSET: osdp-port does it"), ("1 OUT", "refused line")):
+    for order, why in (("9 OUT 0:2:0", "refused no reader 9: they are 1 to 1"), ("1 COMSET 7 9600", "refused COMSET: osdp-port does it"),
+                       ("1  COMSET 7 9600", "refused COMSET: osdp-port does it"), ("1 OUT", "refused line")):
         panel.say(order)
         asks(device.until([panel], has(panel, f"not taken {order}")) and why in panel.lines, f"{order}: {panel.lines[-3:]}")
     panel.process.kill()
     terminal.close()
+
+
+def closed_streams(panel_words):
+    """The port never takes the place of standard input, output or error that is closed: nothing but packets goes out. Nor is standard input read where it
+    can't be, as under `nohup`."""
+    for closed, status in ((0, 128 + signal.SIGTERM), (1, 3), (2, 128 + signal.SIGTERM), (None, 128 + signal.SIGTERM)):
+        terminal = Terminal()
+        device = Device(terminal)
+        streams = {"stdin": os.open(os.devnull, os.O_WRONLY if closed is None else os.O_RDONLY), "stdout": subprocess.DEVNULL, "stderr": subprocess.PIPE}
+        panel = started(panel_words, terminal, ["5"], *PANEL, **streams, preexec_fn=lambda: closed is None or os.close(closed))
+        os.close(streams["stdin"])
+        asks(device.until([], lambda: panel.process.poll() is not None or len(device.asked) > 5, 30), f"closed streams: with {closed} closed no session opens")
+        device.until([], lambda: panel.process.poll() is not None, 2 if status == 3 else 0)
+        panel.process.terminate()
+        found, told = panel.process.wait(timeout=60), panel.process.stderr.read().decode()
+        asks(found == status and "Traceback" not in told, f"closed streams: with {closed} closed its status is {found}, and it says {told!r}")
+        asks(all(burst[0] == 0x53 for burst in device.asked) and b"opened" not in terminal.held, f"closed streams: {closed} closed, on the line {terminal.held!r}")
+        terminal.close()
 
 
 def acts_first(reader_words):
@@ -191,6 +210,7 @@ def main(osdp):
     second_program(words)
     ends_of_orders(words[0])
     bad_lists(words[0])
+    closed_streams(words[0])
     acts_first(words[1])
     no_room(words[1])
     kept_place(words[1])

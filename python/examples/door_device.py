@@ -1,6 +1,6 @@
 #!/usr/bin/env python3
 """A device with two outputs: door_device.py [--keep FILE] PORT RATE, at address 5, or where the file has it after a COMSET. A line `card 12345640` says that
-a card was read. Each output that is switched on is printed, and so is a card that was too old.
+a card was read. Each output that is switched on is printed, and so are a card that was too old and a place that can't be kept.
 
 It stands beside the folder `examples`, of which it takes the port. It needs the package osdp on PYTHONPATH, or the folder above this one."""
 import sys
@@ -10,8 +10,8 @@ HERE = Path(__file__).resolve().parent
 sys.path[:0] = [str(HERE.parent), str(HERE.parent.parent / "examples")]
 
 import osdp  # noqa: E402
-from kept import Kept  # noqa: E402
-from lines import Lines, moment, number, take_words, tell  # noqa: E402
+from kept import take_kept  # noqa: E402
+from lines import BAD_WORDS, Lines, moment, number, stop, take_words, tell  # noqa: E402
 from port import Port  # noqa: E402
 
 OUT = 0x68
@@ -43,8 +43,8 @@ class Door:
         for answer in answers:
             if answer.order is osdp.Order.PENDING and not all(may_be_done(*each) for each in records(answer.command)):
                 self.device.answer_refused(NOT_PROCESSED)
-            if answer.moved:  # kept before the panel is told
-                self.kept.keep(*answer.moved, self.rate)
+            if answer.moved and not self.kept.keep(*answer.moved, self.rate):  # kept before the panel is told
+                tell(f"not kept {answer.moved[0]} {answer.moved[1]}")
             if answer.order is osdp.Order.ONCE:
                 for output, control in records(answer.command):
                     if control == ON_FOR_A_TIME:
@@ -65,6 +65,7 @@ class Door:
         while True:
             read, typed = self.port.wait(lines, 0.01)
             typed, now = list(typed), moment()  # after the read: not before it
+            self.device.set_moment(now)  # so it is taken too where the program was stopped for more than a day
             for how, event in self.device.expire_events(now, TOO_OLD):
                 tell(f"{how.name.lower().replace('_', ' ')} {event}")
             self.take(self.device.hear(read, now))
@@ -74,9 +75,9 @@ class Door:
 
 
 def main():
-    words = take_words(__doc__, 2, "--keep")
-    kept = Kept(words[1]) if words[0] == "--keep" else Kept(None)
-    path, rate = words[-2:]
+    kept, (path, rate, *more) = take_kept(take_words(__doc__, 2, "--keep"))
+    if more:
+        stop("bad words: --help tells the right ones", BAD_WORDS)
     Door(path, number(rate, "rate"), kept).run()
 
 

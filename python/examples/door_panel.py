@@ -9,7 +9,7 @@ HERE = Path(__file__).resolve().parent
 sys.path[:0] = [str(HERE.parent), str(HERE.parent.parent / "examples")]
 
 import osdp  # noqa: E402
-from lines import Lines, moment, number, take_words, tell  # noqa: E402
+from lines import BAD_WORDS, Lines, moment, number, stop, take_words, tell  # noqa: E402
 from port import Port  # noqa: E402
 
 CARDS = (bytes.fromhex("12345640"), bytes.fromhex("65432180"))
@@ -38,21 +38,30 @@ def take_reports(panel, door, now):
     return begins
 
 
+def moment_for(panel):
+    """This moment, which the panel takes too where the program was stopped for more than a day."""
+    now = moment()
+    panel.set_moment(now)
+    return now
+
+
 def main():
-    path, rate = take_words(__doc__, 2)
+    path, rate, *more = take_words(__doc__, 2)
+    if more:
+        stop("bad words: --help tells the right ones", BAD_WORDS)
     port, lines, panel = Port(path, number(rate, "rate")), Lines(), osdp.Panel(poll_between_orders=1)  # a card waits for no orders
     door, begins = panel.add(5), 0
     while True:
         if begins is not None and begins <= moment():
             while panel.withdraw(door):  # orders of long ago open no door
                 pass
-            panel.begin(door, moment())
+            panel.begin(door, moment_for(panel))
             begins = None
         until = [each for each in (panel.next_deadline(), begins) if each is not None]
         read, typed = port.wait(lines, max(min(until) - moment(), 0) / 1000 if until else None)
         for _ in typed:
             tell("refused line")
-        now = moment()  # after the read: not before it
+        now = moment_for(panel)  # after the read: not before it
         panel.hear(read, now)
         ended = take_reports(panel, door, now)
         port.write(panel.tick(now))

@@ -6,9 +6,12 @@ import enum
 import os
 from ctypes import POINTER, c_char_p, c_size_t, c_uint8, c_uint16, c_uint32, c_uint64, c_void_p
 from pathlib import Path
+from typing import Tuple
 
 NAME = "libosdp.so.0"
 HERE = Path(__file__).resolve().parent
+if ctypes.sizeof(c_size_t) != 8:  # the library writes 64 bits for each count, which would go beyond a `c_size_t`
+    raise ImportError("the package osdp needs a Python of 64 bits")
 
 
 class Status(enum.IntEnum):
@@ -50,6 +53,9 @@ class OsdpError(Exception):
     def __init__(self, status: Status) -> None:
         super().__init__(library.osdp_status_text(status).decode())
         self.status = status
+
+    def __reduce__(self) -> Tuple[type, Tuple[Status]]:
+        return type(self), (self.status,)  # so that it can be copied, and handed to another process
 
 
 class MessageStruct(ctypes.Structure):
@@ -214,7 +220,10 @@ def library_version() -> str:
 
 
 def call(name: str, *words: object) -> None:
-    """Calls a function of the library. Raises OsdpError where it is refused."""
+    """Calls a function of the library. Raises OsdpError where it is refused, and ValueError where ctypes would cut a number."""
+    for word, kind in zip(words, TAKES[name]):
+        if isinstance(word, int):
+            whole(word, 256 ** ctypes.sizeof(kind) - 1, "a number")
     status = getattr(library, name)(*words)
     if status:
         raise OsdpError(Status(status))
