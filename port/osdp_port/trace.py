@@ -78,7 +78,7 @@ class Trace:
             self.file.write(self.form(since, way, burst))
             self.file.flush()
             self.count, self.bytes = self.count + 1, self.bytes + len(burst)
-            if self.file.tell() >= self.size:
+            if self.file.seekable() and self.file.tell() >= self.size:  # a pipe is never full
                 self.file.close()
                 os.replace(self.path, f"{self.path}.1")
                 self.open()
