@@ -81,7 +81,9 @@ def listener_of(words, port, console, osdp):
     if words.get("--json"):
         return Objects(words, console, osdp)
     if words.get("--live") and is_terminal():
-        return Live(words, console, osdp, f"monitor at {port.path} {port.rate}")
+        live = Live(words, console, osdp, f"monitor at {port.path} {port.rate}")
+        port.tell = live.tells  # a line that is printed beside the picture would be gone at the next one
+        return live
     return Monitor(words, console, osdp)
 
 

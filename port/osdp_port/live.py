@@ -104,6 +104,11 @@ class Live(Stream):
                 self.in_table = False
                 self.told.append(line if line.startswith(" ") else f"{stamp()} {line.partition(' ')[2] if re.match(r'[0-9]+:', line) else line}")
 
+    def tells(self, line):
+        """Takes what happens to the port."""
+        with self.lock:
+            self.told.append(f"{stamp()} {line}")
+
     def keep(self, table):
         """Keeps the last table and, for what came lately, those of the last seconds."""
         self.tables.append(table)
