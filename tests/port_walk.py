@@ -348,6 +348,11 @@ def traces():
         small = Trace(f"{folder}/small", 200, said.append)
         for _ in range(20):
             small.takes(0.0, "in", bytes(20))
+        before = path.read_text()
+        for words in (["device", "5"], ["panel", "5"]):
+            words = [PORT, "--osdp", port_line.osdp, "--trace", path, line.panel_end.path, "9600", "test", *words]
+            done = subprocess.run(words, capture_output=True, text=True, timeout=60)
+            asks(done.returncode == 3 and str(path) in done.stderr and path.read_text() == before, f"trace: a test begins it anew: {done}")
         came, goes = os.pipe()  # it has no end and no size
         piped = Trace(f"/dev/fd/{goes}", 30, said.append)
         for _ in range(3):

@@ -14,6 +14,15 @@ def digits(since, way, burst):
     return f"# {stamp}.{int(since * 1000) % 1000:03}Z {way}\n{burst.hex().upper()}\n"
 
 
+def begun(path):
+    """A file for the lines of a test, begun anew. A trace of a line isn't: nobody can take it again."""
+    if os.path.isfile(path):
+        with open(path, "rb") as file:
+            if file.read(10).startswith((b"# rate ", b'{"timeSec"')):
+                raise Stop(f"{path} has a trace of a line, which a test would begin anew: name another file")
+    return open(path, "w", encoding="utf-8")
+
+
 def rate_line(rate):
     """A comment that tells the rate of what comes after it, in bits a second."""
     return f"# rate {rate}\n"
