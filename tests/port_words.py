@@ -271,4 +271,31 @@ def program_ends():
             asks(script.process.poll() == 3 and is_told, f"program ends: {words}: {script.process.poll()}: {said}")
 
 
-PARTS = (over_the_network, bad_words, any_words, no_permission, bad_lines, closed_ends, falls_silent, program_ends)
+STARTS = """import fcntl, os, subprocess, sys, termios
+fcntl.ioctl(0, termios.TIOCSCTTY, 0)
+child = subprocess.Popen(sys.argv[1:], preexec_fn=os.setpgrp)
+print(child.pid, flush=True)
+child.wait()"""
+
+
+def in_background():
+    """A panel in the background of a terminal goes on where a key is pressed there, and says that it takes no more orders."""
+    port, terminal = Terminal(), Terminal()
+    words = [PORT, "--plain", "--osdp", port_line.osdp, port.path, "9600", "panel", "5"]
+    shell = subprocess.Popen([sys.executable, "-c", STARTS, *words], stdin=terminal.other, stdout=subprocess.PIPE, stderr=subprocess.PIPE, start_new_session=True)
+    panel = int(shell.stdout.readline())
+    while b"panel at " not in shell.stdout.readline():
+        pass
+    os.write(terminal.end, b"x\n")
+    said, until = b"", time.monotonic() + 20
+    while b"no more lines are taken" not in said and time.monotonic() < until:
+        said += os.read(shell.stderr.fileno(), 4096) if select.select([shell.stderr], [], [], 0.1)[0] else b""
+    state = Path(f"/proc/{panel}/stat").read_text().rpartition(")")[2].split()[0]
+    asks(b"no more lines are taken" in said and state != "T", f"in the background: its state is {state}: {said}")
+    os.kill(panel, signal.SIGKILL)
+    shell.wait(timeout=20)
+    port.close()
+    terminal.close()
+
+
+PARTS = (over_the_network, bad_words, any_words, no_permission, bad_lines, closed_ends, falls_silent, program_ends, in_background)
