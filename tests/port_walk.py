@@ -297,7 +297,8 @@ def listens():
     said = [packet(5, 0, ID, b"\0"), packet(0x85, 0, PDID, IDENTITY), packet(6, 1, POLL), packet(0x86, 1, ACK), packet(5, 1, POLL), packet(0x85, 1, 0x50, b"\0\1\x08\0\x31")]
     rows = ((["show"], ["--address", "5"], ["cmd 5 seq 0 sum ID 0", "RAW 0 1 8 31"], ["cmd 6", "POLL"]), (["show"], ["--all"], ["cmd 6 seq 1 sum POLL", "reply 6 seq 1 sum ACK"], []),
             (["monitor"], ["--address", "5"], ["device 5: opened", "5 "], ["device 6", "6  "]), (["monitor"], ["--every", "1"], ["device  asked"] , ["POLL"]),
-            (["monitor"], ["--all"], ["cmd 6 seq 1 sum POLL"], []))
+            (["monitor"], ["--all"], ["cmd 6 seq 1 sum POLL"], []),
+            (["monitor"], ["--all", "--address", "5"], ["cmd 5 seq 1 sum POLL", "RAW 0 1 8 31"], ["cmd 6", "reply 6"]))
     for words, options, wanted, unwanted in rows:
         with Line() as line:
             script = line.start(line.panel_end, 9600, *words, options=options)
@@ -347,6 +348,16 @@ def traces():
         small = Trace(f"{folder}/small", 200, said.append)
         for _ in range(20):
             small.takes(0.0, "in", bytes(20))
+        before = path.read_text()
+        for words in (["device", "5"], ["panel", "5"]):
+            words = [PORT, "--osdp", port_line.osdp, "--trace", path, line.panel_end.path, "9600", "test", *words]
+            done = subprocess.run(words, capture_output=True, text=True, timeout=60)
+            asks(done.returncode == 3 and str(path) in done.stderr and path.read_text() == before, f"trace: a test begins it anew: {done}")
+        came, goes = os.pipe()  # it has no end and no size
+        piped = Trace(f"/dev/fd/{goes}", 30, said.append)
+        for _ in range(3):
+            piped.takes(0.0, "in", bytes(20))
+        asks(os.read(came, 4096).count(b"\n" + b"00" * 20 + b"\n") == 3, f"trace: a pipe hasn't each burst: {said}")
         asks(os.path.getsize(f"{folder}/small") < 300 and os.path.getsize(f"{folder}/small.1") < 300 and len(said) >= 3, f"trace: it isn't bounded: {said}")
 
 
@@ -359,9 +370,13 @@ def wrong_rate_heard():
         for _ in range(30):
             os.write(line.panel_end.end, bytes(chance.randrange(0x54, 0xFF) for _ in range(40)))
             line.rests(0.04)
+        for number in (1, 2, 3):  # the rate is set right at the other end
+            os.write(line.panel_end.end, packet(5, number, OUT, bytes([0, 2, 0, 0])))
+            line.rests(0.1)
         line.rests(0.5)
         line.stops(script)
-        asks("bytes and no packet: another rate" in script.process.stderr.read().decode(), "heard: it isn't told")
+        asks(tells(script, "OUT 0:2:0", 3)(), f"heard: packets aren't shown: {script.lines[-3:]}")
+        asks(script.process.stderr.read().decode().count("bytes and no packet: another rate") == 1, "heard: it isn't told once")
 
 
 def acts_first():

@@ -79,6 +79,7 @@ BAD_WORDS = (
     ["PORT", "9600", "show", "more"], ["PORT", "9600", "find", "more"], ["PORT", "9600", "trace", "/tmp/a", "more"], ["--keep"], ["--keep", "file", "PORT", "9600", "show"],
     ["--nonsense", "PORT", "9600", "show"], ["--address", "127", "PORT", "9600", "show"], ["--address", "x", "PORT", "9600", "show"], ["--every", "0", "PORT", "9600", "monitor"],
     ["--size", "0", "PORT", "9600", "trace", "/tmp/a"], ["--set-rate", "12345", "PORT", "9600", "find"], ["PORT", "12345", "show"], ["--all", "PORT", "9600", "find"], ["--live", "PORT", "9600", "show"],
+    ["--size", "5", "PORT", "9600", "panel", "5"], ["--osdpcap", "PORT", "9600", "reader", "5"],
 )
 BAD_PORTS = (
     ["/nowhere/port", "9600", "show"], ["/dev/null", "9600", "panel", "5"], ["/etc/passwd", "9600", "monitor"], ["/", "9600", "show"], ["nonsense://x", "9600", "show"],
@@ -107,10 +108,13 @@ def bad_words():
 
     for words in BAD_WORDS:
         ends(words, 2)
+    with socket.create_server(("127.0.0.1", 0)) as server:  # it sets the rate: a device at another one would be lost
+        ends(["--set-rate", "19200", f"socket://127.0.0.1:{server.getsockname()[1]}", "9600", "find"], 2)
     for words in BAD_PORTS:
         ends(words, 3)
     for words, status, wanted in ((["--help"], 0, "usage: osdp-port"), (["--version"], 0, f"osdp-port {version()}\n"), (["PORT", "9600", "show", "--help"], 0, "usage: osdp-port"),
-                                  (["--osdp", "/nowhere/osdp", terminal.path, "9600", "show"], 127, "/nowhere/osdp")):
+                                  (["--osdp", "/nowhere/osdp", terminal.path, "9600", "show"], 127, "/nowhere/osdp"),
+                                  (["--osdp", "/nowhere/osdp", terminal.path, "9600", "find"], 127, "/nowhere/osdp")):
         done = subprocess.run([PORT, *words], capture_output=True, text=True, timeout=60, stdin=subprocess.DEVNULL)
         asks(done.returncode == status and wanted in done.stdout + done.stderr, f"{words}: {done}")
     for words in (["show"], ["monitor", "--all"], ["--all", "panel", "5"], ["reader", "5"]):
@@ -252,4 +256,46 @@ def falls_silent():
         asks(not any("bytes come" in each for each in panel.lines), f"falls silent: nothing comes, and the advice is {panel.lines[-5:]}")
 
 
-PARTS = (over_the_network, bad_words, any_words, no_permission, bad_lines, closed_ends, falls_silent)
+def program_ends():
+    """The program beside is killed: a listener, and a panel that shows each packet, end with a sentence and status 3."""
+    for words in (["monitor"], ["show"], ["panel", "5", "--all"]):
+        with Line() as line:
+            script = line.start(line.panel_end, 9600, *words, stderr=subprocess.PIPE)
+            line.run(lambda: script.lines)
+            children = Path(f"/proc/{script.process.pid}/task/{script.process.pid}/children")
+            asks(line.run(lambda: len(children.read_text().split()) == 1 + ("panel" in words)), f"program ends: {words}: it isn't started")
+            os.kill(int(children.read_text().split()[0]), signal.SIGKILL)
+            asks(line.run(lambda: script.process.poll() is not None, 20), f"program ends: {words}: it goes on without the program")
+            said = script.process.stderr.read().decode() if script.process.poll() is not None else ""
+            is_told = "osdp-port: the program osdp has ended" in said and "Traceback" not in said
+            asks(script.process.poll() == 3 and is_told, f"program ends: {words}: {script.process.poll()}: {said}")
+
+
+STARTS = """import fcntl, os, subprocess, sys, termios
+fcntl.ioctl(0, termios.TIOCSCTTY, 0)
+child = subprocess.Popen(sys.argv[1:], preexec_fn=os.setpgrp)
+print(child.pid, flush=True)
+child.wait()"""
+
+
+def in_background():
+    """A panel in the background of a terminal goes on where a key is pressed there, and says that it takes no more orders."""
+    port, terminal = Terminal(), Terminal()
+    words = [PORT, "--plain", "--osdp", port_line.osdp, port.path, "9600", "panel", "5"]
+    shell = subprocess.Popen([sys.executable, "-c", STARTS, *words], stdin=terminal.other, stdout=subprocess.PIPE, stderr=subprocess.PIPE, start_new_session=True)
+    panel = int(shell.stdout.readline())
+    while b"panel at " not in shell.stdout.readline():
+        pass
+    os.write(terminal.end, b"x\n")
+    said, until = b"", time.monotonic() + 20
+    while b"no more lines are taken" not in said and time.monotonic() < until:
+        said += os.read(shell.stderr.fileno(), 4096) if select.select([shell.stderr], [], [], 0.1)[0] else b""
+    state = Path(f"/proc/{panel}/stat").read_text().rpartition(")")[2].split()[0]
+    asks(b"no more lines are taken" in said and state != "T", f"in the background: its state is {state}: {said}")
+    os.kill(panel, signal.SIGKILL)
+    shell.wait(timeout=20)
+    port.close()
+    terminal.close()
+
+
+PARTS = (over_the_network, bad_words, any_words, no_permission, bad_lines, closed_ends, falls_silent, program_ends, in_background)

@@ -331,6 +331,8 @@ def looks_at_odd():
         asks(f"the row of the stamp {stamps[:20]}", ["1", "1"], row(page.decode(), 5)[:2])
     page = ends_with("an alphabet", 0, "", "# M\u00e4rz out\n".encode() + command + "\n# M\u00e4rz in\n".encode() + answer, env={"LC_ALL": "C", "PYTHONIOENCODING": "latin-1", "PATH": "/usr/bin:/bin"})
     asks("the page is UTF-8", True, "M\u00e4rz" in page.decode(errors="replace"))
+    name = [b'{"timeSec":"%d","timeNano":"0","io":"%b","data":"%b","osdpSource":"Ger\xe4t"}\n' % each for each in ((1, b"output", command), (2, b"input", answer))]
+    asks("the row of a name in another alphabet", ["1", "1"], row(ends_with("a name", 0, "", b"".join(name), "--osdpcap").decode(), 5)[:2])
     echo = b"# 1 out\n%b\r%b\n# 2 in\n%b\n# 3 in\n%b\n" % (command[:6], command[6:], command, answer)
     asks("an echo of a line with a carriage return", True, b"1 runs that came in" in ends_with("a carriage return", 0, "", echo))
     ends_with("no number", 2, "osdp-report: --rate is followed by ", b"", "--rate")

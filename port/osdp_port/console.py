@@ -1,4 +1,5 @@
 """The lines of standard input, and the lines that are printed, each with its moment where that is asked."""
+import errno
 import os
 import select
 import signal
@@ -31,6 +32,7 @@ class Console:
         self.wakes, self.woken = os.pipe()
         for number in (signal.SIGINT, signal.SIGTERM):
             signal.signal(number, self.stopped)
+        signal.signal(signal.SIGTTIN, signal.SIG_IGN)  # in the background of a terminal it would stand still once a key is pressed there
 
     def stopped(self, number, _):
         """Ctrl-C: the first one ends the program as soon as all is told, and the second one at once."""
@@ -76,8 +78,10 @@ class Console:
             return []
         try:
             piece = os.read(0, 4096)
-        except OSError:
+        except OSError as error:
             piece = b""
+            if error.errno == errno.EIO:
+                self.note("standard input is that of another program, as in the background: no more lines are taken")
         *whole, rest = (self.rest + piece).split(b"\n")
         self.is_over, self.rest = not piece, rest[:LONGEST + 1]
         return [self.text(line) for line in (whole + [rest] if self.is_over and rest else whole)]

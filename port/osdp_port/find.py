@@ -144,9 +144,9 @@ class Search:
             self.say(str(found))
 
     def rates(self):
-        """The rates, the one that was named first."""
+        """The rates, the one that was named first; that one alone where a server sets the rate."""
         first = self.line.port.rate
-        return [first, *(rate for rate in RATES if rate != first)]
+        return [first, *(rate for rate in RATES if rate != first and self.line.port.has_own_rate)]
 
     def goes(self):
         """Tries each rate with both checks by the configuration address."""
@@ -168,7 +168,7 @@ class Search:
 
     def goes_by_address(self):
         """Nobody answers at the configuration address: asks each address, at each rate, with both checks."""
-        self.say(f"nobody answers at address {EVERYBODY}: each address is asked at each rate, which takes some {len(RATES) * 2 * EVERYBODY * self.line.wait / 60:.0f} minutes; Ctrl-C ends it")
+        self.say(f"nobody answers at address {EVERYBODY}: each address is asked at each rate, which takes some {len(self.rates()) * 2 * EVERYBODY * self.line.wait / 60:.0f} minutes; Ctrl-C ends it")
         for rate in self.rates():
             self.line.goes(rate)
             for check in CHECKS:
@@ -217,6 +217,8 @@ def find(words, port, console, osdp):
     address, rate = words.get("--set-address"), words.get("--set-rate")
     if rate is not None and not has_rate(rate):
         raise Stop(f"the port has no rate {rate}: try {', '.join(map(str, RATES))}", BAD_WORDS)
+    if rate not in (None, port.rate) and not port.has_own_rate:
+        raise Stop(f"the rate of {port.path} is set at its server alone: a device that is given another rate there isn't found again", BAD_WORDS)
     line = Line(port, console, osdp)
     search = Search(line, console.say)
     console.say(f"find at {port.path}: rates {', '.join(map(str, search.rates()))}, both checks; no device is changed{'' if address is None and rate is None else ' before it is found'}")

@@ -41,14 +41,16 @@ class Monitor(Stream):
     """`osdp monitor` beside the program: its lines with their moments, and its table at the end."""
 
     def __init__(self, words, console, osdp):
-        self.address = words.get("--address")
+        self.address, self.leaves_out = words.get("--address"), False
         options = ["--every", str(words.get("--every"))] if words.get("--every") else []
         super().__init__(osdp, ["monitor", "--raw", *options, *(["--packets"] if words.get("--all") else [])], console)
 
     def prints(self, line):
         """Prints a line; one of another device is left out."""
         is_table = line.startswith(HEADS) or re.match(r"\+?\d+ ", line)
-        if is_other(line, self.address):
+        if not line.startswith(" "):  # one that begins so goes with the line before it
+            self.leaves_out = is_other(line, self.address)
+        if self.leaves_out:
             return
         if is_table or line.startswith(" "):
             self.console.raw(line)
@@ -67,7 +69,7 @@ class Objects(Stream):
     def prints(self, line):
         """Prints an object; one of another device is left out."""
         told = json.loads(line)
-        if self.address is not None and told.get("address", self.address) != self.address:
+        if is_other(str(told["address"]) if "address" in told else told.get("text", ""), self.address):
             return
         if "stamp" in told:
             told["stamp"] = stamp()
@@ -79,7 +81,9 @@ def listener_of(words, port, console, osdp):
     if words.get("--json"):
         return Objects(words, console, osdp)
     if words.get("--live") and is_terminal():
-        return Live(words, console, osdp, f"monitor at {port.path} {port.rate}")
+        live = Live(words, console, osdp, f"monitor at {port.path} {port.rate}")
+        port.tell = live.tells  # a line that is printed beside the picture would be gone at the next one
+        return live
     return Monitor(words, console, osdp)
 
 

@@ -11,7 +11,7 @@ from .pace import Came, turns, words
 from .program import Stream
 
 HEADS = ("device  ", "runs ", "window  ", "+runs ")  # of a table, and of what came since the last one
-OF_DEVICE = re.compile(r"^(?:\d+:\d+ )?\+?(?:(?:device|panel to|reader) )?(\d+)\b")
+OF_DEVICE = re.compile(r"^(?:\d+:\d+ )?\+?(?:(?:device|panel to|reader|cmd|reply|diagnosis:) )?(\d+)\b(?!:\d)")
 COUNTS = re.compile(r"(\w+) (\d+)")
 NAMES = "asked polls repeats answered busy nak events opened moved judged forgot accused".split()
 DUE = 0.25  # seconds between two pictures
@@ -71,10 +71,10 @@ class Live(Stream):
         self.rate, self.title, self.address = words.rate, title, words.get("--address")
         self.tables, self.told = deque(), deque(maxlen=200)
         self.window, self.part, self.in_table = [], [], False
-        self.size, self.came, self.drawn = 0, None, 0.0
+        self.size, self.came, self.drawn, self.leaves_out = 0, None, 0.0, False
         self.lock = threading.Lock()
-        write_all(1, (HIDE + CLEAR).encode())
         super().__init__(osdp, ["monitor", "--raw", "--every", str(words.get("--every", 1)), *(["--packets"] if words.get("--all") else [])], console)
+        write_all(1, (HIDE + CLEAR).encode())
 
     def write(self, data):
         if data:
@@ -85,7 +85,9 @@ class Live(Stream):
 
     def prints(self, line):
         """Takes a line: of the table, or one that is told."""
-        if is_other(line, self.address):
+        if not line.startswith(" "):  # one that begins so goes with the line before it
+            self.leaves_out = is_other(line, self.address)
+        if self.leaves_out:
             return
         with self.lock:
             if line.startswith(("window  ", "+")):
@@ -101,6 +103,11 @@ class Live(Stream):
             else:
                 self.in_table = False
                 self.told.append(line if line.startswith(" ") else f"{stamp()} {line.partition(' ')[2] if re.match(r'[0-9]+:', line) else line}")
+
+    def tells(self, line):
+        """Takes what happens to the port."""
+        with self.lock:
+            self.told.append(f"{stamp()} {line}")
 
     def keep(self, table):
         """Keeps the last table and, for what came lately, those of the last seconds."""

@@ -4,6 +4,7 @@ import time
 from .console import wait_for
 from .panel_tricks import NUMBERED, TRICKS
 from .testing import Judge, allowed, crc, packet, status_of
+from .trace import begun
 
 GAP = 0.05  # seconds of silence after which bytes without a packet are passed over
 TRIES = 2  # as many tricks are played again, for each, at most, whose answers were lost
@@ -294,7 +295,7 @@ class Player:
 def test_panel(words, port, console, osdp):
     """Is the device at an address, and tests the panel that asks it. The status: that of `osdp test panel`."""
     may = allowed(words)
-    kept = open(words.get("--trace"), "w", encoding="ascii") if words.get("--trace") else None
+    kept = begun(words.get("--trace")) if words.get("--trace") else None
     judge = Judge(osdp, ["test", "panel", *(["--tap"] if words.get("--tap") else [])], console)
 
     def write(line):

@@ -17,6 +17,8 @@ STOPS = (signal.SIGINT, signal.SIGTERM)
 def find_program(given=None):
     """The path of `osdp`: as it was given, or beside this program, or on PATH."""
     beside = Path(sys.argv[0]).resolve().parent / "osdp"
+    if given and shutil.which(given) is None:
+        raise Stop(f"the program can't be started: {given}", NO_PROGRAM)
     path = given or (str(beside) if os.access(beside, os.X_OK) and beside.is_file() else shutil.which("osdp"))
     if path is None:
         raise Stop("the program osdp isn't on PATH: ./install puts it there, or --osdp names it", NO_PROGRAM)
@@ -32,11 +34,17 @@ def start(path, words, **streams):
         raise Stop(f"the program can't be started: {path}", NO_PROGRAM) from None
 
 
+def end_of(process):
+    """How this program ends since that one has. It has said why where its status is one of its faults."""
+    status = process.wait()
+    return Stop("", status) if status in PROGRAM_FAULTS else Stop("the program osdp has ended")
+
+
 class Stream:
     """The program with a stream of bytes or lines: what it prints is read beside, line by line."""
 
     def __init__(self, path, words, console):
-        self.console, self.stop = console, None
+        self.console, self.stop, self.is_ending = console, None, False
         self.process = start(path, words)
         self.thread = threading.Thread(target=self.read, daemon=True)
         self.thread.start()
@@ -48,21 +56,24 @@ class Stream:
             pass  # it has ended, and its status tells
 
     def read(self):
-        """Hands on each line. Where it can't be printed the program ends, as the main thread is told."""
+        """Hands on each line. Where it can't be printed, or no line comes any more, the program ends, as the main thread is told."""
         try:
             for text in self.process.stdout:
                 self.prints(text.decode().rstrip("\n"))
+            if not self.is_ending:
+                raise end_of(self.process)
         except Stop as stop:
             self.stop = stop
             self.console.wake()
 
     def ends(self):
         """The input has ended: the last lines come out. The status."""
+        self.is_ending = True
         try:
             self.process.stdin.close()
         except OSError:
             pass
-        self.thread.join(5)
+        self.thread.join()
         if self.stop:
             self.process.kill()
             raise self.stop
@@ -94,11 +105,7 @@ class Lines:
         return answer
 
     def ended(self):
-        """The program has ended. It has said why where its status is one of its faults."""
-        status = self.process.wait()
-        if status not in PROGRAM_FAULTS:
-            raise Stop("the program osdp has ended")
-        raise Stop("", status)
+        raise end_of(self.process)
 
     def close(self):
         self.process.stdin.close()

@@ -26,7 +26,7 @@ usage: osdp-report [FORM] [--rate R] [--json] [--osdp PROGRAM] [FILE] > report.h
 Without FILE it reads standard input. What an adapter hands back of a packet that was sent is left out, and told.
 The page has what is likely wrong in words, a table with answer times, a timeline for each device, and each
 accusation with its packets; where the capture has moments, also packets, damage and turns of the panel a second.
-It is 0 where the page is written, 2 at bad words, 3 where something can't be read.
+It is 0 where the page is written, 2 at bad words, 3 where something can't be read or written, 127 where the program osdp isn't there.
 """
 FORMS = ("--hex", "--osdpcap", "--stamped", "--raw")
 FOLLOWED = {"--rate": "a number of bits a second", "--osdp": "the path of osdp"}
@@ -112,7 +112,7 @@ def burst_of(form, line):
     """The digits of a line that is a run; none of a blank line, a comment or an object without bytes."""
     if form == "--osdpcap":
         try:
-            return json.loads(line)["data"].replace("-", "").replace(" ", "").upper() or None
+            return json.loads(line.decode(errors="replace"))["data"].replace("-", "").replace(" ", "").upper() or None
         except (ValueError, KeyError, AttributeError, TypeError):
             return None
     text = line.decode(errors="replace").strip()

@@ -3,6 +3,7 @@ from .console import write_all
 from .faults import BAD_WORDS, Stop
 from .program import Lines
 from .testing import ANSWER, Player, status_of
+from .trace import begun
 
 LONGEST = 4000  # how many bytes of what was heard are handed over at most
 OWN = ("heard", "ready")  # the lines that are written here, and don't stand in a script
@@ -96,7 +97,7 @@ def run(words, port, console, osdp):
     wrong = refusals(osdp, path, lines)
     if wrong:
         raise Stop("\nosdp-port: ".join(wrong), BAD_WORDS)
-    kept = open(words.get("--trace"), "w", encoding="utf-8") if words.get("--trace") else None
+    kept = begun(words.get("--trace")) if words.get("--trace") else None
     runner = Runner(port, console, Script(osdp, ["test", "script"]), lambda line: kept.write(line + "\n") if kept else None)
     try:
         for line in lines:

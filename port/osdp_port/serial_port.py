@@ -16,7 +16,7 @@ except ImportError:
 RATES = (9600, 19200, 38400, 57600, 115200, 230400)  # those of the standard
 PIECE = 2048  # how many bytes a read takes at most: a line to `osdp` has 8,192 characters at most, and a byte two of them
 AGAIN = 500  # after how many milliseconds a port that isn't there is tried again
-FAULTS = (OSError, ValueError, NotImplementedError)  # what pyserial raises
+FAULTS = (OSError, ValueError, NotImplementedError, termios.error)  # what pyserial raises
 SERVER = re.compile(r"(?:rfc2217|socket)://(?:\[[^]]+\]|[^:/\s]+):[0-9]{1,5}(?:[/?].*)?")  # a port that a server has
 STOLEN_AGAIN = 10.0  # after how many seconds it is told again that bytes were taken
 
@@ -168,7 +168,7 @@ class Port:
             if self.serial is not None:
                 self.serial.flush()
                 self.serial.baudrate = rate
-        except (*FAULTS, termios.error):
+        except FAULTS:
             return False
         self.rate = rate
         return True

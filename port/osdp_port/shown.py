@@ -18,6 +18,7 @@ class Shown(Stream):
         self.address, self.is_all = address, is_all
         self.runs, self.first = deque(), 1  # the moments of the runs whose lines may come, and the number of the first one
         self.bytes = self.packets = 0
+        self.is_hopeless = False  # whether that was told: once
         self.lock = threading.Lock()
         super().__init__(path, ["show"], console)
 
@@ -40,8 +41,8 @@ class Shown(Stream):
             since = self.runs[0] if self.runs else None
         device = OF_DEVICE.match(text)
         self.packets += bool(device)
-        if self.packets == 0 and self.bytes >= HOPELESS:
-            self.packets = -1
+        if self.packets == 0 and self.bytes >= HOPELESS and not self.is_hopeless:
+            self.is_hopeless = True
             self.console.note(f"{self.bytes} bytes and no packet: another rate, or the two wires are swapped; osdp-port PORT RATE find tells the rate")
         if self.address is not None and (not device or int(device[1]) != self.address):
             return

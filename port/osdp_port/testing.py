@@ -6,6 +6,7 @@ from .console import wait_for
 from .faults import BAD_WORDS, MET, Stop, is_number
 from .program import Stream
 from .scenarios import NAMES, SCENARIOS
+from .trace import begun
 
 TRIES = 3  # how often a packet is sent while nothing is heard
 FIRST = 3  # rules after which a device that has said nothing isn't there: both checks were tried
@@ -260,7 +261,7 @@ class Accusing(Judge):
 def test(words, port, console, osdp):
     """Tests the device at an address. The status: that of `osdp test`."""
     may, lines, address = allowed(words), [], int(words.rest[1])
-    kept = open(words.get("--trace"), "w", encoding="ascii") if words.get("--trace") else None
+    kept = begun(words.get("--trace")) if words.get("--trace") else None
     judge = Accusing(osdp, bool(words.get("--tap")), console)
 
     def write(line):

@@ -14,6 +14,15 @@ def digits(since, way, burst):
     return f"# {stamp}.{int(since * 1000) % 1000:03}Z {way}\n{burst.hex().upper()}\n"
 
 
+def begun(path):
+    """A file for the lines of a test, begun anew. A trace of a line isn't: nobody can take it again."""
+    if os.path.isfile(path):
+        with open(path, "rb") as file:
+            if file.read(10).startswith((b"# rate ", b'{"timeSec"')):
+                raise Stop(f"{path} has a trace of a line, which a test would begin anew: name another file")
+    return open(path, "w", encoding="utf-8")
+
+
 def rate_line(rate):
     """A comment that tells the rate of what comes after it, in bits a second."""
     return f"# rate {rate}\n"
@@ -78,7 +87,7 @@ class Trace:
             self.file.write(self.form(since, way, burst))
             self.file.flush()
             self.count, self.bytes = self.count + 1, self.bytes + len(burst)
-            if self.file.tell() >= self.size:
+            if self.file.seekable() and self.file.tell() >= self.size:  # a pipe is never full
                 self.file.close()
                 os.replace(self.path, f"{self.path}.1")
                 self.open()

@@ -25,7 +25,8 @@ After ADDRESSES or ADDRESS settings of osdp may stand: panel 5 check sum reply-w
   --live                 of monitor: the table in place, on a terminal
   --json                 of monitor: an object of JSON a line
   --keep FILE            of panel and reader: where the devices are after a COMSET
-  --trace FILE           of panel, reader and test: all that goes over the line too
+  --trace FILE           of panel and reader: all that goes over the line is added
+                         to this file; of test: its own lines, in a file begun anew
   --size MB              a trace that is so large is put aside: 10
   --osdpcap              a trace has a JSON object a line, as other tools read it
   --may WORDS            of test: what it may do: silence,out:N,led,buz,text,comset,beyond
@@ -98,6 +99,8 @@ class Words:
         for option in self.options:
             if option in FITS and self.command not in FITS[option]:
                 bad(f"{option} is no option of {self.command}")
+            if option in ("--size", "--osdpcap") and self.command != "trace" and "--trace" not in self.options:
+                bad(f"{option} is of a trace: give --trace FILE too")
         needed = {"panel": "ADDRESSES, as 5,6 or 0-5", "reader": "ADDRESS, as 5", "trace": "FILE", "test": "device, panel or script"}.get(self.command)
         if needed and not self.rest:
             bad(f"word 4 is missing: {needed}")
