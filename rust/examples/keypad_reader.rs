@@ -1,5 +1,6 @@
-//! A device with a card reader, a keypad and a relay: `keypad_reader PORT RATE`, at address 1. A line `RAW 0 0 26 12345640` is a card, `KEYPAD 0 31323334` are keys,
-//! and `ISTATR 01` the door's contact. The relay, output 0, is on for the time that is ordered. LED and buzzer are told as they are ordered.
+//! A device with a card reader, a keypad and a relay: `keypad_reader [--keep FILE] PORT RATE`, at address 1, or where the file has it after a COMSET. A line
+//! `RAW 0 0 26 12345640` is a card, `KEYPAD 0 31323334` are keys, and `ISTATR 01` the door's contact. The relay, output 0, is on for the time that is ordered. LED
+//! and buzzer are told as they are ordered.
 mod port;
 
 use osdp::{
@@ -55,7 +56,7 @@ impl Reader {
                 println!("{command}");
             }
         }
-        match answer.send(|burst| self.port.write(burst))? {
+        match self.port.send(answer)? {
             Some(Order::Pending(command)) => Ok(decide(&command)),
             _ => Ok(None),
         }
@@ -88,8 +89,8 @@ fn take_line(device: &mut Device, line: &str) -> Result<(), osdp::Error> {
     }
 }
 
-fn run(port: Port) -> Done {
-    let mut device = Device::new(&DeviceConfig::new(1))?;
+fn run(mut port: Port) -> Done {
+    let mut device = Device::new(&DeviceConfig::new(port.address(1)?))?;
     device.set_inputs(&[0])?;
     device.set_outputs(&[0])?;
     let mut reader = Reader { port, relay: None };
