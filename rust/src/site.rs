@@ -271,7 +271,8 @@ impl<const ENTRIES: usize> Site<ENTRIES> {
     }
 
     /// Gives an order: a command that is submitted once. Tells whether the panel accepted it. It isn't submitted, and the call gives false, where the device is
-    /// offline, since the order would be stale once the device is online again. The call gives false too where the panel has no room for the order (`Full`).
+    /// offline, since the order would be stale once the device is online again. The call gives false too where the panel has no room for the order (`Full`),
+    /// and for a further device, which the site leaves alone.
     ///
     /// # Errors
     ///
