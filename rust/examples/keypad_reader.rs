@@ -14,6 +14,8 @@ use std::time::Duration;
 
 /// How long it waits at most.
 const TURN: Duration = Duration::from_millis(10);
+/// How long an event may wait while no panel is there.
+const TOO_OLD: Duration = Duration::from_secs(30);
 
 type Done = Result<(), Box<dyn Error>>;
 
@@ -97,6 +99,9 @@ fn run(mut port: Port) -> Done {
     loop {
         let came = reader.port.wait(reader.port.now() + TURN)?;
         let now = reader.port.now(); // after the read: not before it
+        while let Some(expired) = device.expire_event(now, TOO_OLD)? {
+            println!("{expired:?}"); // else a card of long ago opens the door when the panel comes back
+        }
         match &came {
             Came::Bytes(bytes) => reader.hear(&mut device, bytes, now)?,
             Came::Line(line) if take_line(&mut device, line).is_err() => println!("refused line"),
