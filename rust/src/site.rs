@@ -201,6 +201,8 @@ pub struct Site<const ENTRIES: usize> {
 
 impl<const ENTRIES: usize> Site<ENTRIES> {
     /// A site whose devices are all offline since this moment, and whose sessions are due. After a session has ended, the next one is due a second later.
+    /// Make it before a session of its panel opens: a device whose session was open already counts as offline until its next one, and gets neither states nor
+    /// orders.
     pub fn new(now: Moment) -> Site<ENTRIES> {
         let place = Place {
             wanted: [State::NONE; ROOM],
