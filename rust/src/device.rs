@@ -129,8 +129,8 @@ impl Answer<'_> {
     ///
     /// # Errors
     ///
-    /// Those of `write`. Then it tells no order, and no later call tells it: the device has taken the command, and a repeat of it gets the same answer and
-    /// is no order. A program that goes on after such an error acts on `order`.
+    /// Those of `write`. Then it tells no order. The device has taken the command all the same: a repeat of an `Order::Once` gets the same answer and is no
+    /// order, so no later call tells it. A program that goes on after such an error acts on `order`.
     pub fn send<E>(self, write: impl FnOnce(&[u8]) -> Result<(), E>) -> Result<Option<Order>, E> {
         self.unsent.send(write)?;
         Ok(self.order)
