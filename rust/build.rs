@@ -33,6 +33,8 @@ fn main() {
         None => of_the_system().map(|folder| (folder, "osdp")),
     };
     let Some((folder, name)) = found else {
+        // it is looked for again at each build: a file that isn't there counts as changed
+        println!("cargo:rerun-if-changed=lib/libosdp_c.a");
         println!(
             "cargo:warning=no archive of the machines: nothing that uses it can be linked; run `rt lib` in crates/osdp_c, or set OSDP_C_LIB_DIR"
         );

@@ -1,5 +1,6 @@
-//! A device with a card reader, a keypad and a relay: `keypad_reader PORT RATE`, at address 1. A line `RAW 0 0 26 12345640` is a card, `KEYPAD 0 31323334` are keys,
-//! and `ISTATR 01` the door's contact. The relay, output 0, is on for the time that is ordered. LED and buzzer are told as they are ordered.
+//! A device with a card reader, a keypad and a relay: `keypad_reader [--keep FILE] PORT RATE`, at address 1, or where the file has it after a COMSET. A line
+//! `RAW 0 0 26 12345640` is a card, `KEYPAD 0 31323334` are keys, and `ISTATR 01` the door's contact. The relay, output 0, is on for the time that is ordered. LED
+//! and buzzer are told as they are ordered.
 mod port;
 
 use osdp::{
@@ -13,6 +14,8 @@ use std::time::Duration;
 
 /// How long it waits at most.
 const TURN: Duration = Duration::from_millis(10);
+/// How long an event may wait while no panel is there.
+const TOO_OLD: Duration = Duration::from_secs(30);
 
 type Done = Result<(), Box<dyn Error>>;
 
@@ -55,7 +58,7 @@ impl Reader {
                 println!("{command}");
             }
         }
-        match answer.send(|burst| self.port.write(burst))? {
+        match self.port.send(answer)? {
             Some(Order::Pending(command)) => Ok(decide(&command)),
             _ => Ok(None),
         }
@@ -88,14 +91,17 @@ fn take_line(device: &mut Device, line: &str) -> Result<(), osdp::Error> {
     }
 }
 
-fn run(port: Port) -> Done {
-    let mut device = Device::new(&DeviceConfig::new(1))?;
+fn run(mut port: Port) -> Done {
+    let mut device = Device::new(&DeviceConfig::new(port.address(1)?))?;
     device.set_inputs(&[0])?;
     device.set_outputs(&[0])?;
     let mut reader = Reader { port, relay: None };
     loop {
         let came = reader.port.wait(reader.port.now() + TURN)?;
         let now = reader.port.now(); // after the read: not before it
+        while let Some(expired) = device.expire_event(now, TOO_OLD)? {
+            println!("{expired:?}"); // else a card of long ago opens the door when the panel comes back
+        }
         match &came {
             Came::Bytes(bytes) => reader.hear(&mut device, bytes, now)?,
             Came::Line(line) if take_line(&mut device, line).is_err() => println!("refused line"),

@@ -129,7 +129,8 @@ impl Answer<'_> {
     ///
     /// # Errors
     ///
-    /// Those of `write`.
+    /// Those of `write`. Then it tells no order. The device has taken the command all the same: a repeat of an `Order::Once` gets the same answer and is no
+    /// order, so no later call tells it. A program that goes on after such an error acts on `order`.
     pub fn send<E>(self, write: impl FnOnce(&[u8]) -> Result<(), E>) -> Result<Option<Order>, E> {
         self.unsent.send(write)?;
         Ok(self.order)
@@ -389,13 +390,17 @@ impl Device {
     }
 
     /// Takes the oldest event off where two things hold: no panel is there at the moment (`is_offline`), and the event has waited for longer than the limit. A
-    /// limit of no time takes none off. Call it in each turn before bytes are handed in, until it gives `None`: so no card of long ago opens a door.
+    /// limit of no time takes none off, and one of less than a millisecond counts as one. Call it in each turn before bytes are handed in, until it gives
+    /// `None`: so no card of long ago opens a door.
     ///
     /// # Errors
     ///
     /// `MomentTooFar`.
     pub fn expire_event(&mut self, now: Moment, limit: Duration) -> Result<Option<Expired>, Error> {
-        let limit = u64::try_from(limit.as_millis()).unwrap_or(u64::MAX);
+        let limit = match u64::try_from(limit.as_millis()) {
+            Ok(0) if !limit.is_zero() => 1, // 0 would take none off
+            limit => limit.unwrap_or(u64::MAX),
+        };
         let (mut expired, mut event) = (0, no_message());
         // SAFETY: the handle is ours alone, and the number and the event are one each.
         check(unsafe {

@@ -3,8 +3,8 @@
 use crate::sys;
 use core::fmt;
 
-/// Why a call is refused. A refused call has changed nothing, with two exceptions: a `Monitor` stops by `NoMemory` and by `TooLong`, and `Site::act` has
-/// taken back orders.
+/// Why a call is refused. A refused call has changed nothing, with two exceptions: a `Monitor` stops by `NoMemory` and by `TooLong`, and `Site::act` may have
+/// submitted states to devices that come before the one whose session it can't begin.
 #[derive(Clone, Copy, Debug, PartialEq, Eq)]
 #[non_exhaustive]
 pub enum Error {

@@ -55,6 +55,11 @@
 //! program links a heap of its own, such as `c/heap_pool.c`.
 #![no_std]
 
+#[cfg(not(target_pointer_width = "64"))]
+compile_error!(
+    "this crate is for targets of 64 bits; for others include/osdp.h has the calls in C"
+);
+
 mod command_fields;
 mod device;
 mod error;

@@ -311,7 +311,7 @@ impl Unsent<'_> {
     ///
     /// # Errors
     ///
-    /// Those of `write`.
+    /// Those of `write`. Then the burst is gone, as one that is lost on the line: the panel sends its packet again after `reply_wait`, or loses the session.
     pub fn send<E>(self, write: impl FnOnce(&[u8]) -> Result<(), E>) -> Result<bool, E> {
         match self.burst {
             Some(burst) => write(&burst).map(|()| true),

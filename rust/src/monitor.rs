@@ -114,7 +114,8 @@ impl Monitor {
         check(unsafe { sys::osdp_monitor_table(self.handle.get()) })
     }
 
-    /// Takes the next of the text that waits, as much as there is room for, and gives it. It is empty where none waits. A line of text may be cut in two.
+    /// Takes the next of the text that waits, as much as there is room for, and gives it. It is empty where none waits, or where the room is empty. A line
+    /// of text may be cut in two.
     pub fn next_text<'a>(&mut self, room: &'a mut [u8]) -> &'a [u8] {
         let mut count = 0;
         // SAFETY: the handle is ours alone, and the room has so many bytes. It holds a machine, so the call isn't refused.

@@ -48,11 +48,12 @@ pub(crate) fn milliseconds(time: Duration) -> u32 {
     u32::try_from(time.as_millis()).unwrap_or(u32::MAX)
 }
 
-/// A clock limit, as the archive takes it: one under a millisecond would stand for a day there.
+/// A clock limit, as the archive takes it: one under a millisecond would stand for a day there, and one that is too long for it isn't cut.
 pub(crate) fn limit(time: Duration) -> Result<u32, Error> {
-    match milliseconds(time) {
-        0 if !time.is_zero() => Err(Error::OutOfRange),
-        limit => Ok(limit),
+    match u32::try_from(time.as_millis()) {
+        Ok(0) if !time.is_zero() => Err(Error::OutOfRange),
+        Ok(limit) => Ok(limit),
+        Err(_) => Err(Error::OutOfRange),
     }
 }
 

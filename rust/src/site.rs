@@ -201,6 +201,8 @@ pub struct Site<const ENTRIES: usize> {
 
 impl<const ENTRIES: usize> Site<ENTRIES> {
     /// A site whose devices are all offline since this moment, and whose sessions are due. After a session has ended, the next one is due a second later.
+    /// Make it before a session of its panel opens: a device whose session was open already counts as offline until its next one, and gets neither states nor
+    /// orders.
     pub fn new(now: Moment) -> Site<ENTRIES> {
         let place = Place {
             wanted: [State::NONE; ROOM],
@@ -271,7 +273,8 @@ impl<const ENTRIES: usize> Site<ENTRIES> {
     }
 
     /// Gives an order: a command that is submitted once. Tells whether the panel accepted it. It isn't submitted, and the call gives false, where the device is
-    /// offline, since the order would be stale once the device is online again. The call gives false too where the panel has no room for the order (`Full`).
+    /// offline, since the order would be stale once the device is online again. The call gives false too where the panel has no room for the order (`Full`),
+    /// and for a further device, which the site leaves alone.
     ///
     /// # Errors
     ///

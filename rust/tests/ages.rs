@@ -45,6 +45,22 @@ fn a_card_of_long_ago_is_told_to_nobody() -> Result<(), Error> {
     Ok(())
 }
 
+/// A limit of less than a millisecond isn't one of no time, which takes nothing off.
+#[test]
+fn a_limit_of_less_than_a_millisecond_counts_as_one() -> Result<(), Error> {
+    let mut device = Device::new(&DeviceConfig::new(5))?;
+    assert_eq!(answer_code(&mut device, &ID, 1000)?, 0x45);
+    let keys = Bytes::new(b"1").ok_or(Error::BadLength)?;
+    device.submit_event(&Reply::Keypad(0, keys))?;
+    let limit = Duration::from_micros(999);
+    assert_eq!(device.expire_event(at(8999), limit)?, None);
+    assert!(matches!(
+        device.expire_event(at(9000), limit)?,
+        Some(Expired::Withdrawn(Reply::Keypad(..)))
+    ));
+    Ok(())
+}
+
 /// A card that was told once is in doubt, and the one after it is withdrawn.
 #[test]
 fn what_was_told_is_in_doubt() -> Result<(), Error> {

@@ -60,6 +60,27 @@ fn a_limit_of_less_than_a_millisecond_is_refused() {
     assert_eq!(Device::new(&config).err(), Some(Error::OutOfRange));
 }
 
+/// It would be cut to 49 days, so that a program which wants none would be refused a moment.
+#[test]
+fn a_limit_of_more_than_49_days_is_refused() {
+    let with = |clock_limit| {
+        let panel = PanelConfig {
+            clock_limit,
+            ..PanelConfig::default()
+        };
+        let device = DeviceConfig {
+            clock_limit,
+            ..DEVICE
+        };
+        (Panel::new(&panel).err(), Device::new(&device).err())
+    };
+    let days = |count: u64| Duration::from_secs(count * 86_400);
+    let refused = Some(Error::OutOfRange);
+    assert_eq!(with(days(49)), (None, None));
+    assert_eq!(with(days(50)), (refused, refused));
+    assert_eq!(with(Duration::MAX), (refused, refused));
+}
+
 /// Nothing is changed by a question, so it takes no more than a reference.
 #[test]
 fn what_is_asked_changes_nothing() {

@@ -1,4 +1,4 @@
-//! What a reader's program is told of a command: that it is to be done, or that the reader has refused it.
+//! What a reader's program is told of a command: that it is to be done, or that the reader has refused it; and that no order is told after a send that failed.
 mod settings;
 
 use osdp::{Device, Moment, Order, Said};
@@ -33,6 +33,26 @@ fn a_refused_command_is_told_so() {
     };
     assert_eq!(command.to_string(), "OUT 9:2:0");
     assert_eq!(&sent[5..7], &[0x41, 9]);
+}
+
+/// A send that fails tells no order. `order` has told it before, and the repeat that follows is none.
+#[test]
+fn an_order_is_told_before_a_send_that_fails() {
+    const ID: [u8; 8] = [0x53, 5, 8, 0, 0, 0x61, 0, 0x3F];
+    const NEXT_OUT: [u8; 11] = [0x53, 5, 0x0B, 0, 1, 0x68, 0, 2, 0, 0, 0x32];
+    let mut device = Device::new(&DEVICE).unwrap();
+    device.set_outputs(&[0]).unwrap();
+    let answers =
+        [(&ID[..], 0), (&NEXT_OUT, 100), (&[], 100), (&NEXT_OUT, 200)].map(|(packet, now)| {
+            let step = device.step(packet, Moment::from_millis(now)).unwrap();
+            let answer = step.answer.expect("an answer");
+            let (said, order) = (answer.said, answer.order().cloned());
+            (said, order, answer.send(|_| Err("the port is gone")))
+        });
+    let [_, (asked, ..), (taken, order, sent), repeated] = &answers;
+    assert_eq!((*asked, *taken), (Said::Pending, Said::Taken));
+    assert!(matches!(order, Some(Order::Once(_))) && sent.is_err());
+    assert_eq!(repeated, &(Said::Repeat, None, Err("the port is gone")));
 }
 
 #[test]
