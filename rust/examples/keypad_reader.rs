@@ -52,7 +52,8 @@ impl Reader {
         if let Some(Order::Once(command)) = answer.order() {
             for record in command.outputs() {
                 let time = Duration::from_millis(100) * u32::from(record.timer);
-                self.switch((record.control == output::ON_FOR_A_TIME).then_some(now + time));
+                let on = record.control == output::ON_FOR_A_TIME && record.timer > 0; // a timer of 0 ends it
+                self.switch(on.then_some(now + time));
             }
             if command.outputs().next().is_none() {
                 println!("{command}");
@@ -81,14 +82,15 @@ impl Reader {
     }
 }
 
-/// A card, keys or the contact, by its text: it is told to the next POLL. What the contact is from now on is the answer to ISTAT, too.
+/// A card, keys or the contact, by its text: it is told to the next POLL. What the contact is from now on is the answer to ISTAT, also where as many events wait
+/// as may.
 fn take_line(device: &mut Device, line: &str) -> Result<(), osdp::Error> {
-    device.event_text(line)?;
     match line {
-        "ISTATR 00" => device.set_inputs(&[0]),
-        "ISTATR 01" => device.set_inputs(&[1]),
-        _ => Ok(()),
+        "ISTATR 00" => device.set_inputs(&[0])?,
+        "ISTATR 01" => device.set_inputs(&[1])?,
+        _ => {}
     }
+    device.event_text(line)
 }
 
 fn run(mut port: Port) -> Done {

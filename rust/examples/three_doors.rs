@@ -16,6 +16,8 @@ const DOORS: usize = 3;
 const UNLOCK: u16 = 50;
 /// After so long an open door is held open.
 const HELD: Duration = Duration::from_secs(10);
+/// When one is held open whose buzzer sounds already.
+const SOUNDS: Moment = Moment::from_millis(u64::MAX);
 /// How long it waits at most.
 const TURN: Duration = Duration::from_millis(100);
 
@@ -36,7 +38,7 @@ type Done = Result<(), Box<dyn Error>>;
 struct Doors {
     panel: Panel,
     site: Site<DOORS>,
-    /// When a door is held open; none while it is closed, and once its buzzer sounds.
+    /// When a door is held open; none while it is closed.
     held: [Option<Moment>; DOORS],
 }
 
@@ -66,10 +68,15 @@ impl Doors {
         Ok(())
     }
 
-    /// The door's contact, as an event or an answer tells it. A buzzer is silent from then on: a state, which a reader that comes back gets again.
+    /// The door's contact, as an event or an answer tells it. That a door is still open, as where its reader was away, is no news. Else a buzzer is silent from
+    /// then on: a state, which a reader that comes back gets again.
     fn take_contact(&mut self, door: EntryNumber, states: &[u8], now: Moment) -> Done {
         let is_open = states.first() == Some(&state::ACTIVE);
-        self.held[door.index()] = is_open.then_some(now + HELD);
+        let held = &mut self.held[door.index()];
+        if is_open && held.is_some() {
+            return Ok(());
+        }
+        *held = is_open.then_some(now + HELD);
         Ok(self.site.wants(door, &Command::sound(false))?)
     }
 
@@ -105,7 +112,8 @@ impl Doors {
     fn watch(&mut self, now: Moment) -> Done {
         for door in self.panel.entries() {
             let held = &mut self.held[door.index()];
-            if held.take_if(|held| *held <= now).is_some() {
+            if held.is_some_and(|held| held <= now) {
+                *held = Some(SOUNDS);
                 self.site.wants(door, &Command::sound(true))?;
             }
         }
