@@ -83,7 +83,7 @@ typedef struct osdp_site {
     uint32_t pause;
 } osdp_site;
 
-/* A site for so many entries, those of the panel: all are offline since this moment, and their sessions are due. */
+/* A site for so many entries, those of the panel: all are offline since this moment, and their sessions are due. It is made before a session opens. */
 void osdp_site_new(osdp_site *site, struct osdp_site_entry *entries, size_t count, uint64_t now);
 
 /*

@@ -451,6 +451,19 @@ def deed_first(c, rust, name):
     terminal.close()
 
 
+def closed_output(c, _):
+    """What a program tells whose standard output is closed doesn't go out on the line: the port doesn't take its place."""
+    terminal = Terminal()
+    words = ["sh", "-c", 'exec "$@" >&-', "sh", f"{c}/keypad_reader", terminal.path, "9600", "5"]
+    process = subprocess.Popen(words, stdin=subprocess.PIPE, stderr=subprocess.DEVNULL)
+    process.stdin.write(b"this is refused\n")
+    process.stdin.close()
+    asks(not select.select([terminal.end], [], [], 1)[0], "closed output: what is told goes out on the line")
+    process.kill()
+    process.wait()
+    terminal.close()
+
+
 def run(case, c, rust, more):
     """The faults of one case."""
     examples.faults.clear()
@@ -463,7 +476,7 @@ def run(case, c, rust, more):
 
 
 def cases():
-    for name in ("stolen", "stolen_from_rust", "taken_port", "ends_of_orders", "many_stops", "sentences", "one_is_dead", "refused_rate", "swapped", "kept_before", "another_device"):
+    for name in ("stolen", "stolen_from_rust", "taken_port", "ends_of_orders", "many_stops", "sentences", "one_is_dead", "refused_rate", "swapped", "kept_before", "another_device", "closed_output"):
         yield name, ()
     for language in ("C", "Rust", "Rattle"):
         yield "small_panel", (language,)

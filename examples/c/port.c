@@ -192,7 +192,7 @@ static void read_lines(struct lines *lines)
 
 size_t read_port(int port, struct lines *lines, uint64_t wait, uint8_t *bytes, size_t room)
 {
-    struct pollfd ready[] = { { port, POLLIN, 0 }, { lines->ended || port == STDIN_FILENO ? -1 : STDIN_FILENO, POLLIN, 0 } };
+    struct pollfd ready[] = { { port, POLLIN, 0 }, { lines->ended ? -1 : STDIN_FILENO, POLLIN, 0 } };
     ssize_t count = 0;
     int found = wait_for(ready, 2, wait < 60000 ? wait : 60000);
     if (found > 0 && ready[1].revents != 0) {

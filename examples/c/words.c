@@ -1,5 +1,6 @@
 /* Words of the command line, lines that are printed, and texts of messages. */
 #include <errno.h>
+#include <fcntl.h>
 #include <signal.h>
 #include <stdarg.h>
 #include <stdio.h>
@@ -33,10 +34,21 @@ void tell(const char *format, ...)
     }
 }
 
+/* A standard stream that is closed stays one that fails: else the port would take its place, and what is told would go out on the line. */
+static void fill_streams(void)
+{
+    for (int stream = 0; stream <= 2; stream++) {
+        if (fcntl(stream, F_GETFD) < 0) {
+            (void)open("/dev/null", stream == 0 ? O_WRONLY : O_RDONLY);
+        }
+    }
+}
+
 char **take_words(int *count, char **words, int least, const char *usage, const char **kept)
 {
     const char *trace = NULL;
     (void)signal(SIGPIPE, SIG_IGN);
+    fill_streams();
     words++;
     *count -= *count > 0;
     if (*count == 1 && (strcmp(words[0], "--help") == 0 || strcmp(words[0], "-h") == 0)) {
