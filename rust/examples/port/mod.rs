@@ -73,7 +73,9 @@ impl Port {
         let (mut reading, lines) = (file.try_clone()?, sender.clone());
         spawn(move || read_bytes(&mut reading, &sender));
         spawn(move || {
-            for line in io::stdin().lock().lines().map_while(Result::ok) {
+            // a line that isn't UTF-8 is refused as others are, and isn't the end of all lines
+            for line in io::stdin().lock().split(b'\n').map_while(Result::ok) {
+                let line = String::from_utf8_lossy(&line).trim_end().into();
                 let _ = lines.send(Ok(Came::Line(line)));
             }
         });
