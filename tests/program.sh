@@ -29,8 +29,8 @@ expect 'comments and blank lines' 0 $'1:0 cmd 0 seq 0 sum POLL\n' '' show < <(pr
 bad=$'osdp: bad words\n'
 expect 'no words' 0 "$("$program" help </dev/null)"$'\n' '' </dev/null
 expect 'unknown word' 2 '' "$bad"$'osdp: no command: shows; try: osdp help\n' shows </dev/null
-expect 'unknown option' 2 '' "$bad" show --all </dev/null
-expect 'a file that is none' 2 '' "$bad" show --raw '' </dev/null
+expect 'unknown option' 2 '' "$bad"$'osdp: no word of show: --all; try: osdp help show\n' show --all </dev/null
+expect 'a file that is none' 2 '' "$bad"$'osdp: no word of show: ; try: osdp help show\n' show --raw '' </dev/null
 expect 'a word that is no text' 2 '' "$bad" show $'\xff' </dev/null
 expect 'the version' 0 $'osdp 0.1.0\n' '' --version </dev/null
 expect 'the version and more' 2 '' "$bad" --version show </dev/null
@@ -38,11 +38,11 @@ expect 'help of a word that is no command' 2 '' "$bad"$'osdp: no command: nothin
 expect 'help of two commands' 2 '' "$bad" help show check </dev/null
 expect 'help and more' 2 '' "$bad" --help show </dev/null
 expect 'help after a command' 0 "$("$program" help show </dev/null)"$'\n' '' show --help </dev/null
-expect 'help after a command, and more' 2 '' "$bad" make --help --help </dev/null
+expect 'help after a command, and more' 2 '' "$bad"$'osdp: no word of make: --help; try: osdp help make\n' make --help --help </dev/null
 expect 'short help and more' 2 '' "$bad" -h -h </dev/null
 
 expect 'a packet made' 0 $'53050C000568000200005183\n' '' make 5 1 crc OUT 0:2:0 </dev/null
-expect 'no packet' 2 '' "$bad" make 5 4 sum POLL </dev/null
+expect 'no packet' 2 '' "$bad"$'osdp: no word of make: 4; try: osdp help make\n' make 5 4 sum POLL </dev/null
 expect 'a text that is no text' 2 '' "$bad" make 5 1 sum TEXT 0 1 0 1 1 $'\xff' </dev/null
 
 capture=$(dirname "$0")/../examples/door.hex
