@@ -40,8 +40,9 @@ refuse_each() {
       refused_run "$number$after" "$@"
       got=$?
       [ -e "$work/mark" ] || break
-      # once bad words are told the program reads its words again, to say more of settings: what it has told stays
-      if [ "$got" -eq 2 ] && grep -q '^osdp: bad words' "$work/right_err" && cmp -s "$work/err" "$work/right_err" && [ ! -s "$work/out" ]; then
+      # once bad words are told the program reads its words again, to say which one: what it has told is a beginning of what it tells
+      if [ "$got" -eq 2 ] && [ "$(head -n 1 "$work/err")" = 'osdp: bad words' ] && [ ! -s "$work/out" ] &&
+        head -c "$(stat -c %s "$work/err")" "$work/right_err" | cmp -s - "$work/err"; then
         continue
       fi
       if [ "$got" -ne 4 ]; then
