@@ -106,10 +106,10 @@ def run(panel, device):
     return f"after {said} cards: {device.take()[1]}"
 
 
-def asked(terminal, *words):
+def asked(terminal, *words, seconds=2):
     """The code of the reply to a packet; none where none comes in time."""
     os.write(terminal.end, packet(*words))
-    return terminal.next_burst()[5:6] if select.select([terminal.end], [], [], 2)[0] else b""
+    return terminal.next_burst()[5:6] if select.select([terminal.end], [], [], seconds)[0] else b""
 
 
 def keeps_place(program):
@@ -118,14 +118,14 @@ def keeps_place(program):
         kept = Path(folder) / "place"
         terminal = Terminal()
         first = Script(program, "--keep", kept, terminal.path, 9600)
-        answers = [asked(terminal, 5, 0, 0x61, b"\0"), kept.exists(), asked(terminal, 5, 1, 0x6E, bytes([7]) + (19200).to_bytes(4, "little")),
+        answers = [asked(terminal, 5, 0, 0x61, b"\0", seconds=20), kept.exists(), asked(terminal, 5, 1, 0x6E, bytes([7]) + (19200).to_bytes(4, "little")),
                    kept.read_text() if kept.exists() else None]
         first.process.kill()
         first.process.wait()
         terminal.close()
         terminal = Terminal()
         again = Script(program, "--keep", kept, terminal.path, 9600)
-        answers += [asked(terminal, 7, 0, 0x61, b"\0"), asked(terminal, 5, 0, 0x61, b"\0")]
+        answers += [asked(terminal, 7, 0, 0x61, b"\0", seconds=20), asked(terminal, 5, 0, 0x61, b"\0")]
         terminal.note_rate()
         again.process.kill()
         again.process.wait()  # until then it has the port
