@@ -8,7 +8,8 @@ pub enum ReaderFault {
     /// N1: there is no memory for the events, or for what is answered to CAP.
     #[error("N1: no memory")]
     NoMemory,
-    /// N3: the address is above 126, or the capacity isn't one of 1 to 1024.
+    /// N3: the address is above 126, the room isn't for 1 to 1024 events and 1 to 1,467,392 bytes of them, or a device's gap is out of its
+    /// range.
     #[error("N3: out of range")]
     OutOfRange,
 }

@@ -1,6 +1,6 @@
 //! The lines of the reader's table.
 
-/// Which line of the table a packet meets: the cases of `Response`.
+/// Which line of the table a packet meets.
 #[derive(Clone, Copy, Debug, PartialEq, Eq)]
 pub enum Kind {
     /// For another device, or from one.
