@@ -1,12 +1,12 @@
 -- What each move does to the account of a session, by how its stage comes from the one before it.
-use Rattle.osdp_link_laws.proofs.Common.{◌≡◌, ◌≢◌, ◌⊎◌, ℕ, Bool, true, false, cond, is_some, List, [], ◌∷◌, ◌++◌, map, Option, Some, None, Result, Ok, refl, sym, subst, ap, ◌∙◌, inl, inr, arith, append_assoc, append-nil, map-append, Packet, event_in, Command, Event, MsgFault, Reply, exchange_command, submitted_command, seen, ticks, ControllerConfig, Exchange, Opening, Polling, Asking, ControllerFault, Session, State, Closed, Quiet, Idle, Waiting, Pausing, EventQueue, event_for, lacks_room, lapsed, offering, released, unoffered, Room, ReaderState, begun, command_in, kind_of, new_address, outcome, taken, Answer, Kind, asked, Account, Delivered, Delivery, Link, Lost, Move, QueueEvent, Reopen, Repeated, RestartController, RestartReader, Retarget, Submit, Tick, ToController, ToReader, ThrownAway, Withdraw, LapseEvent, WithdrawEvent, Withdrawn, after_move, outstanding_command, reader_restarted, told_by_front, removed_command}
+use Rattle.osdp_link_laws.proofs.Common.{◌≡◌, ◌≢◌, ◌⊎◌, ℕ, Bool, true, false, cond, is_some, List, [], ◌∷◌, ◌++◌, Option, Some, None, Result, Ok, refl, sym, subst, ap, ◌∙◌, inl, inr, arith, append_assoc, append-nil, map-append, Packet, event_in, Command, Event, MsgFault, Reply, exchange_command, seen, ticks, ControllerConfig, Exchange, Opening, Polling, Asking, ControllerFault, State, Closed, EventQueue, event_for, lacks_room, lapsed, offering, released, unoffered, Room, ReaderState, begun, command_in, kind_of, new_address, outcome, taken, Answer, Kind, asked, Account, Delivered, Delivery, Link, Lost, Move, QueueEvent, Reopen, Repeated, RestartController, RestartReader, Retarget, Submit, Tick, ToController, ToReader, Withdraw, LapseEvent, WithdrawEvent, after_move, reader_restarted, told_by_front}
 use Rattle.std.specs.Prelude.{option_to_list, take}
 use Rattle.osdp_reader.specs.Queue.{empty_queue}
 use Rattle.osdp_msg.specs.declared.command.Command.TheVariants as command
 use Rattle.osdp_controller.specs.Machine as controllers
 use Rattle.osdp_reader.specs.declared.kind.Kind.TheVariants as kind
 use Rattle.osdp_link_laws.specs.Link as link
-use Rattle.osdp_link_laws.proofs.Accounts.{Accounted, Accounts, EndIs, EventsAre, OrdersAre, gone, hears_tell, reports, ticks_tell}
+use Rattle.osdp_link_laws.proofs.Accounts.{Accounted, Accounts, EventsAre, OrdersAre, hears_tell, reports, ticks_tell, IsQuiet}
 use Rattle.osdp_link_laws.proofs.Acting.{leaves_shown, moved_queue, no_event, polled_front, taken_is}
 use Rattle.osdp_link_laws.proofs.Coming.{Announces, Due, KeepsDue, MovesTo, Reads, ReadsFront, ReadsTo, Stays, same_either, standing_of, stands, stood}
 use Rattle.osdp_link_laws.proofs.Growing.{GoesOn}
@@ -14,18 +14,8 @@ use Rattle.osdp_link_laws.proofs.Lapsed.{events_lapse, lapsed_keeps}
 use Rattle.osdp_link_laws.proofs.Reports.{tick_so}
 use Rattle.osdp_link_laws.proofs.Restarts.{front_at}
 use Rattle.osdp_link_laws.proofs.Since.{Hears, has_acted}
-use Rattle.osdp_link_laws.proofs.Stages.{After, Asks, Behind, ControllerAt, Fresh, Holds, IsAsked, IsStage, Level, Now, ReaderAt, Rest, Restarted, Rests, Stage, Start, Waits, given_up, given_up_at, number_after, pending, pending_at, shown, unreported_at}
-use Rattle.osdp_link_laws.proofs.Ticks.{submitted_is}
+use Rattle.osdp_link_laws.proofs.Stages.{After, Behind, Holds, IsAsked, IsStage, Level, Now, ReaderAt, Restarted, Stage, Start, pending_at, shown, unreported_at}
 use Rattle.osdp_link_laws.proofs.Withdrawing.{but_oldest_after, splits}
-
--- what was withdrawn, or thrown away, is what waited
-withdrawn_are : (cs : List Command) → map removed_command (map Withdrawn cs) ≡ cs
-withdrawn_are [] = refl
-withdrawn_are (c ∷ cs) = ap (λ l. c ∷ l) (withdrawn_are cs)
-
-thrown_are : (cs : List Command) → map removed_command (map ThrownAway cs) ≡ cs
-thrown_are [] = refl
-thrown_are (c ∷ cs) = ap (λ l. c ∷ l) (thrown_are cs)
 
 pub withdrawn_first : (state : State) (ws : List Command) → option_to_list (controllers.withdrawn_in state ws) ++ controllers.kept_in state ws ≡ ws
 withdrawn_first Closed [] = refl
@@ -42,64 +32,54 @@ withdraws_none _ ws = inl refl
 module _ (since : Restarted) (at : Stage) (state : State) (ws : List Command) (q : EventQueue) (t : Account) (h : Accounted since at state ws q t) where
   submitted : (c : Command) → Accounted since at state (ws ++ c ∷ []) q (record t { issued = t.issued ++ c ∷ [] })
   submitted c = record {
+    gone = h.gone;
     orders = record {
       issued = ap (λ all. all ++ c ∷ []) h.orders.issued
-          ∙ append_assoc t.taken (pending_at at ++ (gone t ++ ws)) (c ∷ [])
-          ∙ ap (λ all. t.taken ++ all) (append_assoc (pending_at at) (gone t ++ ws) (c ∷ []) ∙ ap (λ all. pending_at at ++ all) (append_assoc (gone t) ws (c ∷ [])));
+          ∙ append_assoc t.taken (pending_at at ++ (h.gone ++ ws)) (c ∷ [])
+          ∙ ap (λ all. t.taken ++ all) (append_assoc (pending_at at) (h.gone ++ ws) (c ∷ []) ∙ ap (λ all. pending_at at ++ all) (append_assoc h.gone ws (c ∷ [])));
       answered = h.orders.answered;
       settled = h.orders.settled;
     };
-    over = h.over;
+    quiet = h.quiet;
     events = h.events;
     restarts = h.restarts;
   }
 
-  -- these commands are removed, of those that wait
-  removed : (vs : List Command) (more : List link.Removal) (new : State) (forgotten : List Command) → map removed_command more ++ vs ≡ ws
-      → EndIs (given_up_at at new) new t.unsettled forgotten (t.removed ++ more)
-      → Accounted since at new vs q (record t { removed = t.removed ++ more; forgotten = forgotten })
-  removed vs more new forgotten all over = record {
+  -- more of those that wait have gone
+  goes : (more vs : List Command) (new : State) → more ++ vs ≡ ws → IsQuiet new (h.gone ++ more) t.unsettled → Accounted since at new vs q t
+  goes more vs new all quiet = record {
+    gone = h.gone ++ more;
     orders = record {
-      issued = h.orders.issued ∙ ap (λ cs. t.taken ++ (pending_at at ++ cs))
-          (ap (λ cs. gone t ++ cs) (sym all) ∙ sym (append_assoc (gone t) (map removed_command more) vs)
-          ∙ ap (λ cs. cs ++ vs) (sym (map-append removed_command t.removed more)));
+      issued = h.orders.issued
+          ∙ ap (λ cs. t.taken ++ (pending_at at ++ cs)) (ap (λ cs. h.gone ++ cs) (sym all) ∙ sym (append_assoc h.gone more vs));
       answered = h.orders.answered;
       settled = h.orders.settled;
     };
-    over = over;
+    quiet = quiet;
     events = h.events;
     restarts = h.restarts;
   }
 
-  withdraws : Accounted since at state (controllers.kept_in state ws) q
-      (record t { removed = t.removed ++ map Withdrawn (option_to_list (controllers.withdrawn_in state ws)) })
+  withdraws : Accounted since at state (controllers.kept_in state ws) q t
   withdraws =
       let out = option_to_list (controllers.withdrawn_in state ws) in
-      removed (controllers.kept_in state ws) (map Withdrawn out) state t.forgotten
-      (ap (λ cs. cs ++ controllers.kept_in state ws) (withdrawn_are out) ∙ withdrawn_first state ws)
-      (record { lost = h.over.lost; quiet = by_state (withdraws_none state ws) h.over.quiet })
+      goes out (controllers.kept_in state ws) state (withdrawn_first state ws) (by_state out (withdraws_none state ws) h.quiet)
     where
-      by_state : (option_to_list (controllers.withdrawn_in state ws) ≡ []) ⊎ (state ≡ Closed) → ((t.removed ≡ []) × (t.forgotten ≡ [])) ⊎ (state ≡ Closed)
-          → ((t.removed ++ map Withdrawn (option_to_list (controllers.withdrawn_in state ws)) ≡ []) × (t.forgotten ≡ [])) ⊎ (state ≡ Closed)
-      by_state (inr closed) quiet = inr closed
-      by_state (inl none) (inr closed) = inr closed
-      by_state (inl none) (inl (nothing, kept)) =
-          inl (ap (λ cs. t.removed ++ map Withdrawn cs) none ∙ append-nil t.removed ∙ nothing, kept)
+      by_state : (out : List Command) → (out ≡ []) ⊎ (state ≡ Closed) → IsQuiet state h.gone t.unsettled → IsQuiet state (h.gone ++ out) t.unsettled
+      by_state out (inr closed) quiet = inr closed
+      by_state out (inl none) (inr closed) = inr closed
+      by_state out (inl none) (inl (nothing, told)) = inl (ap (λ cs. h.gone ++ cs) none ∙ append-nil h.gone ∙ nothing, told)
 
-  -- the controller restarts: what is outstanding is forgotten
-  restarts_panel : (out : List Command) → given_up_at at state ++ out ≡ given_up_at at Closed
-      → Accounted since at Closed [] q (record t { removed = t.removed ++ map ThrownAway ws; forgotten = t.forgotten ++ out })
-  restarts_panel out all =
-      removed [] (map ThrownAway ws) Closed (t.forgotten ++ out) (append-nil (map removed_command (map ThrownAway ws)) ∙ thrown_are ws) (record {
-        lost = sym (append_assoc t.unsettled t.forgotten out) ∙ ap (λ cs. cs ++ out) h.over.lost ∙ all;
-        quiet = inr refl;
-      })
+  -- the controller restarts
+  restarts_panel : Accounted since at Closed [] q t
+  restarts_panel = goes ws [] Closed (append-nil ws) (inr refl)
 
   queues : (e : Event) → Accounted since at state ws (record q { events = q.events ++ e ∷ [] })
       (record t { queued = t.queued ++ e ∷ []; kept = t.kept ++ e ∷ [] })
   queues e = record {
+    gone = h.gone;
     orders = h.orders;
-    over = h.over;
+    quiet = h.quiet;
     events = record {
       past = h.events.past;
       kept = ap (λ all. all ++ e ∷ []) h.events.kept ∙ append_assoc h.events.past q.events (e ∷ []);
@@ -112,8 +92,9 @@ module _ (since : Restarted) (at : Stage) (state : State) (ws : List Command) (q
   -- the device restarts: those that it had not offered in this session are gone
   restarts_device : (room : Room) → Accounted Now at state ws (empty_queue room.messages room.bytes) (reader_restarted t)
   restarts_device room = record {
+    gone = h.gone;
     orders = h.orders;
-    over = h.over;
+    quiet = h.quiet;
     events = record { past = t.offered; kept = sym (append-nil t.offered); offered = sym (append-nil t.offered); reported = h.events.reported };
     restarts = omega arith;
   }
@@ -121,8 +102,9 @@ module _ (since : Restarted) (at : Stage) (state : State) (ws : List Command) (q
   -- number 0 is heard, or nothing changes
   hears_zero : (new : Restarted) (to : Stage) → KeepsDue since at new to → Accounted new to state ws (unoffered q) t
   hears_zero new to k = record {
-    orders = subst (λ (d : Due). OrdersAre d.pend d.owing (gone t ++ ws) t.issued t.taken t.given t.settled) (sym k.due) h.orders;
-    over = record { lost = h.over.lost ∙ sym (k.given_up state); quiet = h.over.quiet };
+    gone = h.gone;
+    orders = subst (λ (d : Due). OrdersAre d.pend d.owing (h.gone ++ ws) t.issued t.taken t.given t.settled) (sym k.due) h.orders;
+    quiet = h.quiet;
     events = subst (λ (d : Due). EventsAre [] d.untold q.events t.kept t.offered t.reported) (sym k.due)
         (subst (λ es. EventsAre es (unreported_at at) q.events t.kept t.offered t.reported)
         (ap (λ es. cond q.offered es []) k.stood ∙ same_either [] q.offered) h.events);
@@ -139,7 +121,7 @@ module _ (since : Restarted) (at : Stage) (state : State) (ws : List Command) (q
       let keeps = lapsed_keeps q t in
       subst (λ u. EventsAre (standing_of since at (lapsed q).offered) (unreported_at at) (lapsed q).events u.kept u.offered u.reported
       → Accounted since at state ws (lapsed q) u) (sym keeps.1)
-      (λ e. record { orders = h.orders; over = h.over; events = e; restarts = h.restarts }) events
+      (λ e. record { gone = h.gone; orders = h.orders; quiet = h.quiet; events = e; restarts = h.restarts }) events
 
 -- ---- a packet comes to the reader
 
@@ -176,8 +158,9 @@ module _ (fixed : ControllerConfig) {H : Type 0} (answer_of : H → Command → 
         sym (polled_front fixed events answer_of after r.config r.handler) ∙ ap (λ o. polled_by o) says in
         let told = event_for command.Poll events in
         subst (λ es. Accounted since (Level (After n y b) Polling a) state ws (offering told (released r.queue)) (record t { offered = t.offered ++ es })) (sym front) (record {
+          gone = h.gone;
           orders = h.orders;
-          over = h.over;
+          quiet = h.quiet;
           events = events_go since hears n y b Polling a r.queue t (is_some told) leaves
               (ap (λ es. cond (is_some told) es []) (sym front) ∙ offers_front events ∙ front) h.events;
           restarts = h.restarts;
@@ -202,12 +185,13 @@ module _ (fixed : ControllerConfig) {H : Type 0} (answer_of : H → Command → 
         subst (λ q. Accounted since to state ws q (link.taken_command c o.said front t)) (sym queue)
         (subst (λ u. Accounted since to state ws (offering None (released r.queue)) u) (sym (taken_is c o.said front t other))
         (subst (λ s. Accounted since to state ws (offering None (released r.queue)) (record t { taken = t.taken ++ c ∷ []; given = t.given ++ link.given_to c s })) (sym says) (record {
+          gone = h.gone;
           orders = record {
-            issued = h.orders.issued ∙ sym (append_assoc t.taken (c ∷ []) (gone t ++ ws));
+            issued = h.orders.issued ∙ sym (append_assoc t.taken (c ∷ []) (h.gone ++ ws));
             answered = map-append asked t.given ((c, a) ∷ []) ∙ ap (λ cs. cs ++ c ∷ []) h.orders.answered;
             settled = ap (λ pairs. pairs ++ (c, a) ∷ []) (sym (append-nil t.settled) ∙ h.orders.settled);
           };
-          over = h.over;
+          quiet = h.quiet;
           events = subst (λ es. EventsAre [] [] (released r.queue).events t.kept es t.reported) (append-nil t.offered)
               (events_go since hears n y b (Asking c) a r.queue t false leaves refl h.events);
           restarts = h.restarts;
@@ -247,30 +231,6 @@ module _ (fixed : ControllerConfig) {H : Type 0} (answer_of : H → Command → 
 
   -- ---- each move
 
-  out_waits : (state : State) (s : Session) → Waits fixed state s → option_to_list (outstanding_command state) ≡ []
-  out_waits Closed s is = refl
-  out_waits (Quiet until) s is = refl
-  out_waits _ s is = absurd is
-
-  out_rests : (state : State) (n : ℕ) (s : Session) → Rests fixed state n s → option_to_list (outstanding_command state) ≡ []
-  out_rests Closed n s is = refl
-  out_rests (Idle due) n s is = refl
-  out_rests _ n s is = absurd is
-
-  out_asks : (state : State) (n : ℕ) (x : Exchange) (s : Session) → Asks fixed state n x s → given_up state x ++ option_to_list (outstanding_command state) ≡ pending x
-  out_asks Closed n x s is = append-nil (pending x)
-  out_asks (Waiting until k o) n x s is = ap (λ y. option_to_list (submitted_command y)) is.1 ∙ submitted_is x
-  out_asks (Pausing until o) n x s is = ap (λ y. option_to_list (submitted_command y)) is.1 ∙ submitted_is x
-  out_asks _ n x s is = absurd is
-
-  -- the command that a controller forgets is the pending one
-  forgets : (at : Stage) (s : Session) → ControllerAt fixed at s
-      → given_up_at at s.state ++ option_to_list (outstanding_command s.state) ≡ given_up_at at Closed
-  forgets Fresh s is = out_waits s.state s is
-  forgets (Behind past x) s is = out_asks s.state (number_after past) x s is
-  forgets (Level past x a) s is = out_asks s.state (number_after past) x s is
-  forgets (Rest n x a) s is = out_rests s.state n s is
-
   module _ (since : Restarted) (at : Stage) (l : Link H) (held : Holds fixed since at l) (h : Accounts since at l) (new : Restarted) (to : Stage) where
     abbrev state : State
     state = l.controller.session.state
@@ -292,8 +252,9 @@ module _ (fixed : ControllerConfig) {H : Type 0} (answer_of : H → Command → 
         let s = stays_so comes in
         let e = s.events in
         record {
+          gone = s.gone;
           orders = s.orders;
-          over = s.over;
+          quiet = s.quiet;
           events = record { past = e.past; kept = but_oldest_after q (splits q) e.past l.account.kept e.kept; offered = e.offered; reported = e.reported };
           restarts = s.restarts;
         }
@@ -361,7 +322,5 @@ module _ (fixed : ControllerConfig) {H : Type 0} (answer_of : H → Command → 
         (subst (λ z. Accounted Now z state l.controller.waiting none (reader_restarted l.account)) (sym is)
         (restarts_device since at state l.controller.waiting l.reader.queue l.account h room))
     accounts_so (RestartController config room) on comes =
-        stays since at Closed [] l.reader.queue (link.controller_restarted l.controller l.account)
-        (restarts_panel since at state l.controller.waiting l.reader.queue l.account h (option_to_list (outstanding_command state))
-        (forgets at l.controller.session held.controller)) new to comes
+        stays since at Closed [] l.reader.queue l.account (restarts_panel since at state l.controller.waiting l.reader.queue l.account h) new to comes
     accounts_so _ on comes = stays_so comes

@@ -1,12 +1,24 @@
 -- What the account of a session comes to at each stage, and what it comes to after a report.
-use Rattle.osdp_link_laws.proofs.Common.{◌≡◌, ◌⊎◌, List, [], ◌∷◌, ◌++◌, map, Option, Some, None, refl, sym, subst, ap, ◌∙◌, inl, inr, append_assoc, append-nil, cond, option_to_list, Command, Event, EventQueue, Reply, Ticked, Report, State, Closed, asked, Account, Link, Removal, after_report, removed_command}
+use Rattle.osdp_link_laws.proofs.Common.{◌≡◌, ◌⊎◌, List, [], ◌∷◌, ◌++◌, map, Option, Some, None, refl, sym, subst, ap, ◌∙◌, inl, inr, append_assoc, append-nil, cond, option_to_list, Command, Event, EventQueue, Reply, Ticked, Report, State, Closed, asked, Account, Link, after_report, Exchange, Opening, Polling, Asking, map-append}
 use Rattle.osdp_msg.specs.declared.reply.Reply.TheVariants as reply
 use Rattle.osdp_controller.specs.declared.report.Report.TheVariants as report
 use Rattle.osdp_link_laws.proofs.Coming.{Announces, BeginsFrom, Controls, HearsTo, TicksTo, lost_in, reported_in, settled_in, standing_at, standing_of}
-use Rattle.osdp_link_laws.proofs.Stages.{After, Before, Behind, Fresh, HasRestarted, Level, Never, Now, Rest, Restarted, Stage, Start, given_up_at, number_after, owed_at, pending_at, shown, unreported_at}
+use Rattle.osdp_link_laws.proofs.Stages.{After, Before, Behind, Fresh, HasRestarted, Level, Never, Now, Rest, Restarted, Stage, Start, number_after, owed_at, pending_at, shown, unreported_at, owed, pending}
 
-abbrev pub gone : Account → List Command
-gone t = map removed_command t.removed
+abbrev pub settled_commands : Account → List Command
+settled_commands t = map asked t.settled
+
+-- the command of an answer on its way is the pending one
+pub owed_command : (x : Exchange) (a : Reply) → map asked (owed x a) ≡ pending x
+owed_command Opening a = refl
+owed_command Polling a = refl
+owed_command (Asking c) a = refl
+
+-- the settled commands, and the one whose answer is on its way, are the taken ones
+pub taken_commands : (t : Account) (owing : List (Command × Reply)) → map asked t.given ≡ t.taken → t.settled ++ owing ≡ t.given
+    → settled_commands t ++ map asked owing ≡ t.taken
+taken_commands t owing answered is =
+    sym (map-append asked t.settled owing) ∙ ap (map asked) is ∙ answered
 
 -- the commands issued are those taken, the pending one, and the rest; each that was taken has its answer; and of these answers one at most is on its way
 pub record OrdersAre (pend : List Command) (owing : List (Command × Reply)) (rest all acted : List Command) (answers done : List (Command × Reply)) : Type 0 where
@@ -14,10 +26,9 @@ pub record OrdersAre (pend : List Command) (owing : List (Command × Reply)) (re
   pub answered : map asked answers ≡ acted
   pub settled : done ++ owing ≡ answers
 
--- where the session has ended its outstanding command was told unsettled, or forgotten; and until then none is forgotten or removed
-pub record EndIs (given_up : List Command) (state : State) (told forgotten : List Command) (removed : List Removal) : Type 0 where
-  pub lost : told ++ forgotten ≡ given_up
-  pub quiet : ((removed ≡ []) × (forgotten ≡ [])) ⊎ (state ≡ Closed)
+-- until the session has ended none of those that wait is gone, and none is told unsettled
+abbrev pub IsQuiet : State → List Command → List Command → Type 0
+IsQuiet state gone told = ((gone ≡ []) × (told ≡ [])) ⊎ (state ≡ Closed)
 
 -- the events that may be reported are some that have left the queue, and those in it; those that have left were offered, and so were those that stand in
 -- front of the queue; and all that was offered is reported, or told on the line
@@ -27,9 +38,11 @@ pub record EventsAre (standing untold queue keep offer report : List Event) : Ty
   pub offered : offer ≡ past ++ standing
   pub reported : offer ≡ report ++ untold
 
+-- .. where these have gone of those that waited: they were taken back, or a restart of the controller has thrown them away
 pub record Accounted (since : Restarted) (at : Stage) (state : State) (ws : List Command) (q : EventQueue) (t : Account) : Type 0 where
-  pub orders : OrdersAre (pending_at at) (owed_at at) (gone t ++ ws) t.issued t.taken t.given t.settled
-  pub over : EndIs (given_up_at at state) state t.unsettled t.forgotten t.removed
+  pub gone : List Command
+  pub orders : OrdersAre (pending_at at) (owed_at at) (gone ++ ws) t.issued t.taken t.given t.settled
+  pub quiet : IsQuiet state gone t.unsettled
   pub events : EventsAre (standing_of since at q.offered) (unreported_at at) q.events t.kept t.offered t.reported
   pub restarts : HasRestarted since t.restarts
 
@@ -109,42 +122,34 @@ hears_tell since (Level past x a) to r (inr (is, tells)) = subst (λ z. Tells si
 
 module _ (since : Restarted) (at to : Stage) (old new : State) (ws vs : List Command) (q : EventQueue) (r : Option Report) (t : Account)
     (tells : Tells since at to r) (controls : Controls at to old new ws vs r) (h : Accounted since at old ws q t) where
-  reports_rest : pending_at at ++ (gone t ++ ws) ≡ pending_at to ++ (gone t ++ vs)
-  reports_rest = by_quiet h.over.quiet
+  -- what has gone, after the report: nothing, while the session lasts
+  reports_rest : pending_at at ++ (h.gone ++ ws) ≡ pending_at to ++ (h.gone ++ vs)
+  reports_rest = by_quiet h.quiet
     where
-      by_quiet : ((t.removed ≡ []) × (t.forgotten ≡ [])) ⊎ (old ≡ Closed) → pending_at at ++ (gone t ++ ws) ≡ pending_at to ++ (gone t ++ vs)
+      by_quiet : IsQuiet old h.gone t.unsettled → pending_at at ++ (h.gone ++ ws) ≡ pending_at to ++ (h.gone ++ vs)
       by_quiet (inl (none, nothing)) =
-          ap (λ out. pending_at at ++ (map removed_command out ++ ws)) none ∙ sym controls.waits
-          ∙ ap (λ out. pending_at to ++ (map removed_command out ++ vs)) (sym none)
-      by_quiet (inr closed) = let o = controls.over closed in (λ i. sym o.1 i ++ (gone t ++ sym o.2 i))
+          ap (λ out. pending_at at ++ (out ++ ws)) none ∙ sym controls.waits ∙ ap (λ out. pending_at to ++ (out ++ vs)) (sym none)
+      by_quiet (inr closed) = let o = controls.over closed in (λ i. sym o.1 i ++ (h.gone ++ sym o.2 i))
 
-  reports_over : EndIs (given_up_at to new) new (t.unsettled ++ lost_in r) t.forgotten t.removed
-  reports_over = by_quiet h.over.quiet
+  reports_quiet : IsQuiet new h.gone (t.unsettled ++ lost_in r)
+  reports_quiet = by_quiet h.quiet
     where
-      by_quiet : ((t.removed ≡ []) × (t.forgotten ≡ [])) ⊎ (old ≡ Closed) → EndIs (given_up_at to new) new (t.unsettled ++ lost_in r) t.forgotten t.removed
-      by_quiet (inl (none, nothing)) =
-          let lost : t.unsettled ≡ given_up_at at old =
-          sym (append-nil t.unsettled) ∙ ap (λ cs. t.unsettled ++ cs) (sym nothing) ∙ h.over.lost in
-          record {
-            lost = ap (λ cs. (t.unsettled ++ lost_in r) ++ cs) nothing ∙ append-nil (t.unsettled ++ lost_in r) ∙ ap (λ cs. cs ++ lost_in r) lost ∙ controls.lost;
-            quiet = inl (none, nothing);
-          }
-      by_quiet (inr closed) =
-          let o = controls.over closed in
-          record {
-            lost = ap (λ cs. (t.unsettled ++ cs) ++ t.forgotten) o.3 ∙ ap (λ cs. cs ++ t.forgotten) (append-nil t.unsettled) ∙ h.over.lost
-                ∙ sym (append-nil (given_up_at at old)) ∙ ap (λ cs. given_up_at at old ++ cs) (sym o.3) ∙ controls.lost;
-            quiet = inr o.0;
-          }
+      by_quiet : IsQuiet old h.gone t.unsettled → IsQuiet new h.gone (t.unsettled ++ lost_in r)
+      by_quiet (inr closed) = inr (controls.over closed).0
+      by_quiet (inl (none, nothing)) = elim controls.lost [
+        | inl told ↦ inl (none, ap (λ cs. t.unsettled ++ cs) told ∙ append-nil t.unsettled ∙ nothing)
+        | inr closed ↦ inr closed
+      ]
 
   pub reports : Accounted since to new vs q (after_report r t)
   reports = subst (Accounted since to new vs q) (sym (told_is r t)) (record {
+    gone = h.gone;
     orders = record {
       issued = h.orders.issued ∙ ap (λ cs. t.taken ++ cs) reports_rest;
       answered = h.orders.answered;
       settled = append_assoc t.settled (settled_in r) (owed_at to) ∙ ap (λ pairs. t.settled ++ pairs) tells.owed ∙ h.orders.settled;
     };
-    over = reports_over;
+    quiet = reports_quiet;
     events = record {
       past = h.events.past;
       kept = h.events.kept;

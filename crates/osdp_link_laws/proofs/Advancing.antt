@@ -32,9 +32,9 @@ module _ (fixed : ControllerConfig) {H : Type 0} (answer_of : H → Command → 
   opened_knows Now a r acted = acted
 
   opened_due : (since : Restarted) (a : Reply) → KeepsDue since (Behind Start Opening) (heard_zero since) (Level Start Opening a)
-  opened_due Never a = record { due = refl; stands = refl; stood = refl; given_up = λ state. refl; restarts = λ count is. is }
-  opened_due Before a = record { due = refl; stands = refl; stood = refl; given_up = λ state. refl; restarts = λ count is. is }
-  opened_due Now a = record { due = refl; stands = refl; stood = refl; given_up = λ state. refl; restarts = λ count is. is }
+  opened_due Never a = record { due = refl; stands = refl; stood = refl; restarts = λ count is. is }
+  opened_due Before a = record { due = refl; stands = refl; stood = refl; restarts = λ count is. is }
+  opened_due Now a = record { due = refl; stands = refl; stood = refl; restarts = λ count is. is }
 
   -- the opening ID
   opened : (l : Link H) → command_in (frame fixed Opening 0) ≡ Ok (command.Id 0)

@@ -10,8 +10,7 @@ use Rattle.osdp_link_laws.proofs.Exchanges.{accounted, opening_exchange, rested_
 use Rattle.osdp_link_laws.proofs.InARow.{assumed}
 use Rattle.osdp_link_laws.proofs.Lines.{each_append, each_of}
 use Rattle.osdp_link_laws.proofs.Moves.{Premises, not_poll}
-use Rattle.osdp_link_laws.proofs.Once.{Goes, fresh}
-use Rattle.osdp_link_laws.proofs.Sessions.{lasts}
+use Rattle.osdp_link_laws.proofs.Once.{Goes, fresh, lasts}
 use Rattle.osdp_link_laws.proofs.Accounts.{Accounts}
 use Rattle.osdp_link_laws.proofs.Parts.{At}
 use Rattle.osdp_link_laws.proofs.Round.{IsIdle, IsStill, goes}
@@ -178,7 +177,7 @@ module _ (fixed : ControllerConfig) {H : Type 0} (answer_of : H → Command → 
   settled_all : (l : Link H) → Holds l → (due : ℕ) → l.controller.session.state ≡ Idle due → (l.account.settled ≡ l.account.given) × (l.account.unsettled ≡ [])
   settled_all l held due idle = (
     by_stage held.holds.0 held.holds.1 held.holds.2 held.accounts,
-    (lasts fixed answer_of after l held (λ closed. let same : Idle due ≡ Closed = sym idle ∙ closed in absurd cc)).0,
+    (lasts fixed answer_of after l held (λ closed. let same : Idle due ≡ Closed = sym idle ∙ closed in absurd cc)).1,
   )
     where
       by_stage : (since : Restarted) (at : Stage) → At fixed answer_of after since at l → Accounts since at l → l.account.settled ≡ l.account.given

@@ -7,7 +7,7 @@ use Rattle.osdp_controller.specs.declared.report.Report.TheVariants as report
 use Rattle.osdp_reader.specs.declared.kind.Kind.TheVariants as kind
 use Rattle.osdp_link_laws.specs.Link as link
 use Rattle.osdp_link_laws.proofs.Since.{Hears}
-use Rattle.osdp_link_laws.proofs.Stages.{After, Before, Behind, Fresh, HasRestarted, Level, Never, Now, Past, Rest, Restarted, Stage, Start, given_up_at, number_after, owed, owed_at, pending_at, shown, shown_at, unreported_at}
+use Rattle.osdp_link_laws.proofs.Stages.{After, Before, Behind, Fresh, HasRestarted, Level, Never, Now, Past, Rest, Restarted, Stage, Start, number_after, owed, owed_at, pending_at, shown, shown_at, unreported_at}
 
 -- ---- what is due
 
@@ -51,7 +51,6 @@ pub record KeepsDue (since : Restarted) (at : Stage) (new : Restarted) (to : Sta
   pub due : due_at new to ≡ due_at since at
   pub stands : standing_at new to ≡ []
   pub stood : standing_at since at ≡ []
-  pub given_up : (state : State) → given_up_at to state ≡ given_up_at at state
   pub restarts : (count : ℕ) → HasRestarted since count → HasRestarted new count
 
 -- ---- a tick
@@ -87,11 +86,15 @@ abbrev pub lost_in : Option Report → List Command
 lost_in (Some (report.Lost cause command)) = option_to_list command
 lost_in _ = []
 
+-- what is told unsettled is told at the session's end
+abbrev pub IsToldAtEnd : Option Report → State → Type 0
+IsToldAtEnd r new = (lost_in r ≡ []) ⊎ (new ≡ Closed)
+
 -- what a controller in this state, with these commands waiting, makes of its commands, and what it tells: the pending one and those that wait stay,
--- in their order; where the session ends the outstanding one is told unsettled; and where it had ended nothing changes
+-- in their order; one is told unsettled only where the session ends; and where it had ended nothing changes
 pub record Controls (at to : Stage) (old new : State) (ws vs : List Command) (r : Option Report) : Type 0 where
   pub waits : pending_at to ++ vs ≡ pending_at at ++ ws
-  pub lost : given_up_at at old ++ lost_in r ≡ given_up_at to new
+  pub lost : IsToldAtEnd r new
   pub over : old ≡ Closed → (new ≡ Closed) × (pending_at to ≡ pending_at at) × (vs ≡ ws) × (lost_in r ≡ [])
 
 abbrev pub Announces : Option Report → List (Command × Reply) → List Event → Type 0

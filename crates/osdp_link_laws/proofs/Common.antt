@@ -27,9 +27,9 @@ pub use Rattle.osdp_reader.specs.Table.{answer_to, begun, command_in, event_or_a
 pub use Rattle.osdp_reader.specs.declared.handler.Answer.{Answer, Answer as HandlerAnswer}
 pub use Rattle.osdp_reader.specs.declared.kind.Kind.{Kind}
 pub use Rattle.osdp_link_laws.specs.Headline.{asked, Begins, EachIsOnce, HoldsOnce, IsBeginning, IsOnce, MaySubmit, MoveFits, MovesFit, SaysWhatFits, SaysWhatFitsIf}
-pub use Rattle.osdp_link_laws.specs.Link.{Account, after_move, after_report, but_oldest, Delivered, Delivery, event_lapsed, event_withdrawn, given_to, is_offered_here, LapseEvent, Link, LoseToController, LoseToReader, Lost, lost_at, Move, new_account, outstanding_command, Queue as QueueEvent, reader_restarted, Removal, Reopen, Repeated, RestartController, RestartReader, Retarget, run, SetBusy, SetHandler, Submit, taken_command, ThrownAway, Tick, ToController, ToReader, unoffered_in, Withdraw, WithdrawEvent, Withdrawn}
+pub use Rattle.osdp_link_laws.specs.Link.{Account, after_move, after_report, but_oldest, Delivered, Delivery, event_lapsed, event_withdrawn, given_to, is_offered_here, LapseEvent, Link, LoseToController, LoseToReader, Lost, lost_at, Move, new_account, outstanding_command, Queue as QueueEvent, reader_restarted, Reopen, Repeated, RestartController, RestartReader, Retarget, run, SetBusy, SetHandler, Submit, taken_command, Tick, ToController, ToReader, unoffered_in, Withdraw, WithdrawEvent}
 pub use Rattle.osdp_link_laws.specs.Refusals.{IsNoRefusal, IsOtherCause, KeepsReader, RefusesNoNumber, RefusesNoNumberWithoutRestart, reports, SaysAllPlainly, told_by, told_by_front}
-pub use Rattle.osdp_link_laws.specs.Sessions.{accepted, all_submitted, CommandsHavePlaces, ended_commands, ended_in, LastOneLasts, LastsOrLeaves, LeavesCommands, queued, removed_command, SessionsInARow, settled_commands, submitted, unless_full}
+pub use Rattle.osdp_link_laws.specs.Sessions.{accepted, all_submitted, queued, submitted, unless_full}
 pub use Rattle.osdp_controller.specs.declared.report.Report.{Report}
 pub use Rattle.osdp_reader.specs.declared.config.ReaderConfig.{ReaderConfig}
 pub use Rattle.osdp_reader.specs.declared.kind.Kind.TheVariants.{Busy, Repeat, Secured, Silent, Taken, Wrong, Zero}

@@ -1,17 +1,17 @@
 -- What holds of a session holds after each packet that comes, or is lost.
-use Rattle.osdp_link_laws.proofs.Common.{◌≡◌, ◌⊎◌, ℕ, List, [], ◌∷◌, ◌++◌, Option, Some, None, refl, sym, subst, ap, ◌∙◌, inl, inr, arith, append-nil, IfSome, Packet, next_sequence, ReplyFits, Command, Reply, PdId, Machine, Closed, NotTaken, NumberRefused, Plain, ControllerConfig, Report, Session, Exchange, Opening, Polling, Asking, Answer, refused, UnexpectedSequence, IsPlain, SaysWhatFitsIf, Delivered, Delivery, Link, Lost, Repeated, lost_at, IsPlainlySaid, told_by_front}
+use Rattle.osdp_link_laws.proofs.Common.{◌≡◌, ◌⊎◌, ℕ, List, [], ◌∷◌, Option, Some, None, refl, sym, subst, ap, ◌∙◌, inl, inr, arith, IfSome, Packet, next_sequence, ReplyFits, Command, Reply, PdId, Machine, Closed, NotTaken, NumberRefused, Plain, ControllerConfig, Report, Session, Exchange, Opening, Polling, Asking, Answer, refused, UnexpectedSequence, IsPlain, SaysWhatFitsIf, Delivered, Delivery, Link, Lost, Repeated, lost_at, IsPlainlySaid, told_by_front}
 use Rattle.osdp_msg.specs.declared.reply.Reply.TheVariants as reply
 use Rattle.osdp_controller.specs.Answers as packets
 use Rattle.osdp_controller.specs.Hearing as controller
 use Rattle.osdp_reader.specs.Table as reader
 use Rattle.osdp_link_laws.specs.Link as link
 use Rattle.osdp_link_laws.proofs.Advancing.{SaysWell, goes_on, opens}
-use Rattle.osdp_link_laws.proofs.Coming.{Announces, Controls, HearsTo, Reads, ReadsFront, lost_in, reported_in, settled_in}
+use Rattle.osdp_link_laws.proofs.Coming.{Announces, Controls, HearsTo, IsToldAtEnd, Reads, ReadsFront, lost_in, reported_in, settled_in}
 use Rattle.osdp_link_laws.proofs.Hearing.{Ignored, Settles, closed_hears, hears_answer, hears_other, hears_refused, hears_resting}
 use Rattle.osdp_link_laws.proofs.Lines.{each_append, each_map, runs_append, runs_each, each_lost, runs_lost}
 use Rattle.osdp_link_laws.proofs.Moves.{Premises, asked_fits, runs_last}
 use Rattle.osdp_link_laws.proofs.Numbers.{next_above_zero, next_differs}
-use Rattle.osdp_link_laws.proofs.Stages.{Acted, After, Asks, Behind, ControllerAt, Each, Fresh, Introduces, IsFrame, IsOldFrame, IsPast, Level, MayRefuse, Past, Refuses, Rest, Restarted, Says, SaysOld, Stage, Start, ToControllerAt, ToReaderAt, answer, frame, given_up, given_up_at, number_after, pending_at}
+use Rattle.osdp_link_laws.proofs.Stages.{Acted, After, Asks, Behind, ControllerAt, Each, Fresh, Introduces, IsFrame, IsOldFrame, IsPast, Level, MayRefuse, Past, Refuses, Rest, Restarted, Says, SaysOld, Stage, Start, ToControllerAt, ToReaderAt, answer, frame, number_after, pending_at}
 use Rattle.osdp_link_laws.proofs.Parts.{At, HoldsThen, with_session, with_to_controller, with_to_reader}
 use Rattle.osdp_link_laws.proofs.Taking.{HeardAt, heard_again, shows_none}
 
@@ -168,7 +168,7 @@ module _ (fixed : ControllerConfig) {H : Type 0} (answer_of : H → Command → 
 
   -- .. to a session with this exchange: nothing is settled
   abbrev IsIgnored : ℕ → Exchange → ℕ → Packet → Session → Type 0
-  IsIgnored n x now p s = Ignored fixed n x (given_up s.state x) (controller.hears p now s)
+  IsIgnored n x now p s = Ignored fixed n x (controller.hears p now s)
 
   old_is : Assumed → (past : Past) (p : Packet) (now : ℕ) (x : Exchange) (s : Session) → IsPast past → SaysOld fixed since past p
       → Asks fixed s.state (number_after past) x s → IsIgnored (number_after past) x now p s
@@ -224,7 +224,7 @@ module _ (fixed : ControllerConfig) {H : Type 0} (answer_of : H → Command → 
 
   -- a packet that settles nothing
   passed_over : (at : Stage) (now : ℕ) (p : Packet) (l : Link H) → let heard = controller.hears p now l.controller.session in
-      given_up_at at l.controller.session.state ++ lost_in heard.report ≡ given_up_at at heard.session.state → Announces heard.report [] []
+      IsToldAtEnd heard.report heard.session.state → Announces heard.report [] []
       → ControllerAt fixed at heard.session → AtStage at l → Heard heard.report at l (link.controller_gets p now l)
   passed_over at now p l lost none stands h =
       let heard = controller.hears p now l.controller.session in (
@@ -234,11 +234,11 @@ module _ (fixed : ControllerConfig) {H : Type 0} (answer_of : H → Command → 
       )
 
   -- the answer comes
-  settles : (past : Past) (x : Exchange) (a : Reply) (now : ℕ) (p : Packet) (l : Link H) → given_up l.controller.session.state x ≡ [] → AtStage (Level past x a) l
+  settles : (past : Past) (x : Exchange) (a : Reply) (now : ℕ) (p : Packet) (l : Link H) → AtStage (Level past x a) l
       → Settles fixed (number_after past) x a (controller.hears p now l.controller.session)
       → Each (Says fixed since (number_after past) a) l.to_controller
       → Heard (controller.hears p now l.controller.session).report (Level past x a) l (link.controller_gets p now l)
-  settles past x a now p l none h ((tells, lost), rests) line =
+  settles past x a now p l h ((tells, lost), rests) line =
       let at = Level past x a in
       let to = Rest (number_after past) x a in (
         to,
@@ -246,7 +246,7 @@ module _ (fixed : ControllerConfig) {H : Type 0} (answer_of : H → Command → 
           inr (refl, tells),
           record {
             waits = refl;
-            lost = (λ i. none i ++ lost i);
+            lost = inl lost;
             over = over_heard at to now p l.controller.session l.controller.waiting refl;
           },
         ),
@@ -263,7 +263,7 @@ module _ (fixed : ControllerConfig) {H : Type 0} (answer_of : H → Command → 
   identity_comes given Start Opening a now p l h (first, (pd, fits, is)) line =
       elim (hears_answer fixed p now 0 Opening (reply.PdId pd) l.controller.session (identity_is given pd p fits is) (pd, refl) h.controller) [
         | inl i ↦ passed_over (Level Start Opening a) now p l i.0.0 i.0.1 i.1 h
-        | inr (none, ((tells, lost), rests)) ↦ settles Start Opening a now p l none h ((tells, lost), rests) line
+        | inr settled ↦ settles Start Opening a now p l h settled line
       ]
 
   controller_gets : Assumed → (at : Stage) (now : ℕ) (p : Packet) (l : Link H) → AtStage at l → FrontToController at p l
@@ -280,7 +280,7 @@ module _ (fixed : ControllerConfig) {H : Type 0} (answer_of : H → Command → 
       elim (hears_answer fixed p now (number_after past) x a l.controller.session
       (plain_is given (number_after past) x a p h.stage.2 is) h.stage.2.1 h.controller) [
         | inl i ↦ passed_over (Level past x a) now p l i.0.0 i.0.1 i.1 h
-        | inr (none, settled) ↦ settles past x a now p l none h settled line
+        | inr settled ↦ settles past x a now p l h settled line
       ]
   controller_gets given (Level past x a) now p l h (inr (inr (inr (inr identity)), line)) = identity_comes given past x a now p l h identity line
   controller_gets given (Level past x a) now p l h (inr (inr (inr (inl refused)), line)) =
@@ -288,7 +288,7 @@ module _ (fixed : ControllerConfig) {H : Type 0} (answer_of : H → Command → 
       passed_over (Level past x a) now p l i.0.0 i.0.1 i.1 h
   controller_gets given (Rest n x a) now p l h front =
       let heard = hears_resting fixed p now n l.controller.session h.controller in
-      passed_over (Rest n x a) now p l (ap lost_in heard.0) (ap settled_in heard.0, ap reported_in heard.0) heard.1 h
+      passed_over (Rest n x a) now p l (inl (ap lost_in heard.0)) (ap settled_in heard.0, ap reported_in heard.0) heard.1 h
 
   rest_to_controller : (at : Stage) (p : Packet) (ps : List Packet) → ToControllerAt fixed since at (p ∷ ps) → ToControllerAt fixed since at ps
   rest_to_controller Fresh p ps line = absurd cc
@@ -333,7 +333,7 @@ module _ (fixed : ControllerConfig) {H : Type 0} (answer_of : H → Command → 
       stays_at None at (refl, refl),
       record {
         waits = refl;
-        lost = append-nil (given_up_at at l.controller.session.state) ∙ ap (λ (c : Machine). given_up_at at c.session.state) (sym same);
+        lost = inl refl;
         over = λ closed. (ap (λ (c : Machine). c.session.state) same ∙ closed, refl, refl, refl);
       },
     ),

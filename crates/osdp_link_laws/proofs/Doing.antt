@@ -1,6 +1,6 @@
 -- What each move does to a link, however it stands.
-use Rattle.osdp_link_laws.proofs.Common.{◌≡◌, ◌≢◌, ◌⊎◌, ◌≤◌, ◌<◌, ℕ, zero, suc, Bool, true, false, cond, eqb, List, [], ◌∷◌, ◌++◌, length, map, drop, Some, None, refl, sym, subst, ap, ◌∙◌, inl, inr, arith, append_assoc, le-ltb, lt-ltb, append-nil, Packet, Room, Command, Event, UnexpectedSequence, ControllerConfig, ControllerFault, NotClosed, OutOfRange, State, Closed, EventQueue, released, withdrawn, refused, ReaderState, after_set_handler, new_reader, event_or_answer, is_for_another, kind_by_number, kind_of, ReaderConfig, Answer, Silent, Secured, Zero, Busy, Wrong, ComesTo, AnswersBy, CountsRestarts, EachMoveDoes, HasAddress, HasHandler, HasNewController, HasNewReader, HasWithdrawn, LosesOne, RefusesNumbers, Retargets, Withdraws, WithdrawsEvents, Link, RestartController, RestartReader, SetHandler, Withdrawn, after_move, but_oldest, lost_at, unoffered_in, is_offered_here, LapsesEvents, ◌&&◌}
-use Rattle.std.specs.Prelude.{◌-◌, ◌||◌, if◌then◌else◌, not, option_to_list}
+use Rattle.osdp_link_laws.proofs.Common.{◌≡◌, ◌≢◌, ◌⊎◌, ◌≤◌, ◌<◌, ℕ, zero, suc, Bool, true, false, cond, eqb, List, [], ◌∷◌, ◌++◌, length, drop, Some, None, refl, sym, subst, ap, ◌∙◌, inl, inr, arith, append_assoc, le-ltb, lt-ltb, Packet, Room, Command, Event, UnexpectedSequence, ControllerConfig, ControllerFault, NotClosed, OutOfRange, State, Closed, EventQueue, released, withdrawn, refused, ReaderState, after_set_handler, new_reader, event_or_answer, is_for_another, kind_by_number, kind_of, ReaderConfig, Answer, Silent, Secured, Zero, Busy, Wrong, ComesTo, AnswersBy, CountsRestarts, EachMoveDoes, HasAddress, HasHandler, HasNewController, HasNewReader, HasWithdrawn, LosesOne, RefusesNumbers, Retargets, Withdraws, WithdrawsEvents, Link, RestartController, RestartReader, SetHandler, after_move, but_oldest, lost_at, unoffered_in, is_offered_here, LapsesEvents, ◌&&◌}
+use Rattle.std.specs.Prelude.{◌-◌, ◌||◌, if◌then◌else◌, not}
 use Rattle.osdp_controller.specs.Machine as controllers
 use Rattle.osdp_reader.specs.Table as reader
 use Rattle.osdp_link_laws.specs.Link as link
@@ -75,24 +75,18 @@ module _ {H : Type 0} where
     restarts_controller l config room = record {
       others = refl;
       controller = record { state = refl; config = refl; number = refl; greatest = refl; waiting = refl; capacity = refl; room = refl };
-      account = refl;
     }
 
 -- ---- a command is taken back
 
-first_back : (state : State) (command : Command) (waiting all : List Command) → state ≡ Closed → all ≡ command ∷ waiting
-    → (controllers.kept_in state all ≡ waiting) × (controllers.withdrawn_in state all ≡ Some command)
-first_back state command waiting all closed is = (
-  ap (λ s. controllers.kept_in s all) closed ∙ ap (controllers.kept_in Closed) is,
-  ap (λ s. controllers.withdrawn_in s all) closed ∙ ap (controllers.withdrawn_in Closed) is,
-)
+first_back : (state : State) (command : Command) (waiting all : List Command) → state ≡ Closed → all ≡ command ∷ waiting → controllers.kept_in state all ≡ waiting
+first_back state command waiting all closed is = ap (λ s. controllers.kept_in s all) closed ∙ ap (controllers.kept_in Closed) is
 
-none_back : (state : State) (all : List Command) → (state ≢ Closed) ⊎ (all ≡ [])
-    → (controllers.kept_in state all ≡ all) × (controllers.withdrawn_in state all ≡ None)
-none_back Closed [] why = (refl, refl)
+none_back : (state : State) (all : List Command) → (state ≢ Closed) ⊎ (all ≡ []) → controllers.kept_in state all ≡ all
+none_back Closed [] why = refl
 none_back Closed (c ∷ cs) (inl unclosed) = absurd (unclosed refl)
 none_back Closed (c ∷ cs) (inr none) = absurd cc
-none_back _ all why = (refl, refl)
+none_back _ all why = refl
 
 -- ---- an event is withdrawn
 
@@ -147,21 +141,14 @@ loses_one place xs = (
 module _ {H : Type 0} (answer_of : H → Command → Answer) (after : H → Command → H) where
   withdraws : Withdraws answer_of after
   withdraws = record {
-    first = λ l c ws closed is. let back = first_back l.controller.session.state c ws l.controller.waiting closed is in record {
+    first = λ l c ws closed is. record {
       others = refl;
       session = refl;
-      waiting = back.0;
+      waiting = first_back l.controller.session.state c ws l.controller.waiting closed is;
       capacity = refl;
       room = refl;
-      account = ap (λ o. record l.account { removed = l.account.removed ++ map Withdrawn (option_to_list o) }) back.1;
     };
-    none = λ l why. let back = none_back l.controller.session.state l.controller.waiting why in
-        ap (λ ws. record l {
-          controller = record l.controller { waiting = ws };
-          account = (link.withdraws l).account;
-        }) back.0
-        ∙ ap (λ o. record l { account = record l.account { removed = l.account.removed ++ map Withdrawn (option_to_list o) } }) back.1
-        ∙ ap (λ rs. record l { account = record l.account { removed = rs } }) (append-nil l.account.removed);
+    none = λ l why. ap (λ ws. record l { controller = record l.controller { waiting = ws } }) (none_back l.controller.session.state l.controller.waiting why);
   }
 
   withdraws_events : WithdrawsEvents answer_of after
@@ -228,7 +215,7 @@ module _ {H : Type 0} (answer_of : H → Command → Answer) (after : H → Comm
   retargets = record {
     set = λ l address closed small.
         subst (λ fault. HasAddress address l (link.retargets fault address l)) (sym (may_set l.controller.session.state address closed small))
-        (record { others = refl; address = refl; config = refl; state = closed; number = refl; greatest = refl; waiting = refl; capacity = refl; room = refl; account = refl });
+        (record { others = refl; address = refl; config = refl; state = closed; number = refl; greatest = refl; waiting = refl; capacity = refl; room = refl });
     refused = λ l address why. ap (λ fault. link.retargets fault address l) (may_not l.controller.session.state address why).1;
   }
 

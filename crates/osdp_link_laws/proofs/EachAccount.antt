@@ -1,4 +1,4 @@
--- What holds of each account of a link, where it goes by what is queued and kept, by what is forgotten and removed, and by the restarts: it is kept by moves with
+-- What holds of each account of a link, where it goes by what is queued and kept, and by the restarts: it is kept by moves with
 -- which neither end restarts and no command or event is withdrawn.
 use Rattle.osdp_link_laws.proofs.Common.{ℕ, Bool, true, false, List, [], ◌∷◌, ◌++◌, Option, Some, None, sym, subst, Packet, Command, Event, ticks, ControllerFault, Report, Answer, lacks_room, Account, Delivered, Delivery, Link, Lost, Move, QueueEvent, Reopen, Repeated, RestartController, RestartReader, Retarget, Submit, Tick, ToController, ToReader, Withdraw, WithdrawEvent, after_move, after_report, new_account, IsOrdinary, LapseEvent}
 use Rattle.osdp_controller.specs.Hearing as controller
@@ -13,14 +13,7 @@ pub record IsKept (P : Account → Type 0) : Type 0 where
   pub new : (waiting : List Command) (events : List Event) → P (new_account waiting events)
   pub queue : (e : Event) (t : Account) → P t → P (record t { queued = t.queued ++ e ∷ []; kept = t.kept ++ e ∷ [] })
   -- by another account, where these lists are the same
-  pub others : (t u : Account) → P t
-      → P (record u {
-        queued = t.queued;
-        kept = t.kept;
-        forgotten = t.forgotten;
-        removed = t.removed;
-        restarts = t.restarts;
-      })
+  pub others : (t u : Account) → P t → P (record u { queued = t.queued; kept = t.kept; restarts = t.restarts })
 
 module _ {H : Type 0} (answer_of : H → Command → Answer) (after : H → Command → H) (P : Account → Type 0) (kept : IsKept P) where
   abbrev AllSo : Link H → Type 0

@@ -1,5 +1,5 @@
 -- What a move adds to an account: the command that it submits, or the event that it queues.
-use Rattle.osdp_link_laws.proofs.Common.{◌≡◌, ℕ, List, [], ◌∷◌, ◌++◌, Bool, true, false, Option, Some, None, refl, sym, ◌∙◌, ap, append-nil, Packet, Command, Event, Reply, ticks, ControllerFault, Report, Answer, Kind, lacks_room, Account, Delivered, Delivery, Link, Lost, Move, QueueEvent, Reopen, Repeated, RestartController, RestartReader, Retarget, Submit, Tick, ToController, ToReader, Withdraw, WithdrawEvent, after_move, after_report, accepted, queued, unless_full, submitted, LapseEvent}
+use Rattle.osdp_link_laws.proofs.Common.{◌≡◌, ℕ, List, [], ◌∷◌, ◌++◌, Bool, true, false, Option, Some, None, refl, sym, ◌∙◌, ap, append-nil, Packet, Command, Event, Reply, ticks, ControllerFault, Report, Answer, Kind, lacks_room, Account, Delivered, Delivery, Link, Lost, Move, QueueEvent, Reopen, Repeated, RestartReader, Retarget, Submit, Tick, ToController, ToReader, WithdrawEvent, after_move, after_report, accepted, queued, unless_full, submitted, LapseEvent}
 use Rattle.osdp_msg.specs.declared.command.Command.TheVariants as command
 use Rattle.osdp_controller.specs.Hearing as controller
 use Rattle.osdp_controller.specs.Machine as controllers
@@ -95,9 +95,7 @@ module _ {H : Type 0} (answer_of : H → Command → Answer) (after : H → Comm
   goes_on (Tick now) l on = (told_keeps (ticks now l.controller.session l.controller.waiting).step.report l.account, refl)
   goes_on (ToReader how) l on = to_reader_on how l.to_reader l
   goes_on (ToController how now) l on = to_controller_on how now l.to_controller l
-  goes_on Withdraw l on = (as_before l.account (link.withdraws l).account refl refl, refl)
   goes_on (Retarget address) l on = retargets_on (controllers.retarget_refusal address l.controller) address l
   goes_on (RestartReader config handler room) l on = (as_before l.account (link.reader_restarted l.account) refl refl, refl)
-  goes_on (RestartController config room) l on = (as_before l.account (link.controller_restarted l.controller l.account) refl refl, refl)
   goes_on (Reopen now) l on = absurd on
   goes_on _ l on = (as_before l.account l.account refl refl, refl)

@@ -1,13 +1,13 @@
 -- What a packet does to the controller, by how far the session has come.
-use Rattle.osdp_link_laws.proofs.Common.{◌≡◌, ◌≢◌, ◌⊎◌, ℕ, zero, suc, ◌+◌, Bool, true, false, cond, eqb, ltb, List, [], ◌∷◌, Option, Some, None, refl, sym, subst, ap, ◌∙◌, inl, inr, ◌&&◌, ◌||◌, option_to_list, Packet, Command, Communication, Event, Reply, PdId, ReplyMeaning, NotTaken, NumberRefused, Plain, ControllerConfig, Exchange, Opening, Polling, Asking, Outstanding, Session, State, Closed, Quiet, Idle, Waiting, Pausing, meaning_of, event_in, Heard, answered, com_of, command_answered, comset_of, hears, hears_busy, hears_in, ignores, is_ack, is_from_reader, is_numbered, loses, moved_by, pausing_hears, poll_told, rests, waiting_hears, later, seen}
+use Rattle.osdp_link_laws.proofs.Common.{◌≡◌, ◌≢◌, ◌⊎◌, ℕ, zero, suc, ◌+◌, Bool, true, false, cond, eqb, ltb, [], ◌∷◌, Option, Some, None, refl, sym, subst, ap, ◌∙◌, inl, inr, ◌&&◌, ◌||◌, option_to_list, Packet, Command, Communication, Event, Reply, PdId, ReplyMeaning, NotTaken, NumberRefused, Plain, ControllerConfig, Exchange, Opening, Polling, Asking, Outstanding, Session, State, Closed, Quiet, Idle, Waiting, Pausing, meaning_of, event_in, Heard, answered, com_of, command_answered, comset_of, hears, hears_busy, hears_in, ignores, is_ack, is_from_reader, is_numbered, loses, moved_by, pausing_hears, poll_told, rests, waiting_hears, later, seen}
 use Rattle.osdp_msg.specs.declared.reply.Reply.TheVariants as reply
 use Rattle.osdp_controller.specs.declared.report.LostCause.TheVariants as cause
 use Rattle.osdp_controller.specs.declared.report.Report.TheVariants as report
-use Rattle.osdp_link_laws.proofs.Coming.{Announces, lost_in}
+use Rattle.osdp_link_laws.proofs.Coming.{Announces, IsToldAtEnd, lost_in}
 use Rattle.osdp_link_laws.proofs.Lines.{both}
 use Rattle.osdp_link_laws.proofs.Numbers.{is_false}
-use Rattle.osdp_link_laws.proofs.Stages.{Asks, IsAnswerTo, IsOpen, Rests, given_up, owed, shown}
-use Rattle.osdp_link_laws.proofs.Ticks.{LeavesUnsettled, asks_seen, ended, nothing_told, rests_seen}
+use Rattle.osdp_link_laws.proofs.Stages.{Asks, IsAnswerTo, IsOpen, Rests, owed, shown}
+use Rattle.osdp_link_laws.proofs.Ticks.{asks_seen, rests_seen}
 
 and_false : (b : Bool) → (b && false) ≡ false
 and_false true = refl
@@ -15,56 +15,56 @@ and_false false = refl
 
 module _ (fixed : ControllerConfig) where
   -- the exchange stays outstanding, or the session ends; nothing is settled or reported
-  abbrev pub Ignored : ℕ → Exchange → List Command → Heard → Type 0
-  Ignored n x before h =
-      (LeavesUnsettled before x h.report h.session.state × Announces h.report [] []) × Asks fixed h.session.state n x h.session
+  abbrev pub Ignored : ℕ → Exchange → Heard → Type 0
+  Ignored n x h =
+      (IsToldAtEnd h.report h.session.state × Announces h.report [] []) × Asks fixed h.session.state n x h.session
 
   ignored : (state : State) (n : ℕ) (x : Exchange) (s : Session) → s.state ≡ state → Asks fixed state n x s
-      → Ignored n x (given_up state x) (ignores s)
+      → Ignored n x (ignores s)
   ignored state n x s e asks =
-      ((nothing_told (given_up state x) x s.state (ap (λ st. given_up st x) e), (refl, refl)), subst (λ st. Asks fixed st n x s) (sym e) asks)
+      ((inl refl, (refl, refl)), subst (λ st. Asks fixed st n x s) (sym e) asks)
 
   busy_heard : (n : ℕ) (x : Exchange) (o : Outstanding) (s : Session) → IsOpen fixed n s → o.exchange ≡ x
-      → Ignored n x [] (hears_busy o s)
+      → Ignored n x (hears_busy o s)
   busy_heard n x o s at is =
-      both (Ignored n x []) (ltb s.config.busy_limit (o.busies + 1)) (loses cause.TooBusy o s)
+      both (Ignored n x) (ltb s.config.busy_limit (o.busies + 1)) (loses cause.TooBusy o s)
       (record {
         session = record s { state = Pausing (later s.config.busy_wait s) (record o { busies = o.busies + 1 }) };
         report = None;
       })
-      ((ended cause.TooBusy o.exchange x is, (refl, refl)), tt)
-      ((nothing_told [] x (Pausing (later s.config.busy_wait s) (record o { busies = o.busies + 1 })) refl, (refl, refl)), (at, is))
+      ((inr refl, (refl, refl)), tt)
+      ((inl refl, (refl, refl)), (at, is))
 
   -- BUSY settles nothing
   busy_in : (state : State) (number n : ℕ) (x : Exchange) (s : Session) → s.state ≡ state → Asks fixed state n x s
-      → Ignored n x (given_up state x) (hears_in state number NotTaken s)
+      → Ignored n x (hears_in state number NotTaken s)
   busy_in Closed number n x s e asks = ignored Closed n x s e asks
   busy_in (Waiting until k o) number n x s e asks =
-      both (Ignored n x []) (is_numbered number NotTaken s) (hears_busy o s) (ignores s)
+      both (Ignored n x) (is_numbered number NotTaken s) (hears_busy o s) (ignores s)
       (busy_heard n x o s asks.0 asks.1) (ignored (Waiting until k o) n x s e asks)
   busy_in (Pausing until o) number n x s e asks =
-      both (Ignored n x []) (is_numbered number NotTaken s) (ignores s) (ignores s)
+      both (Ignored n x) (is_numbered number NotTaken s) (ignores s) (ignores s)
       (ignored (Pausing until o) n x s e asks) (ignored (Pausing until o) n x s e asks)
   busy_in _ number n x s e asks = absurd asks
 
   -- a refused number ends the session, or is ignored
   refused_in : (state : State) (number n : ℕ) (x : Exchange) (s : Session) → s.state ≡ state → Asks fixed state n x s
-      → Ignored n x (given_up state x) (hears_in state number NumberRefused s)
+      → Ignored n x (hears_in state number NumberRefused s)
   refused_in Closed number n x s e asks = ignored Closed n x s e asks
   refused_in (Waiting until k o) number n x s e asks =
-      both (Ignored n x []) (is_numbered number NumberRefused s) (loses cause.NumberRefused o s) (ignores s)
-      ((ended cause.NumberRefused o.exchange x asks.1, (refl, refl)), tt) (ignored (Waiting until k o) n x s e asks)
+      both (Ignored n x) (is_numbered number NumberRefused s) (loses cause.NumberRefused o s) (ignores s)
+      ((inr refl, (refl, refl)), tt) (ignored (Waiting until k o) n x s e asks)
   refused_in (Pausing until o) number n x s e asks =
-      both (Ignored n x []) (is_numbered number NumberRefused s) (loses cause.NumberRefused o s) (ignores s)
-      ((ended cause.NumberRefused o.exchange x asks.1, (refl, refl)), tt) (ignored (Pausing until o) n x s e asks)
+      both (Ignored n x) (is_numbered number NumberRefused s) (loses cause.NumberRefused o s) (ignores s)
+      ((inr refl, (refl, refl)), tt) (ignored (Pausing until o) n x s e asks)
   refused_in _ number n x s e asks = absurd asks
 
   pub hears_refused : (p : Packet) (now n : ℕ) (x : Exchange) (s : Session) → meaning_of p ≡ NumberRefused → Asks fixed s.state n x s
-      → Ignored n x (given_up s.state x) (hears p now s)
+      → Ignored n x (hears p now s)
   hears_refused p now n x s refused asks =
       let there = asks_seen fixed s.state n x s now asks in
-      both (Ignored n x (given_up s.state x)) (is_from_reader p s) (hears_in s.state p.sequence (meaning_of p) (seen now s)) (ignores (seen now s))
-      (subst (λ a. Ignored n x (given_up s.state x) (hears_in s.state p.sequence a (seen now s))) (sym refused)
+      both (Ignored n x) (is_from_reader p s) (hears_in s.state p.sequence (meaning_of p) (seen now s)) (ignores (seen now s))
+      (subst (λ a. Ignored n x (hears_in s.state p.sequence a (seen now s))) (sym refused)
       (refused_in s.state p.sequence n x (seen now s) refl there))
       (ignored s.state n x (seen now s) refl there)
 
@@ -76,31 +76,31 @@ module _ (fixed : ControllerConfig) where
 
   -- nor does an answer with another number
   other_in : (state : State) (number n : ℕ) (x : Exchange) (r : Reply) (s : Session) → number ≢ n → s.state ≡ state → Asks fixed state n x s
-      → Ignored n x (given_up state x) (hears_in state number (Plain r) s)
+      → Ignored n x (hears_in state number (Plain r) s)
   other_in Closed number n x r s differ e asks = ignored Closed n x s e asks
   other_in (Quiet until) number n x r s differ e asks = absurd asks
   other_in (Idle due) number n x r s differ e asks = absurd asks
   other_in (Waiting until k o) number n x r s differ e asks =
-      subst (λ b. Ignored n x [] (cond b (waiting_hears (Plain r) k o s) (ignores s))) (sym (other_number number n r s differ asks.0.1))
+      subst (λ b. Ignored n x (cond b (waiting_hears (Plain r) k o s) (ignores s))) (sym (other_number number n r s differ asks.0.1))
       (ignored (Waiting until k o) n x s e asks)
   other_in (Pausing until o) number n x r s differ e asks =
-      subst (λ b. Ignored n x [] (cond b (pausing_hears (Plain r) o s) (ignores s))) (sym (other_number number n r s differ asks.0.1))
+      subst (λ b. Ignored n x (cond b (pausing_hears (Plain r) o s) (ignores s))) (sym (other_number number n r s differ asks.0.1))
       (ignored (Pausing until o) n x s e asks)
 
   -- a packet that is BUSY, or has another number
   pub hears_other : (p : Packet) (now n : ℕ) (x : Exchange) (s : Session)
       → (meaning_of p ≡ NotTaken) ⊎ ((p.sequence ≢ n) × ((r : Reply) × (meaning_of p ≡ Plain r)))
-      → Asks fixed s.state n x s → Ignored n x (given_up s.state x) (hears p now s)
+      → Asks fixed s.state n x s → Ignored n x (hears p now s)
   hears_other p now n x s (inl busy) asks =
       let there = asks_seen fixed s.state n x s now asks in
-      both (Ignored n x (given_up s.state x)) (is_from_reader p s) (hears_in s.state p.sequence (meaning_of p) (seen now s)) (ignores (seen now s))
-      (subst (λ a. Ignored n x (given_up s.state x) (hears_in s.state p.sequence a (seen now s))) (sym busy)
+      both (Ignored n x) (is_from_reader p s) (hears_in s.state p.sequence (meaning_of p) (seen now s)) (ignores (seen now s))
+      (subst (λ a. Ignored n x (hears_in s.state p.sequence a (seen now s))) (sym busy)
       (busy_in s.state p.sequence n x (seen now s) refl there))
       (ignored s.state n x (seen now s) refl there)
   hears_other p now n x s (inr (differ, (r, plain))) asks =
       let there = asks_seen fixed s.state n x s now asks in
-      both (Ignored n x (given_up s.state x)) (is_from_reader p s) (hears_in s.state p.sequence (meaning_of p) (seen now s)) (ignores (seen now s))
-      (subst (λ a. Ignored n x (given_up s.state x) (hears_in s.state p.sequence a (seen now s))) (sym plain)
+      both (Ignored n x) (is_from_reader p s) (hears_in s.state p.sequence (meaning_of p) (seen now s)) (ignores (seen now s))
+      (subst (λ a. Ignored n x (hears_in s.state p.sequence a (seen now s))) (sym plain)
       (other_in s.state p.sequence n x r (seen now s) differ refl there))
       (ignored s.state n x (seen now s) refl there)
 
@@ -165,30 +165,30 @@ module _ (fixed : ControllerConfig) where
       (λ to e. com_is r to (moved_is (comset_of c) (com_of r) to e)) at
 
   -- it is passed over, or it settles the exchange
-  abbrev pub MaySettle : ℕ → Exchange → List Command → Reply → Heard → Type 0
-  MaySettle n x before r h = Ignored fixed n x before h ⊎ ((before ≡ []) × Settles fixed n x r h)
+  abbrev pub MaySettle : ℕ → Exchange → Reply → Heard → Type 0
+  MaySettle n x r h = Ignored fixed n x h ⊎ Settles fixed n x r h
 
   answer_in : (state : State) (number n : ℕ) (x : Exchange) (r : Reply) (s : Session) → IsAnswerTo x n r → s.state ≡ state
-      → Asks fixed state n x s → MaySettle n x (given_up state x) r (hears_in state number (Plain r) s)
+      → Asks fixed state n x s → MaySettle n x r (hears_in state number (Plain r) s)
   answer_in Closed number n x r s is e asks = inl (ignored fixed Closed n x s e asks)
   answer_in (Quiet until) number n x r s is e asks = absurd asks
   answer_in (Idle due) number n x r s is e asks = absurd asks
   answer_in (Waiting until k o) number n x r s is e asks =
-      both (MaySettle n x [] r) (is_numbered number (Plain r) s) (waiting_hears (Plain r) k o s) (ignores s)
-      (inr (refl, subst (λ y. Settles fixed n x r (answered y r s)) (sym asks.1) (answer_settles x n r s is asks.0)))
+      both (MaySettle n x r) (is_numbered number (Plain r) s) (waiting_hears (Plain r) k o s) (ignores s)
+      (inr (subst (λ y. Settles fixed n x r (answered y r s)) (sym asks.1) (answer_settles x n r s is asks.0)))
       (inl (ignored fixed (Waiting until k o) n x s e asks))
   answer_in (Pausing until o) number n x r s is e asks =
-      both (MaySettle n x [] r) (is_numbered number (Plain r) s) (pausing_hears (Plain r) o s) (ignores s)
-      (inr (refl, subst (λ y. Settles fixed n x r (answered y r s)) (sym asks.1) (answer_settles x n r s is asks.0)))
+      both (MaySettle n x r) (is_numbered number (Plain r) s) (pausing_hears (Plain r) o s) (ignores s)
+      (inr (subst (λ y. Settles fixed n x r (answered y r s)) (sym asks.1) (answer_settles x n r s is asks.0)))
       (inl (ignored fixed (Pausing until o) n x s e asks))
 
   -- a packet that says the answer
   pub hears_answer : (p : Packet) (now n : ℕ) (x : Exchange) (r : Reply) (s : Session) → meaning_of p ≡ Plain r
-      → IsAnswerTo x n r → Asks fixed s.state n x s → MaySettle n x (given_up s.state x) r (hears p now s)
+      → IsAnswerTo x n r → Asks fixed s.state n x s → MaySettle n x r (hears p now s)
   hears_answer p now n x r s says is asks =
       let there = asks_seen fixed s.state n x s now asks in
-      both (MaySettle n x (given_up s.state x) r) (is_from_reader p s) (hears_in s.state p.sequence (meaning_of p) (seen now s)) (ignores (seen now s))
-      (subst (λ a. MaySettle n x (given_up s.state x) r (hears_in s.state p.sequence a (seen now s))) (sym says)
+      both (MaySettle n x r) (is_from_reader p s) (hears_in s.state p.sequence (meaning_of p) (seen now s)) (ignores (seen now s))
+      (subst (λ a. MaySettle n x r (hears_in s.state p.sequence a (seen now s))) (sym says)
       (answer_in s.state p.sequence n x r (seen now s) is refl there))
       (inl (ignored fixed s.state n x (seen now s) refl there))
 

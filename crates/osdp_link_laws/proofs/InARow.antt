@@ -1,5 +1,5 @@
 -- From the beginning of a first session to each list of moves after it.
-use Rattle.osdp_link_laws.proofs.Common.{◌≡◌, ◌<◌, ℕ, List, [], ◌∷◌, ◌++◌, Option, Some, None, refl, sym, subst, ap, ◌∙◌, append_assoc, append-nil, Packet, Command, Event, ControllerConfig, Polling, ControllerFault, Closed, was_closed, Answer, EachIsOnce, HoldsOnce, IsOnce, MovesFit, Begins, MoveFits, MaySubmit, IsBeginning, Account, Link, Move, Reopen, after_move, run, ReadEachOther, CommandsHavePlaces, LastOneLasts, SessionsInARow, all_submitted, ended_commands, ended_in, submitted}
+use Rattle.osdp_link_laws.proofs.Common.{◌≡◌, ◌<◌, ℕ, List, [], ◌∷◌, ◌++◌, Option, Some, None, refl, sym, subst, ap, ◌∙◌, append_assoc, Packet, Command, Event, ControllerConfig, Polling, ControllerFault, Closed, Answer, EachIsOnce, HoldsOnce, IsOnce, MovesFit, Begins, MoveFits, MaySubmit, IsBeginning, Account, Link, Move, Reopen, after_move, run, ReadEachOther}
 use Rattle.osdp_controller.specs.Machine as controllers
 use Rattle.osdp_link_laws.specs.Link as link
 use Rattle.osdp_link_laws.proofs.Coming.{MovesTo, ReopensTo}
@@ -8,7 +8,6 @@ use Rattle.osdp_link_laws.proofs.Growing.{GoesOn, Grows, goes_on}
 use Rattle.osdp_link_laws.proofs.Lines.{each_of}
 use Rattle.osdp_link_laws.proofs.Moves.{Premises}
 use Rattle.osdp_link_laws.proofs.Once.{Goes, fresh_so, is_once, moving_so}
-use Rattle.osdp_link_laws.proofs.Sessions.{lasts_or_leaves, leaves}
 use Rattle.osdp_link_laws.proofs.Stages.{Fresh, Restarted, Stage, Waits, frame}
 
 -- more comes after what begins it
@@ -27,10 +26,6 @@ begins_on P t u cs es grows (waiting, events, left, commands, waits) = (
   begins_more waiting t.issued u.issued cs commands grows.issued,
   begins_more events t.queued u.queued es waits grows.queued,
 )
-
--- every command so far has its place
-abbrev Placed : {H : Type 0} → List Command → Link H → Type 0
-Placed {H} cs l = cs ≡ ended_commands l.earlier ++ l.account.issued
 
 module _ {H : Type 0} (answer_of : H → Command → Answer) (after : H → Command → H) where
   -- a session that holds, after sessions that were once
@@ -121,43 +116,6 @@ module _ {H : Type 0} (answer_of : H → Command → Answer) (after : H → Comm
   pub standing : Assumed → (move : Move H) (l : Link H) → MoveFits answer_of after move l → Stands l → Stands (after_move answer_of after move l)
   standing given move l fits h = (standing_so given move l fits h).0
 
-  -- one move more: what it submits comes last
-  placing : (move : Move H) (l : Link H) (cs : List Command) → Stands l → Placed cs l → Placed (cs ++ submitted move l) (after_move answer_of after move l)
-  placing move l cs h placed = by_move move
-    where
-      on : (move : Move H) → GoesOn move → Placed (cs ++ submitted move l) (after_move answer_of after move l)
-      on move goes =
-          let g = goes_on answer_of after move l goes in
-          let new = after_move answer_of after move l in
-          ap (λ all. all ++ submitted move l) placed
-          ∙ append_assoc (ended_commands l.earlier) l.account.issued (submitted move l)
-          ∙ ap (λ all. ended_commands l.earlier ++ all) (sym g.0.issued)
-          ∙ ap (λ earlier. ended_commands earlier ++ new.account.issued) (sym g.1)
-
-      again : (refusal : Option ControllerFault) (ps qs : List Packet) (now : ℕ) → controllers.begin_refusal l.controller ≡ refusal
-          → Placed cs (link.reopens refusal ps qs now l)
-      again (Some fault) ps qs now may = placed
-      again None (p ∷ ps) qs now may = placed
-      again None [] (q ∷ qs) now may = placed
-      again None [] [] now may =
-          let left = leaves h.fixed answer_of after l h.goes (was_closed l.controller.session.state may) in
-          placed
-          ∙ ap (λ all. ended_commands l.earlier ++ all) left.commands
-          ∙ sym (append_assoc (ended_commands l.earlier) (ended_in l.account) l.controller.waiting)
-
-      by_move : (move : Move H) → Placed (cs ++ submitted move l) (after_move answer_of after move l)
-      by_move (Reopen now) =
-          append-nil cs ∙ again (controllers.begin_refusal l.controller) l.to_reader l.to_controller now refl
-      by_move move = on move tt
-
-  all_placed : Assumed → (moves : List (Move H)) (l : Link H) (cs : List Command) → MovesFit answer_of after moves l → Stands l → Placed cs l
-      → Placed (cs ++ all_submitted answer_of after moves l) (run answer_of after moves l)
-  all_placed given [] l cs fits h placed = append-nil cs ∙ placed
-  all_placed given (move ∷ moves) l cs fits h placed =
-      let new = after_move answer_of after move l in
-      sym (append_assoc cs (submitted move l) (all_submitted answer_of after moves new))
-      ∙ all_placed given moves new (cs ++ submitted move l) fits.1 (standing given move l fits.0 h) (placing move l cs h placed)
-
   pub running : Assumed → (moves : List (Move H)) (l : Link H) → MovesFit answer_of after moves l → Stands l → Stands (run answer_of after moves l)
   running given [] l fits h = h
   running given (move ∷ moves) l fits h = running given moves (after_move answer_of after move l) fits.1 (standing given move l fits.0 h)
@@ -195,20 +153,3 @@ module _ {H : Type 0} (answer_of : H → Command → Answer) (after : H → Comm
   all_once peers l moves b fits =
       let s = stands peers l moves b fits in
       (is_once_now answer_of after (run answer_of after moves l) s, s.once)
-
-  commands_have_places : ReadEachOther answer_of after → CommandsHavePlaces answer_of after
-  commands_have_places peers l moves b fits =
-      all_placed answer_of after (assumed answer_of after peers) moves l l.controller.waiting fits (begins l b)
-      (sym (ap (λ t. t.issued) b.account) ∙ sym (ap (λ earlier. ended_commands earlier ++ l.account.issued) b.earlier))
-
-  last_one_lasts : ReadEachOther answer_of after → LastOneLasts answer_of after
-  last_one_lasts peers l moves b fits =
-      let later = run answer_of after moves l in
-      let s = stands peers l moves b fits in
-      lasts_or_leaves s.fixed answer_of after later.controller.session.state later refl s.goes
-
-  pub sessions_in_a_row : ReadEachOther answer_of after → SessionsInARow answer_of after
-  sessions_in_a_row peers = record {
-    last = last_one_lasts peers;
-    commands = commands_have_places peers;
-  }

@@ -22,7 +22,6 @@ pub mod Accounting
 pub mod Once
 pub mod Controllers
 pub mod Devices
-pub mod Sessions
 pub mod InARow
 pub mod EachAccount
 pub mod Ordinary

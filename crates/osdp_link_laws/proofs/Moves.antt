@@ -1,13 +1,13 @@
 -- What holds of a session holds after each move.
-use Rattle.osdp_link_laws.proofs.Common.{◌≡◌, ◌≢◌, ◌<◌, ℕ, Bool, true, false, List, [], ◌∷◌, ◌++◌, Option, Some, None, Ok, refl, sym, subst, ap, ◌∙◌, inl, inr, arith, append-nil, Packet, CommandFits, ReplyFits, Command, Machine, submit_refusal, Event, Reply, meaning_by_reply, exchange_command, event_in, Ticked, ticks, Plain, ControllerConfig, Session, State, Exchange, Opening, Polling, Asking, ControllerFault, Answer, ReaderState, after_submit, after_withdraw_event, command_in, AnswersPlainly, IsPlain, MaySubmit, Link, TellsItsEvent, after_lapse_event}
+use Rattle.osdp_link_laws.proofs.Common.{◌≡◌, ◌≢◌, ◌<◌, ℕ, Bool, true, false, List, [], ◌∷◌, ◌++◌, Option, Some, None, Ok, refl, sym, subst, ap, ◌∙◌, inl, inr, arith, append-nil, Packet, CommandFits, ReplyFits, Command, Machine, submit_refusal, Event, Reply, meaning_by_reply, exchange_command, event_in, Ticked, ticks, Plain, ControllerConfig, Session, Exchange, Opening, Polling, Asking, ControllerFault, Answer, ReaderState, after_submit, after_withdraw_event, command_in, AnswersPlainly, IsPlain, MaySubmit, Link, TellsItsEvent, after_lapse_event}
 use Rattle.std.specs.Prelude.{drop, if◌then◌else◌, option_to_list, take}
 use Rattle.osdp_msg.specs.declared.command.Command.TheVariants as command
 use Rattle.osdp_controller.specs.Answers as packets
 use Rattle.osdp_reader.specs.Queue.{Queue, queued, withdrawn}
 use Rattle.osdp_link_laws.specs.Link as link
-use Rattle.osdp_link_laws.proofs.Coming.{BeginsFrom, Controls, TicksTo, lost_in}
+use Rattle.osdp_link_laws.proofs.Coming.{BeginsFrom, Controls, IsToldAtEnd, TicksTo, lost_in}
 use Rattle.osdp_link_laws.proofs.Lines.{each_append, each_rest, runs_append, runs_first}
-use Rattle.osdp_link_laws.proofs.Stages.{After, Before, Behind, ControllerAt, Each, Fresh, HasActed, IsAsked, IsFrame, IsOldFrame, IsPast, Knows, Level, Never, Now, Offers, OffersEvent, Past, ReaderAt, ReaderBehind, Rest, Restarted, Runs, SaysOld, Stage, Start, ToReaderAt, answer, frame, given_up_at, number_after, pending, pending_at}
+use Rattle.osdp_link_laws.proofs.Stages.{After, Before, Behind, ControllerAt, Each, Fresh, HasActed, IsAsked, IsFrame, IsOldFrame, IsPast, Knows, Level, Never, Now, Offers, OffersEvent, Past, ReaderAt, ReaderBehind, Rest, Restarted, Runs, SaysOld, Stage, Start, ToReaderAt, answer, frame, number_after, pending, pending_at}
 use Rattle.osdp_link_laws.proofs.Parts.{At, with_reader}
 use Rattle.osdp_link_laws.proofs.Ticks.{Begun, RestsOn, Unchanged, WaitsOn, closed_tick, ticks_asking, ticks_resting, ticks_waiting}
 use Rattle.osdp_link_laws.proofs.Lapsed.{offers_lapsed}
@@ -178,7 +178,7 @@ module _ (fixed : ControllerConfig) {H : Type 0} (answer_of : H → Command → 
 
   -- a tick that begins no exchange
   same_exchange : (at : Stage) (now : ℕ) (l : Link H) → let t = ticks now l.controller.session l.controller.waiting in
-      t.waiting ≡ l.controller.waiting → given_up_at at l.controller.session.state ++ lost_in t.step.report ≡ given_up_at at t.session.state
+      t.waiting ≡ l.controller.waiting → IsToldAtEnd t.step.report t.session.state
       → ControllerAt fixed at t.session → ToReaderAt fixed at (l.to_reader ++ option_to_list t.step.frame) → AtStage at l → TicksFrom now at l
   same_exchange at now l waits lost stands line h =
       let s = l.controller.session in
@@ -205,20 +205,19 @@ module _ (fixed : ControllerConfig) {H : Type 0} (answer_of : H → Command → 
       )
 
   -- .. and says nothing
-  quiet : (at : Stage) (now : ℕ) (l : Link H) (P : Session → Type 0) → ((s : Session) → P s → ControllerAt fixed at s) → ((state : State) → given_up_at at state ≡ [])
+  quiet : (at : Stage) (now : ℕ) (l : Link H) (P : Session → Type 0) → ((s : Session) → P s → ControllerAt fixed at s)
       → Unchanged fixed P l.controller.waiting (ticks now l.controller.session l.controller.waiting) → AtStage at l → TicksFrom now at l
-  quiet at now l P stands none (waits, silent, told, on) h =
+  quiet at now l P stands (waits, silent, told, on) h =
       let t = ticks now l.controller.session l.controller.waiting in
-      same_exchange at now l waits (ap (λ r. given_up_at at l.controller.session.state ++ lost_in r) told ∙ append-nil (given_up_at at l.controller.session.state)
-      ∙ none l.controller.session.state ∙ sym (none t.session.state)) (stands t.session on)
+      same_exchange at now l waits (inl (ap lost_in told)) (stands t.session on)
       (subst (λ o. ToReaderAt fixed at (l.to_reader ++ option_to_list o)) (sym silent) (subst (ToReaderAt fixed at) (sym (append-nil l.to_reader)) h.to_reader)) h
 
   -- an exchange begins after another
   begins : (at : Stage) (past : Past) (now : ℕ) (l : Link H) → ((x : Exchange) → BeginsFrom at (Behind past x)) → pending_at at ≡ []
-      → given_up_at at l.controller.session.state ≡ [] → IsPast past → ReaderBehind fixed since past l.reader
+      → IsPast past → ReaderBehind fixed since past l.reader
       → Each (IsOldFrame fixed past) l.to_reader → Each (SaysOld fixed since past) l.to_controller → AtStage at l
       → Begun fixed past (number_after past) l.controller.waiting (ticks now l.controller.session l.controller.waiting) → TicksFrom now at l
-  begins at past now l from none given acted knows frames said h (x, asked, waits, sent, told, lost, asks) =
+  begins at past now l from none acted knows frames said h (x, asked, waits, sent, told, asks) =
       let s = l.controller.session in
       let ws = l.controller.waiting in
       let t = ticks now s ws in
@@ -228,7 +227,7 @@ module _ (fixed : ControllerConfig) {H : Type 0} (answer_of : H → Command → 
           inr (from x, record { frame = frame fixed x n; sent = sent; told = told }),
           record {
             waits = sym waits ∙ ap (λ cs. cs ++ ws) (sym none);
-            lost = (λ i. given i ++ lost_in (told i)) ∙ sym lost;
+            lost = inl (ap lost_in told);
             over = λ closed. absurd (let e : None ≡ Some (frame fixed x n) = sym (ap (λ (t : Ticked). t.step.frame) (closed_tick now s ws closed)) ∙ sent in cc);
           },
         ),
@@ -246,9 +245,9 @@ module _ (fixed : ControllerConfig) {H : Type 0} (answer_of : H → Command → 
   pub ticking : (at : Stage) (now : ℕ) (l : Link H) → AtStage at l → TicksFrom now at l
   ticking Fresh now l h =
       elim (ticks_waiting fixed l.controller.session l.controller.waiting now h.controller) [
-        | inl begun ↦ begins Fresh Start now l (λ x. (x, refl)) refl refl tt tt (subst (Each (IsOldFrame fixed Start)) (sym h.to_reader) tt)
+        | inl begun ↦ begins Fresh Start now l (λ x. (x, refl)) refl tt tt (subst (Each (IsOldFrame fixed Start)) (sym h.to_reader) tt)
             (subst (Each (SaysOld fixed since Start)) (sym h.to_controller) tt) h begun
-        | inr unchanged ↦ quiet Fresh now l (WaitsOn fixed) (λ s on. on) (λ state. refl) unchanged h
+        | inr unchanged ↦ quiet Fresh now l (WaitsOn fixed) (λ s on. on) unchanged h
       ]
   ticking (Behind past x) now l h =
       let t = ticks now l.controller.session l.controller.waiting in
@@ -262,6 +261,6 @@ module _ (fixed : ControllerConfig) {H : Type 0} (answer_of : H → Command → 
       (each_append (IsFrame fixed x (number_after past)) l.to_reader (option_to_list t.step.frame) h.to_reader w.1) h
   ticking (Rest n x a) now l h =
       elim (ticks_resting fixed n x a l.controller.session l.controller.waiting now h.controller h.waiting) [
-        | inl begun ↦ begins (Rest n x a) (After n x a) now l (λ y. (y, refl)) refl refl h.stage h.reader h.to_reader h.to_controller h begun
-        | inr unchanged ↦ quiet (Rest n x a) now l (RestsOn fixed n) (λ s on. on) (λ state. refl) unchanged h
+        | inl begun ↦ begins (Rest n x a) (After n x a) now l (λ y. (y, refl)) refl h.stage h.reader h.to_reader h.to_controller h begun
+        | inr unchanged ↦ quiet (Rest n x a) now l (RestsOn fixed n) (λ s on. on) unchanged h
       ]

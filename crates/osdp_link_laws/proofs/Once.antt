@@ -1,9 +1,9 @@
 -- Within one session: each move keeps what holds, and what holds says that all is once and in order.
-use Rattle.osdp_link_laws.proofs.Common.{◌≡◌, ◌≤◌, ℕ, [], ◌++◌, length, Option, Some, None, refl, sym, subst, ap, ◌∙◌, inl, arith, append_assoc, option_to_list, Command, Reply, new_session, ControllerConfig, Exchange, Opening, Polling, Asking, ControllerFault, Session, State, Closed, lacks_room, Answer, IsOnce, MoveFits, MaySubmit, Link, LoseToController, LoseToReader, Move, QueueEvent, Reopen, RestartController, RestartReader, Retarget, SetBusy, SetHandler, Submit, Tick, ToController, ToReader, Withdraw, WithdrawEvent, after_move, new_account, LapseEvent}
+use Rattle.osdp_link_laws.proofs.Common.{◌≡◌, ◌≤◌, ℕ, [], ◌++◌, length, Option, Some, None, refl, sym, subst, ap, ◌∙◌, inl, arith, append_assoc, option_to_list, Command, Reply, new_session, ControllerConfig, Exchange, Opening, Polling, Asking, ControllerFault, Session, State, Closed, lacks_room, Answer, IsOnce, MoveFits, MaySubmit, Link, LoseToController, LoseToReader, Move, QueueEvent, Reopen, RestartController, RestartReader, Retarget, SetBusy, SetHandler, Submit, Tick, ToController, ToReader, Withdraw, WithdrawEvent, after_move, new_account, LapseEvent, inr}
 use Rattle.osdp_controller.specs.Machine as controllers
 use Rattle.osdp_link_laws.specs.Link as link
 use Rattle.osdp_link_laws.proofs.Accounting.{accounts_so, withdrawn_first}
-use Rattle.osdp_link_laws.proofs.Accounts.{Accounted, Accounts, gone}
+use Rattle.osdp_link_laws.proofs.Accounts.{Accounted, Accounts}
 use Rattle.osdp_link_laws.proofs.Coming.{MovesTo, same_either}
 use Rattle.osdp_link_laws.proofs.Deliveries.{coming_to_controller, coming_to_reader, missing_to_controller, missing_to_reader}
 use Rattle.osdp_link_laws.proofs.Growing.{GoesOn}
@@ -133,7 +133,7 @@ module _ (fixed : ControllerConfig) {H : Type 0} (answer_of : H → Command → 
       let e = h.accounts.events in
       let front = front_at fixed h.holds.0 at l.reader h.holds.2.reader in
       record {
-        taken = (pending_at at ++ (gone t ++ l.controller.waiting), o.issued);
+        taken = (pending_at at ++ (h.accounts.gone ++ l.controller.waiting), o.issued);
         answered = o.answered;
         settled = (owed_at at, sym o.settled, one_owed_at at);
         reported = (
@@ -142,6 +142,13 @@ module _ (fixed : ControllerConfig) {H : Type 0} (answer_of : H → Command → 
               ∙ append_assoc t.reported (unreported_at at) front.0,
         );
       }
+
+  -- while the session lasts none of those that wait is gone, and none is told unsettled
+  pub lasts : (l : Link H) (h : Goes l) → (l.controller.session.state ≡ Closed → ⊥) → (h.accounts.gone ≡ []) × (l.account.unsettled ≡ [])
+  lasts l h open_at = elim h.accounts.quiet [
+    | inl both ↦ both
+    | inr closed ↦ absurd (open_at closed)
+  ]
 
   -- a session has begun and nothing was sent yet
   pub record IsNew (l : Link H) : Type 0 where
@@ -160,8 +167,9 @@ module _ (fixed : ControllerConfig) {H : Type 0} (answer_of : H → Command → 
         record { stage = tt; controller = new.controller; waiting = new.waiting; reader = tt; to_reader = new.to_reader; to_controller = new.to_controller },
       );
       accounts = subst (Accounted Never Fresh l.controller.session.state l.controller.waiting l.reader.queue) (sym new.account) (record {
+        gone = [];
         orders = record { issued = refl; answered = refl; settled = refl };
-        over = record { lost = refl; quiet = inl (refl, refl) };
+        quiet = inl (refl, refl);
         events = record { past = []; kept = refl; offered = sym (same_either [] l.reader.queue.offered); reported = refl };
         restarts = refl;
       });

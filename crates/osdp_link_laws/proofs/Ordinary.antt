@@ -6,19 +6,9 @@ use Rattle.osdp_link_laws.proofs.Stages.{Each}
 
 undisturbed_kept : IsKept IsUndisturbed
 undisturbed_kept = record {
-  new = λ ws es. record { forgotten = refl; removed = refl; kept = refl; restarts = refl };
-  queue = λ e t so. record {
-    forgotten = so.forgotten;
-    removed = so.removed;
-    kept = ap (λ es. es ++ e ∷ []) so.kept;
-    restarts = so.restarts;
-  };
-  others = λ t u so. record {
-    forgotten = so.forgotten;
-    removed = so.removed;
-    kept = so.kept;
-    restarts = so.restarts;
-  };
+  new = λ ws es. record { kept = refl; restarts = refl };
+  queue = λ e t so. record { kept = ap (λ es. es ++ e ∷ []) so.kept; restarts = so.restarts };
+  others = λ t u so. record { kept = so.kept; restarts = so.restarts };
 }
 
 each_so : (ts : List Account) → AreUndisturbed ts → Each IsUndisturbed ts

@@ -60,6 +60,6 @@ set_no_other reader controller ms steady =
 -- nothing has disturbed a first session
 pub begins_so : {H : Type 0} (l : Link H) → Begins l → AreUndisturbed (l.account ∷ l.earlier)
 begins_so l begins = (
-  subst IsUndisturbed (sym begins.account) (record { forgotten = refl; removed = refl; kept = refl; restarts = refl }),
+  subst IsUndisturbed (sym begins.account) (record { kept = refl; restarts = refl }),
   subst AreUndisturbed (sym begins.earlier) tt,
 )

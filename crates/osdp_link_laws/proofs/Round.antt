@@ -1,5 +1,5 @@
 -- A round that loses nothing, from a tick that is due: the exchange ends, or the session does.
-use Rattle.osdp_link_laws.proofs.Common.{◌≡◌, ◌⊎◌, ℕ, [], ◌∷◌, ◌++◌, Some, refl, sym, subst, ap, ◌∙◌, inl, inr, option_to_list, Packet, Command, Reply, Heard, at_rest, later, seen, ticks, Plain, ControllerConfig, Exchange, Opening, Polling, Asking, Session, Closed, Idle, Answer, refused, UnexpectedSequence, SaysWhatFits, Delivered, Link, after_report, SetsNoAddress, settled_commands}
+use Rattle.osdp_link_laws.proofs.Common.{◌≡◌, ◌⊎◌, ℕ, [], ◌∷◌, ◌++◌, Some, refl, sym, subst, ap, ◌∙◌, inl, inr, option_to_list, Packet, Command, Reply, Heard, at_rest, later, seen, ticks, Plain, ControllerConfig, Exchange, Opening, Polling, Asking, Session, Closed, Idle, Answer, refused, UnexpectedSequence, SaysWhatFits, Delivered, Link, after_report, SetsNoAddress}
 use Rattle.osdp_controller.specs.Answers as packets
 use Rattle.osdp_controller.specs.Hearing as controller
 use Rattle.osdp_reader.specs.Table.{hears, kind_of}
@@ -11,11 +11,10 @@ use Rattle.osdp_link_laws.proofs.Growing.{taken_takes, told_issues}
 use Rattle.osdp_link_laws.proofs.Lines.{each_front, each_rest}
 use Rattle.osdp_link_laws.proofs.Moves.{Premises}
 use Rattle.osdp_link_laws.proofs.Parts.{At}
-use Rattle.osdp_link_laws.proofs.Sessions.{taken_commands}
 use Rattle.osdp_link_laws.proofs.Settling.{MovesNone, refusal_ends, report_of, settles_now}
 use Rattle.osdp_link_laws.proofs.Stages.{Asks, Behind, Each, Fresh, IsOpen, IsOut, Level, Rest, Restarted, Rests, Stage, Waits, answer, exchange_at, frame, number_at, number_after, owed}
 use Rattle.osdp_link_laws.proofs.Ticks.{frame_is}
-use Rattle.osdp_link_laws.proofs.Accounts.{Accounts, gone}
+use Rattle.osdp_link_laws.proofs.Accounts.{Accounts, settled_commands, taken_commands}
 use Rattle.osdp_link_laws.proofs.Once.{Goes}
 
 -- the link after a tick
@@ -56,11 +55,11 @@ module _ (fixed : ControllerConfig) {H : Type 0} (answer_of : H → Command → 
   moves_none since (Behind past Opening) l h out all = tt
   moves_none since (Behind past Polling) l h out all = tt
   moves_none since (Behind past (Asking c)) l h out all =
-      (each_rest SetsNoAddress l.account.taken (c ∷ (gone l.account ++ l.controller.waiting)) (subst (Each SetsNoAddress) h.orders.issued all)).0
+      (each_rest SetsNoAddress l.account.taken (c ∷ (h.gone ++ l.controller.waiting)) (subst (Each SetsNoAddress) h.orders.issued all)).0
   moves_none since (Level past Opening a) l h out all = tt
   moves_none since (Level past Polling a) l h out all = tt
   moves_none since (Level past (Asking c) a) l h out all =
-      let taken = each_front SetsNoAddress l.account.taken (gone l.account ++ l.controller.waiting) (subst (Each SetsNoAddress) h.orders.issued all) in
+      let taken = each_front SetsNoAddress l.account.taken (h.gone ++ l.controller.waiting) (subst (Each SetsNoAddress) h.orders.issued all) in
       let is = taken_commands l.account (owed (Asking c) a) h.orders.answered h.orders.settled in
       (each_rest SetsNoAddress (settled_commands l.account) (c ∷ []) (subst (Each SetsNoAddress) (sym is) taken)).0
   moves_none since (Rest n y a) l h out all = absurd out

@@ -1,17 +1,16 @@
 -- Rounds that lose nothing: each but the first settles a command or reports an event, until all are.
-use Rattle.osdp_link_laws.proofs.Common.{◌≡◌, ◌⊎◌, ◌≤◌, ◌+◌, ℕ, suc, List, [], ◌∷◌, ◌++◌, length, map, drop, refl, sym, subst, ap, ◌∙◌, inl, inr, arith, append-nil, length-append, length-map, Command, Event, later, seen, ticks, ControllerConfig, Closed, Idle, next_sequence, Answer, released, ReaderState, answer_to, SaysWhatFits, asked, Account, Link, SetsNoAddress, removed_command, settled_commands}
+use Rattle.osdp_link_laws.proofs.Common.{◌≡◌, ◌⊎◌, ◌≤◌, ◌+◌, ℕ, suc, List, [], ◌∷◌, ◌++◌, length, drop, refl, sym, subst, ap, ◌∙◌, inl, inr, arith, append-nil, length-append, length-map, Command, Event, later, seen, ticks, ControllerConfig, Closed, Idle, next_sequence, Answer, released, ReaderState, answer_to, SaysWhatFits, asked, Account, Link, SetsNoAddress}
 use Rattle.osdp_link_laws.proofs.Due.{Acts}
 use Rattle.osdp_link_laws.proofs.Exchanges.{accounted, exchange_from_rest, rested_link}
 use Rattle.osdp_link_laws.proofs.Lines.{each_rest}
 use Rattle.osdp_link_laws.proofs.Moves.{Premises}
 use Rattle.osdp_link_laws.proofs.Parts.{At}
 use Rattle.osdp_link_laws.proofs.Round.{IsIdle, at_tick, goes}
-use Rattle.osdp_link_laws.proofs.Sessions.{lasts, taken_commands}
 use Rattle.osdp_link_laws.proofs.Since.{Hears}
 use Rattle.osdp_link_laws.proofs.Stages.{Asks, Before, Behind, Each, Fresh, Level, Never, Now, Rest, Restarted, Rests, Stage, Waits, number_after, pending_at}
-use Rattle.osdp_link_laws.proofs.Accounts.{Accounts, gone}
+use Rattle.osdp_link_laws.proofs.Accounts.{Accounts, settled_commands, taken_commands}
 use Rattle.osdp_link_laws.proofs.Coming.{standing_of}
-use Rattle.osdp_link_laws.proofs.Once.{Goes}
+use Rattle.osdp_link_laws.proofs.Once.{Goes, lasts}
 
 abbrev pub counted : Account → ℕ
 counted t = length t.settled + length t.reported
@@ -27,10 +26,10 @@ module _ (fixed : ControllerConfig) {H : Type 0} (answer_of : H → Command → 
   done_all : (l : Link H) → Goes fixed answer_of after l → (due : ℕ) → l.controller.session.state ≡ Idle due → l.controller.waiting ≡ []
       → l.reader.queue.events ≡ [] → all_of l.account ≤ counted l.account
   done_all l held due idle none empty =
-      let removed = (lasts fixed answer_of after l held (λ closed. let same : Idle due ≡ Closed = sym idle ∙ closed in absurd cc)).2 in
-      by_stage held.holds.0 held.holds.1 held.holds.2 held.accounts (λ i. map removed_command (removed i) ++ none i)
+      let stay = (lasts fixed answer_of after l held (λ closed. let same : Idle due ≡ Closed = sym idle ∙ closed in absurd cc)).0 in
+      by_stage held.holds.0 held.holds.1 held.holds.2 held.accounts (λ i. stay i ++ none i)
     where
-      by_stage : (since : Restarted) (at : Stage) → At fixed answer_of after since at l → Accounts since at l → gone l.account ++ l.controller.waiting ≡ []
+      by_stage : (since : Restarted) (at : Stage) → At fixed answer_of after since at l → (a : Accounts since at l) → a.gone ++ l.controller.waiting ≡ []
           → all_of l.account ≤ counted l.account
       by_stage since Fresh h a rest = absurd (subst (λ st. Waits fixed st l.controller.session) idle h.controller)
       by_stage since (Behind past x) h a rest = absurd (subst (λ st. Asks fixed st (number_after past) x l.controller.session) idle h.controller)
@@ -102,8 +101,9 @@ module _ (fixed : ControllerConfig) {H : Type 0} (answer_of : H → Command → 
 
       set : Each SetsNoAddress l.controller.waiting
       set =
-          each_rest SetsNoAddress (gone l.account) l.controller.waiting (each_rest SetsNoAddress (pending_at held.holds.1) (gone l.account ++ l.controller.waiting)
-          (each_rest SetsNoAddress l.account.taken (pending_at held.holds.1 ++ (gone l.account ++ l.controller.waiting))
+          each_rest SetsNoAddress held.accounts.gone l.controller.waiting
+          (each_rest SetsNoAddress (pending_at held.holds.1) (held.accounts.gone ++ l.controller.waiting)
+          (each_rest SetsNoAddress l.account.taken (pending_at held.holds.1 ++ (held.accounts.gone ++ l.controller.waiting))
           (subst (Each SetsNoAddress) held.accounts.orders.issued idle.still.issued)))
 
       by_stage : (at : Stage) → At fixed answer_of after since at l → goes answer_of after now l ≡ rested_link fixed answer_of after now l

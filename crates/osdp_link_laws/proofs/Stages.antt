@@ -91,17 +91,6 @@ abbrev pub pending_at : Stage → List Command
 pending_at (Behind past x) = pending x
 pending_at _ = []
 
--- .. where the session has ended it is unsettled
-abbrev pub given_up : State → Exchange → List Command
-given_up Closed x = pending x
-given_up _ x = []
-
-abbrev pub given_up_at : Stage → State → List Command
-given_up_at Fresh state = []
-given_up_at (Behind past x) state = given_up state x
-given_up_at (Level past x r) state = given_up state x
-given_up_at (Rest n x r) state = []
-
 -- the answer that is on its way
 abbrev pub owed : Exchange → Reply → List (Command × Reply)
 owed (Asking command) r = (command, r) ∷ []

@@ -21,7 +21,7 @@ none_stands Now at none = refl
 
 -- as much is due as before where nothing changes
 as_due : (since : Restarted) (at : Stage) → TellsNone at → KeepsDue since at since at
-as_due since at none = record { due = refl; stands = none_stands since at none; stood = none_stands since at none; given_up = λ state. refl; restarts = λ count is. is }
+as_due since at none = record { due = refl; stands = none_stands since at none; stood = none_stands since at none; restarts = λ count is. is }
 
 module _ {H : Type 0} (answer_of : H → Command → Answer) (after : H → Command → H) where
   -- what is said anew is of the table of replies
@@ -150,7 +150,6 @@ module _ (fixed : ControllerConfig) {H : Type 0} (answer_of : H → Command → 
     due = (λ i. record { pend = pending_at at; owing = owed_at at; untold = unreported_at at; stands = length (none.0 i ++ none.1 i) });
     stands = none_stands Before at none;
     stood = refl;
-    given_up = λ state. refl;
     restarts = λ count is. is;
   }
 

@@ -1,25 +1,13 @@
 -- What a tick does to the controller, by how far the session has come.
-use Rattle.osdp_link_laws.proofs.Common.{◌≡◌, ◌⊎◌, ℕ, ◌+◌, leb, ltb, List, [], ◌∷◌, ◌++◌, Option, Some, None, refl, sym, subst, ap, ◌∙◌, inl, inr, append-nil, option_to_list, next_sequence, Command, Reply, ControllerConfig, Exchange, Opening, Polling, Asking, Outstanding, NoReply, Report, Session, State, Closed, Quiet, Idle, Waiting, Pausing, submitted_command, after_send, frame_of, seen, Ticked, begins, gives_up, sends_frame, stays, ticks, ticks_in, tries_again, MaySubmit}
-use Rattle.osdp_controller.specs.declared.report.LostCause.{LostCause}
-use Rattle.osdp_controller.specs.declared.report.Report.TheVariants as report
-use Rattle.osdp_link_laws.proofs.Coming.{lost_in}
+use Rattle.osdp_link_laws.proofs.Common.{◌≡◌, ◌⊎◌, ℕ, ◌+◌, leb, ltb, List, [], ◌∷◌, ◌++◌, Some, None, refl, sym, subst, ap, inl, inr, option_to_list, next_sequence, Command, Reply, ControllerConfig, Exchange, Opening, Polling, Asking, Outstanding, Session, State, Closed, Quiet, Idle, Waiting, Pausing, submitted_command, frame_of, seen, Ticked, begins, gives_up, sends_frame, stays, ticks, ticks_in, tries_again, MaySubmit}
+use Rattle.osdp_link_laws.proofs.Coming.{IsToldAtEnd}
 use Rattle.osdp_link_laws.proofs.Lines.{both}
-use Rattle.osdp_link_laws.proofs.Stages.{After, Asks, Each, IsAsked, IsFrame, IsOpen, Past, Rests, Start, Waits, frame, given_up, pending}
-
--- where the session ends, the outstanding command is told unsettled
-abbrev pub LeavesUnsettled : List Command → Exchange → Option Report → State → Type 0
-LeavesUnsettled before x report state = before ++ lost_in report ≡ given_up state x
-
-pub nothing_told : (before : List Command) (x : Exchange) (state : State) → given_up state x ≡ before → LeavesUnsettled before x None state
-nothing_told before x state is = append-nil before ∙ sym is
+use Rattle.osdp_link_laws.proofs.Stages.{After, Asks, Each, IsAsked, IsFrame, IsOpen, Past, Rests, Start, Waits, frame, pending}
 
 pub submitted_is : (x : Exchange) → option_to_list (submitted_command x) ≡ pending x
 submitted_is Opening = refl
 submitted_is Polling = refl
 submitted_is (Asking c) = refl
-
-pub ended : (cause : LostCause) (o x : Exchange) → o ≡ x → LeavesUnsettled [] x (Some (report.Lost cause (submitted_command o))) Closed
-ended cause o x is = ap (λ y. option_to_list (submitted_command y)) is ∙ submitted_is x
 
 -- a session that has ended stays so, and nothing is told
 pub closed_tick : (now : ℕ) (s : Session) (ws : List Command) → s.state ≡ Closed → ticks now s ws ≡ stays (seen now s) ws
@@ -30,33 +18,33 @@ module _ (fixed : ControllerConfig) where
   frame_is n o x s open_at is = cc
 
   -- the exchange stays outstanding, or the session ends
-  abbrev pub StillAsks : ℕ → Exchange → List Command → List Command → Ticked → Type 0
-  StillAsks n x before waiting t =
+  abbrev pub StillAsks : ℕ → Exchange → List Command → Ticked → Type 0
+  StillAsks n x waiting t =
       (t.waiting ≡ waiting) × Each (IsFrame fixed x n) (option_to_list t.step.frame)
-      × LeavesUnsettled before x t.step.report t.session.state × Asks fixed t.session.state n x t.session
+      × IsToldAtEnd t.step.report t.session.state × Asks fixed t.session.state n x t.session
 
   sends_again : (n : ℕ) (x : Exchange) (k : ℕ) (o : Outstanding) (s : Session) (waiting : List Command)
-      → IsOpen fixed n s → o.exchange ≡ x → StillAsks n x [] waiting (sends_frame k o s waiting)
+      → IsOpen fixed n s → o.exchange ≡ x → StillAsks n x waiting (sends_frame k o s waiting)
   sends_again n x k o s waiting at is =
-      (refl, (frame_is n o.exchange x s at is, tt), nothing_told [] x (after_send k o s).state refl, (at, is))
+      (refl, (frame_is n o.exchange x s at is, tt), inl refl, (at, is))
 
   still : (state : State) (n : ℕ) (x : Exchange) (s : Session) (waiting : List Command) → s.state ≡ state
-      → Asks fixed state n x s → StillAsks n x (given_up state x) waiting (stays s waiting)
+      → Asks fixed state n x s → StillAsks n x waiting (stays s waiting)
   still state n x s waiting e asks =
-      (refl, tt, nothing_told (given_up state x) x s.state (ap (λ st. given_up st x) e), subst (λ st. Asks fixed st n x s) (sym e) asks)
+      (refl, tt, inl refl, subst (λ st. Asks fixed st n x s) (sym e) asks)
 
   tick_asking : (state : State) (n : ℕ) (x : Exchange) (s : Session) (waiting : List Command) → s.state ≡ state
-      → Asks fixed state n x s → StillAsks n x (given_up state x) waiting (ticks_in state s waiting)
+      → Asks fixed state n x s → StillAsks n x waiting (ticks_in state s waiting)
   tick_asking Closed n x s waiting e asks = still Closed n x s waiting e asks
   tick_asking (Quiet until) n x s waiting e asks = absurd asks
   tick_asking (Idle due) n x s waiting e asks = absurd asks
   tick_asking (Waiting until k o) n x s waiting e asks =
-      both (StillAsks n x [] waiting) (leb until s.greatest) (tries_again k o s waiting) (stays s waiting)
-      (both (StillAsks n x [] waiting) (ltb k s.config.sends) (sends_frame (k + 1) o s waiting) (gives_up o s waiting)
-      (sends_again n x (k + 1) o s waiting asks.0 asks.1) (refl, tt, ended NoReply o.exchange x asks.1, tt))
+      both (StillAsks n x waiting) (leb until s.greatest) (tries_again k o s waiting) (stays s waiting)
+      (both (StillAsks n x waiting) (ltb k s.config.sends) (sends_frame (k + 1) o s waiting) (gives_up o s waiting)
+      (sends_again n x (k + 1) o s waiting asks.0 asks.1) (refl, tt, inr refl, tt))
       (still (Waiting until k o) n x s waiting e asks)
   tick_asking (Pausing until o) n x s waiting e asks =
-      both (StillAsks n x [] waiting) (leb until s.greatest) (sends_frame 1 o s waiting) (stays s waiting)
+      both (StillAsks n x waiting) (leb until s.greatest) (sends_frame 1 o s waiting) (stays s waiting)
       (sends_again n x 1 o s waiting asks.0 asks.1)
       (still (Pausing until o) n x s waiting e asks)
 
@@ -65,7 +53,7 @@ module _ (fixed : ControllerConfig) where
   asks_seen _ n x s now asks = asks
 
   pub ticks_asking : (n : ℕ) (x : Exchange) (s : Session) (waiting : List Command) (now : ℕ) → Asks fixed s.state n x s
-      → StillAsks n x (given_up s.state x) waiting (ticks now s waiting)
+      → StillAsks n x waiting (ticks now s waiting)
   ticks_asking n x s waiting now asks =
       tick_asking s.state n x (seen now s) waiting refl (asks_seen s.state n x s now asks)
 
@@ -73,7 +61,7 @@ module _ (fixed : ControllerConfig) where
   abbrev pub Begun : Past → ℕ → List Command → Ticked → Type 0
   Begun past n waiting t =
       (x : Exchange) × IsAsked past x × (waiting ≡ pending x ++ t.waiting)
-      × (t.step.frame ≡ Some (frame fixed x n)) × (t.step.report ≡ None) × (given_up t.session.state x ≡ [])
+      × (t.step.frame ≡ Some (frame fixed x n)) × (t.step.report ≡ None)
       × Asks fixed t.session.state n x t.session
 
   -- or nothing happens
@@ -90,7 +78,7 @@ module _ (fixed : ControllerConfig) where
   begun : (past : Past) (x : Exchange) (n : ℕ) (s : Session) (waiting rest : List Command) → IsAsked past x → waiting ≡ pending x ++ rest
       → s.config ≡ fixed → Begun past n waiting (begins x n s rest)
   begun past x n s waiting rest asked is config =
-      (x, asked, is, ap Some (frame_is n x x (record s { number = n }) (config, refl) refl), refl, refl, ((config, refl), refl))
+      (x, asked, is, ap Some (frame_is n x x (record s { number = n }) (config, refl) refl), refl, ((config, refl), refl))
 
   tick_resting : (state : State) (n : ℕ) (x : Exchange) (r : Reply) (s : Session) (waiting : List Command) → s.state ≡ state
       → Rests fixed state n s → Each MaySubmit waiting

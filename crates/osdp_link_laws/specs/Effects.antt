@@ -1,6 +1,6 @@
 -- What each move of a program, of a power failure or of the line does to a link, however it stands: what is new, empty or gone after it, and
 -- that all else is as it was.
-use Rattle.std.specs.Prelude.{◌≡◌, ◌≢◌, ◌≤◌, ◌<◌, ◌+◌, ◌⊎◌, ℕ, suc, true, false, if◌then◌else◌, List, [], ◌∷◌, ◌++◌, length, map, Option, Some, None, Ok, option_to_list}
+use Rattle.std.specs.Prelude.{◌≡◌, ◌≢◌, ◌≤◌, ◌<◌, ◌+◌, ◌⊎◌, ℕ, suc, true, false, if◌then◌else◌, List, [], ◌∷◌, ◌++◌, length, Some, None, Ok}
 use Rattle.osdp_frame.specs.Packet.{Packet}
 use Rattle.osdp_msg.specs.declared.command.Command.{Command}
 use Rattle.osdp_msg.specs.declared.command.Command.TheVariants.{Poll}
@@ -17,7 +17,7 @@ use Rattle.osdp_reader.specs.declared.config.ReaderConfig.{ReaderConfig}
 use Rattle.osdp_reader.specs.declared.handler.Answer.{Answer}
 use Rattle.osdp_reader.specs.declared.kind.Kind.TheVariants.{Repeat, Taken}
 use Rattle.osdp_reader_laws.specs.Laws.{ComesTo, DiffersByHandler}
-use Rattle.osdp_link_laws.specs.Link.{Account, LapseEvent, Link, LoseToController, LoseToReader, Move, Reopen, RestartController, RestartReader, Retarget, SetHandler, ThrownAway, Withdraw, WithdrawEvent, Withdrawn, after_move, outstanding_command, run}
+use Rattle.osdp_link_laws.specs.Link.{Account, LapseEvent, Link, LoseToController, LoseToReader, Move, Reopen, RestartController, RestartReader, Retarget, SetHandler, Withdraw, WithdrawEvent, after_move, run}
 
 -- ---- accounts
 
@@ -25,17 +25,6 @@ use Rattle.osdp_link_laws.specs.Link.{Account, LapseEvent, Link, LoseToControlle
 -- said of commands
 abbrev pub ThrowsAway : Account → Account → Type 0
 ThrowsAway t u = u ≡ record t { kept = t.offered; restarts = t.restarts + 1 }
-
--- a restart of the controller forgets the outstanding command, and throws away those that waited; all else stays
-abbrev pub Forgets : Option Command → List Command → Account → Account → Type 0
-Forgets outstanding waiting t u = u ≡ record t {
-  forgotten = t.forgotten ++ option_to_list outstanding;
-  removed = t.removed ++ map ThrownAway waiting;
-}
-
--- a command that waited is taken back; all else stays
-abbrev pub TakesBack : Command → Account → Account → Type 0
-TakesBack command t u = u ≡ record t { removed = t.removed ++ Withdrawn command ∷ [] }
 
 -- an event is withdrawn: the events that may be reported are those before the queue, and those that it holds now; all else stays
 abbrev pub WithdrawsIt : List Event → List Event → Account → Account → Type 0
@@ -79,7 +68,7 @@ module _ {H : Type 0} where
 
   -- .. and where the controller alone is
   abbrev pub SameButController : Link H → Link H → Type 0
-  SameButController l next = next ≡ record l { controller = next.controller; account = next.account }
+  SameButController l next = next ≡ record l { controller = next.controller }
 
   -- the reader has this handler, and is as it was: its number, its stored reply and its events stay
   pub record HasHandler (answering : H) (l next : Link H) : Type 0 where
@@ -90,13 +79,12 @@ module _ {H : Type 0} where
     pub reader : DiffersByHandler l.reader next.reader
 
   -- the first of those that wait has been taken back
-  pub record HasTakenBack (command : Command) (left : List Command) (l next : Link H) : Type 0 where
+  pub record HasTakenBack (left : List Command) (l next : Link H) : Type 0 where
     pub others : SameButController l next
     pub session : next.controller.session ≡ l.controller.session
     pub waiting : next.controller.waiting ≡ left
     pub capacity : next.controller.capacity ≡ l.controller.capacity
     pub room : next.controller.room ≡ l.controller.room
-    pub account : TakesBack command l.account next.account
 
   -- one event alone has left the queue, from between these; what is offered is so still, and what is stored stays
   pub record HasWithdrawn (front rest : List Event) (l next : Link H) : Type 0 where
@@ -124,13 +112,11 @@ module _ {H : Type 0} where
     pub waiting : next.controller.waiting ≡ l.controller.waiting
     pub capacity : next.controller.capacity ≡ l.controller.capacity
     pub room : next.controller.room ≡ l.controller.room
-    pub account : next.account ≡ l.account
 
   -- the controller is new, and nobody is told of the session that it had
   pub record HasNewController (config : ControllerConfig) (room : Room) (l next : Link H) : Type 0 where
     pub others : SameButController l next
     pub controller : IsNewController config room next.controller
-    pub account : Forgets (outstanding_command l.controller.session.state) l.controller.waiting l.account next.account
 
   -- how often the reader restarts
   abbrev pub restarts_in : List (Move H) → ℕ
@@ -166,7 +152,7 @@ module _ {H : Type 0} where
     -- where the controller is closed and a command waits, and only there
     pub record Withdraws : Type 0 where
       pub first : (l : Link H) (command : Command) (waiting : List Command) → l.controller.session.state ≡ Closed
-          → l.controller.waiting ≡ command ∷ waiting → HasTakenBack command waiting l (after_move answer_of after Withdraw l)
+          → l.controller.waiting ≡ command ∷ waiting → HasTakenBack waiting l (after_move answer_of after Withdraw l)
       pub none : (l : Link H) → (l.controller.session.state ≢ Closed) ⊎ (l.controller.waiting ≡ []) → after_move answer_of after Withdraw l ≡ l
 
     -- where the controller is closed and the address is a device's, and only there

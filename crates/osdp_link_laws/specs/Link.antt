@@ -1,5 +1,5 @@
 -- One link: a controller, a reader, and the packets that are on the way between them.
-use Rattle.std.specs.Prelude.{ℕ, zero, suc, Bool, true, false, ◌+◌, ◌-◌, ◌&&◌, not, nat_lt, if◌then◌else◌, List, [], ◌∷◌, ◌++◌, drop, length, map, take, Option, Some, None, option_to_list}
+use Rattle.std.specs.Prelude.{ℕ, zero, suc, Bool, true, false, ◌+◌, ◌-◌, ◌&&◌, not, nat_lt, if◌then◌else◌, List, [], ◌∷◌, ◌++◌, drop, length, take, Option, Some, None, option_to_list}
 use Rattle.osdp_frame.specs.Packet.{Packet}
 use Rattle.osdp_msg.specs.declared.command.Command.{Command}
 use Rattle.osdp_msg.specs.declared.command.Command.TheVariants.{Poll}
@@ -27,17 +27,11 @@ use Rattle.osdp_reader.specs.State as readers
 use Rattle.osdp_reader.specs.State.{ReaderState}
 use Rattle.osdp_reader.specs.Table as reader
 
--- a command that waited and waits no more: its user has withdrawn it, or a restart of the controller has thrown it away
-pub data Removal : Type 0 where
-  Withdrawn : Command → Removal
-  ThrownAway : Command → Removal
-
 -- what a session comes to, each list in its order.
 -- Of commands: those that waited when it began and those accepted since; those that the reader has taken, POLLs left out, and each with the
--- answer that the reader gave to it then; those settled, each with its answer; those told unsettled; the one that was outstanding when the
--- controller restarted; and those that waited after the end and were withdrawn or thrown away.
+-- answer that the reader gave to it then; those settled, each with its answer; and those told unsettled.
 -- Of events: those in the queue when it began and those accepted since; those of them that may be reported in it, since they were offered in it or
--- may be yet; those that the reader has offered; and those reported. What has become of the others says the ledger (`osdp_ledger`).
+-- may be yet; those that the reader has offered; and those reported. What has become of all others says the ledger (`osdp_ledger`).
 -- And how often the reader has restarted in it.
 pub record Account : Type 0 where
   pub issued : List Command
@@ -45,8 +39,6 @@ pub record Account : Type 0 where
   pub given : List (Command × Reply)
   pub settled : List (Command × Reply)
   pub unsettled : List Command
-  pub forgotten : List Command
-  pub removed : List Removal
   pub queued : List Event
   pub kept : List Event
   pub offered : List Event
@@ -60,8 +52,6 @@ new_account waiting events = record {
   given = [];
   settled = [];
   unsettled = [];
-  forgotten = [];
-  removed = [];
   queued = events;
   kept = events;
   offered = [];
@@ -167,17 +157,11 @@ event_lapsed q t = if q.ever_offered && not (is_offered_here q t)
 abbrev pub reader_restarted : Account → Account
 reader_restarted t = record t { kept = t.offered; restarts = t.restarts + 1 }
 
--- .. after a restart of the controller: the outstanding command is neither settled nor told unsettled, and those that waited are gone
+-- the command whose answer the controller waits for
 abbrev pub outstanding_command : State → Option Command
 outstanding_command (Waiting until sends o) = submitted_command o.exchange
 outstanding_command (Pausing until o) = submitted_command o.exchange
 outstanding_command _ = None
-
-abbrev pub controller_restarted : Machine → Account → Account
-controller_restarted m t = record t {
-  forgotten = t.forgotten ++ option_to_list (outstanding_command m.session.state);
-  removed = t.removed ++ map ThrownAway m.waiting;
-}
 
 module _ {H : Type 0} where
   -- the event that comes next, once an offered one has left
@@ -225,12 +209,7 @@ module _ {H : Type 0} where
 
   -- the command that has waited longest is taken back, where the controller is closed and one waits
   abbrev pub withdraws : Link H → Link H
-  withdraws l = record l {
-    controller = controllers.after_withdraw l.controller;
-    account = record l.account {
-      removed = l.account.removed ++ map Withdrawn (option_to_list (controllers.withdrawn_in l.controller.session.state l.controller.waiting));
-    };
-  }
+  withdraws l = record l { controller = controllers.after_withdraw l.controller }
 
   abbrev pub retargets : Option ControllerFault → ℕ → Link H → Link H
   retargets (Some fault) address l = l
@@ -253,10 +232,7 @@ module _ {H : Type 0} where
 
   -- closed, with nothing waiting and no moment seen: a session that lasted has ended, and nobody is told
   abbrev pub restarts_controller : ControllerConfig → Room → Link H → Link H
-  restarts_controller config room l = record l {
-    controller = controllers.new_machine config room.messages room.bytes;
-    account = controller_restarted l.controller l.account;
-  }
+  restarts_controller config room l = record l { controller = controllers.new_machine config room.messages room.bytes }
 
   abbrev pub to_controller : List Packet → Delivery → ℕ → Link H → Link H
   to_controller [] how now l = l

@@ -27,10 +27,8 @@ IsSteady (LoseToReader place) = ⊥
 IsSteady (LoseToController place) = ⊥
 IsSteady _ = Unit {0}
 
--- no command is forgotten or removed, and each event that was queued may be reported
+-- each event that was queued may be reported, and the reader hasn't restarted
 pub record IsUndisturbed (t : Account) : Type 0 where
-  pub forgotten : t.forgotten ≡ []
-  pub removed : t.removed ≡ []
   pub kept : t.kept ≡ t.queued
   pub restarts : t.restarts ≡ 0
 

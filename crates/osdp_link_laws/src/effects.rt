@@ -20,8 +20,8 @@ use osdp_reader::Handler;
 /// `reader`: a reader that has restarted has taken nothing, stores nothing, has no event and isn't busy. It refuses every number but 0. The events
 /// that it had not offered in the session are thrown away. What is on the line stays there, and so does all that is told of commands.
 ///
-/// `controller`: a controller that has restarted is closed, and nothing waits. The command that was outstanding is forgotten, and those that waited
-/// are thrown away. What is on the line stays there, and so does all that is told of events.
+/// `controller`: a controller that has restarted is closed, and nothing waits. What is on the line stays there, and so does all that is told of commands
+/// and of events.
 ///
 /// `losses`: of what is on the line, what stands at the place is lost, and all else stays in its order.
 ///

@@ -9,7 +9,6 @@ ghost use Rattle.osdp_link_laws.specs.Addresses.{StayWhereTheyAre};
 ghost use Rattle.osdp_link_laws.specs.Progress.{ComesThrough, ComesThroughFromRest, ComesThroughInTime, ComesToRest};
 ghost use Rattle.osdp_link_laws.specs.Clean.{GoesInTurn};
 ghost use Rattle.osdp_link_laws.specs.Refusals.{RefusesNoNumber, RefusesNoNumberWithoutRestart, SaysAllPlainly};
-ghost use Rattle.osdp_link_laws.specs.Sessions.{SessionsInARow};
 
 pub mod asked;
 pub mod effects;
@@ -60,19 +59,10 @@ pub fn holds_once<H: Handler>()
     read_each_other::<H>();
 }
 
-/// Where neither end restarts and nothing is withdrawn, no command is forgotten or removed and every event is kept.
+/// Where neither end restarts and nothing is withdrawn, every event that was queued may be reported, and no restart is counted.
 pub fn ordinary_runs_are_undisturbed<H: Handler>()
     ensures { OrdinaryIsUndisturbed H.answer_of H.after }
 {}
-
-/// Over sessions in a row, each begun again on a quiet line: each command that was accepted has ended in one of them, or is one of the last. Where the
-/// last one has ended, it leaves what a next one would begin with: the commands that have not ended. What becomes of events says the ledger
-/// (`osdp_link_ledger`).
-pub fn sessions_in_a_row<H: Handler>()
-    ensures { SessionsInARow H.answer_of H.after }
-{
-    read_each_other::<H>();
-}
 
 /// In a session in which the reader hasn't restarted it refuses no number and no check, and each of its packets can be read: whatever is on its
 /// way to the controller says BUSY, or a reply that settles. So no such session ends because a reader refused a number.

@@ -6,10 +6,8 @@ use Rattle.osdp_controller.specs.Machine as controllers
 use Rattle.osdp_reader.specs.declared.kind.Kind.TheVariants as kind
 use Rattle.osdp_ledger.specs.Ledger as ledger
 use Rattle.osdp_link_laws.specs.Link as link
-use Rattle.osdp_link_ledger.proofs.Keeping.{due_of, keeps_one}
-use Rattle.osdp_link_ledger.proofs.Running.{begins_tied, tied_at_first}
-use Rattle.osdp_link_ledger.proofs.Tallies.{Tally, Tells, begins_anew, device_tally, ends_at, lapsing_event_tally, leaving_tally, of_accounts, of_history, opening, panel_tally, queues_more, submits_more, taking_tally, tells, withdrawing_event_tally, withdrawing_tally}
-use Rattle.osdp_link_ledger.proofs.Ties.{IsTied, events_keep, placed, runs_after}
+use Rattle.osdp_link_ledger.proofs.Tallies.{Tally, Tells, begins_anew, device_tally, lapsing_event_tally, leaving_tally, of_accounts, of_history, opening, panel_tally, queues_more, submits_more, taking_tally, tells, withdrawing_event_tally, withdrawing_tally}
+use Rattle.osdp_link_ledger.proofs.Ties.{runs_after}
 
 abbrev TallyOf : {H : Type 0} → List Command → List Event → Link H → History → Type 0
 TallyOf {H} cs es l h = Tells cs es (l.account ∷ l.earlier) h
@@ -95,9 +93,9 @@ module _ {H : Type 0} (answer_of : H → Command → Answer) (after : H → Comm
 
 module _ {H : Type 0} (answer_of : H → Command → Answer) (after : H → Command → H) where
   tallies_one : Assumed answer_of after → (cs : List Command) (es : List Event) (move : Move H) (l : Link H) (h : History) → (s : Stands answer_of after l)
-      → MoveFits answer_of after move l → IsTied l (due_of answer_of after l s) h.ledger → TallyOf cs es l h
+      → MoveFits answer_of after move l → TallyOf cs es l h
       → TallyOf (cs ++ submitted move l) (es ++ queued move l) (after_move answer_of after move l) (runs (steps_of answer_of after move l h.ledger) h)
-  tallies_one given cs es move l h s fits tied i = by_move move (standing_so answer_of after given move l fits s)
+  tallies_one given cs es move l h s fits i = by_move move (standing_so answer_of after given move l fits s)
     where
       still : (m : Link H) (steps : List Step) → TallyOf cs es m (runs steps h) → TallyOf (cs ++ []) (es ++ []) m (runs steps h)
       still m steps j = as_before cs es (m.account ∷ m.earlier) (runs steps h) j
@@ -140,25 +138,22 @@ module _ {H : Type 0} (answer_of : H → Command → Answer) (after : H → Comm
           still (link.restarts_reader config handler room l) (steps_of answer_of after (RestartReader config handler room) l h.ledger)
           (device_tally cs es l.earlier t.kept t.restarts l.account h i)
       by_move (RestartController config room) n =
-          let state = l.controller.session.state in
           still (link.restarts_controller config room l) (steps_of answer_of after (RestartController config room) l h.ledger)
-          (panel_tally cs es l.earlier (option_to_list (outstanding_command state)) l.controller.waiting (is_some (outstanding_command state)) l.account h
-          (ends_at state l.controller.waiting h.ledger (outstanding_command state) refl tied.is_open tied.ahead) i)
+          (panel_tally cs es l.earlier (is_some (outstanding_command l.controller.session.state)) l.account h i)
       by_move _ n = still l [] i
 
   tallies_all : Assumed answer_of after → (moves : List (Move H)) (cs : List Command) (es : List Event) (l : Link H) (h : History) → MovesFit answer_of after moves l
-      → (s : Stands answer_of after l) → Events h → IsTied l (due_of answer_of after l s) h.ledger → TallyOf cs es l h
+      → Stands answer_of after l → TallyOf cs es l h
       → TallyOf (cs ++ all_submitted answer_of after moves l) (es ++ all_queued answer_of after moves l) (run answer_of after moves l) (runs (all_steps answer_of after moves l h.ledger) h)
-  tallies_all given [] cs es l h fits s i tied tally = as_before cs es (l.account ∷ l.earlier) h tally
-  tallies_all given (move ∷ moves) cs es l h fits s i tied tally =
-      let one = keeps_one answer_of after given move l h.ledger (placed h i) fits.0 s tied in
+  tallies_all given [] cs es l h fits s tally = as_before cs es (l.account ∷ l.earlier) h tally
+  tallies_all given (move ∷ moves) cs es l h fits s tally =
       let steps = steps_of answer_of after move l h.ledger in
       let next = after_move answer_of after move l in
       let last = run answer_of after moves next in
       let same = runs_after steps h in
       let n = (standing_so answer_of after given move l fits.0 s).0 in
-      let rest = tallies_all given moves (cs ++ submitted move l) (es ++ queued move l) next (runs steps h) fits.1 n (events_keep steps h one.0 i)
-      (subst (IsTied next (due_of answer_of after next n)) (sym same) one.1) (tallies_one given cs es move l h s fits.0 tied tally) in
+      let rest = tallies_all given moves (cs ++ submitted move l) (es ++ queued move l) next (runs steps h) fits.1 n
+      (tallies_one given cs es move l h s fits.0 tally) in
       ap of_history (runs_then steps (all_steps answer_of after moves next (after_steps steps h.ledger)) h)
       ∙ (λ j. of_history (runs (all_steps answer_of after moves next (sym same j)) (runs steps h)))
       ∙ rest
@@ -196,17 +191,13 @@ module _ {H : Type 0} (answer_of : H → Command → Answer) (after : H → Comm
   pub tells_accounts : ReadEachOther answer_of after → LedgerTellsAccounts answer_of after
   tells_accounts peers l moves b fits =
       let before = steps_before l in
-      let first = begins_tied l b in
       let h = runs before new_history in
       let same = runs_after before new_history in
       let last = run answer_of after moves l in
       let cs = l.controller.waiting ++ all_submitted answer_of after moves l in
       let es = l.reader.queue.events ++ all_queued answer_of after moves l in
-      let start = begins_so answer_of after l b in
-      let s = start.0 in
-      let rest = tallies_all answer_of after (assumed answer_of after peers) moves l.controller.waiting l.reader.queue.events l h fits s
-      (events_keep before new_history first.0 at_first)
-      (subst (IsTied l (due_of answer_of after l s)) (sym same) (tied_at_first answer_of after l s (after_steps before new_ledger) start.1 first.1)) (begins_tally l b) in
+      let rest = tallies_all answer_of after (assumed answer_of after peers) moves l.controller.waiting l.reader.queue.events l h fits
+      (begins_so answer_of after l b).0 (begins_tally l b) in
       let more = all_steps answer_of after moves l (after_steps before new_ledger) in
       let i : TallyOf cs es last (runs (before ++ more) new_history) =
       in_turn_tally cs es (last.account ∷ last.earlier) before more new_history
@@ -217,7 +208,5 @@ module _ {H : Type 0} (answer_of : H → Command → Answer) (after : H → Comm
         acted = ap (λ (y : Tally). y.acted) i;
         settled = ap (λ (y : Tally). y.settled) i;
         in_doubt = ap (λ (y : Tally). y.in_doubt) i;
-        cut_off = ap (λ (y : Tally). y.cut_off) i;
-        removed = ap (λ (y : Tally). y.removed) i;
         reported = ap (λ (y : Tally). y.reported) i;
       }

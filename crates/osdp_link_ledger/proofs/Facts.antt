@@ -1,7 +1,7 @@
 -- What is outstanding at a stage of a session, and how what is due changes with the stage.
 use Rattle.osdp_link_ledger.proofs.Common.{◌≡◌, ℕ, true, false, ◌⊎◌, List, [], ◌∷◌, ◌++◌, length, map, Option, Some, None, refl, sym, subst, ap, ◌∙◌, inl, inr, append-nil, option_to_list, Packet, Command, Event, Reply, submitted_command, Ticked, ControllerConfig, Exchange, ControllerFault, Report, Session, State, Closed, Quiet, Idle, Waiting, Pausing, Answer, asked, outstanding_command, BeginsFrom, Due, HearsTo, IsSent, ReopensTo, Stays, TicksTo, due_at, reported_in, settled_in, Asks, Before, Behind, ControllerAt, Fresh, IsOpen, Level, Never, Now, Rest, Restarted, Rests, Stage, Waits, number_after, owed_at, pending, pending_at, is_poll, is_polling, is_under_way}
 use Rattle.osdp_link_laws.proofs.Accounts.{begins_tells, hears_tell}
-use Rattle.osdp_link_laws.proofs.Sessions.{owed_command}
+use Rattle.osdp_link_laws.proofs.Accounts.{owed_command}
 use Rattle.osdp_link_laws.proofs.Ticks.{submitted_is}
 
 abbrev pub out_of : State → List Command

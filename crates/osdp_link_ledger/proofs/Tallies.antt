@@ -1,5 +1,5 @@
 -- What a history says and what accounts say, as plain lists: what each step adds to the ones its move adds to the others.
-use Rattle.osdp_link_ledger.proofs.Common.{◌≡◌, ℕ, Bool, true, false, cond, ltb, List, [], ◌∷◌, ◌++◌, flat_map, is_some, map, Option, Some, None, refl, sym, ap, ◌∙◌, append_assoc, append-nil, map-append, Packet, event_in, Command, Event, Reply, Report, State, Closed, Quiet, End, Forgotten, GivenBack, History, InDoubt, Settled, ends_at_restart, runs, steps_on, Card, Lapse, Ledger, NoOffer, Offer, Order, RestartDevice, RestartPanel, Account, Removal, after_report, outstanding_command, in_all, cut_off_as, doubted_as, removed_as, settled_as, is_under_way, acts_on, card_at, gives_up_event, lapses_event, leaves, offered_at, offers, opens, order_acted, order_at, told, withdraws, withdraws_event}
+use Rattle.osdp_link_ledger.proofs.Common.{◌≡◌, ℕ, Bool, true, false, cond, ltb, List, [], ◌∷◌, ◌++◌, flat_map, map, Option, Some, None, refl, sym, ap, ◌∙◌, append_assoc, append-nil, map-append, Packet, event_in, Command, Event, Reply, Report, State, Closed, Quiet, End, Forgotten, GivenBack, History, InDoubt, Settled, ends_at_restart, runs, steps_on, Card, Lapse, Ledger, NoOffer, Offer, Order, RestartDevice, RestartPanel, Account, after_report, in_all, doubted_as, settled_as, acts_on, card_at, gives_up_event, lapses_event, leaves, offered_at, offers, opens, order_acted, order_at, told, withdraws, withdraws_event}
 use Rattle.std.proofs.lemmas.Grind.{flat_map-append}
 use Rattle.std.specs.Prelude.{if◌then◌else◌, option_to_list}
 use Rattle.osdp_msg.specs.declared.command.Command.TheVariants as command
@@ -8,19 +8,12 @@ use Rattle.osdp_controller.specs.declared.report.Report.TheVariants as report
 use Rattle.osdp_ledger.specs.Ledger as ledger
 use Rattle.osdp_link_laws.specs.Link as link
 use Rattle.osdp_link_ledger.proofs.Lists.{commands, events}
-use Rattle.osdp_link_ledger.proofs.Programs.{none_outstanding}
 
 abbrev by_settled : Order × End → List (Command × Reply)
 by_settled e = settled_as e.0 e.1
 
 abbrev by_doubt : Order × End → List Command
 by_doubt e = doubted_as e.0 e.1
-
-abbrev by_cut : Order × End → List Command
-by_cut e = cut_off_as e.0 e.1
-
-abbrev by_removal : Order × End → List Removal
-by_removal e = removed_as e.0 e.1
 
 abbrev asked_in : Order × Reply → Command × Reply
 asked_in d = (d.0.command, d.1)
@@ -34,8 +27,6 @@ pub record Tally : Type 0 where
   pub acted : List (Command × Reply)
   pub settled : List (Command × Reply)
   pub in_doubt : List Command
-  pub cut_off : List Command
-  pub removed : List Removal
   pub reported : List Event
 
 abbrev pub of_history : History → Tally
@@ -45,8 +36,6 @@ of_history h = record {
   acted = map asked_in h.acted;
   settled = flat_map by_settled h.ended;
   in_doubt = flat_map by_doubt h.ended;
-  cut_off = flat_map by_cut h.ended;
-  removed = flat_map by_removal h.ended;
   reported = map event_of h.reports;
 }
 
@@ -58,8 +47,6 @@ of_accounts cs es ts = record {
   acted = in_all (λ t. t.given) ts;
   settled = in_all (λ t. t.settled) ts;
   in_doubt = in_all (λ t. t.unsettled) ts;
-  cut_off = in_all (λ t. t.forgotten) ts;
-  removed = in_all (λ t. t.removed) ts;
   reported = in_all (λ t. t.reported) ts;
 }
 
@@ -67,24 +54,17 @@ abbrev pub Tells : List Command → List Event → List Account → History → 
 Tells cs es ts h = of_history h ≡ of_accounts cs es ts
 
 -- more commands have ended so
-abbrev with_ends : List (Command × Reply) → List Command → List Command → List Removal → Tally → Tally
-with_ends settled in_doubt cut_off removed y = record y {
-  settled = y.settled ++ settled;
-  in_doubt = y.in_doubt ++ in_doubt;
-  cut_off = y.cut_off ++ cut_off;
-  removed = y.removed ++ removed;
-}
+abbrev with_ends : List (Command × Reply) → List Command → Tally → Tally
+with_ends settled in_doubt y = record y { settled = y.settled ++ settled; in_doubt = y.in_doubt ++ in_doubt }
 
 -- ---- what a history gains
 
 ends_more : (more : List (Order × End)) (h : History) → of_history (record h { ended = h.ended ++ more })
-    ≡ with_ends (flat_map by_settled more) (flat_map by_doubt more) (flat_map by_cut more) (flat_map by_removal more) (of_history h)
+    ≡ with_ends (flat_map by_settled more) (flat_map by_doubt more) (of_history h)
 ends_more more h =
     (λ i. record (of_history h) {
       settled = flat_map-append by_settled h.ended more i;
       in_doubt = flat_map-append by_doubt h.ended more i;
-      cut_off = flat_map-append by_cut h.ended more i;
-      removed = flat_map-append by_removal h.ended more i;
     })
 
 pub submits_more : (o : Order) (cs : List Command) (es : List Event) (ts : List Account) (h : History) → Tells cs es ts h → Tells (cs ++ o.command ∷ []) es ts (steps_on (ledger.Submit o) h)
@@ -112,39 +92,17 @@ offered_event _ e = refl
 
 -- ---- a restart of the panel
 
--- these ends come to these lists
-pub record EndsAtRestart (out waiting : List Command) (more : List (Order × End)) : Type 0 where
-  pub of_settled : flat_map by_settled more ≡ []
-  pub of_doubt : flat_map by_doubt more ≡ []
-  pub of_cut : flat_map by_cut more ≡ out
-  pub of_removal : flat_map by_removal more ≡ map link.ThrownAway waiting
+-- it settles none, and tells none in doubt
+forgets_none : (os : List Order) → (flat_map by_settled (map (λ o. (o, Forgotten)) os) ≡ []) × (flat_map by_doubt (map (λ o. (o, Forgotten)) os) ≡ [])
+forgets_none [] = (refl, refl)
+forgets_none (o ∷ os) = forgets_none os
 
-forgets_all : (os : List Order) (waiting : List Command) → commands os ≡ waiting → EndsAtRestart [] waiting (map (λ o. (o, Forgotten)) os)
-forgets_all [] waiting is = record { of_settled = refl; of_doubt = refl; of_cut = refl; of_removal = ap (map link.ThrownAway) is }
-forgets_all (o ∷ os) waiting is =
-    let rest = forgets_all os (commands os) refl in
-    record {
-      of_settled = rest.of_settled;
-      of_doubt = rest.of_doubt;
-      of_cut = rest.of_cut;
-      of_removal = ap (λ l. link.ThrownAway o.command ∷ l) rest.of_removal ∙ ap (map link.ThrownAway) is;
-    }
-
-pub ends_at : (state : State) (waiting : List Command) (g : Ledger) (out : Option Command) → outstanding_command state ≡ out → g.is_open ≡ is_under_way state
-    → commands g.ahead ≡ option_to_list out ++ waiting → EndsAtRestart (option_to_list out) waiting (ends_at_restart g.is_open (is_some out) g.ahead)
-ends_at state waiting g out is same ahead = by_state g.is_open refl out is g.ahead ahead
-  where
-    by_state : (b : Bool) → g.is_open ≡ b → (out : Option Command) → outstanding_command state ≡ out → (ahead : List Order) → commands ahead ≡ option_to_list out ++ waiting
-        → EndsAtRestart (option_to_list out) waiting (ends_at_restart b (is_some out) ahead)
-    by_state false shut None is ahead all = forgets_all ahead waiting all
-    by_state false shut (Some c) is ahead all =
-        absurd (let none : None ≡ Some c = sym (none_outstanding state (sym same ∙ shut)) ∙ is in cc)
-    by_state true going None is ahead all = forgets_all ahead waiting all
-    by_state true going (Some c) is (o ∷ os) all =
-        let same : o.command ≡ c = cc in
-        let rest = forgets_all os waiting cc in
-        record { of_settled = rest.of_settled; of_doubt = rest.of_doubt; of_cut = ap (λ l. o.command ∷ l) rest.of_cut ∙ ap (λ x. x ∷ []) same; of_removal = rest.of_removal }
-    by_state true going (Some c) is [] all = absurd cc
+ends_none : (is_open on_wire : Bool) (os : List Order)
+    → (flat_map by_settled (ends_at_restart is_open on_wire os) ≡ []) × (flat_map by_doubt (ends_at_restart is_open on_wire os) ≡ [])
+ends_none true true (o ∷ os) = forgets_none os
+ends_none true true [] = (refl, refl)
+ends_none true false os = forgets_none os
+ends_none false on_wire os = forgets_none os
 
 module _ (cs : List Command) (es : List Event) (earlier : List Account) where
   -- ---- what the account of the last session gains
@@ -155,33 +113,27 @@ module _ (cs : List Command) (es : List Event) (earlier : List Account) where
   abbrev said : Account → Tally
   said t = of_accounts cs es (t ∷ earlier)
 
-  told_settled : (more : List (Command × Reply)) (t : Account) → with_ends more [] [] [] (said t) ≡ said (record t { settled = t.settled ++ more })
+  told_settled : (more : List (Command × Reply)) (t : Account) → with_ends more [] (said t) ≡ said (record t { settled = t.settled ++ more })
   told_settled more t =
       (λ i. record (said t) {
         settled = append_assoc (in_all (λ t. t.settled) earlier) t.settled more i;
         in_doubt = append-nil (said t).in_doubt i;
-        cut_off = append-nil (said t).cut_off i;
-        removed = append-nil (said t).removed i;
       })
 
-  told_in_doubt : (more : List Command) (t : Account) → with_ends [] more [] [] (said t) ≡ said (record t { unsettled = t.unsettled ++ more })
+  told_in_doubt : (more : List Command) (t : Account) → with_ends [] more (said t) ≡ said (record t { unsettled = t.unsettled ++ more })
   told_in_doubt more t =
       (λ i. record (said t) {
         settled = append-nil (said t).settled i;
         in_doubt = append_assoc (in_all (λ t. t.unsettled) earlier) t.unsettled more i;
-        cut_off = append-nil (said t).cut_off i;
-        removed = append-nil (said t).removed i;
       })
 
-  told_removed : (out : List Command) (more : List Removal) (t : Account)
-      → with_ends [] [] out more (said t) ≡ said (record t { forgotten = t.forgotten ++ out; removed = t.removed ++ more })
-  told_removed out more t =
-      (λ i. record (said t) {
-        settled = append-nil (said t).settled i;
-        in_doubt = append-nil (said t).in_doubt i;
-        cut_off = append_assoc (in_all (λ t. t.forgotten) earlier) t.forgotten out i;
-        removed = append_assoc (in_all (λ t. t.removed) earlier) t.removed more i;
-      })
+  -- none of these ends is told
+  ends_untold : (more : List (Order × End)) (t : Account) (h : History) → (flat_map by_settled more ≡ []) × (flat_map by_doubt more ≡ []) → Now t h
+      → of_history (record h { ended = h.ended ++ more }) ≡ said t
+  ends_untold more t h none is =
+      ends_more more h
+      ∙ (λ i. with_ends (none.0 i) (none.1 i) (is i))
+      ∙ (λ i. record (said t) { settled = append-nil (said t).settled i; in_doubt = append-nil (said t).in_doubt i })
 
   -- ---- reports
 
@@ -189,14 +141,14 @@ module _ (cs : List Command) (es : List Event) (earlier : List Account) where
       → Now (record t { settled = t.settled ++ (c, a) ∷ [] }) (steps_on (ledger.Settle (order_at g.ahead c) a) h)
   settles t h g c a is =
       ends_more ((order_at g.ahead c, Settled a) ∷ []) h
-      ∙ (λ i. with_ends ((command_at g.ahead c i, a) ∷ []) [] [] [] (is i))
+      ∙ (λ i. with_ends ((command_at g.ahead c i, a) ∷ []) [] (is i))
       ∙ told_settled ((c, a) ∷ []) t
 
   doubts : (t : Account) (h : History) (g : Ledger) (c : Command) → Now t h
       → Now (record t { unsettled = t.unsettled ++ c ∷ [] }) (steps_on (ledger.Doubt (order_at g.ahead c)) h)
   doubts t h g c is =
       ends_more ((order_at g.ahead c, InDoubt) ∷ []) h
-      ∙ (λ i. with_ends [] (command_at g.ahead c i ∷ []) [] [] (is i))
+      ∙ (λ i. with_ends [] (command_at g.ahead c i ∷ []) (is i))
       ∙ told_in_doubt (c ∷ []) t
 
   reports_one : (t : Account) (h : History) (g : Ledger) (e : Event) → Now t h
@@ -248,15 +200,9 @@ module _ (cs : List Command) (es : List Event) (earlier : List Account) where
 
   -- ---- programs
 
-  pub withdrawing_tally : (out : Option Command) (t : Account) (h : History) (g : Ledger) → Now t h
-      → Now (record t { removed = t.removed ++ map link.Withdrawn (option_to_list out) }) (runs (withdraws out g) h)
-  withdrawing_tally None t h g is =
-      is ∙ (λ i. record (said t) { removed = ap (λ l. in_all (λ t. t.removed) earlier ++ l) (sym (append-nil t.removed)) i })
-  withdrawing_tally (Some c) t h g is =
-      ends_more ((order_at g.ahead c, GivenBack) ∷ []) h
-      ∙ (λ i. with_ends [] [] [] (link.Withdrawn (command_at g.ahead c i) ∷ []) (is i))
-      ∙ told_removed [] (link.Withdrawn c ∷ []) t
-      ∙ (λ i. record (said (record t { removed = t.removed ++ link.Withdrawn c ∷ [] })) { cut_off = in_all (λ t. t.forgotten) earlier ++ append-nil t.forgotten i })
+  pub withdrawing_tally : (out : Option Command) (t : Account) (h : History) (g : Ledger) → Now t h → Now t (runs (withdraws out g) h)
+  withdrawing_tally None t h g is = is
+  withdrawing_tally (Some c) t h g is = ends_untold ((order_at g.ahead c, GivenBack) ∷ []) t h (refl, refl) is
 
   pub withdrawing_event_tally : (out : Option Event) (ever : Bool) (kept : List Event) (t : Account) (h : History) (g : Ledger) → Now t h
       → Now (record t { kept = kept }) (runs (withdraws_event out ever g) h)
@@ -286,12 +232,9 @@ module _ (cs : List Command) (es : List Event) (earlier : List Account) where
       → Now (record t { kept = kept; restarts = count }) (steps_on RestartDevice h)
   device_tally kept count t h is = is
 
-  pub panel_tally : (out waiting : List Command) (on_wire : Bool) (t : Account) (h : History) → EndsAtRestart out waiting (ends_at_restart h.ledger.is_open on_wire h.ledger.ahead)
-      → Now t h → Now (record t { forgotten = t.forgotten ++ out; removed = t.removed ++ map link.ThrownAway waiting }) (steps_on (RestartPanel on_wire) h)
-  panel_tally out waiting on_wire t h at is =
-      ends_more (ends_at_restart h.ledger.is_open on_wire h.ledger.ahead) h
-      ∙ (λ i. with_ends (at.of_settled i) (at.of_doubt i) (at.of_cut i) (at.of_removal i) (is i))
-      ∙ told_removed out (map link.ThrownAway waiting) t
+  pub panel_tally : (on_wire : Bool) (t : Account) (h : History) → Now t h → Now t (steps_on (RestartPanel on_wire) h)
+  panel_tally on_wire t h is =
+      ends_untold (ends_at_restart h.ledger.is_open on_wire h.ledger.ahead) t h (ends_none h.ledger.is_open on_wire h.ledger.ahead) is
 
   -- another session begins
   pub begins_anew : (waiting : List Command) (queue : List Event) (t : Account) (h : History) → Now t h → Tells cs es (link.new_account waiting queue ∷ t ∷ earlier) h
@@ -300,7 +243,5 @@ module _ (cs : List Command) (es : List Event) (earlier : List Account) where
         acted = sym (append-nil (said t).acted) i;
         settled = sym (append-nil (said t).settled) i;
         in_doubt = sym (append-nil (said t).in_doubt) i;
-        cut_off = sym (append-nil (said t).cut_off) i;
-        removed = sym (append-nil (said t).removed) i;
         reported = sym (append-nil (said t).reported) i;
       })

@@ -4,11 +4,10 @@ use Rattle.osdp_msg.specs.declared.command.Command.{Command}
 use Rattle.osdp_msg.specs.declared.event.Event.{Event}
 use Rattle.osdp_msg.specs.declared.reply.Reply.{Reply}
 use Rattle.osdp_reader.specs.declared.handler.Answer.{Answer}
-use Rattle.osdp_ledger.specs.History.{CutOff, End, Forgotten, GivenBack, History, InDoubt, Settled, new_history, runs}
+use Rattle.osdp_ledger.specs.History.{End, History, InDoubt, Settled, new_history, runs}
 use Rattle.osdp_ledger.specs.Ledger.{Card, Order}
 use Rattle.osdp_link_laws.specs.Headline.{Begins, MovesFit}
-use Rattle.osdp_link_laws.specs.Link as link
-use Rattle.osdp_link_laws.specs.Link.{Link, Move, Removal, run}
+use Rattle.osdp_link_laws.specs.Link.{Link, Move, run}
 use Rattle.osdp_link_laws.specs.Sessions.{all_queued, all_submitted, in_all}
 use Rattle.osdp_link_ledger.specs.Steps.{steps_from}
 
@@ -21,25 +20,14 @@ abbrev pub doubted_as : Order → End → List Command
 doubted_as order InDoubt = order.command ∷ []
 doubted_as order _ = []
 
-abbrev pub cut_off_as : Order → End → List Command
-cut_off_as order CutOff = order.command ∷ []
-cut_off_as order _ = []
-
-abbrev pub removed_as : Order → End → List Removal
-removed_as order GivenBack = link.Withdrawn order.command ∷ []
-removed_as order Forgotten = link.ThrownAway order.command ∷ []
-removed_as order _ = []
-
--- these commands were accepted and these events queued; of the commands those acted on, settled, told in doubt, cut off by a loss of power, and
--- withdrawn or forgotten, and the events reported, are those of the accounts
+-- these commands were accepted and these events queued; of the commands those acted on, settled and told in doubt, and the events reported, are those
+-- of the accounts
 pub record TellsAccounts {H : Type 0} (accepted : List Command) (queued : List Event) (l : Link H) (h : History) : Type 0 where
   pub orders : map (λ (o : Order). o.command) h.accepted ≡ accepted
   pub cards : map (λ (c : Card). c.event) h.queued ≡ queued
   pub acted : map (λ (d : Order × Reply). (d.0.command, d.1)) h.acted ≡ in_all (λ t. t.given) (l.account ∷ l.earlier)
   pub settled : flat_map (λ (e : Order × End). settled_as e.0 e.1) h.ended ≡ in_all (λ t. t.settled) (l.account ∷ l.earlier)
   pub in_doubt : flat_map (λ (e : Order × End). doubted_as e.0 e.1) h.ended ≡ in_all (λ t. t.unsettled) (l.account ∷ l.earlier)
-  pub cut_off : flat_map (λ (e : Order × End). cut_off_as e.0 e.1) h.ended ≡ in_all (λ t. t.forgotten) (l.account ∷ l.earlier)
-  pub removed : flat_map (λ (e : Order × End). removed_as e.0 e.1) h.ended ≡ in_all (λ t. t.removed) (l.account ∷ l.earlier)
   pub reported : map (λ (r : ℕ × Card). r.1.event) h.reports ≡ in_all (λ t. t.reported) (l.account ∷ l.earlier)
 
 module _ {H : Type 0} (answer_of : H → Command → Answer) (after : H → Command → H) where

@@ -28,8 +28,7 @@ pub fn devices_act_and_offer<H: Handler>()
 }
 
 /// What these steps come to is what the accounts of the link's sessions say: the commands accepted, those that the device acted on, each with
-/// its answer, those settled, told in doubt, cut off by a loss of power, withdrawn and forgotten, and the events queued and reported. So no such
-/// step is forgotten, and none is made up.
+/// its answer, those settled and told in doubt, and the events queued and reported. So no such step is forgotten, and none is made up.
 pub fn ledger_tells_accounts<H: Handler>()
     ensures { LedgerTellsAccounts H.answer_of H.after }
 {
