@@ -1,11 +1,12 @@
 -- Something comes through for each of several readers.
+use Rattle.osdp_link_laws.proofs.Counting.{issues_all}
 use Rattle.osdp_bus_progress.proofs.Common.{◌≡◌, ◌≤◌, ◌<◌, ◌+◌, ◌++◌, ℕ, zero, suc, All, List, [], ◌∷◌, length, map, Some, inl, inr, refl, sym, subst, ap, ◌∙◌, arith, append_assoc, append-nil, length-map, Packet, spelling, Command, new_machine, IsInRange, longest_wait, Begin, Answer, controller_config, BusConfig, MovesFit, Link, SetsNoAddress, each_all, each_append, each_of, each_rest, moves_so, begins_so, set_no_other, steady_ordinary, Each, IsSetUp, NetMovesFit, Net, NetMove, run, site_at, IsEmpty, own, view, apart_all, apart_first, some_same, device_of, packets_on, Account, round, rounds, SimStep, Given, LineState, ReaderSite, accounts, set_up, StepFits, after_step, fault_of, IsInSession, IsOf, none_earlier, none_reopen, rounds_within, holds_on, runs_on, well_on, AreItsMoves, FollowsSites, moves_of, IsRun, first_net, first_site, follows_first, has_site, is_set_up, nothing_is_kept, unmapped, get_within, get_site, same_count, ComesOn, EachComesThrough, IsClear, IsReady, EachRoundRests, IsAtRest, SeveralLinks, at_length, fits_first, fits_then, net_more, keeps_own}
 use Rattle.std.proofs.Math.Nat.{div-mul-le_self, suc-mul}
 use Rattle.std.specs.Prelude.{◌/◌, ◌*◌, ◌-◌, slice_get}
 use Rattle.osdp_link_laws.specs.Link as link
 use Rattle.osdp_link_laws.specs.Ordinary.{IsOrdinary, IsSteady}
 use Rattle.osdp_link_laws.specs.Progress as progress
-use Rattle.osdp_link_laws.specs.Sessions.{all_submitted, ended_commands}
+use Rattle.osdp_link_laws.specs.Sessions.{all_submitted}
 use Rattle.osdp_shared_line.specs.Line as line
 use Rattle.osdp_shared_line.specs.Runs.{IsItsLink}
 use Rattle.osdp_shared_line.specs.Runs as runs
@@ -76,7 +77,7 @@ module _ {H : Type 0} (answer_of : H → Command → Answer) (after : H → Comm
       record { settled = ap length only.settled; reported = ap length only.reported; issued = ap length (only.issued refl); queued = ap length (only.queued refl) }
 
   module _ (on : SeveralLinks answer_of after) where
-    open on use {schedules, counts, links, laws, ranges, comes, laws.{in_time, places, stays}}
+    open on use {schedules, counts, links, laws, ranges, comes, laws.{in_time, stays}}
 
     module _ (config : BusConfig) (readers : List (Given H)) (steps : List SimStep) (m wait : ℕ)
         (is : IsRun answer_of after config readers (steps ++ rounds m wait)) (within : All IsInSession steps) where
@@ -219,8 +220,11 @@ module _ {H : Type 0} (answer_of : H → Command → Answer) (after : H → Comm
             let old = view k (first_site config l.given) first in
             let begun = up.begins k (first_site config l.given) l.begins in
             let issued = each_of SetsNoAddress u.0.account.issued ready.issued in
-            let placed = ap (λ (v : Link H). ended_commands v.earlier ++ v.account.issued) l.moved ∙ sym (places old ms begun l.its.fits) in
-            let submitted = subst (Each SetsNoAddress) (u.2.issued ∙ placed) issued in
+            let none = none_earlier u.0.account t.account t.earlier u.2.tells (one_at k u.0 u.1) in
+            let placed = ap (λ (v : Link H). v.account.issued) l.moved
+            ∙ issues_all answer_of after ms old (ap (λ (v : Link H). length v.earlier) (sym l.moved) ∙ ap length none ∙ sym (ap length begun.earlier))
+            ∙ ap (λ (a : link.Account). a.issued ++ all_submitted answer_of after ms old) begun.account in
+            let submitted = subst (Each SetsNoAddress) (u.2.tells.issued none ∙ placed) issued in
             let stay = stays old ms begun l.its.fits (each_all SetsNoAddress (old.controller.waiting ++ all_submitted answer_of after ms old) submitted)
             (set_no_other old.reader.config.address old.controller.session.config.address ms l.steady) in
             let moved = l.moved in
@@ -230,8 +234,7 @@ module _ {H : Type 0} (answer_of : H → Command → Answer) (after : H → Comm
               address = ap (λ (v : Link H). v.reader.config.address) moved ∙ stay.0 ∙ up.together k (first_site config l.given) l.begins ∙ sym stay.1
                   ∙ sym (ap (λ (v : Link H). v.controller.session.config.address) moved);
               ready = sym (ap (λ r. r.busy) u.2.reader) ∙ ready.ready;
-              issued = each_all SetsNoAddress t.account.issued
-                  (each_rest SetsNoAddress (ended_commands t.earlier) t.account.issued (subst (Each SetsNoAddress) u.2.issued issued));
+              issued = each_all SetsNoAddress t.account.issued (subst (Each SetsNoAddress) (u.2.tells.issued none) issued);
             }
 
         entries_count : length s.bus.devices.entries ≡ length readers

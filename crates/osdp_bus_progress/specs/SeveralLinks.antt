@@ -5,7 +5,6 @@ use Rattle.osdp_reader.specs.declared.handler.Answer.{Answer}
 use Rattle.osdp_link_laws.specs.Addresses.{StayWhereTheyAre}
 use Rattle.osdp_link_laws.specs.Peers.{ReadsWhatIsAsked}
 use Rattle.osdp_link_laws.specs.Progress.{ComesThroughFromRest, ComesThroughInTime, ComesToRest}
-use Rattle.osdp_link_laws.specs.Sessions.{CommandsHavePlaces}
 use Rattle.osdp_shared_line.specs.Runs.{EachIsALink}
 use Rattle.osdp_sim_bus.specs.Laws.{HasAnAccountEach}
 use Rattle.osdp_sim_laws.specs.OneLink.{ReadsPackets}
@@ -19,7 +18,6 @@ module _ {H : Type 0} (answer_of : H → Command → Answer) (after : H → Comm
     pub in_time : ComesThroughInTime answer_of after
     pub from_rest : ComesThroughFromRest answer_of after
     pub stays : StayWhereTheyAre answer_of after
-    pub places : CommandsHavePlaces answer_of after
 
   pub record SeveralLinks : Type 0 where
     pub reads : ReadsPackets

@@ -19,7 +19,6 @@ fn stands_on_several_links<H: Handler>()
     osdp_link_laws::reads_what_is_asked();
     osdp_link_laws::comes_through::<H>();
     osdp_link_laws::stay_where_they_are::<H>();
-    osdp_link_laws::sessions_in_a_row::<H>();
     osdp_controller_laws::stays_in_range();
     osdp_controller_laws::ticks_come_due();
 }

@@ -29,7 +29,7 @@ pub use Rattle.osdp_shared_line.proofs.Sites.{at_changed, at_other, changed_from
 pub use Rattle.osdp_calls.specs.Lines.{ahead_of_device, ahead_of_panel, Burst, bus_with, concerns, InUse, is_ahead_of_device, is_ahead_of_panel, is_before, is_past_for_device, is_past_for_panel, Opening, Station, those}
 pub use Rattle.osdp_calls.specs.Premises.{Addresses, AllKeep, AreInOrder, InOrder, InRange, IsAsked, IsFreeFor, IsNoOthers, IsOfOthers, IsSaid, IsSetUp as IsSetUpLine, IsThere, Keeps, MayBeAt, NextInOrder, NextInRange, PanelAddresses, PanelIsApart, QuietOpening}
 pub use Rattle.osdp_calls.specs.Programs.{AllKeepRule, CallsRuleSuffices, first_note, first_notes, IsKnown, KeepsRule, noted_of, noted_report, noted_reports, notes_after, PanelKeepsRule}
-pub use Rattle.osdp_calls.specs.Calls.{after_call, after_calls, after_next, after_panel, all_forget, all_hear, answers, asked_at, asked_by_holder, begins_session, begins_with, begun_of, by_device, Call, change_at, changes_at, first_answered, forgets, hears_of, is_to_begin, issues, last_of, made_anew, NewDevice, NewPanel, Next, nexts, noted, OfPanel, on_station, panel_made_anew, panel_says, Pending, queues, read_at_end, read_at_silence, read_at_tick, read_by, read_by_holder, read_of_bytes, read_up_to, reply_to, said_at, said_for, SetBusy, SetHandler, Silence, Step, SubmitEvent, Take, takes_back, TickDevice, waiting_of, LapseEvent, WithdrawEvent, withdrawn, lapses_event, withdraws_event}
+pub use Rattle.osdp_calls.specs.Calls.{after_call, after_calls, after_next, after_panel, all_forget, all_hear, answers, asked_at, asked_by_holder, begins_session, begins_with, begun_of, by_device, Call, change_at, changes_at, first_answered, forgets, hears_of, is_to_begin, issues, last_of, made_anew, NewDevice, NewPanel, Next, nexts, noted, OfPanel, on_station, panel_made_anew, panel_says, Pending, queues, read_at_end, read_at_silence, read_at_tick, read_by, read_by_holder, read_of_bytes, read_up_to, reply_to, said_at, said_for, SetBusy, SetHandler, Silence, Step, SubmitEvent, Take, TickDevice, waiting_of, LapseEvent, WithdrawEvent, withdrawn, lapses_event, withdraws_event}
 pub use Rattle.osdp_shared_line.proofs.Rounds.{at_length, fits_both, fits_first, fits_then, net_more}
 pub use Rattle.osdp_controller.specs.States.{is_closed}
 pub use Rattle.osdp_controller.specs.declared.report.Report.{Report}

@@ -20,7 +20,6 @@ module _ {H : Type 0} where
   stays_held d = record {
     begins_so = λ moment x t is. is;
     issues_so = λ command x t is. is;
-    takes_so = λ commands x t is. is;
     hears_so = λ said x t is. is;
     opens_so = λ waiting x t is. is;
   }
@@ -28,7 +27,7 @@ module _ {H : Type 0} where
   forget_keeps : (k : ℕ) (d : Held H) (es : List Entry) (ts : List (Station H)) → IsHeld k d ts → IsHeld k d (all_forget es ts)
   forget_keeps k d es [] is = absurd (let e = is.1 in cc)
   forget_keeps k d [] (t ∷ ts) is = is
-  forget_keeps zero d (e ∷ es) (t ∷ ts) is = (forgets (Some e) t, refl, ap held_by (some_same t is.0 is.1) ∙ is.2)
+  forget_keeps zero d (e ∷ es) (t ∷ ts) is = (forgets t, refl, ap held_by (some_same t is.0 is.1) ∙ is.2)
   forget_keeps (suc k) d (e ∷ es) (t ∷ ts) is = forget_keeps k d es ts is
 
   -- ---- a call of a device

@@ -1,6 +1,6 @@
 -- After each call what is noted of the entries agrees with what is noted along the moves that the call comes to.
 use Rattle.std.proofs.Common.{◌≡◌, ◌≢◌, ℕ, zero, suc, max, Bool, true, false, cond, List, [], ◌∷◌, ◌++◌, map, Option, Some, None, refl, sym, subst, ap, ◌∙◌, inl, inr, is_some}
-use Rattle.osdp_calls.proofs.Common.{eqb_tells, option_map_or, ◌==◌, ◌&&◌, slice_get, slice_set, Room, Command, comset_of, ControllerConfig, State, Closed, BusState, device_of, seen, changed_unless, changes_entry, new_device, BusConfig, Entry, BusFault, is_false, is_true, Each, Answer, Net, NetMove, RestartPanel, Retarget, Site, Submit, address_of, is_command_accepted, is_retarget_accepted, site_at, Note, also_at, noted_at, two_addresses, at_changed, some_same, Call, NewPanel, OfPanel, all_forget, begun_of, change_at, changes_at, is_to_begin, issues, panel_made_anew, takes_back, withdrawn, InUse, Station, noted_of, notes_after}
+use Rattle.osdp_calls.proofs.Common.{eqb_tells, option_map_or, ◌==◌, ◌&&◌, slice_get, slice_set, Room, Command, comset_of, ControllerConfig, State, Closed, BusState, device_of, seen, changed_unless, changes_entry, new_device, BusConfig, Entry, BusFault, is_false, is_true, Each, Answer, Net, NetMove, RestartPanel, Retarget, Site, Submit, address_of, is_command_accepted, is_retarget_accepted, site_at, Note, also_at, noted_at, two_addresses, at_changed, some_same, Call, NewPanel, OfPanel, all_forget, begun_of, change_at, changes_at, is_to_begin, issues, panel_made_anew, withdrawn, InUse, Station, noted_of, notes_after}
 use Rattle.osdp_bus.specs.Entries as devices
 use Rattle.osdp_bus.specs.Machine as bus
 use Rattle.osdp_bus_laws.specs.Calls as panel
@@ -112,24 +112,18 @@ module _ {H : Type 0} where
     pub withdraw_agrees : (k : ℕ) (l : InUse H) (n : Net H) (notes noted : ℕ → Note) (moves : List (NetMove H)) → Each IsStill moves → AllAgree l notes noted
         → AllAgree (record l {
           bus = bus.after_withdraw_at k l.bus;
-          stations = change_at k (takes_back (withdrawn (bus.withdrawal_at k l.bus))) l.stations;
         }) (notes_after (OfPanel (panel.Withdraw k)) l notes) (notes_along answer_of after moves n noted)
     withdraw_agrees k l n notes noted moves still agree =
         let call : Call H = OfPanel (panel.Withdraw k) in
-        let next : InUse H = record l {
-          bus = bus.after_withdraw_at k l.bus;
-          stations = change_at k (takes_back (withdrawn (bus.withdrawal_at k l.bus))) l.stations;
-        } in
+        let next : InUse H = record l { bus = bus.after_withdraw_at k l.bus } in
         let noted2 = notes_along answer_of after moves n noted in
-        let begun : (j : ℕ) → begun_of (site_at j next.stations) ≡ begun_of (site_at j l.stations) = λ j.
-        begun_change j k (takes_back (withdrawn (bus.withdrawal_at k l.bus))) l.stations (λ t. refl) in
-        all_carried call l next notes noted noted2 agree (λ j. change_keeps j k (takes_back (withdrawn (bus.withdrawal_at k l.bus))) l.stations)
+        all_carried call l next notes noted noted2 agree (λ j. refl)
         (λ j e own at. elim (changed_at k bus.entry_withdraws l.bus j e at) [
           | AsBefore other was ↦
-              as_it_was call l next notes noted noted2 j e e was refl (begun j) refl (λ i. still_along answer_of after moves n noted still i j)
+              as_it_was call l next notes noted noted2 j e e was refl refl refl (λ i. still_along answer_of after moves n noted still i j)
           | IsChanged same d was becomes ↦
               as_it_was call l next notes noted noted2 j d e (subst (λ i. device_of i l.bus ≡ Some d) (sym same) was)
-              (ap (λ (f : Entry). f.controller.session.state) becomes) (begun j) refl (λ i. still_along answer_of after moves n noted still i j)
+              (ap (λ (f : Entry). f.controller.session.state) becomes) refl refl (λ i. still_along answer_of after moves n noted still i j)
         ])
 
     -- ---- a session is begun

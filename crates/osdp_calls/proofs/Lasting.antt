@@ -1,5 +1,5 @@
 -- Stations stay, whatever is called.
-use Rattle.osdp_calls.proofs.Common.{◌≡◌, ℕ, zero, suc, List, [], ◌∷◌, Option, Some, None, refl, ◌∙◌, is_some, Packet, Command, Report, BusState, device_of, begin_refusal_at, changed_unless, submit_refusal_at, withdrawal_at, bus_ticks, Entry, BusFault, told_in, Answer, site_at, Call, NewDevice, NewPanel, Next, OfPanel, Pending, SetBusy, SetHandler, Silence, SubmitEvent, Take, TickDevice, LapseEvent, WithdrawEvent, after_call, after_next, all_forget, all_hear, asked_at, begins_session, begins_with, begun_of, change_at, changes_at, hears_of, last_of, nexts, noted, panel_says, said_at, takes_back, waiting_of, withdrawn, Step, after_calls, InUse, Station}
+use Rattle.osdp_calls.proofs.Common.{◌≡◌, ℕ, zero, suc, List, [], ◌∷◌, Option, Some, None, refl, ◌∙◌, is_some, Packet, Command, Report, BusState, device_of, begin_refusal_at, changed_unless, submit_refusal_at, bus_ticks, Entry, BusFault, told_in, Answer, site_at, Call, NewDevice, NewPanel, Next, OfPanel, Pending, SetBusy, SetHandler, Silence, SubmitEvent, Take, TickDevice, LapseEvent, WithdrawEvent, after_call, after_next, all_forget, all_hear, asked_at, begins_session, begins_with, begun_of, change_at, changes_at, hears_of, last_of, nexts, noted, panel_says, said_at, waiting_of, Step, after_calls, InUse, Station}
 use Rattle.osdp_bus_laws.specs.Calls as bus
 use Rattle.osdp_calls.proofs.Matching.{changed_some}
 
@@ -25,7 +25,6 @@ module _ {H : Type 0} (k : ℕ) where
   pub noted_keeps : (call : bus.Call) (b : BusState) (ts : List (Station H)) → Same (noted call b ts) ts
   noted_keeps (bus.Begin entry now) b ts = unless_keeps entry (begin_refusal_at entry b) _ ts
   noted_keeps (bus.Submit entry command) b ts = unless_keeps entry (submit_refusal_at entry command b) _ ts
-  noted_keeps (bus.Withdraw entry) b ts = change_keeps entry (takes_back (withdrawn (withdrawal_at entry b))) ts
   noted_keeps call b ts = heard_keeps (told_in call b) ts
 
   begins_keep : (i : ℕ) (p : Packet) (o : Option ℕ) (l : InUse H) → Same (begins_with i p o l).stations l.stations

@@ -1,6 +1,6 @@
 -- The calls of a panel's program that read nothing: sessions, commands and addresses.
 use Rattle.std.proofs.Common.{◌≡◌, ◌||◌, ◌&&◌, ◌-◌, ◌*◌, ℕ, zero, suc, ◌+◌, max, Bool, true, false, cond, List, [], ◌∷◌, ◌++◌, length, map, take, drop, Option, Some, None, refl, sym, subst, ap, ◌∙◌, arith, append-nil, inl, inr}
-use Rattle.osdp_calls.proofs.Common.{option_map_or, is_some, nat_le, nat_lt, option_map, option_to_list, slice_get, slice_set, Packet, CommandFits, most_data, Command, Poll, Communication, has_comset, comset_of, Machine, begin_refusal, bytes_waiting, command_size, retarget_refusal, submit_refusal, Closed, BusState, seen, reserved_for, after_begin_at, after_submit_at, begin_refusal_at, bus_fault, changed_unless, changes_entry, entry_begins, submit_refusal_at, Entry, BusFault, Answer, HasNoOther, Sets, Somewhere, asked_in, Net, NetMove, Retarget, Site, Submit, Withdraw, after_net, changed, site_at, some_same, OfPanel, begun_of, change_at, changes_at, is_to_begin, issues, takes_back, withdrawn, InUse, Station, IsAsked, IsNoOthers, IsSaid, IsThere, MayBeAt}
+use Rattle.osdp_calls.proofs.Common.{option_map_or, is_some, nat_le, nat_lt, option_map, option_to_list, slice_get, slice_set, Packet, CommandFits, most_data, Command, Poll, Communication, has_comset, comset_of, Machine, begin_refusal, bytes_waiting, command_size, retarget_refusal, submit_refusal, Closed, BusState, seen, reserved_for, after_begin_at, after_submit_at, begin_refusal_at, bus_fault, changed_unless, changes_entry, entry_begins, submit_refusal_at, Entry, BusFault, Answer, HasNoOther, Sets, Somewhere, asked_in, Net, NetMove, Retarget, Site, Submit, Withdraw, after_net, changed, site_at, some_same, OfPanel, begun_of, change_at, changes_at, is_to_begin, issues, withdrawn, InUse, Station, IsAsked, IsNoOthers, IsSaid, IsThere, MayBeAt}
 use Rattle.osdp_controller.specs.Machine as controllers
 use Rattle.osdp_controller.specs.Held.{on_its_way}
 use Rattle.osdp_controller.specs.declared.fault.ControllerFault.{ControllerFault}
@@ -272,36 +272,28 @@ module _ {H : Type 0} where
     frees_same None r = refl
     frees_same (Some command) r = refl
 
-    pub withdrawing : (k : ℕ) (l : InUse H) (n : Net H) → IsNetOf l n → StepsTo answer_of after (OfPanel (panel.Withdraw k)) l n (record l {
-      bus = bus.after_withdraw_at k l.bus;
-      stations = change_at k (takes_back (withdrawn (bus.withdrawal_at k l.bus))) l.stations;
-    })
+    pub withdrawing : (k : ℕ) (l : InUse H) (n : Net H) → IsNetOf l n → StepsTo answer_of after (OfPanel (panel.Withdraw k)) l n (record l { bus = bus.after_withdraw_at k l.bus })
     withdrawing k l n h = by_found (found (Sites l) k l.bus.devices.entries l.stations n.sites h.sites)
       where
         by_begun : (d : Entry) (t : Station H) (s : Site H) → slice_get l.bus.devices.entries k ≡ Some d → site_at k l.stations ≡ Some t
             → site_at k n.sites ≡ Some s → Sites l k d t s → (o : Option ℕ) → t.begun ≡ o → StepsTo answer_of after (OfPanel (panel.Withdraw k)) l n (record l {
               bus = record l.bus { devices = record l.bus.devices { entries = slice_set l.bus.devices.entries k (bus.entry_withdraws d) } };
-              stations = changed k (takes_back (option_to_list (bus.withdrawn_of d)) t) l.stations;
             })
         by_begun d t s a b c has None begun =
             let control : IsSame l.bus.greatest d.controller s.controller = subst (λ o. Controls o l.bus.greatest d.controller s.controller) begun has.controller in
             let e : Entry = bus.entry_withdraws d in
-            let u : Station H = takes_back (option_to_list (bus.withdrawn_of d)) t in
             let same : controllers.withdrawn_in s.controller.session.state s.controller.waiting ≡ bus.withdrawn_of d =
             ap (λ (x : Machine). controllers.withdrawn_in x.session.state x.waiting) control.same in
-            by_own answer_of after (OfPanel (panel.Withdraw k)) (Withdraw k) l n (record l {
-              bus = record l.bus { devices = record l.bus.devices { entries = slice_set l.bus.devices.entries k e } };
-              stations = changed k u l.stations;
-            }) (λ j. refl) (λ j. refl) tt refl (inr (refl, ap begun_of b ∙ begun)) tt
-            (subst (IsNetOf (record l {
-              bus = record l.bus { devices = record l.bus.devices { entries = slice_set l.bus.devices.entries k e } };
-              stations = changed k u l.stations;
-            })) (sym (ap (λ o. line.change_at k o (line.withdraws answer_of after) n) c)) (sites_so h
-            (set (Sites l) k e u (line.withdraws answer_of after s) l.bus.devices.entries l.stations n.sites h.sites (controlled_so has
-            (subst (λ o. Controls o l.bus.greatest e.controller (line.withdraws answer_of after s).controller) (sym begun)
+            let next : InUse H = record l { bus = record l.bus { devices = record l.bus.devices { entries = slice_set l.bus.devices.entries k e } } } in
+            let s1 : Site H = line.withdraws answer_of after s in
+            by_own answer_of after (OfPanel (panel.Withdraw k)) (Withdraw k) l n next (λ j. refl) (λ j. refl) tt refl (inr (refl, ap begun_of b ∙ begun)) tt
+            (subst (IsNetOf next) (sym (ap (λ o. line.change_at k o (line.withdraws answer_of after) n) c)) (sites_so h
+            (subst (λ ts. Match (Sites next) 0 (slice_set l.bus.devices.entries k e) ts (changed k s1 n.sites)) (changed_same k t l.stations b)
+            (set (Sites l) k e t s1 l.bus.devices.entries l.stations n.sites h.sites (controlled_so has
+            (subst (λ o. Controls o l.bus.greatest e.controller s1.controller) (sym begun)
             (withdrawn_same l.bus.greatest d.controller s.controller control))
             ((λ i. line.freed_without (same i) (has.reserved i)) ∙ frees_same (bus.withdrawn_of d) d.reserved)
-            (λ i. record (has.account i) { removed = (has.account i).removed ++ map link.Withdrawn (option_to_list (same i)) })))))
+            has.account)))))
         by_begun d t s a b c has (Some began) begun =
             let control : IsToOpen began l.bus.greatest d.controller s.controller = subst (λ o. Controls o l.bus.greatest d.controller s.controller) begun has.controller in
             let nothing : bus.withdrawn_of d ≡ None = ap (λ st. controllers.withdrawn_in st d.controller.waiting) control.quiet in
@@ -310,33 +302,26 @@ module _ {H : Type 0} where
               controller = record d.controller { waiting = controllers.kept_in (control.quiet i) d.controller.waiting };
               reserved = bus.reserved_without (nothing i) d.reserved;
             }) in
-            let stays : takes_back (option_to_list (bus.withdrawn_of d)) t ≡ t =
-            (λ i. record t { account = record t.account { removed = t.account.removed ++ map link.Withdrawn (option_to_list (nothing i)) } })
-            ∙ ap (λ xs. record t { account = record t.account { removed = xs } }) (append-nil t.account.removed) in
             subst (λ x. StepsTo answer_of after (OfPanel (panel.Withdraw k)) l n (record l {
               bus = record l.bus { devices = record l.bus.devices { entries = x } };
-              stations = changed k (takes_back (option_to_list (bus.withdrawn_of d)) t) l.stations;
             })) (sym (ap (slice_set l.bus.devices.entries k) kept ∙ set_same k d l.bus.devices.entries a))
-            (subst (λ x. StepsTo answer_of after (OfPanel (panel.Withdraw k)) l n (record l { stations = x })) (sym (ap (λ x. changed k x l.stations) stays ∙ changed_same k t l.stations b))
             (by_plain answer_of after (OfPanel (panel.Withdraw k)) l n l (λ j. refl) (λ j. refl) (make_none answer_of after (λ moves. Made (OfPanel (panel.Withdraw k)) l moves) l n
-            (inl (refl, ap (λ o. withdrawn (bus.withdrawal_of o)) a ∙ ap option_to_list nothing)) h)))
+            (inl (refl, ap (λ o. withdrawn (bus.withdrawal_of o)) a ∙ ap option_to_list nothing)) h))
 
-        by_found : FoundAt (Sites l) k k l.bus.devices.entries l.stations n.sites → StepsTo answer_of after (OfPanel (panel.Withdraw k)) l n (record l {
-          bus = bus.after_withdraw_at k l.bus;
-          stations = change_at k (takes_back (withdrawn (bus.withdrawal_at k l.bus))) l.stations;
-        })
+        by_found : FoundAt (Sites l) k k l.bus.devices.entries l.stations n.sites
+            → StepsTo answer_of after (OfPanel (panel.Withdraw k)) l n (record l { bus = bus.after_withdraw_at k l.bus })
         by_found (Nobody o a b c) =
-            let next : InUse H = record l { bus = bus.after_withdraw_at k l.bus; stations = change_at k (takes_back (withdrawn (bus.withdrawal_at k l.bus))) l.stations } in
+            let next : InUse H = record l { bus = bus.after_withdraw_at k l.bus } in
             by_own answer_of after (OfPanel (panel.Withdraw k)) (Withdraw k) l n next (λ j. refl) (λ j. refl) tt refl (inr (refl, ap begun_of b)) tt
             (subst (IsNetOf next) (sym (ap (λ q. line.change_at k q (line.withdraws answer_of after) n) c))
-            (other_changes k bus.entry_withdraws (takes_back (withdrawn (bus.withdrawal_at k l.bus))) l n h b))
+            (subst (λ ts. IsNetOf (record l { bus = bus.after_withdraw_at k l.bus; stations = ts }) n) (ap (λ q. changes_at k (λ (t : Station H). t) q l.stations) b)
+            (other_changes k bus.entry_withdraws (λ (t : Station H). t) l n h b)))
         by_found (Somebody d t s a b c has) =
-            subst (λ o. StepsTo answer_of after (OfPanel (panel.Withdraw k)) l n (record l {
-              bus = bus.after_withdraw_at k l.bus;
-              stations = change_at k (takes_back (withdrawn (bus.withdrawal_of o))) l.stations;
-            })) (sym a)
-            (subst (StepsTo answer_of after (OfPanel (panel.Withdraw k)) l n) (sym (changes_one k bus.entry_withdraws (takes_back (option_to_list (bus.withdrawn_of d))) l d t a b))
-            (by_begun d t s a b c has t.begun refl))
+            subst (λ (o : Option Entry). StepsTo answer_of after (OfPanel (panel.Withdraw k)) l n (record l {
+              bus = Rattle.std.specs.Option.option_map_or (λ (f : Entry). record l.bus {
+                devices = record l.bus.devices { entries = slice_set l.bus.devices.entries k (bus.entry_withdraws f) };
+              }) o l.bus;
+            })) (sym a) (by_begun d t s a b c has t.begun refl)
 
     -- ---- another address
 

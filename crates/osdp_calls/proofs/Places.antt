@@ -1,5 +1,5 @@
 -- What holds of the station at a place, where a station changes and where the panel calls.
-use Rattle.osdp_calls.proofs.Common.{◌≡◌, ◌≢◌, ℕ, max, Bool, true, false, cond, List, [], ◌∷◌, Option, Some, None, refl, sym, subst, ap, ◌∙◌, inl, inr, eqb_tells, ◌==◌, Packet, Command, Report, BusState, device_of, begin_refusal_at, changed_unless, submit_refusal_at, withdrawal_at, bus_ticks, BusFault, told_in, site_at, at_changed, at_other, after_panel, all_hear, asked_at, begins_session, begins_with, begun_of, change_at, changes_at, hears_of, is_to_begin, issues, last_of, noted, panel_says, said_at, takes_back, waiting_of, withdrawn, InUse, Station}
+use Rattle.osdp_calls.proofs.Common.{◌≡◌, ◌≢◌, ℕ, max, Bool, true, false, cond, List, [], ◌∷◌, Option, Some, None, refl, sym, subst, ap, ◌∙◌, inl, inr, eqb_tells, ◌==◌, Packet, Command, Report, BusState, device_of, begin_refusal_at, changed_unless, submit_refusal_at, bus_ticks, BusFault, told_in, site_at, at_changed, at_other, after_panel, all_hear, asked_at, begins_session, begins_with, begun_of, change_at, changes_at, hears_of, is_to_begin, issues, last_of, noted, panel_says, said_at, waiting_of, InUse, Station}
 use Rattle.osdp_bus_laws.specs.Calls as bus
 
 module _ {A : Type 0} (get : ℕ → List A → Option A) where
@@ -55,7 +55,6 @@ module _ {H : Type 0} {X : Type 0} (next : Report → X → X) (R : X → Statio
   pub record Stays : Type 0 where
     pub begins_so : (moment : ℕ) (x : X) (t : Station H) → R x t → R x (is_to_begin moment t)
     pub issues_so : (command : Command) (x : X) (t : Station H) → R x t → R x (issues command t)
-    pub takes_so : (commands : List Command) (x : X) (t : Station H) → R x t → R x (takes_back commands t)
     pub hears_so : (said : Report) (x : X) (t : Station H) → R x t → R (next said x) (hears_of said t)
     pub opens_so : (waiting : List Command) (x : X) (t : Station H) → R x t → R x (begins_session waiting t)
 
@@ -82,8 +81,6 @@ module _ {H : Type 0} {X : Type 0} (next : Report → X → X) (R : X → Statio
         unless_so k entry (begin_refusal_at entry b) (is_to_begin (max b.greatest now)) x ts (s.begins_so (max b.greatest now) x) is
     noted_so k (bus.Submit entry command) b x ts is =
         unless_so k entry (submit_refusal_at entry command b) (issues command) x ts (s.issues_so command x) is
-    noted_so k (bus.Withdraw entry) b x ts is =
-        let commands = withdrawn (withdrawal_at entry b) in kept_so k entry (takes_back commands) x ts (s.takes_so commands x) is
     noted_so k call b x ts is = heard_so k (told_in call b) x ts is
 
     opened_so : (k entry : ℕ) (p : Packet) (o : Option ℕ) (x : X) (l : InUse H) → IsAt site_at (R x) k l.stations

@@ -45,10 +45,6 @@ pub outstanding_same : (o : Option ℕ) (top : ℕ) (m c : Machine) → Controls
 outstanding_same None top m c is = ap (λ (x : Machine). link.outstanding_command x.session.state) is.same
 outstanding_same (Some began) top m c is = ap (λ (x : Machine). link.outstanding_command x.session.state) is.same ∙ sym (ap link.outstanding_command is.quiet)
 
-pub waiting_too : (o : Option ℕ) (top : ℕ) (m c : Machine) → Controls o top m c → c.waiting ≡ m.waiting
-waiting_too None top m c is = ap (λ (d : Machine). d.waiting) is.same
-waiting_too (Some began) top m c is = ap (λ (d : Machine). d.waiting) is.same
-
 module _ {H : Type 0} where
   -- how many sites there are
   pub as_many : (P : ℕ → Entry → Station H → Site H → Type 0) (i : ℕ) (ds : List Entry) (ts : List (Station H)) (ss : List (Site H))
@@ -112,13 +108,10 @@ module _ {H : Type 0} where
     each_made config settings l i (a ∷ xs) ds1 ts1 ss1 same set_so (And i1 d t s ds ts ss is rest) =
         let here : settings i ≡ (controller_config a config, config.room) =
         ap settings (let e : i ≡ i + 0 = omega arith in e) ∙ set_so 0 a refl in
-        And i (new_device a config) (Rattle.osdp_calls.specs.Calls.forgets (Some d) t) (restarts answer_of after (settings i) s)
+        And i (new_device a config) (forgets t) (restarts answer_of after (settings i) s)
         (map (λ b. new_device b config) xs) (all_forget ds ts) (all_restart answer_of after (suc i) settings ss)
         (controlled_so is (equal_same 0 (new_machine (controller_config a config) config.room.messages config.room.bytes) (new_machine (settings i).0 (settings i).1.messages (settings i).1.bytes)
-        (λ x. new_machine (here x).0 (here x).1.messages (here x).1.bytes)) refl (λ x. record (is.account x) {
-          forgotten = (is.account x).forgotten ++ option_to_list (outstanding_same t.begun l.bus.greatest d.controller s.controller is.controller x);
-          removed = (is.account x).removed ++ map link.ThrownAway (waiting_too t.begun l.bus.greatest d.controller s.controller is.controller x);
-        }))
+        (λ x. new_machine (here x).0 (here x).1.messages (here x).1.bytes)) refl is.account)
         (each_made config settings l (suc i) xs ds ts ss (omega (arith, same))
         (λ k b is2. ap settings (let e : suc i + k ≡ i + suc k = omega arith in e) ∙ set_so (suc k) b is2) rest)
 

@@ -1,6 +1,6 @@
 -- What the calls of a bus and its devices do to a line in use. What a call makes of the bus, of a reader and of what has come on its line is the
 -- definition that the call's own contract cites; what it reads, who speaks and the accounts are said here.
-use Rattle.std.specs.Prelude.{ℕ, ◌++◌, max, Bool, true, false, if◌then◌else◌, List, [], ◌∷◌, map, length, Option, Some, None, Result, Ok, Err, option_to_list}
+use Rattle.std.specs.Prelude.{ℕ, ◌++◌, max, Bool, true, false, if◌then◌else◌, List, [], ◌∷◌, length, Option, Some, None, Result, Ok, Err, option_to_list}
 use Rattle.osdp_frame.specs.Items.{items, whole_packets}
 use Rattle.osdp_frame.specs.Packet.{Packet}
 use Rattle.osdp_frame.specs.Reading.{RunItem, PacketItem, SkippedItem, RefusedItem}
@@ -10,7 +10,7 @@ use Rattle.osdp_msg.specs.declared.limits.Room.{Room}
 use Rattle.osdp_controller.specs.declared.report.Report.{Report}
 use Rattle.osdp_bus.specs.Buses.{BusState, device_of, has_report, holder, is_silent, seen}
 use Rattle.osdp_bus.specs.Hearing.{ends_run, ends_silent}
-use Rattle.osdp_bus.specs.Machine.{begin_refusal_at, changed_unless, submit_refusal_at, withdrawal_at}
+use Rattle.osdp_bus.specs.Machine.{begin_refusal_at, changed_unless, submit_refusal_at}
 use Rattle.osdp_bus.specs.Ticking.{asks_free, asks_holder, bus_ticks, is_due_at}
 use Rattle.osdp_bus.specs.declared.config.BusConfig.{BusConfig}
 use Rattle.osdp_bus.specs.declared.entry.Entry.{Entry}
@@ -22,8 +22,7 @@ use Rattle.osdp_device.specs.Deciding.{passed}
 use Rattle.osdp_frame.specs.Receiving.{after_silence, after_take, after_tick, new_line}
 use Rattle.osdp_device.specs.Saying.{speaks}
 use Rattle.osdp_device.specs.Telling.{items_of, next_told}
-use Rattle.osdp_link_laws.specs.Link.{Withdrawn, event_lapsed, event_withdrawn, front_of, new_account, reader_restarted, taken, after_report}
-use Rattle.osdp_link_laws.specs.Link as link
+use Rattle.osdp_link_laws.specs.Link.{event_lapsed, event_withdrawn, front_of, new_account, reader_restarted, taken, after_report}
 use Rattle.osdp_reader.specs.State.{ReaderState, after_lapse_event, after_set_busy, after_set_handler, after_submit, after_withdraw_event, new_reader}
 use Rattle.osdp_reader.specs.Table.{hears, kind_of}
 use Rattle.osdp_reader.specs.declared.config.ReaderConfig.{ReaderConfig}
@@ -138,12 +137,9 @@ module _ {H : Type 0} where
   all_hear [] ts = ts
   all_hear (said ∷ more) ts = all_hear more (change_at said.0 (hears_of said.1) ts)
 
-  -- a command is accepted, and one is taken back
+  -- a command is accepted
   abbrev pub issues : Command → Station H → Station H
   issues command t = record t { account = record t.account { issued = t.account.issued ++ command ∷ [] } }
-
-  abbrev pub takes_back : List Command → Station H → Station H
-  takes_back commands t = record t { account = record t.account { removed = t.account.removed ++ map Withdrawn commands } }
 
   -- a session is to begin: it does so where its opening ID goes out
   abbrev pub is_to_begin : ℕ → Station H → Station H
@@ -160,7 +156,6 @@ module _ {H : Type 0} where
   abbrev pub noted : bus.Call → BusState → List (Station H) → List (Station H)
   noted (bus.Begin entry now) b ts = changed_unless (begin_refusal_at entry b) ts (change_at entry (is_to_begin (max b.greatest now)) ts)
   noted (bus.Submit entry command) b ts = changed_unless (submit_refusal_at entry command b) ts (change_at entry (issues command) ts)
-  noted (bus.Withdraw entry) b ts = change_at entry (takes_back (withdrawn (withdrawal_at entry b))) ts
   noted call b ts = all_hear (told_in call b) ts
 
   -- ---- what the panel says
@@ -228,13 +223,12 @@ module _ {H : Type 0} where
     account = reader_restarted t.account;
   }
 
-  -- the panel is made anew: what waited is thrown away, and the session ends untold
-  abbrev pub forgets : Option Entry → Station H → Station H
-  forgets None t = t
-  forgets (Some d) t = record t { begun = None; account = link.controller_restarted d.controller t.account }
+  -- the panel is made anew: the session ends untold, and none is to begin
+  abbrev pub forgets : Station H → Station H
+  forgets t = record t { begun = None }
 
   abbrev pub all_forget : List Entry → List (Station H) → List (Station H)
-  all_forget (d ∷ ds) (t ∷ ts) = forgets (Some d) t ∷ all_forget ds ts
+  all_forget (d ∷ ds) (t ∷ ts) = forgets t ∷ all_forget ds ts
   all_forget [] ts = ts
   all_forget (d ∷ ds) [] = []
 

@@ -24,7 +24,7 @@ pub use Rattle.osdp_link_laws.proofs.Lines.{both, each_all, each_append, each_ma
 pub use Rattle.osdp_link_laws.proofs.Stages.{Each}
 pub use Rattle.osdp_link_ledger.specs.Steps.{after_steps, all_steps, gets, lapses_event, leaves_and_acts, opens, queued_before, queues, submits, ticked, told, withdraws, withdraws_event}
 pub use Rattle.osdp_shared_line.specs.Line.{address_of, after_net, changed, is_comset_refused, is_retarget_refused, link_of, LoseToPanel, LoseToReader, Net, NetMove, Queue, Reopen, RestartPanel as RestartsPanel, RestartReader, Retarget, run, SetBusy, Site, site_at, Submit, Tick, ToPanel, ToReader, Withdraw}
-pub use Rattle.osdp_calls.specs.Calls.{after_call, after_calls, all_forget, all_hear, answers, asked_at, begins_session, begins_with, begun_of, Call, change_at, changes_at, first_answered, forgets, hears_of, is_to_begin, issues, last_of, made_anew, NewDevice, NewPanel, Next, nexts, OfPanel, panel_says, Pending, read_by, read_up_to, SetHandler, Silence, Step, SubmitEvent, Take, takes_back, TickDevice, waiting_of, LapseEvent, WithdrawEvent, withdrawn}
+pub use Rattle.osdp_calls.specs.Calls.{after_call, after_calls, all_forget, all_hear, answers, asked_at, begins_session, begins_with, begun_of, Call, change_at, changes_at, first_answered, forgets, hears_of, is_to_begin, issues, last_of, made_anew, NewDevice, NewPanel, Next, nexts, OfPanel, panel_says, Pending, read_by, read_up_to, SetHandler, Silence, Step, SubmitEvent, Take, TickDevice, waiting_of, LapseEvent, WithdrawEvent, withdrawn}
 pub use Rattle.osdp_calls.specs.Ends.{is_of_device}
 pub use Rattle.osdp_calls.specs.Handing.{heard, hears_all, told_by_all}
 pub use Rattle.osdp_calls.specs.Lines.{Burst, bus_with, InUse, Station}
@@ -52,7 +52,7 @@ pub use Rattle.osdp_calls_ledger.specs.Laws.{EachKeepsLedger}
 pub use Rattle.osdp_msg.specs.declared.reply.Reply.{Reply}
 pub use Rattle.osdp_controller.specs.Machine.{after_begin, Machine, submit_refusal, withdrawn_in}
 pub use Rattle.osdp_ledger.specs.Laws.{EventsHold, OrdersHold, TellsInTurn}
-pub use Rattle.osdp_link_ledger.specs.Accounts.{cut_off_as, doubted_as, LedgerTellsAccounts, removed_as, settled_as}
+pub use Rattle.osdp_link_ledger.specs.Accounts.{doubted_as, LedgerTellsAccounts, settled_as}
 pub use Rattle.osdp_link_ledger.proofs.Ties.{after_append, runs_after}
 pub use Rattle.osdp_shared_line.specs.Addresses.{NetMovesFit, NobodyElseHears}
 pub use Rattle.osdp_shared_line.specs.Runs.{EachIsALink, moves_at, moves_of}

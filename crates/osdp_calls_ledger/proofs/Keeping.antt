@@ -1,7 +1,7 @@
 -- Every list of calls that keep the premises shows what the moves of a net show, so what each of several links keeps each entry keeps.
 use Rattle.std.proofs.Common.{◌≡◌, ◌==◌, ◌+◌, ℕ, false, List, [], ◌∷◌, ◌++◌, map, Option, None, Some, refl, sym, subst, ap, ◌∙◌}
 use Rattle.std.specs.Prelude.{flat_map, is_some, option_to_list}
-use Rattle.osdp_calls_ledger.proofs.Common.{Command, Event, Reply, Machine, ReaderState, Answer, Card, Ledger, Order, RestartPanel, after, new_ledger, AreAllowed, End, History, new_history, runs, steps_on, EventsHold, OrdersHold, Account, Link, outstanding_command, in_all, cut_off_as, doubted_as, removed_as, settled_as, after_steps, all_steps, queued_before, runs_after, NetMovesFit, NobodyElseHears, Net, NetMove, RestartsPanel, after_net, site_at, moves_of, EachMoveIsItsOwn, view, Step, after_call, after_calls, InUse, AllKeep, all_heard, its_site, outstanding_same, waiting_too, Controls, IsNetOf, first_net, first_site, first_there, starts, EachKeepsLedger, steps_along, calls_keep}
+use Rattle.osdp_calls_ledger.proofs.Common.{Command, Event, Reply, Machine, ReaderState, Answer, Card, Ledger, Order, RestartPanel, after, new_ledger, AreAllowed, End, History, new_history, runs, steps_on, EventsHold, OrdersHold, Account, Link, outstanding_command, in_all, doubted_as, settled_as, after_steps, all_steps, queued_before, runs_after, NetMovesFit, NobodyElseHears, Net, NetMove, RestartsPanel, after_net, site_at, moves_of, EachMoveIsItsOwn, view, Step, after_call, after_calls, InUse, AllKeep, all_heard, its_site, outstanding_same, waiting_too, Controls, IsNetOf, first_net, first_site, first_there, starts, EachKeepsLedger, steps_along, calls_keep}
 use Rattle.osdp_ledger.specs.Ledger as ledger
 use Rattle.osdp_link_ledger.specs.Laws.{HasNumber, IsLedgerOf, answer_to, is_polling, is_under_way, offered_to}
 use Rattle.osdp_line_ledger.specs.Laws as lines
@@ -152,10 +152,6 @@ module _ {H : Type 0} (answer_of : H → Command → Answer) (after_command : H 
               ∙ (λ i. in_all (λ (t : Account). t.settled) (at.account i ∷ at.earlier i));
           in_doubt = (λ i. flat_map (λ (e : Order × End). doubted_as e.0 e.1) (sym ends i).ended) ∙ kept.accounts.in_doubt
               ∙ (λ i. in_all (λ (t : Account). t.unsettled) (at.account i ∷ at.earlier i));
-          cut_off = (λ i. flat_map (λ (e : Order × End). cut_off_as e.0 e.1) (sym ends i).ended) ∙ kept.accounts.cut_off
-              ∙ (λ i. in_all (λ (t : Account). t.forgotten) (at.account i ∷ at.earlier i));
-          removed = (λ i. flat_map (λ (e : Order × End). removed_as e.0 e.1) (sym ends i).ended) ∙ kept.accounts.removed
-              ∙ (λ i. in_all (λ (t : Account). t.removed) (at.account i ∷ at.earlier i));
           reported = (λ i. map (λ (x : ℕ × Card). x.1.event) (sym ends i).reports) ∙ kept.accounts.reported
               ∙ (λ i. in_all (λ (t : Account). t.reported) (at.account i ∷ at.earlier i));
         };

@@ -1,5 +1,5 @@
 -- A device that has lost no power since its session began: the account of this session counts no restart, so the session ends by no refused number.
-use Rattle.osdp_calls_ledger.proofs.Common.{◌≡◌, ◌≢◌, ◌+◌, ℕ, zero, suc, max, Bool, true, false, cond, List, [], ◌∷◌, ◌++◌, map, length, Option, Some, None, is_some, refl, sym, subst, ap, ◌∙◌, inl, inr, eqb_tells, ◌==◌, slice_get, Packet, Command, Event, Reply, Report, State, Closed, Quiet, Idle, Waiting, Pausing, Devices, device_of, entry_hears, hears_packet, begin_refusal_at, changed_unless, submit_refusal_at, withdrawal_at, bus_ticks, Entry, BusFault, told_in, items_of, Account, after_report, front_of, taken, taken_command, lacks_room, in_doubt, never_offered, after_set_busy, after_set_handler, Answer, Ledger, Open, RestartDevice, new_ledger, each_map, Each, after_steps, opens, queued_before, queues, submits, withdraws, withdraws_event, IsDone, changed_from, some_same, Call, NewDevice, NewPanel, Next, OfPanel, Pending, SetHandler, Silence, Step, SubmitEvent, Take, TickDevice, LapseEvent, WithdrawEvent, after_call, after_calls, all_forget, all_hear, answers, asked_at, begins_session, begins_with, begun_of, change_at, changes_at, first_answered, forgets, hears_of, is_to_begin, issues, last_of, made_anew, nexts, panel_says, read_by, read_up_to, takes_back, waiting_of, withdrawn, heard, hears_all, InUse, Station, bus_with, AllKeep, begun_heard, new_at, its_site, one_call, call_keeps, calls_keep, IsOurs, HeardAt, Touched, Untouched, heard_at, IsNetOf, first_net, starts, answered, device_steps, given_back, opening, panel_restarts, panel_steps, reported, steps_along, steps_at, steps_of}
+use Rattle.osdp_calls_ledger.proofs.Common.{◌≡◌, ◌≢◌, ◌+◌, ℕ, zero, suc, max, Bool, true, false, cond, List, [], ◌∷◌, ◌++◌, map, length, Option, Some, None, is_some, refl, sym, subst, ap, ◌∙◌, inl, inr, eqb_tells, ◌==◌, slice_get, Packet, Command, Event, Reply, Report, State, Closed, Quiet, Idle, Waiting, Pausing, Devices, device_of, entry_hears, hears_packet, begin_refusal_at, changed_unless, submit_refusal_at, withdrawal_at, bus_ticks, Entry, BusFault, told_in, items_of, Account, after_report, front_of, taken, taken_command, lacks_room, in_doubt, never_offered, after_set_busy, after_set_handler, Answer, Ledger, Open, RestartDevice, new_ledger, each_map, Each, after_steps, opens, queued_before, queues, submits, withdraws, withdraws_event, IsDone, changed_from, some_same, Call, NewDevice, NewPanel, Next, OfPanel, Pending, SetHandler, Silence, Step, SubmitEvent, Take, TickDevice, LapseEvent, WithdrawEvent, after_call, after_calls, all_forget, all_hear, answers, asked_at, begins_session, begins_with, begun_of, change_at, changes_at, first_answered, forgets, hears_of, is_to_begin, issues, last_of, made_anew, nexts, panel_says, read_by, read_up_to, waiting_of, withdrawn, heard, hears_all, InUse, Station, bus_with, AllKeep, begun_heard, new_at, its_site, one_call, call_keeps, calls_keep, IsOurs, HeardAt, Touched, Untouched, heard_at, IsNetOf, first_net, starts, answered, device_steps, given_back, opening, panel_restarts, panel_steps, reported, steps_along, steps_at, steps_of}
 use Rattle.osdp_msg.specs.declared.command.Command.TheVariants.{Poll}
 use Rattle.osdp_controller.specs.Hearing as controllers
 use Rattle.osdp_controller.specs.declared.report.Report.TheVariants as report
@@ -126,7 +126,7 @@ module _ {H : Type 0} where
   forget_whole : (broken : Bool) (k : ℕ) (ds : List Entry) (ts : List (Station H)) → AreWhole k broken ts → AreWhole k broken (all_forget ds ts)
   forget_whole broken k [] ts is = is
   forget_whole broken k (d ∷ ds) [] is = λ t there. absurd (let e = there in cc)
-  forget_whole broken zero (d ∷ ds) (u ∷ ts) is = λ t there. subst (IsWhole broken) (some_same (forgets (Some d) u) t there) (is u refl)
+  forget_whole broken zero (d ∷ ds) (u ∷ ts) is = λ t there. subst (IsWhole broken) (some_same (forgets u) t there) (is u refl)
   forget_whole broken (suc k) (d ∷ ds) (u ∷ ts) is = forget_whole broken k ds ts is
 
   pub there_is : (o : Option (Station H)) → is_some o ≡ true → {p : Option (Station H)} → p ≡ o → (t : Station H) × (p ≡ Some t)
@@ -276,10 +276,8 @@ module _ {H : Type 0} (answer_of : H → Command → Answer) (after : H → Comm
       (if_calm (i == k) (changed_unless (submit_refusal_at i command l.bus) [] (submits None command g)) (submits_calm (submit_refusal_at i command l.bus) command g))
       (unless_whole k broken i (submit_refusal_at i command l.bus) (issues command) l.stations (λ t. refl) is)
   panel_whole (bus.Withdraw i) places l g broken agreed is =
-      let back = takes_back (withdrawn (withdrawal_at i l.bus)) in
-      calmly broken (panel_steps k (bus.Withdraw i) l.bus g) (change_at i back l.stations)
-      (if_calm (i == k) (withdraws (given_back (withdrawal_at i l.bus)) g) (withdraws_calm (given_back (withdrawal_at i l.bus)) g))
-      (same_whole k broken i back l.stations (λ t. refl) is)
+      calmly broken (panel_steps k (bus.Withdraw i) l.bus g) l.stations
+      (if_calm (i == k) (withdraws (given_back (withdrawal_at i l.bus)) g) (withdraws_calm (given_back (withdrawal_at i l.bus)) g)) is
   panel_whole (bus.OnBytes bytes now) places l g broken agreed is =
       let told = told_in (bus.OnBytes bytes now) l.bus in
       calmly broken (reported k told g) (all_hear told l.stations) (are_calm (reported k told g) (reported_done k told g)) (heard_whole k broken told l.stations is)

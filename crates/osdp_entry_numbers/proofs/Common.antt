@@ -16,7 +16,7 @@ pub use Rattle.osdp_bus_laws.specs.Reports.{told_at, told_by_bytes, told_by_devi
 pub use Rattle.osdp_bus_laws.specs.Turns.{IsBefore, IsDueEntry, judged}
 pub use Rattle.osdp_bus_laws.proofs.Sound.{held_there, sound_item, sound_seen, sound_silent, SoundBus}
 pub use Rattle.osdp_bus_laws.proofs.Turning.{due_is_next, next_is_due, none_is_due, set_here, set_other, strictly}
-pub use Rattle.osdp_calls.specs.Calls.{after_call, after_next, after_panel, all_hear, asked_at, asked_by_holder, begins_with, begun_of, Call, change_at, changes_at, is_to_begin, issues, last_of, NewDevice, NewPanel, Next, noted, OfPanel, panel_says, read_at_end, read_at_silence, read_at_tick, read_by, read_by_holder, read_up_to, said_at, said_for, Step, takes_back, withdrawn}
+pub use Rattle.osdp_calls.specs.Calls.{after_call, after_next, after_panel, all_hear, asked_at, asked_by_holder, begins_with, begun_of, Call, change_at, changes_at, is_to_begin, issues, last_of, NewDevice, NewPanel, Next, noted, OfPanel, panel_says, read_at_end, read_at_silence, read_at_tick, read_by, read_by_holder, read_up_to, said_at, said_for, Step, withdrawn}
 pub use Rattle.osdp_entry_numbers.specs.Numbers.{AreNumbers, has_entry, IsIdle, IsNewPanel, named, Numbers, renumbered, renumbers, turn_of}
 pub use Rattle.osdp_msg.specs.declared.command.Command.{Command}
 pub use Rattle.osdp_link_laws.proofs.Lines.{both, each_all, each_of}

@@ -1,6 +1,6 @@
 -- Calls that keep the premises of any calls keep these: the line beside the panel's own bus differs by the turn alone.
 use Rattle.std.proofs.Common.{◌≡◌, ◌⊎◌, ℕ, true, false, cond, is_some, List, [], ◌∷◌, ◌++◌, append-nil, map, option_map, Option, Some, None, refl, sym, subst, ap, ◌∙◌, inl, inr}
-use Rattle.osdp_entry_numbers.proofs.Common.{option_map_or, Packet, Command, BusState, device_of, after_begin_at, after_retarget_at, after_submit_at, begin_refusal_of, changed_unless, entry_withdraws, retarget_refusal_of, submit_refusal_of, withdrawal_of, BusConfig, Entry, sound_call, SoundBus, each_of, Each, Answer, changed, site_at, Call, NewDevice, NewPanel, Next, OfPanel, Step, after_call, after_next, after_panel, all_hear, asked_at, begins_with, begun_of, change_at, changes_at, is_to_begin, issues, last_of, noted, panel_says, read_by, said_at, said_for, takes_back, withdrawn, CanStand, Burst, InUse, Station, AllKeep, AreInOrder, IsAsked, IsFreeFor, IsNoOthers, IsOfOthers, IsSaid, IsThere, Keeps, MayBeAt, PanelInRange, said_bus, changed_same, AnyCallsKeep, as_they_stand, same_step, IsNewPanel, has_entry, named, renumbered, turn_of, AllOwnKeep, LeavesAlone, OwnKeeps, OwnLine, after_own, asked_in}
+use Rattle.osdp_entry_numbers.proofs.Common.{option_map_or, Packet, Command, BusState, device_of, after_begin_at, after_retarget_at, after_submit_at, begin_refusal_of, changed_unless, entry_withdraws, retarget_refusal_of, submit_refusal_of, withdrawal_of, BusConfig, Entry, sound_call, SoundBus, each_of, Each, Answer, changed, site_at, Call, NewDevice, NewPanel, Next, OfPanel, Step, after_call, after_next, after_panel, all_hear, asked_at, begins_with, begun_of, change_at, changes_at, is_to_begin, issues, last_of, noted, panel_says, read_by, said_at, said_for, withdrawn, CanStand, Burst, InUse, Station, AllKeep, AreInOrder, IsAsked, IsFreeFor, IsNoOthers, IsOfOthers, IsSaid, IsThere, Keeps, MayBeAt, PanelInRange, said_bus, changed_same, AnyCallsKeep, as_they_stand, same_step, IsNewPanel, has_entry, named, renumbered, turn_of, AllOwnKeep, LeavesAlone, OwnKeeps, OwnLine, after_own, asked_in}
 use Rattle.osdp_bus_laws.specs.Calls as bus
 use Rattle.osdp_entry_numbers.specs.Numbers.{is_of_line}
 use Rattle.osdp_entry_numbers.proofs.NewPanels.{has_turn, new_sound}
@@ -125,16 +125,6 @@ module _ {H : Type 0} where
 
   -- ---- a call that names an entry that the panel doesn't have
 
-  nothing_taken : (k : ℕ) (ts : List (Station H)) → change_at k (takes_back []) ts ≡ ts
-  nothing_taken k ts = by_station (site_at k ts) refl
-    where
-      same : (t : Station H) → takes_back [] t ≡ t
-      same t = ap (λ xs. record t { account = record t.account { removed = xs } }) (append-nil t.account.removed)
-
-      by_station : (o : Option (Station H)) → site_at k ts ≡ o → changes_at k (takes_back []) o ts ≡ ts
-      by_station None is = refl
-      by_station (Some t) is = ap (λ u. changed k u ts) (same t) ∙ changed_same k t ts is
-
   absent_same : (call : bus.Call) (k : ℕ) (ps : List ℕ) (l : InUse H) → named call ≡ Some k → device_of k l.bus ≡ None
       → after_panel call ps l ≡ record l { place = last_of ps l.place }
   absent_same (bus.Begin i now) k ps l is none =
@@ -157,10 +147,8 @@ module _ {H : Type 0} where
         bus = option_map_or (λ (e : Entry). record l.bus {
           devices = record l.bus.devices { entries = Rattle.std.specs.Prelude.slice_set l.bus.devices.entries i (entry_withdraws e) };
         }) (here j) l.bus;
-        stations = change_at i (takes_back (withdrawn (withdrawal_of (here j)))) l.stations;
         place = last_of ps l.place;
       })
-      ∙ ap (λ ts. record l { stations = ts; place = last_of ps l.place }) (nothing_taken i l.stations)
   absent_same (bus.Retarget i address) k ps l is none =
       let here : device_of i l.bus ≡ None = ap (λ j. device_of j l.bus) (let e : i ≡ k = cc in e) ∙ none in
       (λ j. record l {

@@ -1,5 +1,5 @@
 -- Within a session the restarts of the reader are counted.
-use Rattle.osdp_link_laws.proofs.Common.{◌≡◌, ◌≢◌, ◌≤◌, ◌+◌, ℕ, Bool, true, false, List, [], ◌∷◌, length, Option, Some, None, refl, sym, ap, ◌∙◌, arith, Packet, Command, Event, Reply, ticks, ControllerFault, Report, Answer, Kind, lacks_room, CountsRestarts, restarts_in, Account, Delivered, Delivery, Link, Lost, Move, QueueEvent, Reopen, Repeated, RestartReader, Retarget, Submit, Tick, ToController, ToReader, after_move, after_report, run, KeepsReader, LapseEvent}
+use Rattle.osdp_link_laws.proofs.Common.{◌≡◌, ◌≢◌, ◌≤◌, ◌+◌, ℕ, Bool, true, false, List, [], ◌∷◌, length, Option, Some, None, refl, sym, ap, ◌∙◌, arith, Packet, Command, Event, Reply, ticks, ControllerFault, Report, Answer, Kind, lacks_room, CountsRestarts, restarts_in, Account, Delivered, Delivery, Link, Lost, Move, QueueEvent, Reopen, Repeated, RestartReader, Retarget, Submit, Tick, ToController, ToReader, after_move, after_report, run, KeepsReader, LapseEvent, ◌++◌, append_assoc, append-nil, all_submitted, submitted}
 use Rattle.osdp_controller.specs.Hearing as controller
 use Rattle.osdp_controller.specs.Machine as controllers
 use Rattle.osdp_controller.specs.declared.report.Report.TheVariants as report
@@ -112,6 +112,29 @@ module _ {H : Type 0} (answer_of : H → Command → Answer) (after : H → Comm
   others_inside : (move : Move H) (moves : List (Move H)) (l : Link H) → length (run answer_of after (move ∷ moves) l).earlier ≡ length l.earlier
       → length (run answer_of after (move ∷ moves) l).earlier ≡ length (after_move answer_of after move l).earlier
   others_inside move moves l same = same ∙ sym (first_inside move moves l same)
+
+  -- what was issued in the session is what was issued before these moves, and what they submit
+  reopens_issue : (refusal : Option ControllerFault) (ps qs : List Packet) (now : ℕ) (l : Link H)
+      → length (link.reopens refusal ps qs now l).earlier ≡ length l.earlier → (link.reopens refusal ps qs now l).account.issued ≡ l.account.issued
+  reopens_issue (Some fault) ps qs now l same = refl
+  reopens_issue None (p ∷ ps) qs now l same = refl
+  reopens_issue None [] (q ∷ qs) now l same = refl
+  reopens_issue None [] [] now l same = absurd (omega (arith, same))
+
+  issues_one : (move : Move H) (l : Link H) → length (after_move answer_of after move l).earlier ≡ length l.earlier
+      → (after_move answer_of after move l).account.issued ≡ l.account.issued ++ submitted move l
+  issues_one (Reopen now) l same =
+      reopens_issue (controllers.begin_refusal l.controller) l.to_reader l.to_controller now l same ∙ sym (append-nil l.account.issued)
+  issues_one move l same = (goes_on answer_of after move l tt).0.issued
+
+  pub issues_all : (moves : List (Move H)) (l : Link H) → length (run answer_of after moves l).earlier ≡ length l.earlier
+      → (run answer_of after moves l).account.issued ≡ l.account.issued ++ all_submitted answer_of after moves l
+  issues_all [] l same = sym (append-nil l.account.issued)
+  issues_all (move ∷ moves) l same =
+      let next = after_move answer_of after move l in
+      issues_all moves next (others_inside move moves l same)
+      ∙ ap (λ cs. cs ++ all_submitted answer_of after moves next) (issues_one move l (first_inside move moves l same))
+      ∙ append_assoc l.account.issued (submitted move l) (all_submitted answer_of after moves next)
 
   counts_one : (move : Move H) (moves : List (Move H)) (l : Link H) → length (after_move answer_of after move l).earlier ≡ length l.earlier
       → (after_move answer_of after move l).account.restarts + restarts_in moves ≡ l.account.restarts + restarts_in (move ∷ moves)

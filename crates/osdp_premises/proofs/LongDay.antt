@@ -173,7 +173,6 @@ module _ {H : Type 0} (answer_of : H → Command → Answer) (after : H → Comm
     taken = refl;
     settled = refl;
     in_doubt = refl;
-    forgotten = refl;
     reported = refl;
     offered = refl;
     waiting = refl;

@@ -372,7 +372,6 @@ module _ {H : Type 0} where
       pub taken : map (λ (a : Account). length a.taken) (first_sessions handler other) ≡ 0 ∷ 1 ∷ 0 ∷ 1 ∷ 1 ∷ 1 ∷ 0 ∷ []
       pub settled : map (λ (a : Account). length a.settled) (first_sessions handler other) ≡ 0 ∷ 0 ∷ 0 ∷ 0 ∷ 1 ∷ 1 ∷ 0 ∷ []
       pub in_doubt : map (λ (a : Account). a.unsettled) (first_sessions handler other) ≡ [] ∷ [] ∷ [] ∷ (away 7 ∷ []) ∷ [] ∷ [] ∷ [] ∷ []
-      pub forgotten : map (λ (a : Account). a.forgotten) (first_sessions handler other) ≡ [] ∷ (Cap 0 ∷ []) ∷ [] ∷ [] ∷ [] ∷ [] ∷ [] ∷ []
       pub reported : map (λ (a : Account). a.reported) (first_sessions handler other) ≡ [] ∷ [] ∷ [] ∷ [] ∷ (key ∷ []) ∷ (key ∷ []) ∷ [] ∷ []
       pub offered : map (λ (a : Account). a.offered) (first_sessions handler other) ≡ (key ∷ []) ∷ [] ∷ [] ∷ [] ∷ (key ∷ []) ∷ (key ∷ []) ∷ [] ∷ []
       -- what has lapsed waits no more

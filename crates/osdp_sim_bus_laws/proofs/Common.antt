@@ -17,7 +17,7 @@ pub use Rattle.osdp_bus.specs.Machine.{after_begin_at, after_next_report, after_
 pub use Rattle.osdp_bus.specs.declared.config.BusConfig.{BusConfig}
 pub use Rattle.osdp_bus.specs.declared.entry.Entry.{Entry}
 pub use Rattle.osdp_bus.specs.declared.fault.BusFault.{BusFault}
-pub use Rattle.osdp_link_laws.specs.Sessions.{ended_commands, ended_in, IsAmong, LastOneLasts, LastsOrLeaves, LeavesCommands}
+pub use Rattle.osdp_link_laws.specs.Sessions.{IsAmong}
 pub use Rattle.osdp_link_laws.proofs.Lines.{each_all, each_append, each_map, each_of}
 pub use Rattle.osdp_link_laws.proofs.Stages.{Each}
 pub use Rattle.osdp_sim.specs.Account.{Account, lengths_of, with_report}

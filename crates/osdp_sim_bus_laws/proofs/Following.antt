@@ -1,5 +1,5 @@
 -- What the steps of a schedule are to the sites whose controllers a bus has: calls, moments and sessions.
-use Rattle.osdp_sim_bus_laws.proofs.Common.{◌≡◌, ◌-◌, ◌||◌, ℕ, zero, suc, max, not, Bool, true, false, if◌then◌else◌, List, [], ◌∷◌, ◌++◌, map, Option, Some, None, IfSome, refl, sym, subst, ap, ◌∙◌, arith, append_assoc, map-append, is_some, option_to_list, IsPacket, Packet, spelling, CommandFits, Command, Event, Report, ReaderState, Answer, lacks_room, after_next_report, submit_refusal_at, bus_ticks, BusFault, Each, ControllerFault, IsBusOf, IsNoRefusalOf, IsSubmitted, SubmitsAsAMove, TellsEach, TicksAsAMove, device_of, one_ticks, packets_on, tick_moves, who_ticks, AllOthersFit, IsScheduled, OthersFit, sent, LineState, ReaderSite, changes_site, is_there, issued, site_is_busy, site_issues, site_queues, site_queues_unless, takes_report, waited, where_there, ended_commands, tells_issued, tells_queued, comset_of, FollowsSites, IsSiteOf, SitesOf, for_reader}
+use Rattle.osdp_sim_bus_laws.proofs.Common.{◌≡◌, ◌-◌, ◌||◌, ℕ, zero, suc, max, not, Bool, true, false, if◌then◌else◌, List, [], ◌∷◌, ◌++◌, map, Option, Some, None, IfSome, refl, sym, subst, ap, ◌∙◌, arith, append_assoc, map-append, is_some, option_to_list, IsPacket, Packet, spelling, CommandFits, Command, Event, Report, ReaderState, Answer, lacks_room, after_next_report, submit_refusal_at, bus_ticks, BusFault, Each, ControllerFault, IsBusOf, IsNoRefusalOf, IsSubmitted, SubmitsAsAMove, TellsEach, TicksAsAMove, device_of, one_ticks, packets_on, tick_moves, who_ticks, AllOthersFit, IsScheduled, OthersFit, sent, LineState, ReaderSite, changes_site, is_there, issued, site_is_busy, site_issues, site_queues, site_queues_unless, takes_report, waited, where_there, tells_issued, tells_queued, comset_of, FollowsSites, IsSiteOf, SitesOf, for_reader}
 use Rattle.osdp_reader.specs.State as readers
 use Rattle.osdp_controller.specs.Machine as controllers
 use Rattle.osdp_link_laws.specs.Link as link
@@ -74,7 +74,6 @@ module _ {H : Type 0} (answer_of : H → Command → Answer) (after : H → Comm
   submitted_as c u t none is = subst (λ fault. IsSiteOf (site_issues c u) (submits_by c t fault)) (sym none) (record {
     reader = is.reader;
     tells = tells_issued c u.account t.account t.earlier is.tells;
-    issued = ap (λ cs. cs ++ c ∷ []) is.issued ∙ append_assoc (ended_commands t.earlier) t.account.issued (c ∷ []);
     ended = is.ended;
     causes = is.causes;
   })
@@ -150,11 +149,10 @@ module _ {H : Type 0} (answer_of : H → Command → Answer) (after : H → Comm
   queues_by full e t = line.left_by t (link.queues full e (line.link_of t [] []))
 
   queued_as : (full : Bool) (e : Event) (u : ReaderSite H) (t : line.Site H) → IsSiteOf u t → IsSiteOf (site_queues_unless full e u) (queues_by full e t)
-  queued_as true e u t is = record { reader = is.reader; tells = is.tells; issued = is.issued; ended = is.ended; causes = is.causes }
+  queued_as true e u t is = record { reader = is.reader; tells = is.tells; ended = is.ended; causes = is.causes }
   queued_as false e u t is = record {
     reader = ap (readers.after_submit e) is.reader;
     tells = tells_queued e u.account t.account t.earlier is.tells;
-    issued = is.issued;
     ended = is.ended;
     causes = is.causes;
   }
@@ -179,7 +177,7 @@ module _ {H : Type 0} (answer_of : H → Command → Answer) (after : H → Comm
       where_is (is_there number s) (SetBusy (number - 1) busy ∷ []) (changes_site (number - 1) (site_is_busy busy) s) s n
       (one_reader (number - 1) (SetBusy (number - 1) busy) (site_is_busy busy) (line.calls answer_of after (link.SetBusy busy)) s n
       tt tt refl (λ t. refl) (λ t. refl)
-      (λ u t is. record { reader = ap (readers.after_set_busy busy) is.reader; tells = is.tells; issued = is.issued; ended = is.ended; causes = is.causes }) h) (nothing s n h)
+      (λ u t is. record { reader = ap (readers.after_set_busy busy) is.reader; tells = is.tells; ended = is.ended; causes = is.causes }) h) (nothing s n h)
 
   -- ---- a moment
 

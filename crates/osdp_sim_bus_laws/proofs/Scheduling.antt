@@ -1,5 +1,5 @@
 -- Each schedule is a list of moves of the sites: what each step asks of them is known of sites after any moves.
-use Rattle.osdp_sim_bus_laws.proofs.Common.{◌≡◌, ℕ, true, List, [], ◌∷◌, ◌++◌, All, Some, refl, sym, subst, ap, ◌∙◌, append_assoc, Packet, Command, Answer, IsPlainlySaid, AreUndisturbed, IsOrdinary, OrdinaryIsUndisturbed, LastOneLasts, LastsOrLeaves, each_all, each_append, each_of, steady_ordinary, Each, IsSetUp, NobodyElseHears, Net, NetMove, Site, run, site_at, EachMoveIsItsOwn, own, AllOthersFit, BusSuffices, IsScheduled, NothingIsKept, are_steady, SimStep, FitAlong, LineState, after_step, fault_of, first_well, FollowsSites, IsKnown, SchedulesAreMoves, StepsAreMoves, moves_for, moves_of}
+use Rattle.osdp_sim_bus_laws.proofs.Common.{◌≡◌, ℕ, true, List, [], ◌∷◌, ◌++◌, All, Some, refl, sym, subst, ap, ◌∙◌, append_assoc, Packet, Command, Answer, IsPlainlySaid, AreUndisturbed, IsOrdinary, OrdinaryIsUndisturbed, each_all, each_append, each_of, steady_ordinary, Each, IsSetUp, NobodyElseHears, Net, NetMove, Site, run, site_at, EachMoveIsItsOwn, own, AllOthersFit, BusSuffices, IsScheduled, NothingIsKept, are_steady, SimStep, FitAlong, LineState, after_step, fault_of, first_well, FollowsSites, IsKnown, SchedulesAreMoves, StepsAreMoves, moves_for, moves_of}
 use Rattle.osdp_link_laws.specs.Link as link
 use Rattle.osdp_link_laws.specs.Refusals.{SaysAllPlainly}
 use Rattle.osdp_bus_links.proofs.Linked.{AreLinked, IsLinked, OfALink}
@@ -11,19 +11,14 @@ use Rattle.osdp_shared_line.proofs.Rounds.{net_more}
 module _ {H : Type 0} (answer_of : H → Command → Answer) (after : H → Command → H) where
   -- ---- what is known after any moves
 
-  module _ (plainly : SaysAllPlainly answer_of after) (lasts : LastOneLasts answer_of after) (so : OrdinaryIsUndisturbed answer_of after) where
+  module _ (plainly : SaysAllPlainly answer_of after) (so : OrdinaryIsUndisturbed answer_of after) where
     undisturbed : (k : ℕ) (t : Site H) (n : Net H) → IsLinked answer_of after k t n → AreUndisturbed (t.account ∷ t.earlier)
     undisturbed k t n h =
         subst (λ (l : link.Link H). AreUndisturbed (l.account ∷ l.earlier)) (sym h.led.leads)
         (so h.first h.moves h.led.begins (each_all IsOrdinary h.moves (steady_ordinary h.moves (are_steady h.moves h.led.usual))))
 
     known : (n : Net H) → AreLinked answer_of after n → Each (λ (q : ℕ × Packet). IsSited n.sites q.0) n.to_panel → IsKnown n
-    known n linked sited = record {
-      plain = each_all (λ (q : ℕ × Packet). IsPlainlySaid q.1) n.to_panel (each_own IsPlainlySaid n.sites n.to_panel sited own_are);
-      leaves = λ k t is.
-          let h = linked k t is in
-          subst (λ (l : link.Link H). LastsOrLeaves l.controller.session.state l) (sym h.led.leads) (lasts h.first h.moves h.led.begins h.led.fits);
-    }
+    known n linked sited = each_all (λ (q : ℕ × Packet). IsPlainlySaid q.1) n.to_panel (each_own IsPlainlySaid n.sites n.to_panel sited own_are)
       where
         own_are : (k : ℕ) (t : Site H) → site_at k n.sites ≡ Some t → Each IsPlainlySaid (own k n.to_panel)
         own_are k t is =
@@ -86,10 +81,10 @@ module _ {H : Type 0} (answer_of : H → Command → Answer) (after : H → Comm
         }
 
   pub schedules_are_moves : StepsAreMoves answer_of after → BusSuffices answer_of after → OfALink answer_of after → EachMoveIsItsOwn answer_of after
-      → NobodyElseHears answer_of after → SaysAllPlainly answer_of after → LastOneLasts answer_of after → OrdinaryIsUndisturbed answer_of after
+      → NobodyElseHears answer_of after → SaysAllPlainly answer_of after → OrdinaryIsUndisturbed answer_of after
       → SchedulesAreMoves answer_of after
-  schedules_are_moves steps_move suffices given its_own nobody plainly lasts so =
-      schedules_so steps_move suffices (known plainly lasts so)
+  schedules_are_moves steps_move suffices given its_own nobody plainly so =
+      schedules_so steps_move suffices (known plainly so)
       (λ first moves up none scheduled others.
       all_linked answer_of after given its_own nobody first moves up none scheduled
       (suffices first moves up none (each_all IsScheduled moves scheduled) others))

@@ -1,12 +1,11 @@
 -- The readers of a simulated line and the sites whose readers they are, place by place.
-use Rattle.osdp_sim_bus_laws.proofs.Common.{◌≡◌, ◌<◌, ◌+◌, ℕ, zero, suc, Bool, true, false, cond, List, [], ◌∷◌, ◌++◌, length, map, Option, Some, None, refl, sym, subst, ap, ◌∙◌, arith, map-append, option_map_or, flat_map, Packet, spelling, Command, is_closed, Report, ReaderState, Answer, Delivered, is_false, is_true, Each, changed, site_at, tagged, IsNoRefusalOf, IsTold, TellsFrom, packets_on, report_for, with_report, sent, ReaderSite, changed_site, site_hears, site_is_told, site_says, ended_commands, IsOf, IsSiteOf, SitesOf, count, causes_of, report_leaves, tells_report, tells_taken}
+use Rattle.osdp_sim_bus_laws.proofs.Common.{◌≡◌, ◌<◌, ◌+◌, ℕ, zero, suc, Bool, true, false, cond, List, [], ◌∷◌, ◌++◌, length, map, Option, Some, None, refl, sym, subst, ap, ◌∙◌, arith, map-append, option_map_or, flat_map, Packet, spelling, Command, is_closed, Report, ReaderState, Answer, Delivered, is_false, is_true, Each, changed, site_at, tagged, IsNoRefusalOf, IsTold, TellsFrom, packets_on, report_for, with_report, sent, ReaderSite, changed_site, site_hears, site_is_told, site_says, IsOf, IsSiteOf, SitesOf, count, causes_of, report_leaves, tells_report, tells_taken}
 use Rattle.std.specs.Prelude.{slice_get, slice_set, option_to_list, ◌==◌}
 use Rattle.osdp_reader.specs.Table as reader
 use Rattle.osdp_link_laws.specs.Link as link
 use Rattle.osdp_link_laws.specs.Refusals as refusals
 use Rattle.osdp_link_laws.specs.Ends as ends
 use Rattle.osdp_shared_line.specs.Line as line
-use Rattle.osdp_link_laws.proofs.Growing.{taken_takes, told_issues}
 use Rattle.osdp_sim_bus_laws.proofs.Reading.{hearing, said_from}
 use Rattle.osdp_sim_laws.proofs.Ends.{ends_after}
 
@@ -75,8 +74,6 @@ module _ {H : Type 0} where
     reader = h.reader ∙ sym is.reader;
     tells = subst (λ a. IsOf (with_report r u.account) a t.earlier) (sym is.account)
         (subst (λ e. IsOf (with_report r u.account) (link.after_report r s.account) e) (sym is.earlier) (tells_report r u.account s.account s.earlier h.tells));
-    issued = (report_leaves r u.account).0 ∙ h.issued
-        ∙ (λ i. ended_commands (sym is.earlier i) ++ (sym (told_issues r s.account) ∙ ap (λ a. a.issued) (sym is.account)) i);
     ended =
         let was = counts_alike (is_closed s.controller.session.state) in
         let now = counts_alike (is_closed t.controller.session.state) in
@@ -157,7 +154,7 @@ module _ {H : Type 0} where
   none_heard rest [] (t ∷ ts) all = absurd all
   none_heard rest (u ∷ us) [] all = absurd all
   none_heard rest (u ∷ us) (t ∷ ts) all =
-      (record { reader = all.0.reader; tells = all.0.tells; issued = all.0.issued; ended = all.0.ended; causes = all.0.causes }, none_heard rest us ts all.1)
+      (record { reader = all.0.reader; tells = all.0.tells; ended = all.0.ended; causes = all.0.causes }, none_heard rest us ts all.1)
 
 module _ {H : Type 0} (answer_of : H → Command → Answer) (after : H → Command → H) where
   site_heard : (p : Packet) (rest : List (ℕ × Packet)) (u : ReaderSite H) (t : line.Site H) → IsSiteOf u t
@@ -167,7 +164,6 @@ module _ {H : Type 0} (answer_of : H → Command → Answer) (after : H → Comm
       subst (λ r. IsSiteOf (site_hears answer_of after p (record { reader = r; account = u.account })) (hearing answer_of after p rest t)) (sym h.reader) (record {
         reader = refl;
         tells = tells_taken (reader.kind_of t.reader p) o.command o.said (link.front_of t.reader) u.account t.account t.earlier h.tells;
-        issued = h.issued ∙ ap (λ a. ended_commands t.earlier ++ a.issued) (sym (taken_takes (reader.kind_of t.reader p) o.command o.said (link.front_of t.reader) t.account).1);
         ended = h.ended;
         causes = h.causes;
       })

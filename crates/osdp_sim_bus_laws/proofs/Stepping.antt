@@ -1,10 +1,8 @@
 -- Each step of a schedule is a list of moves of the sites.
-use Rattle.osdp_sim_bus_laws.proofs.Common.{◌≡◌, ◌≢◌, ◌-◌, ◌&&◌, ◌==◌, not, ℕ, zero, suc, Bool, true, false, if◌then◌else◌, List, [], ◌∷◌, ◌++◌, length, map, Option, Some, None, refl, sym, subst, ap, ◌∙◌, arith, append_assoc, ne_eqb, length-append, slice_get, packets_in, Packet, spelling, Command, is_closed, ControllerFault, Answer, begin_refusal_of, begin_refusal_at, bus_fault, Entry, IsPlainlySaid, LastsOrLeaves, LeavesCommands, ended_commands, ended_in, each_all, each_of, Each, IsQuiet, view, IsBusOf, device_of, packets_on, IsScheduled, lengths_of, handed, SaysFit, moment_after, SimStep, LineState, ReaderSite, StepFits, after_step, fault_of, is_quiet, is_there, reopened, site_begins, tells_session, FollowsSites, IsKnown, IsSiteOf, OneBus, StepsAreMoves, count, moment_of, moves_for}
+use Rattle.osdp_sim_bus_laws.proofs.Common.{◌≡◌, ◌≢◌, ◌-◌, ◌&&◌, ◌==◌, not, ℕ, zero, suc, Bool, true, false, if◌then◌else◌, List, [], ◌∷◌, ◌++◌, length, map, Option, Some, None, refl, sym, subst, ap, ◌∙◌, arith, append_assoc, ne_eqb, length-append, slice_get, packets_in, Packet, spelling, Command, is_closed, ControllerFault, Answer, begin_refusal_of, begin_refusal_at, bus_fault, Entry, IsPlainlySaid, each_all, each_of, Each, IsQuiet, view, IsBusOf, device_of, packets_on, IsScheduled, lengths_of, handed, SaysFit, moment_after, SimStep, LineState, ReaderSite, StepFits, after_step, fault_of, is_quiet, is_there, reopened, site_begins, tells_session, FollowsSites, IsKnown, IsSiteOf, OneBus, StepsAreMoves, count, moment_of, moves_for}
 use Rattle.std.specs.Option.{option_map, option_map_or}
 use Rattle.osdp_controller.specs.Machine as controllers
 use Rattle.osdp_controller_laws.proofs.Closed.{may_begin}
-use Rattle.osdp_controller.specs.declared.state.State.{State}
-use Rattle.osdp_controller.specs.declared.state.State.TheVariants.{Closed}
 use Rattle.osdp_link_laws.specs.Link as link
 use Rattle.osdp_shared_line.specs.Line as line
 use Rattle.osdp_shared_line.specs.Line.{Net, Reopen, changed, site_at}
@@ -44,18 +42,13 @@ ended_closed : (o : Option Entry) (d : Entry) → o ≡ Some d → has_ended o �
 ended_closed o d is ended = subst (λ p. has_ended p ≡ true) is ended
 
 module _ {H : Type 0} (answer_of : H → Command → Answer) (after : H → Command → H) where
-  leaves_closed : (state : State) (l : link.Link H) → is_closed state ≡ true → LastsOrLeaves state l → LeavesCommands l.account l.controller.waiting
-  leaves_closed Closed l e leaves = leaves
-  leaves_closed _ l e lasts = absurd cc
-
   -- a session of a site begins
   abbrev begins_by : Option ControllerFault → ℕ → line.Site H → line.Site H
   begins_by fault now t = line.left_by t (link.reopens fault [] [] now (line.link_of t [] []))
 
-  site_begun : (now : ℕ) (u : ReaderSite H) (t : line.Site H) → is_closed t.controller.session.state ≡ true
-      → LeavesCommands t.account t.controller.waiting → IsSiteOf u t
+  site_begun : (now : ℕ) (u : ReaderSite H) (t : line.Site H) → is_closed t.controller.session.state ≡ true → IsSiteOf u t
       → IsSiteOf (site_begins u) (begins_by None now t)
-  site_begun now u t closed leaves is =
+  site_begun now u t closed is =
       let one : count (is_closed t.controller.session.state) ≡ 1 = ap count closed in
       let before = is.ended in
       let ended : length u.account.ends ≡ length u.account.sessions = omega (arith, before, one) in
@@ -63,8 +56,6 @@ module _ {H : Type 0} (answer_of : H → Command → Answer) (after : H → Comm
       record {
         reader = is.reader;
         tells = tells_session u.account t.account t.controller.waiting t.reader.queue.events t.earlier is.tells;
-        issued = is.issued ∙ ap (λ cs. ended_commands t.earlier ++ cs) leaves.commands
-            ∙ sym (append_assoc (ended_commands t.earlier) (ended_in t.account) t.controller.waiting);
         ended = omega (arith, ended, more);
         causes = is.causes;
       }
@@ -84,9 +75,9 @@ module _ {H : Type 0} (answer_of : H → Command → Answer) (after : H → Comm
   coming_at (suc k) t (u ∷ ts) said all at = coming_at k t ts said all.1 at
 
   module _ (given : OneBus answer_of after) where
-    reopening : (place : ℕ) (s : LineState H) (n : Net H) → is_quiet place s ≡ true → IsKnown n → FollowsSites s n
+    reopening : (place : ℕ) (s : LineState H) (n : Net H) → is_quiet place s ≡ true → FollowsSites s n
         → Comes answer_of after (Reopen place (moment_of s) ∷ []) (reopened place s) n
-    reopening place s n quiet known h =
+    reopening place s n quiet h =
         let all = all_true (length s.to_readers == 0) (length s.to_bus == 0) (steps.is_ended place s.bus) quiet in
         let said : h.said ≡ [] = none_on h.said (subst (λ l. (length l == 0) ≡ true) h.to_readers all.0) in
         let back : n.to_panel ≡ [] = none_on n.to_panel (subst (λ l. (length l == 0) ≡ true) h.to_bus all.1) in
@@ -106,7 +97,6 @@ module _ {H : Type 0} (answer_of : H → Command → Answer) (after : H → Comm
             let same : line.after_net answer_of after (Reopen place g) n ≡ next =
             ap (λ o. line.change_at place o (line.calls answer_of after (link.Reopen g)) n) at
             ∙ ap (λ f. record n { sites = changed place (begins_by f g t) n.sites }) none in
-            let leaves = leaves_closed t.controller.session.state (view place t n) closed (known.leaves place t at) in
             record {
               scheduled = (tt, tt);
               fits = (
@@ -115,14 +105,14 @@ module _ {H : Type 0} (answer_of : H → Command → Answer) (after : H → Comm
               );
               follows = subst (FollowsSites (reopened place s)) (sym same) (unsaid answer_of after s (reopened place s) n next h
                   (subst (λ (m : Net H). IsBusOf (reopened place s).bus m.sites) same (given.calls.begins s.bus n place s.clock h.bus refusal))
-                  (one_changes place site_begins t (begins_by None g t) s.sites n.sites h.sites at (λ u is. site_begun g u t closed leaves is))
+                  (one_changes place site_begins t (begins_by None g t) s.sites n.sites h.sites at (λ u is. site_begun g u t closed is))
                   (λ before all. same_coming place t (begins_by None g t) before n.sites at refl all) refl refl refl);
             }
 
-    where_reopened : (there : Bool) (place : ℕ) (s : LineState H) (n : Net H) → (there ≡ true → is_quiet place s ≡ true) → IsKnown n → FollowsSites s n
+    where_reopened : (there : Bool) (place : ℕ) (s : LineState H) (n : Net H) → (there ≡ true → is_quiet place s ≡ true) → FollowsSites s n
         → Comes answer_of after (if there then Reopen place (moment_of s) ∷ [] else []) (if there then reopened place s else s) n
-    where_reopened true place s n quiet known h = reopening place s n (quiet refl) known h
-    where_reopened false place s n quiet known h = nothing answer_of after s n h
+    where_reopened true place s n quiet h = reopening place s n (quiet refl) h
+    where_reopened false place s n quiet h = nothing answer_of after s n h
 
     step_comes : (step : SimStep) (s : LineState H) (n : Net H) → fault_of step s ≡ None → StepFits answer_of after step s
         → IsKnown n → FollowsSites s n → Comes answer_of after (moves_for step s) (after_step answer_of after step s) n
@@ -134,9 +124,9 @@ module _ {H : Type 0} (answer_of : H → Command → Answer) (after : H → Comm
         to_readers answer_of after given.reads move s n well (each_of (λ (u : ReaderSite H). SaysFit answer_of after (packets_in (handed move s.to_readers)) u.reader) s.sites fits) h
     step_comes (step.ToController move) s n well fits known h =
         to_bus answer_of after given.calls.hears given.reads given.spells n.to_panel move s n refl well fits given.no_bytes
-        (each_of (λ (q : ℕ × Packet). IsPlainlySaid q.1) n.to_panel known.plain) h
+        (each_of (λ (q : ℕ × Packet). IsPlainlySaid q.1) n.to_panel known) h
     step_comes (step.Reopen number) s n well fits known h =
-        where_reopened (is_there number s) (number - 1) s n (quiet_where (is_there number s) (is_quiet (number - 1) s) well) known h
+        where_reopened (is_there number s) (number - 1) s n (quiet_where (is_there number s) (is_quiet (number - 1) s) well) h
 
     pub steps_are_moves : StepsAreMoves answer_of after
     steps_are_moves step s n well fits known h =

@@ -9,11 +9,9 @@ use Rattle.osdp_controller.specs.States.{is_closed}
 use Rattle.osdp_reader.specs.declared.handler.Answer.{Answer}
 use Rattle.osdp_link_laws.specs.Link.{Delivery}
 use Rattle.osdp_link_laws.specs.Peers.{IsPlainlySaid}
-use Rattle.osdp_link_laws.specs.Sessions.{LastsOrLeaves, ended_commands}
 use Rattle.osdp_shared_line.specs.Addresses.{IsSetUp, NetMovesFit}
 use Rattle.osdp_shared_line.specs.Line as line
 use Rattle.osdp_shared_line.specs.Line.{Net, NetMove, run, site_at}
-use Rattle.osdp_shared_line.specs.Views.{view}
 use Rattle.osdp_bus.specs.declared.config.BusConfig.{BusConfig}
 use Rattle.osdp_bus_links.specs.Links.{CallsAreMoves, IsBusOf, packets_on, tick_moves}
 use Rattle.osdp_bus_links.specs.Premises.{AllOthersFit, BusSuffices, IsScheduled, NothingIsKept}
@@ -63,12 +61,10 @@ module _ {H : Type 0} where
 
   -- ---- a simulation and its sites
 
-  -- a reader is that of a site, and its account holds what the sessions of the site came to: each has ended once, or each but the last; the commands of a
-  -- session are those after the ones that the sessions before it settled or told unsettled
+  -- a reader is that of a site, and its account holds what the sessions of the site came to: each has ended once, or each but the last
   pub record IsSiteOf (u : ReaderSite H) (t : line.Site H) : Type 0 where
     pub reader : u.reader ≡ t.reader
     pub tells : IsOf u.account t.account t.earlier
-    pub issued : u.account.issued ≡ ended_commands t.earlier ++ t.account.issued
     pub ended : length u.account.ends + 1 ≡ length u.account.sessions + count (is_closed t.controller.session.state)
     pub causes : AllByRecursion IsNoRefusal u.account.ends
 
@@ -88,11 +84,9 @@ module _ {H : Type 0} where
     pub asked : AllByRecursion IsPacket (packets_on said)
     pub answered : AllByRecursion IsPacket (packets_on n.to_panel)
 
-  -- what is known of sites after any moves: all that their readers say settles, and a session that is over leaves the commands that the next
-  -- begins with
-  pub record IsKnown (n : Net H) : Type 0 where
-    pub plain : All (λ (q : ℕ × Packet). IsPlainlySaid q.1) n.to_panel
-    pub leaves : (k : ℕ) (t : line.Site H) → site_at k n.sites ≡ Some t → LastsOrLeaves t.controller.session.state (view k t n)
+  -- what is known of sites after any moves: all that their readers say settles
+  abbrev pub IsKnown : Net H → Type 0
+  IsKnown n = All (λ (q : ℕ × Packet). IsPlainlySaid q.1) n.to_panel
 
   module _ (answer_of : H → Command → Answer) (after : H → Command → H) where
     -- what this stands on: the calls of a bus, and what its bytes are

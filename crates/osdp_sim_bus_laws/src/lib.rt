@@ -28,7 +28,6 @@ pub fn schedules_are_moves<H: Handler>()
     osdp_bus_links::bus_suffices::<H>();
     osdp_link_laws::read_each_other::<H>();
     osdp_link_laws::refuses_no_number::<H>();
-    osdp_link_laws::sessions_in_a_row::<H>();
     osdp_link_laws::ordinary_runs_are_undisturbed::<H>();
     osdp_link_laws::names::name_one_device::<H>();
     osdp_shared_line::each_move_is_its_own::<H>();

@@ -7,7 +7,7 @@ pub use Rattle.osdp_ledger.specs.Laws.{EventsHold, OrdersHold, TellsInTurn}
 pub use Rattle.osdp_link_laws.specs.Headline.{asked, EachIsOnce, HoldsOnce}
 pub use Rattle.osdp_link_laws.specs.Link.{Delivery, Link, Move}
 pub use Rattle.osdp_link_laws.specs.Ordinary.{IsOrdinary, IsSteady}
-pub use Rattle.osdp_link_laws.specs.Sessions.{all_queued, all_submitted, CommandsHavePlaces, ended_commands, queued, unless_full}
+pub use Rattle.osdp_link_laws.specs.Sessions.{all_queued, all_submitted, queued, unless_full}
 pub use Rattle.osdp_link_laws.proofs.Lines.{both, each_all, each_append, each_of}
 pub use Rattle.osdp_link_laws.proofs.OrdinaryRuns.{steady_handler, steady_ordinary}
 pub use Rattle.osdp_link_laws.proofs.Stages.{Each}

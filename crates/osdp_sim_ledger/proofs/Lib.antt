@@ -1,5 +1,5 @@
 pub mod Common
 mod Telling
-mod SeveralQueued
+mod SeveralAccepted
 mod OneReader
 mod SeveralReaders

@@ -1,9 +1,11 @@
 -- The run over a bus, for each of its readers.
-use Rattle.osdp_sim_ledger.proofs.Common.{◌≡◌, ◌++◌, ℕ, true, List, [], ◌∷◌, Some, refl, subst, sym, ap, ◌∙◌, option_map, slice_get, Command, Answer, IsScheduled, TellsInTurn, EachIsOnce, HoldsOnce, Link, IsOrdinary, CommandsHavePlaces, all_queued, all_submitted, ended_commands, queued, each_all, each_of, steady_handler, steady_ordinary, ActsHaveAnswersOfOneHandler, OrdinaryMovesEndTold, NobodyElseHears, run, EachMoveIsItsOwn, view, all_heard, in_link, Account, SimStep, holds_on, well_on, StepFits, after_step, fault_of, SchedulesAreMoves, moves_of, TellsByLedger}
+use Rattle.osdp_sim_ledger.proofs.Common.{◌≡◌, ◌++◌, ℕ, true, List, [], ◌∷◌, Some, refl, subst, sym, ap, ◌∙◌, option_map, slice_get, Command, Answer, IsScheduled, TellsInTurn, EachIsOnce, HoldsOnce, Link, IsOrdinary, all_queued, all_submitted, queued, each_all, each_of, steady_handler, steady_ordinary, ActsHaveAnswersOfOneHandler, OrdinaryMovesEndTold, NobodyElseHears, run, EachMoveIsItsOwn, view, all_heard, in_link, Account, SimStep, holds_on, well_on, StepFits, after_step, fault_of, SchedulesAreMoves, moves_of, TellsByLedger}
 use Rattle.std.proofs.lemmas.Option.{slice_get-map}
 use Rattle.osdp_bus.specs.declared.config.BusConfig.{BusConfig}
 use Rattle.osdp_bus_links.proofs.Keeping.{moves_usual}
 use Rattle.osdp_bus_links.proofs.Names.{are_steady}
+use Rattle.osdp_bus_links.specs.Links.{SubmitsAsAMove}
+use Rattle.osdp_link_laws.specs.Sessions.{submitted}
 use Rattle.osdp_line_ledger.specs.Laws.{EachKeepsLedger}
 use Rattle.osdp_shared_line.specs.Runs as runs
 use Rattle.osdp_shared_line.specs.Runs.{EachIsALink}
@@ -16,12 +18,12 @@ use Rattle.osdp_sim_bus_laws.proofs.Beginning.{follows_first, has_site, is_set_u
 use Rattle.osdp_sim_bus_laws.proofs.Rows.{account_at, answers, told_by}
 use Rattle.osdp_sim_bus_laws.specs.Accounts.{IsRun}
 use Rattle.osdp_sim_ledger.specs.SeveralReaders.{BusRunKeepsLedgers, first_net, first_site, steps_of_reader}
-use Rattle.osdp_sim_ledger.proofs.SeveralQueued.{all_queue, site_of}
+use Rattle.osdp_sim_ledger.proofs.SeveralAccepted.{all_added, commands_counted, site_of}
 use Rattle.osdp_sim_ledger.proofs.Telling.{tells_once}
 
-module _ {H : Type 0} (answer_of : H → Command → Answer) (after : H → Command → H) (schedules : SchedulesAreMoves answer_of after)
+module _ {H : Type 0} (answer_of : H → Command → Answer) (after : H → Command → H) (submits : SubmitsAsAMove answer_of after) (schedules : SchedulesAreMoves answer_of after)
     (own : EachMoveIsItsOwn answer_of after) (links : EachIsALink answer_of after) (acts : ActsHaveAnswersOfOneHandler answer_of after) (told : OrdinaryMovesEndTold answer_of after) (nobody : NobodyElseHears answer_of after) (once : HoldsOnce answer_of after)
-    (places : CommandsHavePlaces answer_of after) (keeps : EachKeepsLedger answer_of after) (in_turn : TellsInTurn) where
+    (keeps : EachKeepsLedger answer_of after) (in_turn : TellsInTurn) where
   abbrev HasKept : ℕ → Given H → BusConfig → List (Given H) → List SimStep → List Account → Type 0
   HasKept k given config readers steps told =
       (a : Account) × (slice_get told k ≡ Some a) × TellsByLedger answer_of after given.0 given.2 a (steps_of_reader answer_of after k given config readers steps)
@@ -39,11 +41,11 @@ module _ {H : Type 0} (answer_of : H → Command → Answer) (after : H → Comm
       let first = first_site config given in
       let from = has_site config k given readers at in
       let here = slice_get-map new_site readers k ∙ ap (option_map new_site) at in
-      let found = all_queue answer_of after schedules k s0 n0 up none follows (new_site given) here refl steps is.well is.fits in
-      let u = found.0 in
+      let found = all_added answer_of after submits schedules k s0 n0 up none follows (new_site given) here refl refl steps is.well is.fits in
+      let u = found.site in
       let last = run answer_of after moves n0 in
       let s = simulation.run answer_of after steps s0 in
-      let t = site_of k u s.sites last.sites done.follows.sites found.1 in
+      let t = site_of k u s.sites last.sites done.follows.sites found.there in
       let mine = runs.moves_of answer_of after k moves n0 in
       let l = view k first n0 in
       let kept = keeps n0 moves up done.fits k first t.0 from t.1 in
@@ -53,7 +55,7 @@ module _ {H : Type 0} (answer_of : H → Command → Answer) (after : H → Comm
       let heard = all_heard answer_of after nobody n0 up [] moves done.fits in
       let steady = are_steady mine (moves_usual answer_of after moves k n0 (each_of IsScheduled moves done.scheduled)) in (
         u.account,
-        account_at k u s.sites found.1,
+        account_at k u s.sites found.there,
         tells_once answer_of after in_turn given.0 given.2 u.account (first.controller.waiting ++ all_submitted answer_of after mine l) (first.reader.queue.events ++ all_queued answer_of after mine l)
             (view k t.0 last) (steps_of_reader answer_of after k given config readers steps) (record {
               allowed = kept.allowed;
@@ -64,8 +66,8 @@ module _ {H : Type 0} (answer_of : H → Command → Answer) (after : H → Comm
               once = subst (λ (v : Link H). EachIsOnce (v.account ∷ v.earlier)) (sym same) (once l mine begins its.fits);
               answers = acts l mine (steady_handler answer_of after mine l steady);
               lists = t.2.tells;
-              issued = t.2.issued ∙ ap (λ (v : Link H). ended_commands v.earlier ++ v.account.issued) same ∙ sym (places l mine begins its.fits);
-              queued_so = found.2 ∙ sym (in_link answer_of after queued own k moves n0 first heard done.fits from) ∙ sym (events_counted answer_of after mine l);
+              issued = found.issues ∙ sym (in_link answer_of after submitted own k moves n0 first heard done.fits from) ∙ sym (commands_counted answer_of after mine l);
+              queued_so = found.queues ∙ sym (in_link answer_of after queued own k moves n0 first heard done.fits from) ∙ sym (events_counted answer_of after mine l);
             }),
       )
 

@@ -38,7 +38,6 @@ pub fn bus_run_keeps_ledgers<H: Handler>()
     osdp_link_ledger::ordinary_moves_end_told::<H>();
     osdp_shared_line::nobody_else_hears::<H>();
     osdp_link_laws::holds_once::<H>();
-    osdp_link_laws::sessions_in_a_row::<H>();
     osdp_line_ledger::each_keeps_ledger::<H>();
     osdp_ledger::tells_in_turn();
 }

@@ -12,7 +12,6 @@ returns g c = record {
     in_time = c.comes_through.ensures.in_time;
     from_rest = c.comes_through.ensures.from_rest;
     stays = c.stay_where_they_are.ensures;
-    places = c.sessions_in_a_row.ensures.commands;
   };
   ranges = c.stays_in_range.ensures;
   comes = c.ticks_come_due.ensures;

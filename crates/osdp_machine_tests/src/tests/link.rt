@@ -7,7 +7,7 @@ use osdp_door::Door;
 #[test]
 fn a_session_holds_with_a_door(_rt: HostRuntime) {
     cites!(osdp_link_laws, Door:
-        holds_once ordinary_runs_are_undisturbed sessions_in_a_row refuses_no_number
+        holds_once ordinary_runs_are_undisturbed refuses_no_number
         stay_where_they_are comes_through goes_in_turn);
 }
 

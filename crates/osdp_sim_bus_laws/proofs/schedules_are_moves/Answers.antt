@@ -23,7 +23,7 @@ pub returns-clause-schedules : goal.returns-clause-schedules
 returns-clause-schedules g c =
     schedules_are_moves g.H.Handler.answer_of g.H.Handler.after (returns-clause-steps g c) c.bus_suffices.ensures
     (record { peers = c.read_each_other.ensures; device = c.name_one_device.ensures.device; told = c.name_one_device.ensures.told })
-    c.each_move_is_its_own.ensures c.nobody_else_hears.ensures.hears c.refuses_no_number.ensures.packets c.sessions_in_a_row.ensures.last
+    c.each_move_is_its_own.ensures c.nobody_else_hears.ensures.hears c.refuses_no_number.ensures.packets
     c.ordinary_runs_are_undisturbed.ensures
 
 pub returns-clause-set_up : goal.returns-clause-set_up
