@@ -37,7 +37,7 @@ module _ {H : Type 0} where
     pub record EachWithdraws : Type 0 where
       pub first : (n : Net H) (k : ℕ) (command : Command) (waiting : List Command) (s t : Site H) → IsChanged n (Withdraw k) k s t
           → s.controller.session.state ≡ Closed → s.controller.waiting ≡ command ∷ waiting
-          → HasTakenBack command waiting (view k s n) (view k t (after_net answer_of after (Withdraw k) n))
+          → HasTakenBack waiting (view k s n) (view k t (after_net answer_of after (Withdraw k) n))
       pub none : (n : Net H) (k : ℕ) (s t : Site H) → IsChanged n (Withdraw k) k s t
           → (s.controller.session.state ≢ Closed) ⊎ (s.controller.waiting ≡ []) → view k t (after_net answer_of after (Withdraw k) n) ≡ view k s n
 

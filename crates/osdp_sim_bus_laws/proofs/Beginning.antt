@@ -150,7 +150,7 @@ module _ {H : Type 0} where
   sites_are : (config : BusConfig) (readers : List (Given H)) → SitesOf (map new_site readers) (first_sites config readers)
   sites_are config [] = tt
   sites_are config (g ∷ readers) =
-      (record { reader = refl; tells = tells_nothing; issued = refl; ended = refl; causes = tt }, sites_are config readers)
+      (record { reader = refl; tells = tells_nothing; ended = refl; causes = tt }, sites_are config readers)
 
   none_come : (config : BusConfig) (readers : List (Given H)) → Each (λ (s : line.Site H). s.coming ≡ []) (first_sites config readers)
   none_come config [] = tt

@@ -1,5 +1,5 @@
 -- What the line does with a burst, where the packets of several sites go over it in bytes.
-use Rattle.osdp_sim_bus_laws.proofs.Common.{◌≡◌, ℕ, suc, max, List, [], ◌∷◌, ◌++◌, length, map, All, Option, Some, None, IfSome, refl, sym, subst, ap, ◌∙◌, append-nil, map-append, flat_map, option_to_list, packets_in, reading, IsPacket, Packet, spelling, Command, ReaderState, Answer, BusState, after_next_report, SaysWhatFitsIf, Delivered, Delivery, Lost, Repeated, IsPlainlySaid, each_all, each_append, each_map, Each, Net, ToPanel, first_gets, run, tagged, HearsAsAMove, IsBusOf, IsNoRefusalOf, TellsEach, device_of, packets_on, handed, left, SaysFit, damage_fault, LineState, ReaderSite, DamageIsBytes, all_hear, all_hear_each, hears_run, takes_report, FollowsSites, SitesOf, SpellsBytes, each_reads, moment_of}
+use Rattle.osdp_sim_bus_laws.proofs.Common.{◌≡◌, ℕ, suc, max, List, [], ◌∷◌, ◌++◌, length, map, All, Option, Some, None, IfSome, refl, sym, subst, ap, ◌∙◌, append-nil, map-append, flat_map, option_to_list, packets_in, reading, IsPacket, Packet, spelling, Command, ReaderState, Answer, BusState, after_next_report, SaysWhatFitsIf, Delivered, Delivery, Lost, Repeated, IsPlainlySaid, each_all, each_append, each_map, Each, Net, ToPanel, first_gets, tagged, HearsAsAMove, IsBusOf, IsNoRefusalOf, TellsEach, device_of, packets_on, handed, left, SaysFit, damage_fault, LineState, ReaderSite, DamageIsBytes, all_hear, all_hear_each, hears_run, takes_report, FollowsSites, SitesOf, SpellsBytes, each_reads, moment_of}
 use Rattle.osdp_frame.specs.Bytes.{AreBytes}
 use Rattle.osdp_reader.specs.Table as reader
 use Rattle.osdp_shared_line.specs.Line as line

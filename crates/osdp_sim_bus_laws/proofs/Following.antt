@@ -1,5 +1,5 @@
 -- What the steps of a schedule are to the sites whose controllers a bus has: calls, moments and sessions.
-use Rattle.osdp_sim_bus_laws.proofs.Common.{◌≡◌, ◌-◌, ◌||◌, ℕ, zero, suc, max, not, Bool, true, false, if◌then◌else◌, List, [], ◌∷◌, ◌++◌, map, Option, Some, None, IfSome, refl, sym, subst, ap, ◌∙◌, arith, append_assoc, map-append, is_some, option_to_list, IsPacket, Packet, spelling, CommandFits, Command, Event, Report, ReaderState, Answer, lacks_room, after_next_report, submit_refusal_at, bus_ticks, BusFault, Each, ControllerFault, IsBusOf, IsNoRefusalOf, IsSubmitted, SubmitsAsAMove, TellsEach, TicksAsAMove, device_of, one_ticks, packets_on, tick_moves, who_ticks, AllOthersFit, IsScheduled, OthersFit, sent, LineState, ReaderSite, changes_site, is_there, issued, site_is_busy, site_issues, site_queues, site_queues_unless, takes_report, waited, where_there, tells_issued, tells_queued, comset_of, FollowsSites, IsSiteOf, SitesOf, for_reader}
+use Rattle.osdp_sim_bus_laws.proofs.Common.{◌≡◌, ◌-◌, ◌||◌, ℕ, zero, suc, max, not, Bool, true, false, if◌then◌else◌, List, [], ◌∷◌, ◌++◌, map, Option, Some, None, IfSome, refl, sym, subst, ap, ◌∙◌, arith, map-append, is_some, option_to_list, IsPacket, Packet, spelling, CommandFits, Command, Event, Report, ReaderState, Answer, lacks_room, after_next_report, submit_refusal_at, bus_ticks, BusFault, Each, ControllerFault, IsBusOf, IsNoRefusalOf, IsSubmitted, SubmitsAsAMove, TellsEach, TicksAsAMove, device_of, one_ticks, packets_on, tick_moves, who_ticks, AllOthersFit, IsScheduled, OthersFit, sent, LineState, ReaderSite, changes_site, is_there, issued, site_is_busy, site_issues, site_queues, site_queues_unless, takes_report, waited, where_there, tells_issued, tells_queued, comset_of, FollowsSites, IsSiteOf, SitesOf, for_reader}
 use Rattle.osdp_reader.specs.State as readers
 use Rattle.osdp_controller.specs.Machine as controllers
 use Rattle.osdp_link_laws.specs.Link as link

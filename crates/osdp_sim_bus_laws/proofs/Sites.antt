@@ -1,5 +1,5 @@
 -- The readers of a simulated line and the sites whose readers they are, place by place.
-use Rattle.osdp_sim_bus_laws.proofs.Common.{◌≡◌, ◌<◌, ◌+◌, ℕ, zero, suc, Bool, true, false, cond, List, [], ◌∷◌, ◌++◌, length, map, Option, Some, None, refl, sym, subst, ap, ◌∙◌, arith, map-append, option_map_or, flat_map, Packet, spelling, Command, is_closed, Report, ReaderState, Answer, Delivered, is_false, is_true, Each, changed, site_at, tagged, IsNoRefusalOf, IsTold, TellsFrom, packets_on, report_for, with_report, sent, ReaderSite, changed_site, site_hears, site_is_told, site_says, IsOf, IsSiteOf, SitesOf, count, causes_of, report_leaves, tells_report, tells_taken}
+use Rattle.osdp_sim_bus_laws.proofs.Common.{◌≡◌, ◌<◌, ◌+◌, ℕ, zero, suc, Bool, true, false, cond, List, [], ◌∷◌, ◌++◌, length, map, Option, Some, None, refl, sym, subst, ap, ◌∙◌, arith, map-append, option_map_or, flat_map, Packet, spelling, Command, is_closed, Report, ReaderState, Answer, Delivered, is_false, is_true, Each, changed, site_at, tagged, IsNoRefusalOf, IsTold, TellsFrom, packets_on, report_for, with_report, sent, ReaderSite, changed_site, site_hears, site_is_told, site_says, IsOf, IsSiteOf, SitesOf, count, causes_of, tells_report, tells_taken}
 use Rattle.std.specs.Prelude.{slice_get, slice_set, option_to_list, ◌==◌}
 use Rattle.osdp_reader.specs.Table as reader
 use Rattle.osdp_link_laws.specs.Link as link

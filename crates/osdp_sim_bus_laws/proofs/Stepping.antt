@@ -1,5 +1,5 @@
 -- Each step of a schedule is a list of moves of the sites.
-use Rattle.osdp_sim_bus_laws.proofs.Common.{◌≡◌, ◌≢◌, ◌-◌, ◌&&◌, ◌==◌, not, ℕ, zero, suc, Bool, true, false, if◌then◌else◌, List, [], ◌∷◌, ◌++◌, length, map, Option, Some, None, refl, sym, subst, ap, ◌∙◌, arith, append_assoc, ne_eqb, length-append, slice_get, packets_in, Packet, spelling, Command, is_closed, ControllerFault, Answer, begin_refusal_of, begin_refusal_at, bus_fault, Entry, IsPlainlySaid, each_all, each_of, Each, IsQuiet, view, IsBusOf, device_of, packets_on, IsScheduled, lengths_of, handed, SaysFit, moment_after, SimStep, LineState, ReaderSite, StepFits, after_step, fault_of, is_quiet, is_there, reopened, site_begins, tells_session, FollowsSites, IsKnown, IsSiteOf, OneBus, StepsAreMoves, count, moment_of, moves_for}
+use Rattle.osdp_sim_bus_laws.proofs.Common.{◌≡◌, ◌≢◌, ◌-◌, ◌&&◌, ◌==◌, not, ℕ, zero, suc, Bool, true, false, if◌then◌else◌, List, [], ◌∷◌, length, map, Option, Some, None, refl, sym, subst, ap, ◌∙◌, arith, ne_eqb, length-append, slice_get, packets_in, Packet, spelling, Command, is_closed, ControllerFault, Answer, begin_refusal_of, begin_refusal_at, bus_fault, Entry, IsPlainlySaid, each_all, each_of, Each, IsQuiet, IsBusOf, device_of, packets_on, IsScheduled, lengths_of, handed, SaysFit, moment_after, SimStep, LineState, ReaderSite, StepFits, after_step, fault_of, is_quiet, is_there, reopened, site_begins, tells_session, FollowsSites, IsKnown, IsSiteOf, OneBus, StepsAreMoves, count, moment_of, moves_for}
 use Rattle.std.specs.Option.{option_map, option_map_or}
 use Rattle.osdp_controller.specs.Machine as controllers
 use Rattle.osdp_controller_laws.proofs.Closed.{may_begin}

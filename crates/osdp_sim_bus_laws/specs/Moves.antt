@@ -1,6 +1,6 @@
 -- What the steps of a schedule are to several links: a simulated line with a bus, seen as sites on a line of packets.
 use Rattle.std.specs.List.{AllByRecursion}
-use Rattle.std.specs.Prelude.{◌≡◌, ◌+◌, ◌-◌, ℕ, zero, suc, Bool, true, false, All, if◌then◌else◌, List, [], ◌∷◌, ◌++◌, length, map, max, Some, None}
+use Rattle.std.specs.Prelude.{◌≡◌, ◌+◌, ◌-◌, ℕ, zero, suc, Bool, true, false, All, if◌then◌else◌, List, [], ◌∷◌, ◌++◌, length, map, max, None}
 use Rattle.osdp_frame.specs.Bytes.{AreBytes}
 use Rattle.osdp_frame.specs.Packet.{IsPacket, Packet}
 use Rattle.osdp_frame.specs.Spelling.{spelling}
