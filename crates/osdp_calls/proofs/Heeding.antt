@@ -1,6 +1,6 @@
 -- After each call what is noted of the entries agrees with what is noted along the moves that the call comes to.
 use Rattle.std.proofs.Common.{◌≡◌, ◌≢◌, ℕ, zero, suc, max, Bool, true, false, cond, List, [], ◌∷◌, ◌++◌, map, Option, Some, None, refl, sym, subst, ap, ◌∙◌, inl, inr, is_some}
-use Rattle.osdp_calls.proofs.Common.{eqb_tells, option_map_or, ◌==◌, ◌&&◌, slice_get, slice_set, Room, Command, comset_of, ControllerConfig, State, Closed, BusState, device_of, seen, changed_unless, changes_entry, new_device, BusConfig, Entry, BusFault, is_false, is_true, Each, Answer, Net, NetMove, RestartPanel, Retarget, Site, Submit, address_of, is_command_accepted, is_retarget_accepted, site_at, Note, also_at, noted_at, two_addresses, at_changed, some_same, Call, NewPanel, OfPanel, all_forget, begun_of, change_at, changes_at, is_to_begin, issues, panel_made_anew, withdrawn, InUse, Station, noted_of, notes_after}
+use Rattle.osdp_calls.proofs.Common.{eqb_tells, option_map_or, ◌==◌, ◌&&◌, slice_get, slice_set, Room, Command, comset_of, ControllerConfig, State, Closed, BusState, device_of, seen, changed_unless, changes_entry, new_device, BusConfig, Entry, BusFault, is_false, is_true, Each, Answer, Net, NetMove, RestartPanel, Retarget, Site, Submit, address_of, is_command_accepted, is_retarget_accepted, site_at, Note, also_at, noted_at, two_addresses, at_changed, some_same, Call, NewPanel, OfPanel, all_forget, begun_of, change_at, changes_at, is_to_begin, issues, panel_made_anew, InUse, Station, noted_of, notes_after}
 use Rattle.osdp_bus.specs.Entries as devices
 use Rattle.osdp_bus.specs.Machine as bus
 use Rattle.osdp_bus_laws.specs.Calls as panel

@@ -1,5 +1,5 @@
 -- Call by call, what is told of an entry's events, session by session.
-use Rattle.osdp_calls.proofs.Common.{◌≡◌, ◌≢◌, ℕ, zero, suc, max, Bool, true, false, cond, List, [], ◌∷◌, ◌++◌, map, Option, Some, None, refl, sym, subst, ap, ◌∙◌, inl, inr, eqb_tells, ◌==◌, slice_get, slice_set, option_map_or, Packet, Command, Event, Report, BusState, Devices, device_of, seen, entry_hears, entry_ticks, first_from, is_at, step_of, told_of, hears_at, hears_packet, hears_with, add_refusal, after_add, after_begin_at, after_retarget_at, after_submit_at, begin_refusal_at, begin_refusal_of, changed_unless, changes_entry, entry_begins, entry_retargets, entry_submits, entry_withdraws, new_device, retarget_refusal_at, submit_refusal_at, withdrawal_at, bus_ticks, ticks_at, ticks_with, Entry, BusFault, told_at, told_by_device, told_by_entry, told_by_ticking, told_in, told_with, Account, site_at, at_changed, at_other, some_same, after_panel, all_hear, asked_at, begins_session, begins_with, begun_of, change_at, changes_at, hears_of, is_to_begin, issues, last_of, panel_says, read_by, waiting_of, withdrawn, heard, hears_all, told_by_all, InUse, Station}
+use Rattle.osdp_calls.proofs.Common.{◌≡◌, ◌≢◌, ℕ, zero, suc, max, Bool, true, false, cond, List, [], ◌∷◌, ◌++◌, map, Option, Some, None, refl, sym, subst, ap, ◌∙◌, inl, inr, eqb_tells, ◌==◌, slice_get, slice_set, option_map_or, Packet, Command, Event, Report, BusState, Devices, device_of, seen, entry_hears, entry_ticks, first_from, is_at, step_of, told_of, hears_at, hears_packet, hears_with, add_refusal, after_add, after_begin_at, after_retarget_at, after_submit_at, begin_refusal_at, begin_refusal_of, changed_unless, changes_entry, entry_begins, entry_retargets, entry_submits, entry_withdraws, new_device, retarget_refusal_at, submit_refusal_at, bus_ticks, ticks_at, ticks_with, Entry, BusFault, told_at, told_by_device, told_by_entry, told_by_ticking, told_in, told_with, Account, site_at, at_changed, at_other, some_same, after_panel, all_hear, asked_at, begins_session, begins_with, begun_of, change_at, changes_at, hears_of, is_to_begin, issues, last_of, panel_says, read_by, waiting_of, heard, hears_all, told_by_all, InUse, Station}
 use Rattle.osdp_controller.specs.declared.report.Report.TheVariants as report
 use Rattle.osdp_bus_laws.specs.Calls as bus
 use Rattle.osdp_calls.proofs.Handing.{hands_over}

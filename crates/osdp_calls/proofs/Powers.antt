@@ -1,5 +1,5 @@
 -- Restarts: a device made anew, and the panel made anew with its devices at their addresses.
-use Rattle.osdp_calls.proofs.Common.{◌≡◌, ◌≢◌, ◌<◌, ◌≤◌, ◌⊎◌, ℕ, zero, suc, ◌+◌, List, [], ◌∷◌, ◌++◌, length, map, All, Option, Some, None, refl, sym, subst, ap, ◌∙◌, arith, inl, inr, option_to_list, Room, Packet, AreRoom, Command, AreSettings, Machine, new_machine, ControllerConfig, new_device, IsBusConfig, controller_config, BusConfig, Entry, each_of, ReaderState, ReaderConfig, Answer, IsNameOf, Somewhere, Net, RestartPanel, RestartReader, Site, address_of, after_net, all_restart, restarts, site_at, some_same, NewDevice, NewPanel, all_forget, made_anew, on_station, panel_made_anew, InUse, Station, IsFreeFor, PanelIsApart, at_length}
+use Rattle.osdp_calls.proofs.Common.{◌≡◌, ◌≢◌, ◌<◌, ◌≤◌, ◌⊎◌, ℕ, zero, suc, ◌+◌, List, [], ◌∷◌, length, map, All, Option, Some, None, refl, sym, subst, ap, ◌∙◌, arith, inl, inr, Room, Packet, AreRoom, Command, AreSettings, Machine, new_machine, ControllerConfig, new_device, IsBusConfig, controller_config, BusConfig, Entry, each_of, ReaderState, ReaderConfig, Answer, IsNameOf, Somewhere, Net, RestartPanel, RestartReader, Site, address_of, after_net, all_restart, restarts, site_at, some_same, NewDevice, NewPanel, all_forget, made_anew, on_station, panel_made_anew, InUse, Station, IsFreeFor, PanelIsApart, at_length, forgets}
 use Rattle.osdp_link_laws.specs.Link as link
 use Rattle.osdp_shared_line.specs.Addresses as addresses
 use Rattle.osdp_shared_line.specs.Line as line

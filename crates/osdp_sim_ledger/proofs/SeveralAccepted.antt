@@ -1,7 +1,7 @@
 -- The commands that the account of each of several readers has as issued, and the events that it has as queued, are those that the moves of its link submit
 -- and queue.
 use Rattle.osdp_sim_ledger.proofs.Common.{◌≡◌, ◌-◌, ◌==◌, ℕ, zero, suc, Bool, true, false, cond, if◌then◌else◌, List, [], ◌∷◌, ◌++◌, length, Option, Some, None, refl, sym, subst, ap, ◌∙◌, append_assoc, inl, inr, slice_get, Command, Event, Answer, Delivery, Link, Move, queued, unless_full, both, Each, IsSetUp, Net, NetMove, Site, is_comset_refused, run, site_at, one_if, view, NothingIsKept, GivesNone, at_site, counted, in_net, in_net_more, net_none, moment_after, SimStep, Busy, Issue, Queue, Reopen, ToController, ToReader, Wait, holds_on, runs_on, well_on, FitAlong, is_well, LineState, ReaderSite, StepFits, after_step, changes_site, fault_of, is_there, issued, site_issues, site_queues, site_queues_unless, FollowsSites, IsSiteOf, SchedulesAreMoves, SitesOf, each_reads, moves_for, moves_of, delivery}
-use Rattle.std.proofs.Common.{arith, is_some, not}
+use Rattle.std.proofs.Common.{arith, is_some, not, ◌||◌}
 use Rattle.std.proofs.lemmas.Bool.Decides.{eqb_tells}
 use Rattle.std.proofs.lemmas.List.{append-nil, length-append}
 use Rattle.osdp_controller.specs.Hearing.{comset_of}
@@ -19,8 +19,8 @@ use Rattle.osdp_link_laws.specs.Sessions.{accepted, all_submitted, submitted}
 use Rattle.osdp_shared_line.specs.Line as line
 use Rattle.osdp_shared_line.proofs.Sites.{at_changed, some_same}
 use Rattle.osdp_sim_bus.specs.Runs as simulation
-use Rattle.osdp_sim_bus_laws.proofs.Idling.{IsIdle, idle_sites, where_sites}
-use Rattle.osdp_sim_bus_laws.proofs.Places.{StaysAt, get_changed, other_changed, stays_all, stays_changed}
+use Rattle.osdp_sim_bus_laws.proofs.Idling.{IsIdle, idle_sites}
+use Rattle.osdp_sim_bus_laws.proofs.Places.{StaysAt, get_changed, other_changed, stays_all}
 use Rattle.osdp_sim_bus_laws.proofs.Scheduling.{moves_more}
 use Rattle.osdp_sim_laws.proofs.Accepting.{IsNoOrder}
 use Rattle.osdp_sim_laws.proofs.Accounts.{report_leaves}
