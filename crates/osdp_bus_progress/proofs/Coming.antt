@@ -1,6 +1,6 @@
 -- Something comes through for each of several readers.
 use Rattle.osdp_link_laws.proofs.Counting.{issues_all}
-use Rattle.osdp_bus_progress.proofs.Common.{◌≡◌, ◌≤◌, ◌<◌, ◌+◌, ◌++◌, ℕ, zero, suc, All, List, [], ◌∷◌, length, map, Some, inl, inr, refl, sym, subst, ap, ◌∙◌, arith, append_assoc, append-nil, length-map, Packet, spelling, Command, new_machine, IsInRange, longest_wait, Begin, Answer, controller_config, BusConfig, MovesFit, Link, SetsNoAddress, each_all, each_append, each_of, each_rest, moves_so, begins_so, set_no_other, steady_ordinary, Each, IsSetUp, NetMovesFit, Net, NetMove, run, site_at, IsEmpty, own, view, apart_all, apart_first, some_same, device_of, packets_on, Account, round, rounds, SimStep, Given, LineState, ReaderSite, accounts, set_up, StepFits, after_step, fault_of, IsInSession, IsOf, none_earlier, none_reopen, rounds_within, holds_on, runs_on, well_on, AreItsMoves, FollowsSites, moves_of, IsRun, first_net, first_site, follows_first, has_site, is_set_up, nothing_is_kept, unmapped, get_within, get_site, same_count, ComesOn, EachComesThrough, IsClear, IsReady, EachRoundRests, IsAtRest, SeveralLinks, at_length, fits_first, fits_then, net_more, keeps_own}
+use Rattle.osdp_bus_progress.proofs.Common.{◌≡◌, ◌≤◌, ◌<◌, ◌+◌, ◌++◌, ℕ, zero, suc, All, List, [], ◌∷◌, length, map, Some, inl, inr, refl, sym, subst, ap, ◌∙◌, arith, append_assoc, append-nil, length-map, Packet, spelling, Command, new_machine, IsInRange, longest_wait, Begin, Answer, controller_config, BusConfig, MovesFit, Link, SetsNoAddress, each_all, each_append, each_of, moves_so, begins_so, set_no_other, steady_ordinary, Each, IsSetUp, NetMovesFit, Net, NetMove, run, site_at, IsEmpty, own, view, apart_all, apart_first, some_same, device_of, packets_on, Account, round, rounds, SimStep, Given, LineState, ReaderSite, accounts, set_up, StepFits, after_step, fault_of, IsInSession, IsOf, none_earlier, none_reopen, rounds_within, holds_on, runs_on, well_on, AreItsMoves, FollowsSites, moves_of, IsRun, first_net, first_site, follows_first, has_site, is_set_up, nothing_is_kept, unmapped, get_within, get_site, same_count, ComesOn, EachComesThrough, IsClear, IsReady, EachRoundRests, IsAtRest, SeveralLinks, at_length, fits_first, fits_then, net_more, keeps_own}
 use Rattle.std.proofs.Math.Nat.{div-mul-le_self, suc-mul}
 use Rattle.std.specs.Prelude.{◌/◌, ◌*◌, ◌-◌, slice_get}
 use Rattle.osdp_link_laws.specs.Link as link

@@ -1,6 +1,6 @@
 -- Rounds of a bus: each is an exchange of one entry, the turn goes around those whose sessions last, and an entry that had one is idle.
 use Rattle.std.proofs.Common.{◌≡◌, ◌≤◌, ◌<◌, ◌+◌, ◌-◌, ◌⊎◌, ℕ, zero, suc, cond, eqb, List, [], ◌∷◌, length, Some, None, refl, sym, subst, ap, ◌∙◌, inl, inr, arith}
-use Rattle.osdp_bus_progress.proofs.Common.{eqb_tells, Command, ComesDue, StaysInRange, Answer, holder, MovesFit, Delivered, Link, is_false, is_true, NetMovesFit, Net, NetMove, Tick, ToPanel, address_of, run, site_at, IsEmpty, net_round, view, IsRound, at_length, fits_then, net_more, rounds, LineState, FollowsSites, moves_of, some_same, IsItsRound, LinkLaws}
+use Rattle.osdp_bus_progress.proofs.Common.{eqb_tells, Command, ComesDue, StaysInRange, Answer, holder, MovesFit, Link, is_false, is_true, NetMovesFit, Net, run, site_at, IsEmpty, net_round, view, IsRound, at_length, fits_then, net_more, rounds, LineState, FollowsSites, moves_of, some_same, IsItsRound, LinkLaws}
 use Rattle.osdp_link_laws.specs.Link as link
 use Rattle.osdp_link_laws.specs.Progress as progress
 use Rattle.osdp_shared_line.specs.Line as line
