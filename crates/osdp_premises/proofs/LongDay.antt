@@ -173,6 +173,7 @@ module _ {H : Type 0} (answer_of : H → Command → Answer) (after : H → Comm
     taken = refl;
     settled = refl;
     in_doubt = refl;
+    cut_off = refl;
     reported = refl;
     offered = refl;
     waiting = refl;

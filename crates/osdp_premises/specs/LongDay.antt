@@ -12,14 +12,15 @@ use Rattle.osdp_msg.specs.declared.command.Command.TheVariants.{Cap, Comset}
 use Rattle.osdp_msg.specs.declared.event.Event.{Event}
 use Rattle.osdp_msg.specs.declared.event.Event.TheVariants.{Keypad}
 use Rattle.osdp_msg.specs.declared.limits.Room.{Room}
-use Rattle.osdp_bus.specs.Buses.{new_bus}
+use Rattle.osdp_bus.specs.Buses.{device_of, new_bus}
 use Rattle.osdp_bus.specs.Settings.{default_config}
 use Rattle.osdp_bus.specs.declared.config.BusConfig.{BusConfig}
 use Rattle.osdp_bus.specs.declared.entry.Entry.{Entry}
 use Rattle.osdp_bus_laws.specs.Calls as bus
-use Rattle.osdp_link_laws.specs.Link.{Account, new_account}
+use Rattle.osdp_link_laws.specs.Link.{Account, new_account, outstanding_command}
 use Rattle.osdp_controller.specs.declared.report.Report.TheVariants.{Opened}
 use Rattle.osdp_reader.specs.State.{new_reader}
+use Rattle.std.specs.Option.{option_map}
 use Rattle.osdp_reader.specs.declared.config.ReaderConfig.{ReaderConfig}
 use Rattle.osdp_reader.specs.declared.handler.Answer.{Answer}
 use Rattle.osdp_shared_line.specs.Line.{site_at}
@@ -357,8 +358,8 @@ module _ {H : Type 0} where
     first_sessions handler other = sessions_of (site_at 0 (line_at_night handler other).stations)
 
     -- All of these calls keep the premises, whatever the devices' handlers answer. What they come to: seven sessions have opened, six of the first entry.
-    -- In its sessions, the last of them first, so many commands were taken, and so many of them settled, told in doubt, and forgotten by the panel's
-    -- restart; and so many events were reported. The key was told twice, and once more in the last session, where it lapsed.
+    -- In its sessions, the last of them first, so many commands were taken, and so many of them settled and told in doubt; and so many events were
+    -- reported. The key was told twice, and once more in the last session, where it lapsed.
     pub record LongDayKeeps (handler other : H) : Type 0 where
       pub up : IsSetUp (line_in_the_morning handler)
       pub keep : AllKeep answer_of after (long_day handler other) (line_in_the_morning handler)
@@ -372,6 +373,9 @@ module _ {H : Type 0} where
       pub taken : map (λ (a : Account). length a.taken) (first_sessions handler other) ≡ 0 ∷ 1 ∷ 0 ∷ 1 ∷ 1 ∷ 1 ∷ 0 ∷ []
       pub settled : map (λ (a : Account). length a.settled) (first_sessions handler other) ≡ 0 ∷ 0 ∷ 0 ∷ 0 ∷ 1 ∷ 1 ∷ 0 ∷ []
       pub in_doubt : map (λ (a : Account). a.unsettled) (first_sessions handler other) ≡ [] ∷ [] ∷ [] ∷ (away 7 ∷ []) ∷ [] ∷ [] ∷ [] ∷ []
+      -- the panel was made anew while a CAP was outstanding at the first entry
+      pub cut_off : option_map (λ (d : Entry). outstanding_command d.controller.session.state)
+          (device_of 0 (after_calls answer_of after (take 122 (long_day handler other)) (line_in_the_morning handler)).bus) ≡ Some (Some (Cap 0))
       pub reported : map (λ (a : Account). a.reported) (first_sessions handler other) ≡ [] ∷ [] ∷ [] ∷ [] ∷ (key ∷ []) ∷ (key ∷ []) ∷ [] ∷ []
       pub offered : map (λ (a : Account). a.offered) (first_sessions handler other) ≡ (key ∷ []) ∷ [] ∷ [] ∷ [] ∷ (key ∷ []) ∷ (key ∷ []) ∷ [] ∷ []
       -- what has lapsed waits no more
