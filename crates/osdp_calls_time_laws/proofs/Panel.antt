@@ -1,5 +1,5 @@
 -- The panel's calls, on a line whose packets are read in time.
-use Rattle.osdp_calls_time_laws.proofs.Common.{◌≡◌, ◌+◌, ◌≤◌, ℕ, max, Bool, true, false, ◌<◌, List, Option, Some, None, refl, sym, subst, ap, ◌∙◌, inl, inr, arith, eqb_tells, Packet, Command, ControllerConfig, Quiet, BusState, Devices, device_of, seen, address_of, is_taken_beside, bus_fault, changed_unless, or_taken, retarget_refusal_of, bus_ticks, ticks_at, Entry, BusFault, told_by_ticking, told_in, moments_are_seen, ReadsWhatIsAsked, each_of, Each, Answer, Net, site_at, Apart, apart_all, at_changed, some_same, OfPanel, after_call, all_hear, asked_at, begun_of, change_at, changes_at, is_to_begin, issues, last_of, noted, panel_says, read_by, withdrawn, hears_all, told_by_all, InUse, Station, InOrder, InRange, QuietOpening, ticks_to, begun_change, begun_heard, reads_those, AsBefore, IsChanged, changed_at, at_seen, told_then, NotPast, Controls, IsNetOf, IsToOpen, of_station, ordered, Clock, Timed, clock_after, stamped, station_other}
+use Rattle.osdp_calls_time_laws.proofs.Common.{◌≡◌, ◌+◌, ◌≤◌, ℕ, max, Bool, true, false, ◌<◌, List, Option, Some, None, refl, sym, subst, ap, ◌∙◌, inl, inr, arith, eqb_tells, Packet, Command, ControllerConfig, Quiet, BusState, Devices, device_of, seen, address_of, is_taken_beside, bus_fault, changed_unless, or_taken, retarget_refusal_of, bus_ticks, ticks_at, Entry, BusFault, told_by_ticking, told_in, moments_are_seen, ReadsWhatIsAsked, each_of, Each, Answer, Net, site_at, Apart, apart_all, at_changed, some_same, OfPanel, after_call, all_hear, asked_at, begun_of, change_at, changes_at, is_to_begin, issues, last_of, noted, panel_says, read_by, hears_all, told_by_all, InUse, Station, InOrder, InRange, QuietOpening, ticks_to, begun_change, begun_heard, reads_those, AsBefore, IsChanged, changed_at, at_seen, told_then, NotPast, Controls, IsNetOf, IsToOpen, of_station, ordered, Clock, Timed, clock_after, stamped, station_other}
 use Rattle.std.specs.Prelude.{◌^◌, ◌||◌, option_map, slice_get}
 use Rattle.osdp_controller.specs.Comsets.{has_comset}
 use Rattle.osdp_controller.specs.Machine.{or_no_device, refused_unless_closed}
