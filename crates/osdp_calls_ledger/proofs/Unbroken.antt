@@ -1,5 +1,5 @@
 -- A device that has lost no power since its session began: the account of this session counts no restart, so the session ends by no refused number.
-use Rattle.osdp_calls_ledger.proofs.Common.{◌≡◌, ◌≢◌, ◌+◌, ℕ, zero, suc, max, Bool, true, false, cond, List, [], ◌∷◌, ◌++◌, map, length, Option, Some, None, is_some, refl, sym, subst, ap, ◌∙◌, inl, inr, eqb_tells, ◌==◌, slice_get, Packet, Command, Event, Reply, Report, State, Closed, Quiet, Idle, Waiting, Pausing, Devices, device_of, entry_hears, hears_packet, begin_refusal_at, changed_unless, submit_refusal_at, withdrawal_at, bus_ticks, Entry, BusFault, told_in, items_of, Account, after_report, front_of, taken, taken_command, lacks_room, in_doubt, never_offered, after_set_busy, after_set_handler, Answer, Ledger, Open, RestartDevice, new_ledger, each_map, Each, after_steps, opens, queued_before, queues, submits, withdraws, withdraws_event, IsDone, changed_from, some_same, Call, NewDevice, NewPanel, Next, OfPanel, Pending, SetHandler, Silence, Step, SubmitEvent, Take, TickDevice, LapseEvent, WithdrawEvent, after_call, after_calls, all_forget, all_hear, answers, asked_at, begins_session, begins_with, begun_of, change_at, changes_at, first_answered, forgets, hears_of, is_to_begin, issues, last_of, made_anew, nexts, panel_says, read_by, read_up_to, waiting_of, withdrawn, heard, hears_all, InUse, Station, bus_with, AllKeep, begun_heard, new_at, its_site, one_call, call_keeps, calls_keep, IsOurs, HeardAt, Touched, Untouched, heard_at, IsNetOf, first_net, starts, answered, device_steps, given_back, opening, panel_restarts, panel_steps, reported, steps_along, steps_at, steps_of}
+use Rattle.osdp_calls_ledger.proofs.Common.{◌≡◌, ◌≢◌, ◌+◌, ℕ, zero, suc, max, Bool, true, false, cond, List, [], ◌∷◌, ◌++◌, map, length, Option, Some, None, is_some, refl, sym, subst, ap, ◌∙◌, inl, inr, eqb_tells, ◌==◌, slice_get, Packet, Command, Event, Reply, Report, State, Closed, Quiet, Idle, Waiting, Pausing, Devices, device_of, entry_hears, hears_packet, begin_refusal_at, changed_unless, submit_refusal_at, withdrawal_at, bus_ticks, Entry, BusFault, told_in, items_of, Account, after_report, front_of, taken, taken_command, lacks_room, in_doubt, never_offered, after_set_busy, after_set_handler, Answer, Ledger, Open, RestartDevice, new_ledger, each_map, Each, after_steps, opens, queued_before, queues, submits, withdraws, withdraws_event, IsDone, changed_from, some_same, Call, NewDevice, NewPanel, Next, OfPanel, Pending, SetHandler, Silence, Step, SubmitEvent, Take, TickDevice, LapseEvent, WithdrawEvent, after_call, after_calls, all_forget, all_hear, answers, asked_at, begins_session, begins_with, begun_of, change_at, changes_at, first_answered, forgets, hears_of, is_to_begin, issues, last_of, made_anew, nexts, panel_says, read_by, read_up_to, waiting_of, heard, hears_all, InUse, Station, bus_with, AllKeep, begun_heard, new_at, its_site, one_call, call_keeps, calls_keep, IsOurs, HeardAt, Touched, Untouched, heard_at, IsNetOf, first_net, starts, answered, device_steps, given_back, opening, panel_restarts, panel_steps, reported, steps_along, steps_at, steps_of}
 use Rattle.osdp_msg.specs.declared.command.Command.TheVariants.{Poll}
 use Rattle.osdp_controller.specs.Hearing as controllers
 use Rattle.osdp_controller.specs.declared.report.Report.TheVariants as report

@@ -1,6 +1,6 @@
 -- Calls that keep the premises of any calls keep these: the line beside the panel's own bus differs by the turn alone.
 use Rattle.std.proofs.Common.{◌≡◌, ◌⊎◌, ℕ, true, false, cond, is_some, List, [], ◌∷◌, ◌++◌, append-nil, map, option_map, Option, Some, None, refl, sym, subst, ap, ◌∙◌, inl, inr}
-use Rattle.osdp_entry_numbers.proofs.Common.{option_map_or, Packet, Command, BusState, device_of, after_begin_at, after_retarget_at, after_submit_at, begin_refusal_of, changed_unless, entry_withdraws, retarget_refusal_of, submit_refusal_of, withdrawal_of, BusConfig, Entry, sound_call, SoundBus, each_of, Each, Answer, changed, site_at, Call, NewDevice, NewPanel, Next, OfPanel, Step, after_call, after_next, after_panel, all_hear, asked_at, begins_with, begun_of, change_at, changes_at, is_to_begin, issues, last_of, noted, panel_says, read_by, said_at, said_for, withdrawn, CanStand, Burst, InUse, Station, AllKeep, AreInOrder, IsAsked, IsFreeFor, IsNoOthers, IsOfOthers, IsSaid, IsThere, Keeps, MayBeAt, PanelInRange, said_bus, changed_same, AnyCallsKeep, as_they_stand, same_step, IsNewPanel, has_entry, named, renumbered, turn_of, AllOwnKeep, LeavesAlone, OwnKeeps, OwnLine, after_own, asked_in}
+use Rattle.osdp_entry_numbers.proofs.Common.{option_map_or, Packet, Command, BusState, device_of, after_begin_at, after_retarget_at, after_submit_at, begin_refusal_of, changed_unless, entry_withdraws, retarget_refusal_of, submit_refusal_of, BusConfig, Entry, sound_call, SoundBus, each_of, Each, Answer, site_at, Call, NewDevice, NewPanel, Next, OfPanel, Step, after_call, after_next, after_panel, all_hear, asked_at, begins_with, begun_of, change_at, is_to_begin, issues, last_of, noted, panel_says, read_by, said_at, said_for, CanStand, Burst, InUse, Station, AllKeep, AreInOrder, IsAsked, IsFreeFor, IsNoOthers, IsOfOthers, IsSaid, IsThere, Keeps, MayBeAt, PanelInRange, said_bus, AnyCallsKeep, as_they_stand, same_step, IsNewPanel, has_entry, named, renumbered, turn_of, AllOwnKeep, LeavesAlone, OwnKeeps, OwnLine, after_own, asked_in}
 use Rattle.osdp_bus_laws.specs.Calls as bus
 use Rattle.osdp_entry_numbers.specs.Numbers.{is_of_line}
 use Rattle.osdp_entry_numbers.proofs.NewPanels.{has_turn, new_sound}
