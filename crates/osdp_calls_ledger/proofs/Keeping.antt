@@ -104,7 +104,7 @@ module _ {H : Type 0} (answer_of : H → Command → Answer) (after_command : H 
         ap (λ (r : ReaderState H). r.last) reader ∙ last.1,
       )
 
-  pub keeps_ledger : EachMoveIsItsOwn answer_of after_command → NobodyElseHears answer_of after_command → lines.EachKeepsLedger answer_of after_command
+  pub keeps_ledger : EachMoveIsItsOwn answer_of after_command → NobodyElseHears answer_of after_command → lines.EachSiteKeepsLedger answer_of after_command
       → EachKeepsLedger answer_of after_command
   keeps_ledger own nobody each l steps up keep k first last d is there entry =
       let s = starts answer_of after_command l up in

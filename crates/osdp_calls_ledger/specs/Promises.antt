@@ -25,7 +25,7 @@ LeftSo w = (w.why ≡ AfterReport) ⊎ ((w.why ≡ TakenBack) ⊎ (w.why ≡ Thr
 
 -- of the commands that `submit` accepted for an entry, of the events that `submit_event` accepted for its device, and of those that the device's program
 -- gave up, each with how
-pub record HoldsOnce {H : Type 0} (commands : List Command) (events : List Event) (given_up : List (Event × Exit)) (d : Entry) (t : Station H) (h : History) : Type 0 where
+pub record EntryHoldsOnce {H : Type 0} (commands : List Command) (events : List Event) (given_up : List (Event × Exit)) (d : Entry) (t : Station H) (h : History) : Type 0 where
   -- The ledger's orders and cards are these commands and events, in this order.
   pub accepted : commands ≡ map (λ (o : Order). o.command) h.accepted
   pub queued : events ≡ map (λ (c : Card). c.event) h.queued
@@ -49,7 +49,7 @@ module _ {H : Type 0} (answer_of : H → Command → Answer) (after : H → Comm
   EachHoldsOnce l steps = (k : ℕ) (first last : Station H) (d : Entry) → site_at k l.stations ≡ Some first
       → site_at k (after_calls answer_of after steps l).stations ≡ Some last → device_of k (after_calls answer_of after steps l).bus ≡ Some d
       → AreAllowed (steps_from answer_of after k first steps l) new_history
-      × HoldsOnce (all_accepted answer_of after k steps l) (first.reader.queue.events ++ all_queued answer_of after k steps l)
+      × EntryHoldsOnce (all_accepted answer_of after k steps l) (first.reader.queue.events ++ all_queued answer_of after k steps l)
       (all_given_up answer_of after k steps l) d last (runs (steps_from answer_of after k first steps l) new_history)
 
   -- for every list of calls that keep the premises

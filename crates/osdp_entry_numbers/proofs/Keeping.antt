@@ -112,7 +112,7 @@ module _ {H : Type 0} (answer_of : H → Command → Answer) (after_command : H 
 
   -- ---- the ledger of a site is that of its device
 
-  pub own_ledger : EachMoveIsItsOwn answer_of after_command → NobodyElseHears answer_of after_command → lines.EachKeepsLedger answer_of after_command → TellsInTurn
+  pub own_ledger : EachMoveIsItsOwn answer_of after_command → NobodyElseHears answer_of after_command → lines.EachSiteKeepsLedger answer_of after_command → TellsInTurn
       → OwnOrderKeepsLedger answer_of after_command
   own_ledger own nobody each in_turn_told a steps up keep k first last d is there entry =
       let l = a.line in

@@ -18,7 +18,7 @@ use Rattle.osdp_calls.specs.Accepted.{accepted_by_panel, queued_by}
 use Rattle.osdp_calls.specs.Calls.{Call, NewPanel, OfPanel}
 use Rattle.osdp_calls.specs.Lines.{Station}
 use Rattle.osdp_calls_ledger.specs.GivenUp.{given_up_by}
-use Rattle.osdp_calls_ledger.specs.Promises.{HoldsOnce}
+use Rattle.osdp_calls_ledger.specs.Promises.{EntryHoldsOnce}
 use Rattle.osdp_calls_ledger.specs.Steps.{panel_restarts, panel_steps, steps_of}
 use Rattle.osdp_entry_numbers.specs.Numbers.{IsIdle, as_seen, renumbered, renumbers}
 use Rattle.osdp_entry_numbers.specs.OwnOrder.{AllOwnKeep, IsOwnSetUp, OwnLine, OwnStep, after_all_own, after_own, turned}
@@ -74,7 +74,7 @@ module _ {H : Type 0} where
         (k : ℕ) (first last : Station H) (d : Entry) → site_at k a.line.stations ≡ Some first → site_at k end.line.stations ≡ Some last
         → IsOfPanel k d end
         → AreAllowed (own_steps_from k first steps a) new_history
-        × HoldsOnce (all_own_accepted k steps a) (first.reader.queue.events ++ all_own_queued k steps a) (all_own_given_up k steps a) d last
+        × EntryHoldsOnce (all_own_accepted k steps a) (first.reader.queue.events ++ all_own_queued k steps a) (all_own_given_up k steps a) d last
         (runs (own_steps_from k first steps a) new_history)
 
     -- no two devices are ever at one address

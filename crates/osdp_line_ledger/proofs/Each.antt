@@ -10,10 +10,10 @@ use Rattle.osdp_link_ledger.specs.Laws.{HoldsByLedger, IsLedgerOf, LinkKeepsLedg
 use Rattle.osdp_shared_line.specs.Runs.{EachIsALink, moves_of}
 use Rattle.osdp_shared_line.specs.Views.{view}
 use Rattle.osdp_shared_line.proofs.Linking.{viewed}
-use Rattle.osdp_line_ledger.specs.Laws.{EachKeepsLedger, steps_at}
+use Rattle.osdp_line_ledger.specs.Laws.{EachSiteKeepsLedger, steps_at}
 
 module _ {H : Type 0} (answer_of : H → Command → Answer) (after : H → Command → H) where
-  pub each_keeps : EachIsALink answer_of after → LinkKeepsLedger answer_of after → LedgerTellsAccounts answer_of after → HoldsByLedger answer_of after → EachKeepsLedger answer_of after
+  pub each_keeps : EachIsALink answer_of after → LinkKeepsLedger answer_of after → LedgerTellsAccounts answer_of after → HoldsByLedger answer_of after → EachSiteKeepsLedger answer_of after
   each_keeps links keeps tells holds n moves up fits k first last is there =
       let h = links n moves up fits k first is in
       let own = moves_of answer_of after k moves n in

@@ -20,7 +20,7 @@ module _ {H : Type 0} (answer_of : H → Command → Answer) (after : H → Comm
   steps_at k first moves n = steps_from answer_of after (moves_of answer_of after k moves n) (view k first n)
 
   -- each may happen; the ledger at the end is that of its link; they come to what its accounts say; and what the ledger promises holds
-  pub record KeepsLedger (k : ℕ) (first last : Site H) (moves : List (NetMove H)) (n : Net H) : Type 0 where
+  pub record SiteKeepsLedger (k : ℕ) (first last : Site H) (moves : List (NetMove H)) (n : Net H) : Type 0 where
     pub allowed : AreAllowed (steps_at k first moves n) new_history
     pub ledger : IsLedgerOf (view k last (run answer_of after moves n)) (runs (steps_at k first moves n) new_history).ledger
     pub accounts : let own = moves_of answer_of after k moves n in
@@ -29,7 +29,7 @@ module _ {H : Type 0} (answer_of : H → Command → Answer) (after : H → Comm
     pub orders : OrdersHold (runs (steps_at k first moves n) new_history)
     pub events : EventsHold (runs (steps_at k first moves n) new_history)
 
-  abbrev pub EachKeepsLedger : Type 0
-  EachKeepsLedger = (n : Net H) (moves : List (NetMove H)) → IsSetUp n → NetMovesFit answer_of after moves n
+  abbrev pub EachSiteKeepsLedger : Type 0
+  EachSiteKeepsLedger = (n : Net H) (moves : List (NetMove H)) → IsSetUp n → NetMovesFit answer_of after moves n
       → (k : ℕ) (first last : Site H) → site_at k n.sites ≡ Some first → site_at k (run answer_of after moves n).sites ≡ Some last
-      → KeepsLedger k first last moves n
+      → SiteKeepsLedger k first last moves n

@@ -3,7 +3,7 @@
 #![tactic(auto)]
 
 ghost use Rattle.osdp_line_ledger.specs.Devices.{EachActsByOneHandler, EachOrdinaryEndsTold};
-ghost use Rattle.osdp_line_ledger.specs.Laws.{EachKeepsLedger};
+ghost use Rattle.osdp_line_ledger.specs.Laws.{EachSiteKeepsLedger};
 
 use osdp_reader::Handler;
 
@@ -11,7 +11,7 @@ use osdp_reader::Handler;
 /// panel's program and a device's see is one that the ledger of this device allows where it happens, the ledger at the end is that of its link,
 /// and the steps come to what the accounts of its sessions say. So the promises of the ledger hold of each device of a line.
 pub fn each_keeps_ledger<H: Handler>()
-    ensures { EachKeepsLedger H.answer_of H.after }
+    ensures { EachSiteKeepsLedger H.answer_of H.after }
 {
     osdp_shared_line::each_is_a_link::<H>();
     osdp_link_ledger::link_keeps_ledger::<H>();

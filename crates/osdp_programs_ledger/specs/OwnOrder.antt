@@ -15,7 +15,7 @@ use Rattle.osdp_calls.specs.Lines.{InUse, Station, bus_with}
 use Rattle.osdp_calls.specs.Premises.{AllKeep}
 use Rattle.osdp_calls.specs.Sayings.{NoneRefused}
 use Rattle.osdp_calls_instance.specs.OwnCalls.{AllFit, DeviceKind, IsLineOf, OwnCall, PanelKind, Programs, after_each, all_calls}
-use Rattle.osdp_calls_ledger.specs.Promises.{HoldsOnce}
+use Rattle.osdp_calls_ledger.specs.Promises.{EntryHoldsOnce}
 use Rattle.osdp_entry_numbers.specs.Including.{same_line, same_step}
 use Rattle.osdp_entry_numbers.specs.OwnOrder.{AllOwnKeep, IsOwnSetUp, OwnLine, OwnStep, after_all_own, own_view}
 use Rattle.osdp_entry_numbers.specs.Promises.{IsOfPanel, all_own_accepted, all_own_given_up, all_own_queued, own_steps_from}
@@ -29,7 +29,7 @@ module _ {H : Type 0} (P : PanelKind H) (D : DeviceKind H) (answer_of : H → Co
     pub station : Station H
     pub held : held_by station ≡ D.held d
     pub allowed : AreAllowed (own_steps_from answer_of after k first steps a) new_history
-    pub holds : HoldsOnce (all_own_accepted answer_of after k steps a) (first.reader.queue.events ++ all_own_queued answer_of after k steps a)
+    pub holds : EntryHoldsOnce (all_own_accepted answer_of after k steps a) (first.reader.queue.events ++ all_own_queued answer_of after k steps a)
         (all_own_given_up answer_of after k steps a) entry station (runs (own_steps_from answer_of after k first steps a) new_history)
 
   -- these steps are what such programs call, whichever places and numbers they have, from a line that is set up

@@ -14,7 +14,7 @@ use Rattle.osdp_calls.specs.Premises.{AllKeep, IsSetUp}
 use Rattle.osdp_calls.specs.Programs.{AllKeepRule, first_notes}
 use Rattle.osdp_calls_instance.specs.OwnCalls.{AllFit, DeviceKind, IsLineOf, OwnCall, PanelKind, Programs, after_each, all_calls}
 use Rattle.osdp_calls_ledger.specs.GivenUp.{all_given_up}
-use Rattle.osdp_calls_ledger.specs.Promises.{HoldsOnce}
+use Rattle.osdp_calls_ledger.specs.Promises.{EntryHoldsOnce}
 use Rattle.osdp_calls_ledger.specs.Steps.{steps_from}
 
 module _ {H : Type 0} (P : PanelKind H) (D : DeviceKind H) (answer_of : H → Command → Answer) (after : H → Command → H) where
@@ -26,7 +26,7 @@ module _ {H : Type 0} (P : PanelKind H) (D : DeviceKind H) (answer_of : H → Co
     pub station : Station H
     pub held : held_by station ≡ D.held d
     pub allowed : AreAllowed (steps_from answer_of after k first steps l) new_history
-    pub holds : HoldsOnce (all_accepted answer_of after k steps l) (first.reader.queue.events ++ all_queued answer_of after k steps l)
+    pub holds : EntryHoldsOnce (all_accepted answer_of after k steps l) (first.reader.queue.events ++ all_queued answer_of after k steps l)
         (all_given_up answer_of after k steps l) entry station (runs (steps_from answer_of after k first steps l) new_history)
 
   abbrev pub EachProgramHoldsOnce : List (OwnCall P D) → Programs P D → InUse H → List (Step H) → Type 0

@@ -21,7 +21,7 @@ use Rattle.osdp_calls.specs.Premises.{AllKeep}
 use Rattle.osdp_calls_instance.specs.SimulatedBus.{AreItsCalls, line_at_first, new_station}
 use Rattle.osdp_calls_instance.specs.SimulatedOrder.{IsTaken}
 use Rattle.osdp_calls_ledger.specs.GivenUp.{all_given_up}
-use Rattle.osdp_calls_ledger.specs.Promises.{HoldsOnce}
+use Rattle.osdp_calls_ledger.specs.Promises.{EntryHoldsOnce}
 use Rattle.osdp_calls_ledger.specs.Steps.{steps_from}
 
 -- the account has the commands accepted, those taken, those settled, each with its answer, and those told unsettled; and the events accepted and reported
@@ -43,7 +43,7 @@ module _ {H : Type 0} (answer_of : H → Command → Answer) (after : H → Comm
     pub there : site_at k (after_calls answer_of after calls (line_at_first config gap readers)).stations ≡ Some station
     pub reader : station.reader ≡ u.reader
     pub allowed : AreAllowed (steps_from answer_of after k (new_station gap given) calls (line_at_first config gap readers)) new_history
-    pub holds : HoldsOnce (all_accepted answer_of after k calls (line_at_first config gap readers)) (all_queued answer_of after k calls (line_at_first config gap readers))
+    pub holds : EntryHoldsOnce (all_accepted answer_of after k calls (line_at_first config gap readers)) (all_queued answer_of after k calls (line_at_first config gap readers))
         (all_given_up answer_of after k calls (line_at_first config gap readers)) entry station
         (runs (steps_from answer_of after k (new_station gap given) calls (line_at_first config gap readers)) new_history)
     pub told : TellsTheSame u.account (runs (steps_from answer_of after k (new_station gap given) calls (line_at_first config gap readers)) new_history)

@@ -12,10 +12,10 @@ use Rattle.osdp_sim_bus.specs.Runs as simulation
 use Rattle.osdp_sim_bus.specs.State.{Given, accounts, set_up}
 use Rattle.osdp_sim_bus_laws.specs.Accounts.{OfEach}
 use Rattle.osdp_sim_bus_laws.specs.Begun as each_begun
-use Rattle.osdp_sim_laws.specs.Accounts.{EndOnce}
+use Rattle.osdp_sim_laws.specs.Accounts.{SessionsEndOnce}
 use Rattle.osdp_sim_laws.specs.Begun as begun
 use Rattle.osdp_sim_laws.specs.Begun.{AreBegun}
-use Rattle.osdp_sim_ledger.specs.OneReader.{KeepsLedger, steps_of_run}
+use Rattle.osdp_sim_ledger.specs.OneReader.{RunTellsLedger, steps_of_run}
 use Rattle.osdp_sim_ledger.specs.SeveralReaders.{EachReaderKeepsLedger, steps_of_reader}
 use Rattle.osdp_sim_ledger.specs.Telling.{TellsByLedger}
 use Rattle.osdp_session.specs.Runs.{CameTo, TellsSessions}
@@ -39,8 +39,8 @@ module _ {H : Type 0} (answer_of : H → Command → Answer) (after : H → Comm
 
   pub tells_sessions : (config : SimConfig) (handler : H) (steps : List SimStep) (a : Account)
       → TellsByLedger answer_of after config.reader handler a (steps_of_run answer_of after config handler steps)
-      → ((before later : List SimStep) → steps ≡ before ++ later → KeepsLedger answer_of after config handler before)
-      → AreBegun 1 (begun.CameTo answer_of after config handler) steps a → EndOnce a
+      → ((before later : List SimStep) → steps ≡ before ++ later → RunTellsLedger answer_of after config handler before)
+      → AreBegun 1 (begun.CameTo answer_of after config handler) steps a → SessionsEndOnce a
       → TellsSessions answer_of after config handler steps a
   tells_sessions config handler steps a ledger until sessions ends = record {
     ledger = ledger;
@@ -57,10 +57,10 @@ module _ {H : Type 0} (answer_of : H → Command → Answer) (after : H → Comm
   -- ---- each of several readers
 
   module _ (config : BusConfig) (readers : List (Given H)) (steps : List SimStep) (told : List Account)
-      (sessions : each_begun.EachIsBegun answer_of after config readers steps told) (rows : OfEach (λ k given a. EndOnce a) readers told) where
+      (sessions : each_begun.EachIsBegun answer_of after config readers steps told) (rows : OfEach (λ k given a. SessionsEndOnce a) readers told) where
     -- its account is one, whichever law names it
-    ends_of : (k : ℕ) (given : Given H) (a : Account) → slice_get readers k ≡ Some given → slice_get told k ≡ Some a → EndOnce a
-    ends_of k given a at there = let mine = rows.each k given at in subst EndOnce (one_account (sym mine.1 ∙ there)) mine.2
+    ends_of : (k : ℕ) (given : Given H) (a : Account) → slice_get readers k ≡ Some given → slice_get told k ≡ Some a → SessionsEndOnce a
+    ends_of k given a at there = let mine = rows.each k given at in subst SessionsEndOnce (one_account (sym mine.1 ∙ there)) mine.2
 
     begun_of : (k : ℕ) (given : Given H) (a : Account) → slice_get readers k ≡ Some given → slice_get told k ≡ Some a
         → AreBegun (suc k) (each_begun.CameTo answer_of after config readers k given) steps a

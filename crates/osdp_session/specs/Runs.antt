@@ -9,7 +9,7 @@ use Rattle.osdp_sim.specs.declared.config.SimConfig.{SimConfig}
 use Rattle.osdp_sim.specs.declared.fault.Fault.{Fault}
 use Rattle.osdp_sim.specs.declared.step.SimStep.{SimStep}
 use Rattle.osdp_sim_laws.specs.Accepted.{IsAcceptedByRoom}
-use Rattle.osdp_sim_laws.specs.Accounts.{EndOnce, IsAnswer, IsOnce, WasSetUp, account_in, reopens_in}
+use Rattle.osdp_sim_laws.specs.Accounts.{SessionsEndOnce, IsAnswer, HoldsInOneSession, WasSetUp, account_in, reopens_in}
 use Rattle.osdp_sim_laws.specs.Begun as begun
 use Rattle.osdp_sim_laws.specs.Begun.{AreBegun}
 use Rattle.osdp_sim_ledger.specs.OneReader.{steps_of_run}
@@ -26,7 +26,7 @@ module _ {H : Type 0} (answer_of : H → Command → Answer) (after : H → Comm
   pub record TellsSessions (config : SimConfig) (handler : H) (steps : List SimStep) (a : account.Account) : Type 0 where
     pub ledger : TellsByLedger answer_of after config.reader handler a (steps_of_run answer_of after config handler steps)
     pub begun : AreBegun 1 (CameTo config handler) steps a
-    pub ends : EndOnce a
+    pub ends : SessionsEndOnce a
 
   -- all that the call of `osdp_sim` promises; which of the orders were accepted; once both ends are set up, what the account tells of its sessions; and
   -- the promise in plain lists where there is one session
@@ -34,7 +34,7 @@ module _ {H : Type 0} (answer_of : H → Command → Answer) (after : H → Comm
     pub run : IsAnswer answer_of after config handler steps answer
     pub room : IsAcceptedByRoom config (steps_done steps answer) (account_in answer)
     pub sessions : WasSetUp answer → TellsSessions config handler (steps_done steps answer) (account_in answer)
-    pub once : WasSetUp answer → reopens_in 1 (steps_done steps answer) ≡ 0 → IsOnce answer_of after config.reader handler (account_in answer)
+    pub once : WasSetUp answer → reopens_in 1 (steps_done steps answer) ≡ 0 → HoldsInOneSession answer_of after config.reader handler (account_in answer)
 
   abbrev pub HoldsOfEachRun : Type 0
   HoldsOfEachRun = (config : SimConfig) (handler : H) (steps : List SimStep) (answer : Result Account (Fault Account))

@@ -10,7 +10,7 @@ use Rattle.osdp_sim_bus.specs.State.{Given}
 use Rattle.osdp_sim_bus_laws.specs.Accepted.{AcceptsEach}
 use Rattle.osdp_sim_bus_laws.specs.Accounts.{BusAnswer, IsAnswer, IsOneSession, OfEach, WasSetUp, accounts_in}
 use Rattle.osdp_sim_bus_laws.specs.Begun as begun
-use Rattle.osdp_sim_laws.specs.Accounts.{EndOnce}
+use Rattle.osdp_sim_laws.specs.Accounts.{SessionsEndOnce}
 use Rattle.osdp_sim_laws.specs.Begun.{AreBegun}
 use Rattle.osdp_sim_ledger.specs.SeveralReaders.{steps_of_reader}
 use Rattle.osdp_sim_ledger.specs.Telling.{TellsByLedger}
@@ -26,7 +26,7 @@ module _ {H : Type 0} where
     pub record TellsSessions (steps : List SimStep) (k : ℕ) (given : Given H) (a : Account) : Type 0 where
       pub ledger : TellsByLedger answer_of after given.0 given.2 a (steps_of_reader answer_of after k given config readers steps)
       pub begun : AreBegun (suc k) (CameTo k given) steps a
-      pub ends : EndOnce a
+      pub ends : SessionsEndOnce a
 
     -- all that the call of `osdp_sim_bus` promises, and of each reader, once the line is set up, what `HoldsOfRun` says of one
     pub record HoldsOfBusRun (steps : List SimStep) (answer : BusAnswer) : Type 0 where

@@ -46,7 +46,7 @@ pub use Rattle.osdp_controller.specs.declared.report.Report.{Report}
 pub use Rattle.osdp_sim.specs.Line.{handed, left, sent}
 pub use Rattle.osdp_sim.specs.Steps.{damage_fault, moment_after, SaysFit}
 pub use Rattle.osdp_sim.proofs.Schedules.{first_well, holds_on}
-pub use Rattle.osdp_sim_laws.specs.Accounts.{EndOnce, IsNoRefusal, IsOf, reopens_in}
+pub use Rattle.osdp_sim_laws.specs.Accounts.{SessionsEndOnce, IsNoRefusal, IsOf, reopens_in}
 pub use Rattle.osdp_frame.specs.Spelling.{spelling}
 pub use Rattle.osdp_bus.specs.Buses.{BusState}
 pub use Rattle.osdp_link_laws.specs.Peers.{IsPlainlySaid}

@@ -1,5 +1,5 @@
 -- Each reader's account has an end for each session that is over, and is that of one session where no step begins it again.
-use Rattle.osdp_sim_bus_laws.proofs.Common.{◌≡◌, ◌+◌, suc, List, length, sym, ap, ◌∙◌, arith, Command, Answer, BusConfig, Account, SimStep, steps_done, Given, ReaderSite, set_up, EndOnce, reopens_in, HasSessions, of_one, AccountsAreOnce, AccountsEndOnce, IsOneSession, IsRun, OfEach}
+use Rattle.osdp_sim_bus_laws.proofs.Common.{◌≡◌, ◌+◌, suc, List, length, sym, ap, ◌∙◌, arith, Command, Answer, BusConfig, Account, SimStep, steps_done, Given, ReaderSite, set_up, SessionsEndOnce, reopens_in, HasSessions, of_one, AccountsAreOnce, AccountsEndOnce, IsOneSession, IsRun, OfEach}
 use Rattle.osdp_sim_bus.specs.Runs as simulation
 use Rattle.osdp_sim_bus_laws.proofs.Begun.{sessions_counted}
 use Rattle.osdp_sim_bus_laws.proofs.Places.{unmapped}
@@ -13,7 +13,7 @@ module _ {H : Type 0} (answer_of : H → Command → Answer) (after : H → Comm
 
   pub all_end : HaveSessions → AccountsEndOnce answer_of after
   all_end rows config readers steps answer is was =
-      answers answer_of after (OfEach (λ k given a. EndOnce a) readers) config readers steps answer is was
+      answers answer_of after (OfEach (λ k given a. SessionsEndOnce a) readers) config readers steps answer is was
       (λ so.
       let row = rows config readers (steps_done steps answer) so in
       record { count = row.count; each = λ k given at. let mine = row.each k given at in (mine.0, mine.1, mine.2.ends) })

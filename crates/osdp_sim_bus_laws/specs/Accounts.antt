@@ -10,7 +10,7 @@ use Rattle.osdp_sim.specs.declared.fault.Fault.{Fault}
 use Rattle.osdp_sim.specs.declared.step.SimStep.{SimStep}
 use Rattle.osdp_sim_bus.specs.Runs.{AreSettings, FitAlong, RunEnds, is_well, lists_of_all, steps_done}
 use Rattle.osdp_sim_bus.specs.State.{Given, set_up}
-use Rattle.osdp_sim_laws.specs.Accounts.{EndOnce, IsOnce, reopens_in}
+use Rattle.osdp_sim_laws.specs.Accounts.{SessionsEndOnce, HoldsInOneSession, reopens_in}
 
 -- what `run_bus` answers: an account for each reader, or a fault with those of the steps before it
 abbrev pub BusAnswer : Type 0
@@ -47,11 +47,11 @@ module _ {H : Type 0} where
     -- whatever the steps are, for each reader
     abbrev pub AccountsEndOnce : Type 0
     AccountsEndOnce = (config : BusConfig) (readers : List (Given H)) (steps : List SimStep) (answer : BusAnswer)
-        → IsAnswer config readers steps answer → WasSetUp answer → OfEach (λ k given a. EndOnce a) readers (accounts_in answer)
+        → IsAnswer config readers steps answer → WasSetUp answer → OfEach (λ k given a. SessionsEndOnce a) readers (accounts_in answer)
 
     -- the promise in plain lists, of a reader whose session no step begins again, whatever the sessions of others do
     abbrev pub IsOneSession : List SimStep → ℕ → Given H → Account → Type 0
-    IsOneSession steps k given a = reopens_in (suc k) steps ≡ 0 → IsOnce answer_of after given.0 given.2 a
+    IsOneSession steps k given a = reopens_in (suc k) steps ≡ 0 → HoldsInOneSession answer_of after given.0 given.2 a
 
     abbrev pub AccountsAreOnce : Type 0
     AccountsAreOnce = (config : BusConfig) (readers : List (Given H)) (steps : List SimStep) (answer : BusAnswer)

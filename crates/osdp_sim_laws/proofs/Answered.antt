@@ -1,5 +1,5 @@
 -- What `run_session` answers after a line that was cleared and rounds that lose nothing.
-use Rattle.osdp_sim_laws.proofs.Common.{◌≡◌, ◌≤◌, ◌+◌, ◌++◌, ℕ, suc, All, List, [], ◌∷◌, length, Ok, refl, sym, subst, ap, ◌∙◌, arith, append-nil, length-append, Command, ReaderConfig, Answer, with_answers, SetsNoAddress, each_append, each_of, Account, lists_of, rounds, SimStep, AnswersHoldOnce, IsInSession, IsOnce, reopens_in, AnswerRecovers, IsDone, Recovers, clear, done}
+use Rattle.osdp_sim_laws.proofs.Common.{◌≡◌, ◌≤◌, ◌+◌, ◌++◌, ℕ, suc, All, List, [], ◌∷◌, length, Ok, refl, sym, subst, ap, ◌∙◌, arith, append-nil, length-append, Command, ReaderConfig, Answer, with_answers, SetsNoAddress, each_append, each_of, Account, lists_of, rounds, SimStep, AnswersHoldOnce, IsInSession, HoldsInOneSession, reopens_in, AnswerRecovers, IsDone, Recovers, clear, done}
 use Rattle.std.specs.Prelude.{◌-◌, min}
 use Rattle.osdp_reader.specs.Table.{answer_to}
 use Rattle.osdp_sim_laws.proofs.Begun.{none_reopen}
@@ -17,7 +17,7 @@ whole xs ys rest is few = is ∙ ap (λ l. xs ++ l) (none_more rest few) ∙ app
 
 module _ {H : Type 0} (answer_of : H → Command → Answer) (after : H → Command → H) where
   -- what is settled and reported is all, where it is as much
-  pub all_done : (config : ReaderConfig) (handler : H) (a : Account) → IsOnce answer_of after config handler a
+  pub all_done : (config : ReaderConfig) (handler : H) (a : Account) → HoldsInOneSession answer_of after config handler a
       → length a.issued + length a.queued ≤ done a → IsDone answer_of after config handler a
   all_done config handler a once enough =
       let commands = once.taken in

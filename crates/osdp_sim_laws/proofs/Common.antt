@@ -29,7 +29,7 @@ pub use Rattle.osdp_sim.specs.declared.fault.Cause.{Cause}
 pub use Rattle.osdp_sim.specs.declared.step.SimStep.{SimStep}
 pub use Rattle.osdp_sim.specs.declared.step.SimStep.TheVariants.{Busy, Issue, Queue, Reopen, ToController, ToReader, Wait}
 pub use Rattle.osdp_sim_laws.specs.Accepted.{AcceptsByRoom, but_poll, commands_of, events_of, IsAccepted, IsAcceptedByRoom}
-pub use Rattle.osdp_sim_laws.specs.Accounts.{account_in, AnswersEndOnce, AnswersHoldOnce, EndOnce, IsAnswer, IsInSession, IsNoRefusal, IsOf, IsOnce, no_lengths, reopens, reopens_in, WasSetUp}
+pub use Rattle.osdp_sim_laws.specs.Accounts.{account_in, AnswersEndOnce, AnswersHoldOnce, SessionsEndOnce, IsAnswer, IsInSession, IsNoRefusal, IsOf, HoldsInOneSession, no_lengths, reopens, reopens_in, WasSetUp}
 pub use Rattle.osdp_msg.specs.declared.reply.Reply.{Reply}
 pub use Rattle.osdp_controller.specs.declared.report.Report.{Report}
 pub use Rattle.osdp_reader.specs.declared.config.ReaderConfig.{ReaderConfig}

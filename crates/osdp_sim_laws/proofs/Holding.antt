@@ -1,5 +1,5 @@
 -- What holds of each schedule.
-use Rattle.osdp_sim_laws.proofs.Common.{◌≡◌, ◌<◌, ℕ, Bool, true, false, arith, List, [], ◌∷◌, ◌++◌, length, refl, sym, subst, ap, ◌∙◌, Result, Ok, Err, ◌≤◌, ◌-◌, zero, suc, take, inl, inr, ◌+◌, ◌⊎◌, Command, is_closed, ReaderConfig, Answer, Begins, IsBeginning, with_answers, AreUndisturbed, IsUndisturbed, each_all, each_of, moves_so, begins_so, keep_reader, steady_handler, steady_ordinary, count, Account, empty_account, lists_of, with_session, FitAlong, Stops, run, steps_done, set_up, Cause, SimConfig, SimStep, AnswersEndOnce, AnswersHoldOnce, EndOnce, IsAnswer, IsNoRefusal, IsOf, IsOnce, WasSetUp, account_in, reopens_in, OneLink, IsRun, ScheduleIsMoves, first_link, moves_of}
+use Rattle.osdp_sim_laws.proofs.Common.{◌≡◌, ◌<◌, ℕ, Bool, true, false, arith, List, [], ◌∷◌, ◌++◌, length, refl, sym, subst, ap, ◌∙◌, Result, Ok, Err, ◌≤◌, ◌-◌, zero, suc, take, inl, inr, ◌+◌, ◌⊎◌, Command, is_closed, ReaderConfig, Answer, Begins, IsBeginning, with_answers, AreUndisturbed, IsUndisturbed, each_all, each_of, moves_so, begins_so, keep_reader, steady_handler, steady_ordinary, count, Account, empty_account, lists_of, with_session, FitAlong, Stops, run, steps_done, set_up, Cause, SimConfig, SimStep, AnswersEndOnce, AnswersHoldOnce, SessionsEndOnce, IsAnswer, IsNoRefusal, IsOf, HoldsInOneSession, WasSetUp, account_in, reopens_in, OneLink, IsRun, ScheduleIsMoves, first_link, moves_of}
 use Rattle.osdp_link_laws.specs.Headline as link_once
 use Rattle.osdp_link_laws.specs.Link as link
 use Rattle.osdp_link_laws.specs.Refusals as refusals
@@ -55,7 +55,7 @@ module _ {H : Type 0} (answer_of : H → Command → Answer) (after : H → Comm
     pub undisturbed : AreUndisturbed (last ∷ earlier)
     pub once : link_once.EachIsOnce (last ∷ earlier)
     pub answers : HaveAnswers answer_of after config handler (last ∷ earlier)
-    pub ends : EndOnce a
+    pub ends : SessionsEndOnce a
 
   pub last_one : (closed : Bool) (a : Account) → length a.ends + 1 ≡ length a.sessions + count closed
       → (length a.ends + 1 ≡ length a.sessions) ⊎ (length a.ends ≡ length a.sessions)
@@ -93,7 +93,7 @@ module _ {H : Type 0} (answer_of : H → Command → Answer) (after : H → Comm
 
   -- ---- one session
 
-  few : (a : Account) → EndOnce a → length a.sessions ≡ 1 → length a.ends ≤ 1
+  few : (a : Account) → SessionsEndOnce a → length a.sessions ≡ 1 → length a.ends ≤ 1
   few a ends one = by_count ends.count
     where
       by_count : (length a.ends + 1 ≡ length a.sessions) ⊎ (length a.ends ≡ length a.sessions) → length a.ends ≤ 1
@@ -101,7 +101,7 @@ module _ {H : Type 0} (answer_of : H → Command → Answer) (after : H → Comm
       by_count (inr ended) = omega (arith, ended, one)
 
   of_session : (config : ReaderConfig) (handler : H) (a : Account) (t : link.Account) (earlier : List link.Account) → earlier ≡ [] → length a.sessions ≡ 1
-      → IsOf a t earlier → IsUndisturbed t → link_once.IsOnce t → HaveAnswers answer_of after config handler (t ∷ earlier) → EndOnce a → IsOnce answer_of after config handler a
+      → IsOf a t earlier → IsUndisturbed t → link_once.IsOnce t → HaveAnswers answer_of after config handler (t ∷ earlier) → SessionsEndOnce a → HoldsInOneSession answer_of after config handler a
   of_session config handler a t (u ∷ earlier) none one lists so held its ends = absurd cc
   of_session config handler a t [] none one lists so held its ends = record {
     taken = subst (λ cs. IsBeginning cs a.issued) (sym lists.taken) (subst (IsBeginning t.taken) (sym (lists.issued refl)) held.taken);
@@ -116,7 +116,7 @@ module _ {H : Type 0} (answer_of : H → Command → Answer) (after : H → Comm
   }
 
   -- of one session alone
-  pub of_one : (config : ReaderConfig) (handler : H) (a : Account) → HasSessions config handler a → length a.sessions ≡ 1 → IsOnce answer_of after config handler a
+  pub of_one : (config : ReaderConfig) (handler : H) (a : Account) → HasSessions config handler a → length a.sessions ≡ 1 → HoldsInOneSession answer_of after config handler a
   of_one config handler a row one =
       of_session config handler a row.last row.earlier (none_earlier a row.last row.earlier row.lists one) one row.lists row.undisturbed.0 row.once.0 row.answers row.ends
 
@@ -140,12 +140,12 @@ module _ {H : Type 0} (answer_of : H → Command → Answer) (after : H → Comm
 
   pub all_end : OneLink answer_of after → AnswersEndOnce answer_of after
   all_end given config handler steps answer is was =
-      answers EndOnce config handler steps answer is was (λ done. (has_sessions given config handler (steps_done steps answer) done).ends)
+      answers SessionsEndOnce config handler steps answer is was (λ done. (has_sessions given config handler (steps_done steps answer) done).ends)
 
   pub all_once : OneLink answer_of after → ((config : SimConfig) (handler : H) (steps : List SimStep)
       → length (run answer_of after steps (set_up config handler)).account.sessions ≡ 1 + reopens_in 1 steps) → AnswersHoldOnce answer_of after
   all_once given counted config handler steps answer is was none =
       let done = steps_done steps answer in
-      answers (IsOnce answer_of after config.reader handler) config handler steps answer is was
+      answers (HoldsInOneSession answer_of after config.reader handler) config handler steps answer is was
       (λ so. of_one config.reader handler (run answer_of after done (set_up config handler)).account (has_sessions given config handler done so)
       (omega (arith, counted config handler done, none)))

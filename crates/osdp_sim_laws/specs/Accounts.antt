@@ -42,7 +42,7 @@ IsNoRefusal (ending.Lost cause) = IsOtherCause cause
 IsNoRefusal ending.Moved = Unit {0}
 
 -- each session has ended once, or each but the last; none because the reader refused a number
-pub record EndOnce (a : Account) : Type 0 where
+pub record SessionsEndOnce (a : Account) : Type 0 where
   pub count : (length a.ends + 1 ≡ length a.sessions) ⊎ (length a.ends ≡ length a.sessions)
   pub causes : All IsNoRefusal a.ends
 
@@ -74,7 +74,7 @@ WasSetUp (Err fault) = 1 ≤ fault.step
 module _ {H : Type 0} (answer_of : H → Command → Answer) (after : H → Command → H) where
   -- in one session: the commands that the reader has taken are a beginning of those issued, and hold each settled one, with the answer
   -- that the reader gave, and one more at most; the events reported are a beginning of those queued
-  pub record IsOnce (config : ReaderConfig) (handler : H) (a : Account) : Type 0 where
+  pub record HoldsInOneSession (config : ReaderConfig) (handler : H) (a : Account) : Type 0 where
     pub taken : IsBeginning a.taken a.issued
     pub settled : (more : List (Command × Reply)) × (with_answers answer_of after config handler a.taken ≡ a.settled ++ more) × (length more ≤ 1)
     pub reported : IsBeginning a.reported a.queued
@@ -89,10 +89,10 @@ module _ {H : Type 0} (answer_of : H → Command → Answer) (after : H → Comm
   -- whatever the steps are
   abbrev pub AnswersEndOnce : Type 0
   AnswersEndOnce = (config : SimConfig) (handler : H) (steps : List SimStep) (answer : Result declared.Account (Fault declared.Account))
-      → IsAnswer config handler steps answer → WasSetUp answer → EndOnce (account_in answer)
+      → IsAnswer config handler steps answer → WasSetUp answer → SessionsEndOnce (account_in answer)
 
   -- where none of the steps that were taken begins the reader's session again
   abbrev pub AnswersHoldOnce : Type 0
   AnswersHoldOnce = (config : SimConfig) (handler : H) (steps : List SimStep) (answer : Result declared.Account (Fault declared.Account))
       → IsAnswer config handler steps answer → WasSetUp answer → reopens_in 1 (steps_done steps answer) ≡ 0
-      → IsOnce config.reader handler (account_in answer)
+      → HoldsInOneSession config.reader handler (account_in answer)

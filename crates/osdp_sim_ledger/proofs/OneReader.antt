@@ -9,7 +9,7 @@ use Rattle.osdp_sim.specs.declared.config.SimConfig.{SimConfig}
 use Rattle.osdp_sim_laws.specs.Moves.{ScheduleIsMoves, first_link, move_of, moves_of, step_clock}
 use Rattle.osdp_sim_laws.specs.Progress.{IsRun}
 use Rattle.osdp_sim_laws.proofs.Holding.{answers}
-use Rattle.osdp_sim_ledger.specs.OneReader.{KeepsLedger, RunKeepsLedger, steps_of_run}
+use Rattle.osdp_sim_ledger.specs.OneReader.{RunTellsLedger, RunKeepsLedger, steps_of_run}
 use Rattle.osdp_sim_ledger.proofs.Telling.{tells_once}
 
 module _ {H : Type 0} where
@@ -44,7 +44,7 @@ module _ {H : Type 0} (answer_of : H → Command → Answer) (after : H → Comm
   module _ (moves : ScheduleIsMoves answer_of after) (once : HoldsOnce answer_of after) (acts : ActsHaveAnswersOfOneHandler answer_of after) (told : OrdinaryMovesEndTold answer_of after)
       (keeps : LinkKeepsLedger answer_of after) (tells : LedgerTellsAccounts answer_of after)
       (holds : HoldsByLedger answer_of after) (in_turn : TellsInTurn) where
-    one_run : (config : SimConfig) (handler : H) (steps : List SimStep) → IsRun answer_of after config handler steps → KeepsLedger answer_of after config handler steps
+    one_run : (config : SimConfig) (handler : H) (steps : List SimStep) → IsRun answer_of after config handler steps → RunTellsLedger answer_of after config handler steps
     one_run config handler steps is =
         let l = first_link config handler in
         let ms = moves_of steps 0 in
@@ -72,6 +72,6 @@ module _ {H : Type 0} (answer_of : H → Command → Answer) (after : H → Comm
       whole = answers answer_of after (λ a. TellsByLedger answer_of after config.reader handler a (steps_of_run answer_of after config handler (steps_done steps answer)))
           config handler steps answer is was (one_run config handler (steps_done steps answer));
       until = λ before later same.
-          answers answer_of after (λ a. KeepsLedger answer_of after config handler before) config handler steps answer is was
+          answers answer_of after (λ a. RunTellsLedger answer_of after config handler before) config handler steps answer is was
           (λ done. one_run config handler before (until config handler (steps_done steps answer) before later same done));
     }

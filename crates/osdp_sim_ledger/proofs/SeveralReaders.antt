@@ -6,7 +6,7 @@ use Rattle.osdp_bus_links.proofs.Keeping.{moves_usual}
 use Rattle.osdp_bus_links.proofs.Names.{are_steady}
 use Rattle.osdp_bus_links.specs.Links.{SubmitsAsAMove}
 use Rattle.osdp_link_laws.specs.Sessions.{submitted}
-use Rattle.osdp_line_ledger.specs.Laws.{EachKeepsLedger}
+use Rattle.osdp_line_ledger.specs.Laws.{EachSiteKeepsLedger}
 use Rattle.osdp_shared_line.specs.Runs as runs
 use Rattle.osdp_shared_line.specs.Runs.{EachIsALink}
 use Rattle.osdp_shared_line.proofs.Linking.{viewed}
@@ -23,7 +23,7 @@ use Rattle.osdp_sim_ledger.proofs.Telling.{tells_once}
 
 module _ {H : Type 0} (answer_of : H → Command → Answer) (after : H → Command → H) (submits : SubmitsAsAMove answer_of after) (schedules : SchedulesAreMoves answer_of after)
     (own : EachMoveIsItsOwn answer_of after) (links : EachIsALink answer_of after) (acts : ActsHaveAnswersOfOneHandler answer_of after) (told : OrdinaryMovesEndTold answer_of after) (nobody : NobodyElseHears answer_of after) (once : HoldsOnce answer_of after)
-    (keeps : EachKeepsLedger answer_of after) (in_turn : TellsInTurn) where
+    (keeps : EachSiteKeepsLedger answer_of after) (in_turn : TellsInTurn) where
   abbrev HasKept : ℕ → Given H → BusConfig → List (Given H) → List SimStep → List Account → Type 0
   HasKept k given config readers steps told =
       (a : Account) × (slice_get told k ≡ Some a) × TellsByLedger answer_of after given.0 given.2 a (steps_of_reader answer_of after k given config readers steps)

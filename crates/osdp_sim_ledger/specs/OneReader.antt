@@ -19,14 +19,14 @@ module _ {H : Type 0} (answer_of : H → Command → Answer) (after : H → Comm
   steps_of_run config handler steps = steps_from answer_of after (moves_of steps 0) (first_link config handler)
 
   -- the account that these steps come to tells what their ledger's steps come to
-  abbrev pub KeepsLedger : SimConfig → H → List SimStep → Type 0
-  KeepsLedger config handler steps =
+  abbrev pub RunTellsLedger : SimConfig → H → List SimStep → Type 0
+  RunTellsLedger config handler steps =
       TellsByLedger answer_of after config.reader handler (run answer_of after steps (set_up config handler)).account (steps_of_run config handler steps)
 
   -- of what `run_session` answers, with a fault too: once both ends were set up, for the steps that it took, and for each beginning of them
   pub record RunKeeps (config : SimConfig) (handler : H) (steps : List SimStep) (answer : Result Account (Fault Account)) : Type 0 where
     pub whole : TellsByLedger answer_of after config.reader handler (account_in answer) (steps_of_run config handler (steps_done steps answer))
-    pub until : (before later : List SimStep) → steps_done steps answer ≡ before ++ later → KeepsLedger config handler before
+    pub until : (before later : List SimStep) → steps_done steps answer ≡ before ++ later → RunTellsLedger config handler before
 
   abbrev pub RunKeepsLedger : Type 0
   RunKeepsLedger = (config : SimConfig) (handler : H) (steps : List SimStep) (answer : Result Account (Fault Account))
