@@ -6,6 +6,7 @@ use Rattle.osdp_tool_captures.specs.declared.format.Format.{Format}
 use Rattle.osdp_tool_captures.specs.declared.format.Format.TheVariants.{Digits, Bytes, Of}
 use Rattle.osdp_tool_captures.specs.declared.hint.Hint.{Hint}
 use Rattle.osdp_tool_captures.specs.declared.hint.Hint.TheVariants as hint
+use Rattle.osdp_tool_captures.specs.Marks.{without_mark}
 
 -- a tab, or a character of a line's end
 abbrev pub is_spread : ℕ → Bool
@@ -34,10 +35,23 @@ begins_dump front = false
 abbrev pub of_text : List ℕ → Option Hint → Option Hint
 of_text front other = if slice_index front 0 == 123 then Some hint.Osdpcap else (if begins_dump front then Some hint.Xxd else other)
 
--- Read as digits: bytes where one is no character, and else by the text. Read as bytes: text where all are characters, and eight or more.
-abbrev pub hint_of : Format → List ℕ → Option Hint
-hint_of Digits front = if are_text front then of_text front None else Some hint.Bytes
-hint_of Bytes front =
+-- a mark of UTF-16, whose characters have their low byte first or their high one
+abbrev pub begins_utf16 : List ℕ → Bool
+begins_utf16 (a ∷ b ∷ rest) = (a == 0xFF && b == 0xFE) || (a == 0xFE && b == 0xFF)
+begins_utf16 front = false
+
+-- what a text that is read as digits is: bytes where one is no character
+abbrev pub of_digits : List ℕ → Option Hint
+of_digits front = if are_text front then of_text front None else Some hint.Bytes
+
+-- what bytes are: text where all are characters, and eight or more
+abbrev pub of_bytes : List ℕ → Option Hint
+of_bytes front =
     if nat_lt (length front) 8 || not (are_text front) then None
     else (if are_digits front || slice_index front 0 == 35 then Some hint.Digits else of_text front (Some hint.Text))
-hint_of (Of tool) front = None
+
+-- Read as lines: text in UTF-16 by its mark, and else, of digits, by what they are. Read as bytes: by what stands after a mark of UTF-8.
+abbrev pub hint_of : Format → List ℕ → Option Hint
+hint_of Digits front = if begins_utf16 front then Some hint.Utf16 else of_digits front
+hint_of Bytes front = of_bytes (without_mark front)
+hint_of (Of tool) front = if begins_utf16 front then Some hint.Utf16 else None

@@ -1,9 +1,10 @@
 //! Inputs that plainly are in another form than the one that they are read in.
 
 ghost use Rattle.std.specs.Prelude.{◌≡◌};
-ghost use Rattle.osdp_tool_captures.specs.Hints.{are_digits, are_text, begins_dump, hint_of, is_digit, is_spread, is_text, of_text};
+ghost use Rattle.osdp_tool_captures.specs.Hints.{are_digits, are_text, begins_dump, begins_utf16, hint_of, is_digit, is_spread, is_text, of_bytes, of_digits, of_text};
 
-use crate::format::{Format, Tool};
+use crate::format::Format;
+use crate::mark::without_mark;
 use thiserror::Error;
 
 /// So many bytes at the front of an input tell its form.
@@ -30,6 +31,9 @@ pub enum Hint {
     /// Text of another form, read as bytes.
     #[error("the input looks like text, and not like bytes of a line: osdp help show has the forms")]
     Text,
+    /// Text whose characters have two bytes each, read as lines.
+    #[error("the input looks like text in UTF-16: convert it first, by iconv -f UTF-16 -t UTF-8")]
+    Utf16,
 }
 
 /// Whether a byte is a character of text: printable, a blank, or of a line's end.
@@ -88,16 +92,47 @@ fn of_text(front: &[u8], other: Option<Hint>) -> Option<Hint>
     }
 }
 
+/// Whether a mark of UTF-16 stands in front.
+fn begins_utf16(front: &[u8]) -> bool
+    ensures { result ≡ begins_utf16 front.now }
+{
+    match front {
+        [a, b, ..] => (*a == 0xFF && *b == 0xFE) || (*a == 0xFE && *b == 0xFF),
+        _ => false,
+    }
+}
+
+/// What a text is that is read as digits.
+fn of_digits(front: &[u8]) -> Option<Hint>
+    ensures { result ≡ of_digits front.now }
+{
+    if are_text(front) {
+        return of_text(front, None);
+    }
+    Some(Hint::Bytes)
+}
+
+/// What bytes are.
+fn of_bytes(front: &[u8]) -> Option<Hint>
+    ensures { result ≡ of_bytes front.now }
+{
+    if front.len() < FEW || !are_text(front) {
+        return None;
+    }
+    if are_digits(front) || front[0] == b'#' {
+        return Some(Hint::Digits);
+    }
+    of_text(front, Some(Hint::Text))
+}
+
 /// What the first bytes of an input, `FRONT` or all, plainly are, where that is another form than the one that they are read in.
 pub fn looks_like(format: Format, front: &[u8]) -> Option<Hint>
     ensures { result ≡ hint_of format front.now }
 {
     match format {
-        Format::Digits if are_text(front) => of_text(front, None),
-        Format::Digits => Some(Hint::Bytes),
-        Format::Bytes if front.len() < FEW || !are_text(front) => None,
-        Format::Bytes if are_digits(front) || front[0] == b'#' => Some(Hint::Digits),
-        Format::Bytes => of_text(front, Some(Hint::Text)),
-        Format::Of(Tool::Osdpcap | Tool::Xxd | Tool::Stamped) => None,
+        Format::Bytes => of_bytes(without_mark(front)),
+        Format::Digits | Format::Of(_) if begins_utf16(front) => Some(Hint::Utf16),
+        Format::Digits => of_digits(front),
+        Format::Of(_) => None,
     }
 }

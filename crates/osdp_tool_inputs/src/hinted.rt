@@ -1,10 +1,11 @@
 //! An input that is looked at as it is read, so that one of another form is told at once.
 
-ghost use Rattle.std.specs.Prelude.{◌≡◌};
+ghost use Rattle.std.specs.Prelude.{◌≡◌, option_map};
 ghost use Rattle.std.specs.Io.{ReadsAtMost};
 ghost use Rattle.std.specs.Io.KnownBytes.{ReadConsumes};
+ghost use Rattle.osdp_tool_captures.specs.Marks.{content_of, left_in};
 
-use osdp_tool_captures::{FRONT, Format, looks_like};
+use osdp_tool_captures::{FRONT, Format, Unmarked, looks_like};
 use std::io;
 use std::io::Read;
 
@@ -32,7 +33,7 @@ impl Front {
     }
 }
 
-/// An input that is looked at.
+/// An input that is looked at, without a mark in front of its lines.
 #[derive(Drop)]
 pub struct Hinted<'a, R> {
     /// Where a hint is printed.
@@ -44,12 +45,14 @@ pub struct Hinted<'a, R> {
     /// The bytes at its front.
     front: Front,
     /// The input itself.
-    inner: R,
+    inner: Unmarked<R>,
 }
 
-impl<'a, R> Hinted<'a, R> {
+impl<'a, R: Read> Hinted<'a, R> {
     /// Nothing has come.
-    pub fn new(rt: &'a HostRuntime, format: Format, inner: R) -> Hinted<'a, R> {
+    pub fn new(rt: &'a HostRuntime, format: Format, inner: R) -> Hinted<'a, R>
+        ensures { left_in R.remaining result.inner ≡ option_map (content_of format) (R.remaining inner) }
+    {
         Hinted {
             rt,
             format,
@@ -58,7 +61,7 @@ impl<'a, R> Hinted<'a, R> {
                 bytes: [0u8; FRONT],
                 count: 0,
             },
-            inner,
+            inner: Unmarked::new(format, inner),
         }
     }
 
@@ -91,11 +94,11 @@ impl<'a, R> Hinted<'a, R> {
 }
 
 impl<R: Read> Read for Hinted<'_, R> {
-    ghost remaining = { λ hinted. R.remaining hinted.inner };
+    ghost remaining = { λ hinted. left_in R.remaining hinted.inner };
 
     fn read(&mut self, buf: &mut [u8]) -> io::Result<usize>
         ensures bound { ReadsAtMost result buf.new }
-        ensures bytes { ReadConsumes (R.remaining self.old.inner) (R.remaining self.new.inner) result buf.new }
+        ensures bytes { ReadConsumes (left_in R.remaining self.old.inner) (left_in R.remaining self.new.inner) result buf.new }
     {
         let answer = self.inner.read(buf);
         if let Ok(count) = &answer {
