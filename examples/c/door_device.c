@@ -103,6 +103,7 @@ int main(int count, char **words)
     for (;;) {
         size_t length = read_port(port, &lines, 10, bytes, sizeof bytes);
         uint64_t now = moment(); /* after the read: not before it */
+        (void)osdp_device_set_moment(&device, now); /* also where the program was stopped for more than a day */
         let_go(now);
         hear(bytes, length, now);
         for (const char *line = next_line(&lines); line != NULL; line = next_line(&lines)) {
@@ -111,8 +112,6 @@ int main(int count, char **words)
         if (osdp_device_tick(&device, now, &answer) == OSDP_OK) {
             take_answer(&answer);
             hear(bytes, 0, now);
-        } else {
-            (void)osdp_device_set_moment(&device, now); /* the program was stopped for more than a day */
         }
     }
 }

@@ -30,6 +30,13 @@ static void switch_relay(bool on, uint64_t ends)
     tell("relay %s\n", on ? "on" : "off");
 }
 
+/* The program ends: nobody would switch the relay off any more. */
+static void release(const char *cause)
+{
+    (void)cause;
+    switch_relay(false, UINT64_MAX);
+}
+
 /* An OUT that may not be done is refused before it is answered; one that was confirmed is done. */
 static void take_out(const struct osdp_answer *answer, uint64_t now)
 {
@@ -83,17 +90,19 @@ static void take_line(const char *line)
 int main(int count, char **words)
 {
     static struct lines lines;
-    static const uint8_t off[1] = { 0 };
+    static const uint8_t closed[1] = { 0 };
     uint8_t bytes[4096];
     words = take_words(&count, words, 3, "keypad_reader [--keep FILE] PORT RATE ADDRESS\n", &kept);
     struct osdp_device_config config = { .address = number(words[2], "address"), .capacity = 64, .gap = 20, .serial = 1, .product.vendor = { 'S', 'I', 'M' } };
     rate = number(words[1], "rate");
     (void)read_kept(kept, &config.address, &rate);
     osdp_status status = osdp_device_new(&device, &config, NULL, 0);
-    if (status != OSDP_OK || osdp_device_set_outputs(&device, off, 1) != OSDP_OK || osdp_device_set_inputs(&device, off, 1) != OSDP_OK) {
-        stop(OUT_OF_MEMORY, "%s", osdp_status_text(status));
+    if (status != OSDP_OK || osdp_device_set_inputs(&device, closed, 1) != OSDP_OK) {
+        stop(status == OSDP_DEVICE_OUT_OF_RANGE ? BAD_WORDS : OUT_OF_MEMORY, "%s", osdp_status_text(status));
     }
     port = open_port(words[0], rate);
+    switch_relay(false, UINT64_MAX); /* the program before this one may have left it on */
+    before_end(release);
     for (;;) {
         size_t length = read_port(port, &lines, 10, bytes, sizeof bytes);
         uint64_t now = moment(); /* after the read: not before it */

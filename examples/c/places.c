@@ -107,14 +107,28 @@ void allow_other(struct known *reader)
 {
     reader->is_other = false;
     note_device(reader->stand, &reader->other);
-    comset_over(reader);
+    if (reader->state == OPEN) {
+        comset_over(reader);
+    } else {
+        try_keep(); /* it was found at another rate: where it is, is known once it has come back */
+    }
+}
+
+void leave_reader(struct known *reader)
+{
+    reader->is_left = reader->state == OPEN;
+}
+
+bool is_open(const struct known *reader)
+{
+    return reader->state == OPEN && !reader->is_left;
 }
 
 void reader_closed(struct known *reader, uint64_t begins)
 {
     reader->state = CLOSED;
     reader->begins = begins;
-    reader->is_other = reader->is_moving = false;
+    reader->is_moving = reader->is_left = false;
 }
 
 bool comset_goes(struct known *reader, struct place place)
@@ -151,7 +165,7 @@ struct place place_told(const struct osdp_message *com, uint32_t rate)
 const char *comset_refusal(void)
 {
     for (size_t i = 0; i < known_count; i++) {
-        if (readers[i].state != OPEN) {
+        if (!is_open(&readers[i])) {
             return "another session not open";
         }
         if (readers[i].is_other) {

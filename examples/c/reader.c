@@ -184,6 +184,7 @@ static void turn(struct lines *lines)
     uint8_t bytes[4096];
     size_t count = read_port(port, lines, TURN, bytes, sizeof bytes);
     uint64_t now = moment(); /* after the read: not before it */
+    (void)osdp_device_set_moment(&reader, now); /* also where the program was stopped for more than a day */
     look(now); /* before anything is heard: so a panel that is back gets no card of long ago */
     tell_outputs(now);
     hear(bytes, count, now);
@@ -192,8 +193,6 @@ static void turn(struct lines *lines)
         act(&answer, now);
         hear(bytes, 0, now);
         look(now);
-    } else {
-        (void)osdp_device_set_moment(&reader, now); /* the program was stopped for more than a day */
     }
 }
 
