@@ -383,11 +383,11 @@ def other_elsewhere(c, _):
 
 
 class Odd(Device):
-    """A device that answers its first COMSET so that nobody can read it, and stays where it is. It takes the others, and notes what it is ordered."""
+    """A device that answers its first COMSET otherwise than by a COM: by a code that nobody can read, and stays where it is, or by an ACK, and moves. It takes the others, and notes what it is ordered."""
 
-    def __init__(self, terminal, address=5):
+    def __init__(self, terminal, address=5, odd=0x99):
         super().__init__(terminal, {})
-        self.address, self.orders, self.card, self.is_silent = address, [], None, False
+        self.address, self.odd, self.orders, self.card, self.is_silent = address, odd, [], None, False
 
     def answer(self):
         for burst in self.terminal.bursts() if select.select([self.terminal.end], [], [], 0.01)[0] else ():
@@ -396,12 +396,12 @@ class Odd(Device):
                 continue
             code, data = {ID: (PDID, examples.IDENTITY), COMSET: (COM, burst[6:11])}.get(burst[5], (ACK, b""))
             if burst[5] == COMSET and self.orders.count(COMSET) == 1:
-                code, data = 0x99, b""
+                code, data = self.odd, b""
             elif burst[5] == 0x60 and self.card:
                 code, data, self.card = RAW, self.card, None
             check = crc_packet if burst[4] & 4 else packet
             os.write(self.terminal.end, check(burst[1] | 0x80, burst[4] & 3, code, data))
-            self.address = data[0] if code == COM else self.address
+            self.address = burst[6] if burst[5] == COMSET and code != 0x99 else self.address
 
 
 def crc_packet(address, number, code, data=b""):
@@ -423,16 +423,17 @@ def started(c, line, name):
     return line.scripts[-1], "opened 1", "move 8 9600"
 
 
-def unread_comset(c, _, name):
-    """After a COMSET whose answer can't be read the reader is looked for anew, and the next COMSET is taken. Until then nothing more is said to it."""
+def odd_comset(c, _, name, odd):
+    """After a COMSET whose answer is no COM that can be read the reader is looked for anew, and the next COMSET is taken. Until then nothing more is said to it."""
     with Line(all_words(c)) as line:
         panel, word, moves = started(c, line, name)
-        device = Odd(line.panel_end)
+        device = Odd(line.panel_end, odd=odd)
         openings = lambda: sum(each.startswith(word) for each in panel.lines)
         asks(device.until(panel, lambda: openings() == 1), f"unread, {name}: the session doesn't open")
         panel.say(moves)
         asks(device.until(panel, lambda: openings() == 2), f"unread, {name}: the reader isn't looked for anew: {panel.lines[-6:]}")
-        asks(any(each.startswith("unread 1 code 99 COMSET 8 9600") for each in panel.lines), f"unread, {name}: it isn't told: {panel.lines[-6:]}")
+        told = "unread 1 code 99 COMSET 8 9600" if odd == 0x99 else "settled 1 COMSET 8 9600 = ACK"
+        asks(told in panel.lines, f"unread, {name}: it isn't told: {panel.lines[-6:]}")
         panel.say(moves)
         asks(device.until(panel, lambda: openings() == 3), f"unread, {name}: the next COMSET isn't taken: {panel.lines[-6:]}")
         asks(device.address == 8 and device.orders == [COMSET, COMSET], f"unread, {name}: the reader is at {device.address}, and was ordered {device.orders}")
@@ -659,7 +660,8 @@ def cases():
                  "other_elsewhere", "stopped_order", "relay_is_released"):
         yield name, ()
     for name in ("panel", "door_panel"):
-        yield "unread_comset", (name,)
+        for odd in (0x99, ACK):
+            yield "odd_comset", (name, odd)
     for name in ("door_panel", "three_doors"):
         yield "stopped_panel", (name,)
     for name in ("reader", "door_device", "keypad_reader"):

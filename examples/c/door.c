@@ -79,12 +79,12 @@ void heed_door(struct door *door, const struct osdp_report *report, uint64_t now
         } else {
             note_door(door);
         }
-    } else if (report->kind == OSDP_REPORT_SETTLED && report->command.code == OSDP_COMSET) {
-        note_door(door); /* it was refused */
     } else if (report->kind == OSDP_REPORT_MOVED) {
         note_move(door, &report->reply);
-    } else if (report->kind == OSDP_REPORT_UNREAD && report->command.code == OSDP_COMSET) {
-        leave_door(door);
+    } else if (report->kind == OSDP_REPORT_SETTLED && report->command.code == OSDP_COMSET && report->reply.code == OSDP_NAK) {
+        note_door(door);
+    } else if (report->kind != OSDP_REPORT_LOST && report->command.code == OSDP_COMSET) {
+        leave_door(door); /* its answer is no COM that can be read */
     }
     if (report->kind == OSDP_REPORT_LOST || report->kind == OSDP_REPORT_MOVED) {
         door->may_order = door->is_other = door->is_left = false;

@@ -24,8 +24,8 @@ osdp_status add_door(osdp_panel *panel, struct door *door, const char *kept, uin
 void heed_door(struct door *door, const struct osdp_report *report, uint64_t now);
 
 /* Lets its open session end, by leaving out what the panel says: there is no call for it. So its next session begins at a place that is known, no order goes out
- * that was given before the program was stopped, and a card that is told again is known as such. Where a COMSET's answer can't be read it is done too: the device
- * is at either place, and the panel takes no other COMSET for it until it is looked for anew. */
+ * that was given before the program was stopped, and a card that is told again is known as such. Where a COMSET is answered neither by a COM nor by a NAK it is
+ * done too: the device is at either place, and the panel may take no other COMSET for it until it is looked for anew. */
 void leave_door(struct door *door);
 
 /* Writes what the panel says, but for a door that is left. */

@@ -89,6 +89,7 @@ int main(int count, char **words)
 {
     static struct lines lines;
     static struct osdp_answer answer;
+    /* each device has a serial number of its own, by which a panel knows it */
     struct osdp_device_config config = { .address = 5, .capacity = 64, .gap = 20, .serial = 1, .product.vendor = { 'S', 'I', 'M' } };
     const uint8_t outputs[2] = { 0, 0 };
     uint8_t bytes[4096];

@@ -17,8 +17,8 @@ static const char usage[] =
     "A reader whose session isn't open takes no order. Where a session is lost or moved, the orders that wait are taken\n"
     "back, and told `withdrawn`. A lost session begins again after a second. Where the program ends, at Ctrl-C or since its\n"
     "port is gone, they are told so too, and an order that is under way is told `lost` and `stopped` or `port-gone`.\n"
-    "A session is let end, and is told `lost`, where the answer to a COMSET can't be read, and where the program was stopped\n"
-    "for more than five seconds.\n"
+    "A session is let end, and is told `lost`, where a COMSET is answered neither by a COM nor by a NAK, and where the\n"
+    "program was stopped for more than five seconds.\n"
     "A COMSET is taken where every session is open. One with another rate is given to each reader. While no session is\n"
     "open the port goes through the rates at which readers may be, told `rate`, and tries each reader there once. Readers\n"
     "whose sessions are open keep the port at their rate. One that may be at another rate is looked for there, told\n"
@@ -60,15 +60,15 @@ static void heed(const struct osdp_report *report)
     struct known *reader = known_reader(report->entry);
     if (report->kind == OSDP_REPORT_OPENED) {
         reader_opened(reader, report);
-    } else if (report->kind == OSDP_REPORT_SETTLED && report->command.code == OSDP_COMSET) {
-        comset_over(reader);
     } else if (report->kind == OSDP_REPORT_MOVED) {
         comset_done(reader, place_told(&report->reply, rate));
         close_reader(report->entry, reader, 0);
     } else if (report->kind == OSDP_REPORT_LOST) {
         close_reader(report->entry, reader, PAUSE);
-    } else if (report->kind == OSDP_REPORT_UNREAD && report->command.code == OSDP_COMSET) {
-        leave_reader(reader); /* it is at either place, and the panel takes no other COMSET for it until it is looked for anew */
+    } else if (report->command.code == OSDP_COMSET && report->reply.code == OSDP_NAK) {
+        comset_over(reader);
+    } else if (report->command.code == OSDP_COMSET) {
+        leave_reader(reader); /* its answer is no COM that can be read: it is at either place, and is looked for anew */
     }
 }
 
@@ -248,6 +248,7 @@ int main(int count, char **words)
     read_places(kept);
     add_readers(words[2]);
     port = open_port(words[0], rate);
+    demand_rates();
     gap = config.gap;
     prepare_search(&config, port);
     before_end(tell_last_ends);

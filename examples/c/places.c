@@ -42,13 +42,19 @@ uint32_t join_reader(uint32_t name, uint32_t rate)
         }
     }
     struct stand *stand = stand_of(stands, &stand_count, KEPT, name, rate);
-    for (size_t i = 0; i < stand->count; i++) {
-        if (!has_rate(stand->places[i].rate)) {
+    readers[known_count++] = (struct known){ .stand = stand, .state = CLOSED };
+    demand_rates();
+    return place_of(stand).address;
+}
+
+void demand_rates(void)
+{
+    for (size_t i = 0; i < 2 * known_count; i++) {
+        const struct stand *stand = readers[i / 2].stand;
+        if (i % 2 < stand->count && !has_rate(stand->places[i % 2].rate)) {
             stop(FAILED, "the port has no such rate");
         }
     }
-    readers[known_count++] = (struct known){ .stand = stand, .state = CLOSED };
-    return place_of(stand).address;
 }
 
 struct known *known_reader(size_t entry)

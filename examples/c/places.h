@@ -29,6 +29,9 @@ struct known {
 void read_places(const char *path);
 uint32_t join_reader(uint32_t name, uint32_t rate);
 
+/* Ends the program where the port, which is open now, hasn't the rate of one of their places. */
+void demand_rates(void);
+
 /* Writes where they are to that file. Whether that was done. */
 bool keep_places(void);
 

@@ -23,8 +23,11 @@ static const struct {
 } speeds[] = { { 9600, B9600 }, { 19200, B19200 }, { 38400, B38400 }, { 57600, B57600 }, { 115200, B115200 }, { 230400, B230400 } };
 
 enum { RATES = sizeof speeds / sizeof speeds[0] };
-#define LATE 5000 /* milliseconds after which no panel waits for an answer any more */
+#define OUT_SLACK 10 /* milliseconds that an adapter may take until it begins to send */
+#define LATE 5000    /* milliseconds after which no panel waits for an answer any more */
 
+static uint64_t gone_out;   /* when the last burst that was written has gone out */
+static uint32_t port_rate;  /* the rate at which it goes */
 static bool refuses[RATES]; /* which of these rates the port hasn't, as was tried when it was opened */
 
 /* CLOCK_MONOTONIC stands still while the computer sleeps: a card from before would seem to be new after it. */
@@ -62,6 +65,16 @@ static bool is_set(int port, speed_t speed)
            (found.c_cflag & (CSIZE | PARENB | CSTOPB)) == CS8;
 }
 
+static int wait_for(struct pollfd *ready, nfds_t count, uint64_t wait);
+
+/* Some adapters say that all has gone out while they hold the rest of it: the time that it takes is waited for. */
+static void wait_out(void)
+{
+    for (uint64_t now = moment(); now < gone_out; now = moment()) {
+        (void)wait_for(NULL, 0, gone_out - now);
+    }
+}
+
 bool set_rate(int port, uint32_t rate)
 {
     struct termios before, settings;
@@ -69,6 +82,7 @@ bool set_rate(int port, uint32_t rate)
     if (speed == B0 || tcgetattr(port, &before) != 0) {
         return false;
     }
+    wait_out();
     settings = before;
     settings.c_iflag = settings.c_oflag = settings.c_lflag = 0;
     settings.c_cflag = CS8 | CREAD | CLOCAL;
@@ -77,6 +91,7 @@ bool set_rate(int port, uint32_t rate)
     cfsetispeed(&settings, speed);
     cfsetospeed(&settings, speed);
     if (tcsetattr(port, TCSADRAIN, &settings) == 0 && is_set(port, speed)) {
+        port_rate = rate;
         return true;
     }
     (void)tcsetattr(port, TCSADRAIN, &before);
@@ -206,6 +221,7 @@ void write_all(int port, const struct osdp_burst *burst)
         at += count > 0 ? (size_t)count : 0;
     }
     if (burst->length > 0) {
+        gone_out = (began > gone_out ? began : gone_out) + 10000u * burst->length / port_rate + OUT_SLACK; /* a byte has ten bits */
         trace_sent(burst->bytes, burst->length);
     }
 }

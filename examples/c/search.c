@@ -126,15 +126,15 @@ void take_found(uint64_t now)
     static struct osdp_report report;
     struct known *reader = known_reader(sought);
     while (is_out && osdp_panel_next_report(&finder, &report) == OSDP_OK && report.kind != OSDP_REPORT_NONE) {
-        bool is_moved = report.kind == OSDP_REPORT_MOVED, is_refused = report.kind == OSDP_REPORT_SETTLED;
-        bool is_over = is_moved || is_refused || report.kind == OSDP_REPORT_LOST || report.kind == OSDP_REPORT_UNREAD;
+        bool is_moved = report.kind == OSDP_REPORT_MOVED, is_settled = report.kind == OSDP_REPORT_SETTLED;
+        bool is_over = is_moved || is_settled || report.kind == OSDP_REPORT_LOST || report.kind == OSDP_REPORT_UNREAD;
         report.entry = sought;
         tell_report(&report);
         if (report.kind == OSDP_REPORT_OPENED) {
             is_over = tell_other(reader, &report) || !fetch(reader);
         } else if (is_moved) {
             comset_done(reader, place_told(&report.reply, there.rate));
-        } else if (is_refused) {
+        } else if (is_settled && report.reply.code == OSDP_NAK) {
             comset_over(reader);
             reader->refuses = true;
         }

@@ -20,8 +20,9 @@
 
 static int faults, port = -1, master, in_pieces;
 static bool has_boot_time = true, is_blocked, skips_waits;
-static clockid_t asked;     /* the clock that was asked last */
-static time_t ahead;        /* how many seconds the clocks are ahead */
+static clockid_t asked;      /* the clock that was asked last */
+static time_t ahead;         /* how many seconds the clocks are ahead */
+static uint64_t stands, waited; /* the moment at which they stand still, or 0, and how long was waited since then, in milliseconds */
 static speed_t missing = B0; /* the rate that the port hasn't */
 
 static void demand(bool holds, const char *what)
@@ -73,6 +74,9 @@ int __wrap_clock_gettime(clockid_t clock, struct timespec *now)
     }
     int status = __real_clock_gettime(clock, now);
     now->tv_sec += ahead;
+    if (stands != 0) {
+        *now = (struct timespec){ (time_t)((stands + waited) / 1000), (long)((stands + waited) % 1000) * 1000000 };
+    }
     return status;
 }
 
@@ -112,8 +116,9 @@ int __real_ppoll(struct pollfd *ready, nfds_t count, const struct timespec *most
 int __wrap_ppoll(struct pollfd *ready, nfds_t count, const struct timespec *most, const sigset_t *held);
 int __wrap_ppoll(struct pollfd *ready, nfds_t count, const struct timespec *most, const sigset_t *held)
 {
-    if (skips_waits) {
+    if (skips_waits || stands != 0) {
         ahead += most->tv_sec;
+        waited += (uint64_t)most->tv_sec * 1000 + (uint64_t)most->tv_nsec / 1000000;
         return 0;
     }
     return __real_ppoll(ready, count, most, held);
@@ -150,6 +155,19 @@ static void rates(const char *path)
     missing = B57600; /* as where the adapter is another one now */
     demand(!set_rate(port, 57600) && speed() == B38400, "a rate that isn't read back is set");
     demand(set_rate(port, 9600) && speed() == B9600, "a rate that the port has isn't set");
+}
+
+/* Before the rate changes as much time passes as what was written takes, since an adapter may hold it still. */
+static void goes_out(void)
+{
+    const struct osdp_burst burst = { 12, "\x53\x05\x0C\x00\x01\x54\x07\x00\x4B\x00\x00\x00" };
+    uint8_t sent[64];
+    stands = moment();
+    write_all(port, &burst);
+    demand(set_rate(port, 38400) && waited == 22, "at 9600 it isn't waited for twelve bytes and the adapter");
+    demand(set_rate(port, 9600) && waited == 22, "it is waited for what has gone out");
+    stands = 0;
+    demand(read(master, sent, sizeof sent) == 12, "the burst is another one");
 }
 
 /* How many bytes a read gives, after these have come. */
@@ -221,6 +239,7 @@ int main(void)
     (void)__real_tcsetattr(master, TCSANOW, &raw);
     clocks();
     rates(ptsname(master));
+    goes_out();
     stopped();
     writes();
     return faults == 0 ? 0 : 1;
