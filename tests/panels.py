@@ -520,18 +520,18 @@ def stopped_device(c, _, name):
 
 
 def relay_is_released(c, _):
-    """The relay is off as the reader with keys begins, and where it ends: at Ctrl-C, and where its port is gone."""
-    for how, status in (("Ctrl-C", 130), ("the port is gone", 3)):
+    """The relay is off as the reader with keys begins, and where it ends: at Ctrl-C, where its terminal is closed, and where its port is gone."""
+    for how, status in (("Ctrl-C", 130), ("a closed terminal", 129), ("the port is gone", 3)):
         terminal = Terminal()
         device = Script(f"{c}/keypad_reader", terminal.path, 9600, 5, stderr=subprocess.DEVNULL)
         for number, code, data, reply in ((0, ID, b"\0", PDID), (1, OUT, bytes([0, 5, 100, 0]), ACK)):
             os.write(terminal.end, packet(5, number, code, data))
             asks(terminal.next_burst()[5:6] == bytes([reply]), f"relay, {how}: the reply to {code:02X} is another one")
-        if how == "Ctrl-C":
-            device.process.send_signal(signal.SIGINT)
-        else:
+        if how == "the port is gone":
             os.close(terminal.end)
             terminal.end = os.open("/dev/null", os.O_RDONLY)
+        else:
+            device.process.send_signal(signal.SIGINT if how == "Ctrl-C" else signal.SIGHUP)
         found = device.process.wait(timeout=30)
         device.read()
         asks(found == status and device.lines == ["relay off", "relay on", "relay off"], f"relay, {how}: status {found}, told is {device.lines}")

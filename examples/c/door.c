@@ -98,6 +98,7 @@ void begin_door(osdp_panel *panel, struct door *door, int port, uint64_t now)
         return;
     }
     while (osdp_panel_withdraw(panel, door->entry, &command) == OSDP_OK && command.present) {
+        tell("withdrawn %s\n", command_text(&command));
         if (command.code == OSDP_COMSET) {
             stands_at(door->stand, place_of(door->stand));
         }

@@ -1,6 +1,8 @@
 /* A device with a card reader, a keypad and a relay: `keypad_reader [--keep FILE] PORT RATE ADDRESS`. A line `RAW 0 0 26 12345640` is a card, `KEYPAD 0 31323334`
  * are keys, and `ISTATR 01` the door's contact. The relay, output 0, is on for the time that is ordered. LED and buzzer are told as they are ordered. A COMSET
  * gives the device another address and rate, which FILE keeps. What has waited for 30 s while no panel is there is told to nobody any more. */
+#include <stdio.h>
+#include <stdlib.h>
 #include <string.h>
 
 #include "kept.h"
@@ -30,11 +32,10 @@ static void switch_relay(bool on, uint64_t ends)
     tell("relay %s\n", on ? "on" : "off");
 }
 
-/* The program ends: nobody would switch the relay off any more. */
-static void release(const char *cause)
+/* However the program ends, the relay goes off: nobody else would switch it. What is told here may fail. */
+static void release(void)
 {
-    (void)cause;
-    switch_relay(false, UINT64_MAX);
+    (void)puts("relay off");
 }
 
 /* An OUT that may not be done is refused before it is answered; one that was confirmed is done. */
@@ -102,7 +103,7 @@ int main(int count, char **words)
     }
     port = open_port(words[0], rate);
     switch_relay(false, UINT64_MAX); /* the program before this one may have left it on */
-    before_end(release);
+    (void)atexit(release);
     for (;;) {
         size_t length = read_port(port, &lines, 10, bytes, sizeof bytes);
         uint64_t now = moment(); /* after the read: not before it */

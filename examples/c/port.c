@@ -144,7 +144,7 @@ void demand_rate(int port, uint32_t rate)
     }
 }
 
-/* Waits so many milliseconds at most, and ends the program at Ctrl-C. The signals that end it come here alone, so that none is missed. */
+/* Waits so many milliseconds at most, and ends the program at Ctrl-C, or where its terminal is closed. The signals that end it come here alone, so that none is missed. */
 static int wait_for(struct pollfd *ready, nfds_t count, uint64_t wait)
 {
     const struct timespec most = { (time_t)(wait / 1000), (long)(wait % 1000) * 1000000 };
@@ -160,15 +160,24 @@ static int wait_for(struct pollfd *ready, nfds_t count, uint64_t wait)
 static void take_signals(void)
 {
     const struct sigaction ends = { .sa_handler = note_signal };
+    static const int signals[] = { SIGINT, SIGTERM, SIGHUP };
+    const size_t count = sizeof signals / sizeof signals[0];
+    struct sigaction before;
     sigset_t held;
     sigemptyset(&held);
-    sigaddset(&held, SIGINT);
-    sigaddset(&held, SIGTERM);
+    for (size_t i = 0; i < count; i++) {
+        bool is_ignored = signals[i] == SIGHUP && sigaction(SIGHUP, NULL, &before) == 0 && before.sa_handler == SIG_IGN; /* as under `nohup` */
+        if (!is_ignored) {
+            sigaddset(&held, signals[i]);
+        }
+    }
     sigprocmask(SIG_BLOCK, &held, &while_waiting);
-    sigdelset(&while_waiting, SIGINT);
-    sigdelset(&while_waiting, SIGTERM);
-    sigaction(SIGINT, &ends, NULL);
-    sigaction(SIGTERM, &ends, NULL);
+    for (size_t i = 0; i < count; i++) {
+        if (sigismember(&held, signals[i]) == 1) {
+            sigdelset(&while_waiting, signals[i]);
+            sigaction(signals[i], &ends, NULL);
+        }
+    }
 }
 
 /* Another program has the port. */

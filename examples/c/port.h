@@ -14,7 +14,8 @@ struct lines {
 /* Milliseconds of a clock that never goes backwards, and goes on while the computer sleeps. */
 uint64_t moment(void);
 
-/* Opens a port, which no other program may open then; ends the program where it can't, or where another program has it. At Ctrl-C the program ends. */
+/* Opens a port, which no other program may open then; ends the program where it can't, or where another program has it. At Ctrl-C, and where its
+ * terminal is closed, the program ends. */
 int open_port(const char *path, uint32_t rate);
 
 /* What is to be told before the program ends at Ctrl-C (`stopped`) or since its port has failed (`port-gone`). */

@@ -56,11 +56,6 @@ bool set_rate(int port, uint32_t rate)
     return has_rate(rate);
 }
 
-void before_end(void (*tells)(const char *cause))
-{
-    (void)tells;
-}
-
 void open_trace(const char *path)
 {
     (void)path;
