@@ -116,7 +116,7 @@ examples/c/build "$work" -Werror >"$work/said" 2>&1 || { cat "$work/said"; fail 
 # .. and compile without a word where a pointer has 32 bits, and an `osdp_size` is no `size_t`
 mkdir "$work/gnu" && : >"$work/gnu/stubs-32.h" # glibc's headers ask for it, and it isn't there for each target
 for file in examples/c/*.c; do
-  "$CC" -m32 -std=c11 -Wall -Wextra -Werror -pedantic -O2 -fsyntax-only -Iinclude -I"$work" -I"/usr/include/$("$CC" -print-multiarch)" "$file" 2>"$work/said" ||
+  "$CC" -m32 -std=c11 -Wall -Wextra -Wconversion -Werror -pedantic -O2 -fsyntax-only -Iinclude -I"$work" -I"/usr/include/$("$CC" -print-multiarch)" "$file" 2>"$work/said" ||
     { cat "$work/said"; fail "$file for 32 bits says something"; }
 done
 passes python3 tests/c_monitor.py "$work/monitor_checked" "$work/listen"

@@ -94,7 +94,7 @@ void heed_door(struct door *door, const struct osdp_report *report, uint64_t now
 void begin_door(osdp_panel *panel, struct door *door, int port, uint64_t now)
 {
     static struct osdp_message command;
-    if (!osdp_site_is_due(&door->site, door->entry, now)) {
+    if (!osdp_site_is_due(&door->site, (size_t)door->entry, now)) {
         return;
     }
     while (osdp_panel_withdraw(panel, door->entry, &command) == OSDP_OK && command.present) {

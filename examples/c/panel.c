@@ -57,14 +57,15 @@ static void close_reader(size_t entry, struct known *reader, uint64_t pause)
 /* Does what a report asks for. */
 static void heed(const struct osdp_report *report)
 {
-    struct known *reader = known_reader(report->entry);
+    size_t entry = (size_t)report->entry;
+    struct known *reader = known_reader(entry);
     if (report->kind == OSDP_REPORT_OPENED) {
         reader_opened(reader, report);
     } else if (report->kind == OSDP_REPORT_MOVED) {
         comset_done(reader, place_told(&report->reply, rate));
-        close_reader(report->entry, reader, 0);
+        close_reader(entry, reader, 0);
     } else if (report->kind == OSDP_REPORT_LOST) {
-        close_reader(report->entry, reader, PAUSE);
+        close_reader(entry, reader, PAUSE);
     } else if (report->command.code == OSDP_COMSET && report->reply.code == OSDP_NAK) {
         comset_over(reader);
     } else if (report->command.code == OSDP_COMSET) {
@@ -79,7 +80,7 @@ static void take_reports(void)
     while (osdp_panel_next_report(&panel, &report) == OSDP_OK && report.kind != OSDP_REPORT_NONE) {
         tell_report(&report);
         if (report.command.present) {
-            order_ended(report.entry);
+            order_ended((size_t)report.entry);
         }
         heed(&report);
     }

@@ -91,7 +91,7 @@ bool tell_other(struct known *reader, const struct osdp_report *opened)
     (void)osdp_pd_id_of(&opened->reply, &reader->other);
     reader->is_other = !is_same(stand, &reader->other);
     if (reader->is_other) {
-        size_t which = opened->entry + 1;
+        size_t which = (size_t)opened->entry + 1;
         tell("another device %zu at %u: it gets no order until `%zu accept`\n", which, (unsigned)place_of(stand).address, which);
     } else if (!stand->is_known) {
         note_device(stand, &reader->other);

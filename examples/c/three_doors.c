@@ -63,7 +63,7 @@ static void take_report(const struct osdp_report *report, bool has_changed, uint
     static struct osdp_raw card;
     static struct osdp_states inputs;
     static const struct osdp_message asks = { .present = 1, .code = OSDP_ISTAT };
-    size_t door = report->entry;
+    size_t door = (size_t)report->entry;
     left[door] = left[door] && report->kind != OSDP_REPORT_LOST;
     if (has_changed) {
         tell("door %zu is %s\n", door + 1, entries[door].is_online ? "online" : "offline");
@@ -107,7 +107,8 @@ static osdp_status make(uint64_t now)
     osdp_status status = osdp_panel_new(&panel, &config);
     osdp_site_new(&site, entries, DOORS, now);
     osdp_color(OSDP_COLOR_RED, &red);
-    for (osdp_size i = 0, door; i < DOORS && status == OSDP_OK; i++) {
+    osdp_size door;
+    for (size_t i = 0; i < DOORS && status == OSDP_OK; i++) {
         status = osdp_panel_add(&panel, (uint32_t)i + 1, &door);
         (void)osdp_site_wants(&site, i, &red);
         take_contact(i, false, now);
