@@ -8,6 +8,7 @@
 #include <stdio.h>
 #include <stdlib.h>
 #include <string.h>
+#include <sys/wait.h>
 #include <unistd.h>
 
 #include "words.h"
@@ -38,7 +39,8 @@ void stop(int status, const char *format, ...)
     va_start(rest, format);
     vprintf(format, rest);
     va_end(rest);
-    exit(status);
+    fflush(stdout);
+    _exit(status);
 }
 
 int __real_fsync(int file);
@@ -79,6 +81,27 @@ static void stands_are_kept(const char *path)
     demand(read_stands(path, stands, 2) == 1 && stands[0].name == 5 && place_of(&stands[0]).address == 7, "what was kept is read otherwise");
 }
 
+/* A file that has no place of a device ends the program. */
+static void others_are_refused(const char *path)
+{
+    const char *const texts[] = { "", "7\n", "127 9600\n", "-7 9600\n", "7 9600 1\n" };
+    for (size_t i = 0; i < sizeof texts / sizeof texts[0]; i++) {
+        int status = 0;
+        uint32_t address, rate;
+        FILE *file = fopen(path, "w");
+        demand(file != NULL && fputs(texts[i], file) >= 0 && fclose(file) == 0, "there is no file");
+        fflush(stdout);
+        pid_t child = fork();
+        if (child == 0) {
+            (void)dup2(STDERR_FILENO, STDOUT_FILENO); /* what is said is no fault */
+            (void)read_kept(path, &address, &rate);
+            _exit(0);
+        }
+        (void)waitpid(child, &status, 0);
+        demand(WIFEXITED(status) && WEXITSTATUS(status) == FAILED, texts[i]);
+    }
+}
+
 /* The place of a reader, in the same way. */
 static void place_is_kept(const char *path, const char *new)
 {
@@ -104,5 +127,6 @@ int main(int count, char **words)
     }
     stands_are_kept("stands");
     place_is_kept("place", "place.new");
+    others_are_refused("other");
     return faults == 0 ? 0 : 1;
 }
