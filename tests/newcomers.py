@@ -14,7 +14,7 @@ from pathlib import Path
 from terminals import Script, Terminal
 
 TOP = Path(__file__).resolve().parent.parent
-MOST = {"c": 215, "rs": 225}
+MOST = {"c": 225, "rs": 225}
 FILES = {"c": "examples/c", "rs": "rust/examples"}
 RED = "LED 0:0:0:0:0:0:0:0:1:1:0:1:1"
 GREEN = "LED 0:0:2:1:0:2:2:50:0:0:0:0:0"

@@ -491,7 +491,7 @@ def stopped_order(c, _):
 
 
 def stopped_device(c, _, name):
-    """An order that came while a device was stopped isn't done later; the next one is."""
+    """An order, and a card, that came while a device was stopped isn't done or told later; the next one is."""
     program = {"reader": [f"{c}/reader", "{}", 9600, "address", 5], "door_device": [f"{c}/door_device", "{}", 9600], "keypad_reader": [f"{c}/keypad_reader", "{}", 9600, 5]}[name]
     done = {"reader": "taken OUT 0:5:30", "door_device": "on 0", "keypad_reader": "relay on"}[name]
     terminal = Terminal()
@@ -511,9 +511,18 @@ def stopped_device(c, _, name):
 
     out = (OUT, bytes([0, 5, 30, 0]))
     asks(asked(5, 0, ID, b"\0") == PDID, f"stopped, {name}: the opening isn't answered")
-    held_up(device, lambda: os.write(terminal.end, packet(5, 1, *out)))
+    card = {"reader": "event RAW 0 0 26 12345640", "door_device": "card 12345640", "keypad_reader": "RAW 0 0 26 12345640"}[name]
+    held_up(device, lambda: os.write(terminal.end, packet(5, 1, *out)) and device.say(card))
     asks(asked(5, 0, ID, b"\0") == PDID and done not in device.lines, f"stopped, {name}: an order of before was done: {device.lines}")
     asks(asked(5, 1, *out) == ACK and device.lines.count(done) == 1, f"stopped, {name}: the next order is done otherwise: {device.lines}")
+    asks(asked(5, 2, 0x60) == ACK and "too old RAW 0 0 26 12345640" in device.lines, f"stopped, {name}: a card of before is told: {device.lines}")
+    device.say(card)
+    number, end = 2, time.monotonic() + 30
+    while time.monotonic() < end:
+        number = number % 3 + 1
+        if asked(5, number, 0x60) == RAW:
+            break
+    asks(time.monotonic() < end, f"stopped, {name}: a card isn't told any more")
     device.process.kill()
     device.process.wait()
     terminal.close()

@@ -80,7 +80,7 @@ static void take_line(const char *line)
 {
     static struct osdp_raw card = { .format = OSDP_CARD_RAW, .bits = 26, .length = 4 };
     static struct osdp_message event;
-    if (strncmp(line, "card ", 5) == 0 && digits(line + 5, card.bytes, 4) == 4 && osdp_raw(&card, &event) == OSDP_OK) {
+    if (strncmp(line, "card ", 5) == 0 && digits(line + 5, card.bytes, 4) == 4 && osdp_raw(&card, &event) == OSDP_OK && !is_too_old(reply_text(&event))) {
         (void)tell_refusal(osdp_device_event(&device, event.code, event.data, event.length));
     }
 }

@@ -81,6 +81,9 @@ static void let_go(uint64_t now)
 static void take_line(const char *line)
 {
     uint8_t contact[1];
+    if (is_too_old(line)) {
+        return;
+    }
     osdp_status status = osdp_device_event_text(&device, line, strlen(line));
     (void)tell_refusal(status);
     if (status != OSDP_BAD_TEXT && strncmp(line, "ISTATR ", 7) == 0 && digits(line + 7, contact, 1) == 1) {
