@@ -18,7 +18,7 @@ from concurrent.futures import ProcessPoolExecutor
 from pathlib import Path
 
 import examples
-from examples import ACK, COM, COMSET, ID, NAK, PDID, Device, Line, asks, has, opened, taken
+from examples import ACK, COM, COMSET, ID, NAK, PDID, POLL, Device, Line, asks, has, opened, taken
 from terminals import Script, Terminal, packet
 
 TOP = Path(__file__).resolve().parent.parent
@@ -387,21 +387,35 @@ class Odd(Device):
 
     def __init__(self, terminal, address=5, odd=0x99):
         super().__init__(terminal, {})
-        self.address, self.odd, self.orders, self.card, self.is_silent = address, odd, [], None, False
+        self.address, self.odd, self.orders, self.polls, self.card, self.is_silent = address, odd, [], 0, None, False
+        self.holds, self.held = False, None  # whether a POLL is held back, and the one that is
 
     def answer(self):
         for burst in self.terminal.bursts() if select.select([self.terminal.end], [], [], 0.01)[0] else ():
             self.orders += [burst[5]] if burst[5] in (OUT, COMSET) else []
             if burst[1] != self.address or self.is_silent:
                 continue
+            if burst[5] == POLL and self.holds:
+                self.held = burst
+                continue
+            self.polls += burst[5] == POLL
             code, data = {ID: (PDID, examples.IDENTITY), COMSET: (COM, burst[6:11])}.get(burst[5], (ACK, b""))
             if burst[5] == COMSET and self.orders.count(COMSET) == 1:
                 code, data = self.odd, b""
-            elif burst[5] == 0x60 and self.card:
+            elif burst[5] == POLL and self.card:
                 code, data, self.card = RAW, self.card, None
-            check = crc_packet if burst[4] & 4 else packet
-            os.write(self.terminal.end, check(burst[1] | 0x80, burst[4] & 3, code, data))
+            self.reply(burst, code, data)
             self.address = burst[6] if burst[5] == COMSET and code != 0x99 else self.address
+
+
+    def reply(self, burst, code, data):
+        check = crc_packet if burst[4] & 4 else packet
+        os.write(self.terminal.end, check(burst[1] | 0x80, burst[4] & 3, code, data))
+
+    def is_polled(self, script):
+        """Whether it is polled some times from now on."""
+        self.polls = 0
+        return self.until(script, lambda: self.polls > 3)
 
 
 def crc_packet(address, number, code, data=b""):
@@ -429,11 +443,11 @@ def odd_comset(c, _, name, odd):
         panel, word, moves = started(c, line, name)
         device = Odd(line.panel_end, odd=odd)
         openings = lambda: sum(each.startswith(word) for each in panel.lines)
-        asks(device.until(panel, lambda: openings() == 1), f"unread, {name}: the session doesn't open")
+        asks(device.until(panel, lambda: openings() == 1) and device.is_polled(panel), f"unread, {name}: the session doesn't open")
         panel.say(moves)
         asks(device.until(panel, lambda: openings() == 2), f"unread, {name}: the reader isn't looked for anew: {panel.lines[-6:]}")
         told = "unread 1 code 99 COMSET 8 9600" if odd == 0x99 else "settled 1 COMSET 8 9600 = ACK"
-        asks(told in panel.lines, f"unread, {name}: it isn't told: {panel.lines[-6:]}")
+        asks(told in panel.lines and device.is_polled(panel), f"unread, {name}: it isn't told: {panel.lines[-6:]}")
         panel.say(moves)
         asks(device.until(panel, lambda: openings() == 3), f"unread, {name}: the next COMSET isn't taken: {panel.lines[-6:]}")
         asks(device.address == 8 and device.orders == [COMSET, COMSET], f"unread, {name}: the reader is at {device.address}, and was ordered {device.orders}")
@@ -457,21 +471,16 @@ def stopped_panel(c, _, name):
         device = Odd(line.panel_end, 1 if name == "three_doors" else 5)
         told = {"three_doors": "door 1 is online", "door_panel": "opened 1"}[name]
         openings = lambda: sum(each.startswith(told) for each in panel.lines)
-        asks(device.until(panel, lambda: openings() == 1), f"stopped, {name}: the session doesn't open")
-        device.until(panel, lambda: False, 0.5)
+        asks(device.until(panel, lambda: openings() == 1) and device.is_polled(panel), f"stopped, {name}: the session doesn't open")
         device.orders.clear()
-
-        def card_comes():
-            device.card = card
-            device.answer()
-
-        select.select([line.panel_end.end], [], [], 30)  # a POLL has gone out
-        held_up(panel, card_comes)
-        asks(device.card is None, f"stopped, {name}: no card was told")
+        device.holds = True
+        asks(device.until(panel, lambda: device.held is not None), f"stopped, {name}: there is no POLL")
+        held_up(panel, lambda: device.reply(device.held, RAW, card))
+        device.holds = False
         asks(device.until(panel, lambda: openings() == 2), f"stopped, {name}: its session doesn't end and open again: {panel.lines[-6:]}")
-        device.until(panel, lambda: False, 0.5)
+        asks(device.is_polled(panel), f"stopped, {name}: it isn't polled")
         asks(OUT not in device.orders, f"stopped, {name}: a card of before has opened the door")
-        device.card, device.is_silent = card, False
+        device.card = card
         asks(device.until(panel, lambda: OUT in device.orders), f"stopped, {name}: a card opens nothing any more")
 
 
@@ -515,12 +524,12 @@ def stopped_device(c, _, name):
     held_up(device, lambda: os.write(terminal.end, packet(5, 1, *out)) and device.say(card))
     asks(asked(5, 0, ID, b"\0") == PDID and done not in device.lines, f"stopped, {name}: an order of before was done: {device.lines}")
     asks(asked(5, 1, *out) == ACK and device.lines.count(done) == 1, f"stopped, {name}: the next order is done otherwise: {device.lines}")
-    asks(asked(5, 2, 0x60) == ACK and "too old RAW 0 0 26 12345640" in device.lines, f"stopped, {name}: a card of before is told: {device.lines}")
+    asks(asked(5, 2, POLL) == ACK and "too old RAW 0 0 26 12345640" in device.lines, f"stopped, {name}: a card of before is told: {device.lines}")
     device.say(card)
     number, end = 2, time.monotonic() + 30
     while time.monotonic() < end:
         number = number % 3 + 1
-        if asked(5, number, 0x60) == RAW:
+        if asked(5, number, POLL) == RAW:
             break
     asks(time.monotonic() < end, f"stopped, {name}: a card isn't told any more")
     device.process.kill()
