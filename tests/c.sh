@@ -65,6 +65,9 @@ for language in "-std=c99 -xc" "-std=c11 -xc" "-std=c2x -xc" "-std=c++11 -xc++" 
     grep -q unused-result "$work/said" || fail "another warning as $language: $call"
   done
 done
+# parts of the examples, which need no archive: a port that hasn't a rate, bytes of long ago, and files that are written where they would change
+build ports tests/c/ports.c examples/c/{port,owner}.c -Iexamples/c "${checked[@]}" -Wl,--wrap=clock_gettime,--wrap=tcsetattr,--wrap=write,--wrap=ppoll && passes "$work/ports"
+mkdir "$work/places" && build kept tests/c/kept.c examples/c/kept.c -Iexamples/c "${checked[@]}" -Wl,--wrap=fsync && passes "$work/kept" "$work/places"
 build texts tests/c/texts.c c/osdp_texts.c && passes "$work/texts"
 build structs tests/c/structs.c c/heap_malloc.c "$archive" && passes "$work/structs"
 build structs_checked tests/c/structs.c c/heap_malloc.c "$archive" "${checked[@]}" && passes "$work/structs_checked"
@@ -113,7 +116,7 @@ examples/c/build "$work" -Werror >"$work/said" 2>&1 || { cat "$work/said"; fail 
 # .. and compile without a word where a pointer has 32 bits, and an `osdp_size` is no `size_t`
 mkdir "$work/gnu" && : >"$work/gnu/stubs-32.h" # glibc's headers ask for it, and it isn't there for each target
 for file in examples/c/*.c; do
-  "$CC" -m32 -std=c11 -Wall -Wextra -Werror -pedantic -O2 -fsyntax-only -Iinclude -I"$work" -I"/usr/include/$("$CC" -print-multiarch)" "$file" 2>"$work/said" ||
+  "$CC" -m32 -std=c11 -Wall -Wextra -Wconversion -Werror -pedantic -O2 -fsyntax-only -Iinclude -I"$work" -I"/usr/include/$("$CC" -print-multiarch)" "$file" 2>"$work/said" ||
     { cat "$work/said"; fail "$file for 32 bits says something"; }
 done
 passes python3 tests/c_monitor.py "$work/monitor_checked" "$work/listen"

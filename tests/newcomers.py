@@ -14,7 +14,7 @@ from pathlib import Path
 from terminals import Script, Terminal
 
 TOP = Path(__file__).resolve().parent.parent
-MOST = {"c": 195, "rs": 225}
+MOST = {"c": 225, "rs": 225}
 FILES = {"c": "examples/c", "rs": "rust/examples"}
 RED = "LED 0:0:0:0:0:0:0:0:1:1:0:1:1"
 GREEN = "LED 0:0:2:1:0:2:2:50:0:0:0:0:0"
@@ -63,6 +63,11 @@ class Line:
     def told(self, i, text):
         return self.readers[i].lines.count(text)
 
+    def is_off(self, i):
+        """Whether a relay was on, and is off again."""
+        told = self.readers[i].lines
+        return "relay on" in told and "relay off" in told[told.index("relay on"):]
+
     def end(self):
         for script in [self.panel, *self.readers]:
             script.process.kill()
@@ -81,7 +86,7 @@ def faults_of(line):
         line.readers[i].say(ALL)
     if not line.wait(5, lambda: all(line.told(i, "relay on") == 1 and line.told(i, GREEN) == 1 for i in range(count))):
         yield f"a card of all doors: {[reader.lines for reader in line.readers]}"
-    if not line.wait(8, lambda: all(line.told(i, "relay off") == 1 for i in range(count))):
+    if not line.wait(8, lambda: all(line.is_off(i) for i in range(count))):
         yield "a relay doesn't go off"
     for i in range(count):
         line.readers[i].say(FIRST)

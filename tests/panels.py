@@ -1,5 +1,6 @@
 """Panels and readers in C and in Rust, by what their users see where something goes wrong: a port that another program reads or has, an adapter that is pulled,
-Ctrl-C, answers to a COMSET that are lost, a panel that starts again, another device at a reader's place, and power that is lost between a deed and its answer.
+Ctrl-C, answers to a COMSET that are lost or can't be read, a panel that starts again, another device at a reader's place, power that is lost between a deed and its
+answer, and programs that were stopped.
 
 Takes the folder of the examples in C, that of those in Rust, and that of the crates, where `osdp_example_panel` was built. Each case has pseudo terminals of its own, and the cases run beside each other.
 """
@@ -17,12 +18,12 @@ from concurrent.futures import ProcessPoolExecutor
 from pathlib import Path
 
 import examples
-from examples import ACK, COM, COMSET, ID, NAK, PDID, Device, Line, asks, has, opened, taken
+from examples import ACK, COM, COMSET, ID, NAK, PDID, POLL, Device, Line, asks, has, opened, taken
 from terminals import Script, Terminal, packet
 
 TOP = Path(__file__).resolve().parent.parent
 CRATES = sys.argv[3]
-OUT = 0x68
+OUT, RAW = 0x68, 0x50
 FAST = "check sum poll-interval 20 reply-wait 300 sends 2 quiet-wait 60".split()
 SETTINGS = {"fast": FAST, "the defaults": ["check", "sum"], "reply-wait 400": ["check", "sum", "reply-wait", "400"]}
 FOUND = 60.0  # after how many seconds readers that answer have not been found
@@ -358,6 +359,203 @@ def another_device(c, _):
         asks(taken(reader) == ["taken OUT 0:2:2"], f"another: the reader has taken {taken(reader)}")
 
 
+def other_elsewhere(c, _):
+    """Another device that is found at another rate than the others' is told, allowed, and then brought to them."""
+    with tempfile.TemporaryDirectory() as folder, Line(all_words(c), 2) as line:
+        kept = Path(folder) / "panel"
+        kept.write_text("5 at 5 9600\n6 at 6 19200 is 53494D 1 77\n")
+        panel = line.panel("5,6", *FAST, options=["--keep", kept])
+        line.reader(0, 5)
+        other = Script(f"{c}/reader", line.reader_ends[1].path, 19200, "address", 6, *examples.READER)
+        line.scripts.append(other)
+        asks(line.run(has(panel, "another device 2 at 6: it gets no order until `2 accept`")), f"elsewhere: it isn't told: {panel.lines[-12:]}")
+        panel.say("2 OUT 0:2:1")
+        asks(line.run(has(panel, "not taken 2 OUT 0:2:1")), "elsewhere: its order isn't refused")
+        asks("19200 is 53494D 1 77" in kept.read_text(), "elsewhere: it was kept before it was allowed")
+        panel.say("2 accept")
+        asks(line.run(has(panel, "moved 2 COMSET 6 9600 = COM 6 9600")), f"elsewhere: it isn't brought to the others: {panel.lines[-12:]}")
+        asks("not taken 2 accept" not in panel.lines, "elsewhere: the word isn't taken")
+        asks(line.run(opened(panel, 2, 3)), "elsewhere: its session doesn't open")
+        panel.say("2 OUT 0:2:2")
+        asks(line.run(has(panel, "settled 2 OUT 0:2:2 = ACK")), "elsewhere: it gets no order")
+        asks(taken(other) == ["taken COMSET 6 9600", "taken OUT 0:2:2"], f"elsewhere: it has taken {taken(other)}")
+        asks(kept.read_text().endswith("6 at 6 9600 is 53494D 1 0\n"), f"elsewhere: the file has {kept.read_text()!r}")
+
+
+class Odd(Device):
+    """A device that answers its first COMSET otherwise than by a COM: by a code that nobody can read, and stays where it is, or by an ACK, and moves. It takes the others, and notes what it is ordered."""
+
+    def __init__(self, terminal, address=5, odd=0x99):
+        super().__init__(terminal, {})
+        self.address, self.odd, self.orders, self.polls, self.card, self.is_silent = address, odd, [], 0, None, False
+        self.holds, self.held = False, None  # whether a POLL is held back, and the one that is
+
+    def answer(self):
+        for burst in self.terminal.bursts() if select.select([self.terminal.end], [], [], 0.01)[0] else ():
+            self.orders += [burst[5]] if burst[5] in (OUT, COMSET) else []
+            if burst[1] != self.address or self.is_silent:
+                continue
+            if burst[5] == POLL and self.holds:
+                self.held = burst
+                continue
+            self.polls += burst[5] == POLL
+            code, data = {ID: (PDID, examples.IDENTITY), COMSET: (COM, burst[6:11])}.get(burst[5], (ACK, b""))
+            if burst[5] == COMSET and self.orders.count(COMSET) == 1:
+                code, data = self.odd, b""
+            elif burst[5] == POLL and self.card:
+                code, data, self.card = RAW, self.card, None
+            self.reply(burst, code, data)
+            self.address = burst[6] if burst[5] == COMSET and code != 0x99 else self.address
+
+
+    def reply(self, burst, code, data):
+        check = crc_packet if burst[4] & 4 else packet
+        os.write(self.terminal.end, check(burst[1] | 0x80, burst[4] & 3, code, data))
+
+    def is_polled(self, script):
+        """Whether it is polled some times from now on."""
+        self.polls = 0
+        return self.until(script, lambda: self.polls > 3)
+
+
+def crc_packet(address, number, code, data=b""):
+    """A packet with a CRC."""
+    whole = bytes([0x53, address, 8 + len(data), 0, number | 4, code]) + data
+    crc = 0x1D0F
+    for byte in whole:
+        crc ^= byte << 8
+        for _ in range(8):
+            crc = (crc << 1 ^ (0x1021 if crc & 0x8000 else 0)) & 0xFFFF
+    return whole + crc.to_bytes(2, "little")
+
+
+def started(c, line, name):
+    """A panel for one reader, what its openings are told by, and how it is told to send the reader to 8."""
+    if name == "panel":
+        return line.panel("5", *FAST), "opened 1", "1 COMSET 8 9600"
+    line.scripts.append(Script(f"{c}/door_panel", line.panel_end.path, 9600))
+    return line.scripts[-1], "opened 1", "move 8 9600"
+
+
+def odd_comset(c, _, name, odd):
+    """After a COMSET whose answer is no COM that can be read the reader is looked for anew, and the next COMSET is taken. Until then nothing more is said to it."""
+    with Line(all_words(c)) as line:
+        panel, word, moves = started(c, line, name)
+        device = Odd(line.panel_end, odd=odd)
+        openings = lambda: sum(each.startswith(word) for each in panel.lines)
+        asks(device.until(panel, lambda: openings() == 1) and device.is_polled(panel), f"unread, {name}: the session doesn't open")
+        panel.say(moves)
+        asks(device.until(panel, lambda: openings() == 2), f"unread, {name}: the reader isn't looked for anew: {panel.lines[-6:]}")
+        told = "unread 1 code 99 COMSET 8 9600" if odd == 0x99 else "settled 1 COMSET 8 9600 = ACK"
+        asks(told in panel.lines and device.is_polled(panel), f"unread, {name}: it isn't told: {panel.lines[-6:]}")
+        panel.say(moves)
+        asks(device.until(panel, lambda: openings() == 3), f"unread, {name}: the next COMSET isn't taken: {panel.lines[-6:]}")
+        asks(device.address == 8 and device.orders == [COMSET, COMSET], f"unread, {name}: the reader is at {device.address}, and was ordered {device.orders}")
+
+
+def held_up(script, does=lambda: None):
+    """A program is stopped for longer than anybody waits for an answer; something is done meanwhile."""
+    script.process.send_signal(signal.SIGSTOP)
+    time.sleep(0.2)
+    does()
+    time.sleep(6.5)
+    script.process.send_signal(signal.SIGCONT)
+
+
+def stopped_panel(c, _, name):
+    """A panel that was stopped acts on no card that came before, and sends no order of before again: its session ends, and then a card opens the door."""
+    card = bytes([0, 0, 26, 0, 0x12, 0x34, 0x56, 0x40])
+    with Line(all_words(c)) as line:
+        panel = Script(f"{c}/{name}", line.panel_end.path, 9600)
+        line.scripts.append(panel)
+        device = Odd(line.panel_end, 1 if name == "three_doors" else 5)
+        told = {"three_doors": "door 1 is online", "door_panel": "opened 1"}[name]
+        openings = lambda: sum(each.startswith(told) for each in panel.lines)
+        asks(device.until(panel, lambda: openings() == 1) and device.is_polled(panel), f"stopped, {name}: the session doesn't open")
+        device.orders.clear()
+        device.holds = True
+        asks(device.until(panel, lambda: device.held is not None), f"stopped, {name}: there is no POLL")
+        held_up(panel, lambda: device.reply(device.held, RAW, card))
+        device.holds = False
+        asks(device.until(panel, lambda: openings() == 2), f"stopped, {name}: its session doesn't end and open again: {panel.lines[-6:]}")
+        asks(device.is_polled(panel), f"stopped, {name}: it isn't polled")
+        asks(OUT not in device.orders, f"stopped, {name}: a card of before has opened the door")
+        device.card = card
+        asks(device.until(panel, lambda: OUT in device.orders), f"stopped, {name}: a card opens nothing any more")
+
+
+def stopped_order(c, _):
+    """An order that was under way as the panel was stopped isn't sent again later."""
+    with Line(all_words(c)) as line:
+        panel, device = line.panel("5", *FAST), Odd(line.panel_end)
+        asks(device.until(panel, opened(panel, 1)), "stopped order: the session doesn't open")
+        device.is_silent = True
+        panel.say("1 OUT 0:5:30")
+        asks(device.until(panel, lambda: OUT in device.orders), "stopped order: it doesn't go out")
+        held_up(panel, device.answer)
+        device.is_silent = False
+        device.orders.clear()
+        asks(device.until(panel, opened(panel, 1, 2)), f"stopped order: the session doesn't open again: {panel.lines[-6:]}")
+        asks(device.orders == [] and "lost 1 no-reply OUT 0:5:30" in panel.lines, f"stopped order: ordered are {device.orders}, told is {panel.lines[-6:]}")
+
+
+def stopped_device(c, _, name):
+    """An order, and a card, that came while a device was stopped isn't done or told later; the next one is."""
+    program = {"reader": [f"{c}/reader", "{}", 9600, "address", 5], "door_device": [f"{c}/door_device", "{}", 9600], "keypad_reader": [f"{c}/keypad_reader", "{}", 9600, 5]}[name]
+    done = {"reader": "taken OUT 0:5:30", "door_device": "on 0", "keypad_reader": "relay on"}[name]
+    terminal = Terminal()
+    device = Script(*[terminal.path if word == "{}" else word for word in program])
+
+    def asked(*words):
+        """The reply to a packet that is sent until it is answered, as a panel does."""
+        end, found = time.monotonic() + 30, []
+        while not found and time.monotonic() < end:
+            os.write(terminal.end, packet(*words))
+            found = list(terminal.bursts()) if select.select([terminal.end], [], [], 0.5)[0] else []
+        time.sleep(0.2)  # repeats have their answers too
+        if select.select([terminal.end], [], [], 0)[0]:
+            list(terminal.bursts())
+        device.read()
+        return found[0][5] if found else None
+
+    out = (OUT, bytes([0, 5, 30, 0]))
+    asks(asked(5, 0, ID, b"\0") == PDID, f"stopped, {name}: the opening isn't answered")
+    card = {"reader": "event RAW 0 0 26 12345640", "door_device": "card 12345640", "keypad_reader": "RAW 0 0 26 12345640"}[name]
+    held_up(device, lambda: os.write(terminal.end, packet(5, 1, *out)) and device.say(card))
+    asks(asked(5, 0, ID, b"\0") == PDID and done not in device.lines, f"stopped, {name}: an order of before was done: {device.lines}")
+    asks(asked(5, 1, *out) == ACK and device.lines.count(done) == 1, f"stopped, {name}: the next order is done otherwise: {device.lines}")
+    asks(asked(5, 2, POLL) == ACK and "too old RAW 0 0 26 12345640" in device.lines, f"stopped, {name}: a card of before is told: {device.lines}")
+    device.say(card)
+    number, end = 2, time.monotonic() + 30
+    while time.monotonic() < end:
+        number = number % 3 + 1
+        if asked(5, number, POLL) == RAW:
+            break
+    asks(time.monotonic() < end, f"stopped, {name}: a card isn't told any more")
+    device.process.kill()
+    device.process.wait()
+    terminal.close()
+
+
+def relay_is_released(c, _):
+    """The relay is off as the reader with keys begins, and where it ends: at Ctrl-C, where its terminal is closed, and where its port is gone."""
+    for how, status in (("Ctrl-C", 130), ("a closed terminal", 129), ("the port is gone", 3)):
+        terminal = Terminal()
+        device = Script(f"{c}/keypad_reader", terminal.path, 9600, 5, stderr=subprocess.DEVNULL)
+        for number, code, data, reply in ((0, ID, b"\0", PDID), (1, OUT, bytes([0, 5, 100, 0]), ACK)):
+            os.write(terminal.end, packet(5, number, code, data))
+            asks(terminal.next_burst()[5:6] == bytes([reply]), f"relay, {how}: the reply to {code:02X} is another one")
+        if how == "the port is gone":
+            os.close(terminal.end)
+            terminal.end = os.open("/dev/null", os.O_RDONLY)
+        else:
+            device.process.send_signal(signal.SIGINT if how == "Ctrl-C" else signal.SIGHUP)
+        found = device.process.wait(timeout=30)
+        device.read()
+        asks(found == status and device.lines == ["relay off", "relay on", "relay off"], f"relay, {how}: status {found}, told is {device.lines}")
+        terminal.close()
+
+
 def small_panel(c, rust, language):
     """A small panel keeps where its door is: it is found there by a panel that starts again, and another device opens no door."""
     rattle = [sys.executable, "-B", TOP / "tests/carry.py", Path(CRATES) / "osdp_example_panel/out/osdp_example_panel"]
@@ -476,8 +674,16 @@ def run(case, c, rust, more):
 
 
 def cases():
-    for name in ("stolen", "stolen_from_rust", "taken_port", "ends_of_orders", "many_stops", "sentences", "one_is_dead", "refused_rate", "swapped", "kept_before", "another_device", "closed_output"):
+    for name in ("stolen", "stolen_from_rust", "taken_port", "ends_of_orders", "many_stops", "sentences", "one_is_dead", "refused_rate", "swapped", "kept_before", "another_device", "closed_output",
+                 "other_elsewhere", "stopped_order", "relay_is_released"):
         yield name, ()
+    for name in ("panel", "door_panel"):
+        for odd in (0x99, ACK):
+            yield "odd_comset", (name, odd)
+    for name in ("door_panel", "three_doors"):
+        yield "stopped_panel", (name,)
+    for name in ("reader", "door_device", "keypad_reader"):
+        yield "stopped_device", (name,)
     for language in ("C", "Rust", "Rattle"):
         yield "small_panel", (language,)
     for name in ("reader in C", "door_device in C", "door_device in Rust"):

@@ -35,7 +35,7 @@ osdp_status add_door(osdp_panel *panel, struct door *door, const char *kept, uin
 /* The device is there, and is the one that has answered. */
 static void note_door(struct door *door)
 {
-    door->may_order = true;
+    door->may_order = !door->is_left;
     door->is_other = false;
     door->stand->is_known = true;
     door->stand->id = door->seen;
@@ -43,9 +43,34 @@ static void note_door(struct door *door)
     (void)keep_door();
 }
 
+void leave_door(struct door *door)
+{
+    door->is_left = door->place.is_online;
+    door->may_order = false;
+}
+
+void write_door(const struct door *door, int port, const struct osdp_burst *burst)
+{
+    if (!door->is_left) {
+        write_all(port, burst);
+    }
+}
+
+/* It has moved to where its COM says. Where the port hasn't that rate, the device is taken to have kept its own. */
+static void note_move(struct door *door, const struct osdp_message *reply)
+{
+    struct osdp_communication com = { 0 };
+    (void)osdp_com_of(reply, &com); /* what moved a device is a COM */
+    if (!has_rate(com.baud_rate)) {
+        tell("no rate %u\n", (unsigned)com.baud_rate);
+        com.baud_rate = place_of(door->stand).rate;
+    }
+    stands_at(door->stand, (struct place){ com.address, com.baud_rate });
+    (void)keep_door();
+}
+
 void heed_door(struct door *door, const struct osdp_report *report, uint64_t now)
 {
-    struct osdp_communication com;
     (void)osdp_site_heed(&door->site, report, now);
     if (report->kind == OSDP_REPORT_OPENED && osdp_pd_id_of(&report->reply, &door->seen) == OSDP_OK) {
         door->is_other = !is_same(door->stand, &door->seen);
@@ -54,33 +79,33 @@ void heed_door(struct door *door, const struct osdp_report *report, uint64_t now
         } else {
             note_door(door);
         }
-    } else if (report->kind == OSDP_REPORT_SETTLED && report->command.code == OSDP_COMSET) {
-        note_door(door); /* it was refused */
-    } else if (report->kind == OSDP_REPORT_MOVED && osdp_com_of(&report->reply, &com) == OSDP_OK) {
-        stands_at(door->stand, (struct place){ com.address, com.baud_rate });
-        (void)keep_door();
+    } else if (report->kind == OSDP_REPORT_MOVED) {
+        note_move(door, &report->reply);
+    } else if (report->kind == OSDP_REPORT_SETTLED && report->command.code == OSDP_COMSET && report->reply.code == OSDP_NAK) {
+        note_door(door);
+    } else if (report->kind != OSDP_REPORT_LOST && report->command.code == OSDP_COMSET) {
+        leave_door(door); /* its answer is no COM that can be read */
     }
     if (report->kind == OSDP_REPORT_LOST || report->kind == OSDP_REPORT_MOVED) {
-        door->may_order = door->is_other = false;
+        door->may_order = door->is_other = door->is_left = false;
     }
 }
 
 void begin_door(osdp_panel *panel, struct door *door, int port, uint64_t now)
 {
     static struct osdp_message command;
-    if (!osdp_site_is_due(&door->site, door->entry, now)) {
+    if (!osdp_site_is_due(&door->site, (size_t)door->entry, now)) {
         return;
     }
     while (osdp_panel_withdraw(panel, door->entry, &command) == OSDP_OK && command.present) {
+        tell("withdrawn %s\n", command_text(&command));
         if (command.code == OSDP_COMSET) {
             stands_at(door->stand, place_of(door->stand));
         }
     }
     struct place place = door->stand->places[0];
     try_place(door->stand, place);
-    if (!set_rate(port, place.rate)) {
-        tell("no rate %u\n", (unsigned)place.rate);
-    }
+    demand_rate(port, place.rate);
     (void)osdp_panel_retarget(panel, door->entry, place.address);
     osdp_site_act(&door->site, panel, now);
 }

@@ -10,6 +10,7 @@ struct door {
     struct stand *stand;
     bool may_order;         /* whether its session is open, and it is the device that stood there before */
     bool is_other;          /* whether another device than that one answers there */
+    bool is_left;           /* whether nothing more is said to it, so that its session ends */
     osdp_site site;         /* which says when its next session begins */
     struct osdp_site_entry place;
     struct osdp_pd_id seen; /* what the device is that has answered the last opening */
@@ -21,6 +22,14 @@ osdp_status add_door(osdp_panel *panel, struct door *door, const char *kept, uin
 
 /* Does what a report asks for about its place and its session. */
 void heed_door(struct door *door, const struct osdp_report *report, uint64_t now);
+
+/* Lets its open session end, by leaving out what the panel says: there is no call for it. So its next session begins at a place that is known, no order goes out
+ * that was given before the program was stopped, and a card that is told again is known as such. Where a COMSET is answered neither by a COM nor by a NAK it is
+ * done too: the device is at either place, and the panel may take no other COMSET for it until it is looked for anew. */
+void leave_door(struct door *door);
+
+/* Writes what the panel says, but for a door that is left. */
+void write_door(const struct door *door, int port, const struct osdp_burst *burst);
 
 /* Begins a session whose moment has come, at each of its places in turn. The orders that waited are stale. */
 void begin_door(osdp_panel *panel, struct door *door, int port, uint64_t now);

@@ -80,7 +80,7 @@ static void take_line(const char *line)
 {
     static struct osdp_raw card = { .format = OSDP_CARD_RAW, .bits = 26, .length = 4 };
     static struct osdp_message event;
-    if (strncmp(line, "card ", 5) == 0 && digits(line + 5, card.bytes, 4) == 4 && osdp_raw(&card, &event) == OSDP_OK) {
+    if (strncmp(line, "card ", 5) == 0 && digits(line + 5, card.bytes, 4) == 4 && osdp_raw(&card, &event) == OSDP_OK && !is_too_old(reply_text(&event))) {
         (void)tell_refusal(osdp_device_event(&device, event.code, event.data, event.length));
     }
 }
@@ -89,6 +89,7 @@ int main(int count, char **words)
 {
     static struct lines lines;
     static struct osdp_answer answer;
+    /* each device has a serial number of its own, by which a panel knows it */
     struct osdp_device_config config = { .address = 5, .capacity = 64, .gap = 20, .serial = 1, .product.vendor = { 'S', 'I', 'M' } };
     const uint8_t outputs[2] = { 0, 0 };
     uint8_t bytes[4096];
@@ -103,6 +104,7 @@ int main(int count, char **words)
     for (;;) {
         size_t length = read_port(port, &lines, 10, bytes, sizeof bytes);
         uint64_t now = moment(); /* after the read: not before it */
+        (void)osdp_device_set_moment(&device, now); /* also where the program was stopped for more than a day */
         let_go(now);
         hear(bytes, length, now);
         for (const char *line = next_line(&lines); line != NULL; line = next_line(&lines)) {
@@ -111,8 +113,6 @@ int main(int count, char **words)
         if (osdp_device_tick(&device, now, &answer) == OSDP_OK) {
             take_answer(&answer);
             hear(bytes, 0, now);
-        } else {
-            (void)osdp_device_set_moment(&device, now); /* the program was stopped for more than a day */
         }
     }
 }

@@ -70,6 +70,9 @@ int main(int count, char **words)
         uint64_t wait = osdp_site_wait(&door.site, &panel, moment(), UINT64_MAX);
         size_t length = read_port(port, &lines, wait, bytes, sizeof bytes);
         uint64_t now = moment(); /* after the read: not before it */
+        if (was_stopped()) {
+            leave_door(&door); /* a card, or an order, of before would open the door now */
+        }
         if (osdp_panel_bytes(&panel, bytes, length, now) == OSDP_MOMENT_TOO_FAR) {
             (void)osdp_panel_set_moment(&panel, now); /* the program was stopped for more than a day */
         }
@@ -79,7 +82,7 @@ int main(int count, char **words)
         }
         begin_door(&panel, &door, port, now);
         (void)osdp_panel_tick(&panel, now, &burst);
-        write_all(port, &burst);
+        write_door(&door, port, &burst);
         take_reports(now);
     }
 }

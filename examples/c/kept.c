@@ -18,7 +18,7 @@ bool read_kept(const char *path, uint32_t *address, uint32_t *rate)
     if (file == NULL && (path == NULL || errno == ENOENT)) {
         return false;
     }
-    bool is_place = file != NULL && fgets(line, sizeof line, file) != NULL && sscanf(line, "%u %u %c", &read_address, &read_rate, &rest) == 2;
+    bool is_place = file != NULL && fgets(line, sizeof line, file) != NULL && sscanf(line, "%u %u %c", &read_address, &read_rate, &rest) == 2 && read_address <= 126;
     if (file != NULL) {
         fclose(file);
     }
@@ -55,12 +55,34 @@ static void note_folder(char *path)
     }
 }
 
-/* Puts a text in the place of the file. Whether that was done. */
+/* Whether the file has this text, and no other. */
+static bool has_text(const char *path, const char *text)
+{
+    FILE *file = fopen(path, "r");
+    bool is_same = file != NULL;
+    for (; is_same && *text != '\0'; text++) {
+        is_same = fgetc(file) == (unsigned char)*text;
+    }
+    is_same = is_same && fgetc(file) == EOF && !ferror(file);
+    if (file != NULL) {
+        fclose(file);
+    }
+    return is_same;
+}
+
+/* Puts a text in the place of the file, where that has another one: flash wears out by each write. Whether the file has it. */
 static bool keep_text(const char *path, const char *text)
 {
     char new[4096];
     int length = snprintf(new, sizeof new, "%s.new", path);
-    if (length < 0 || (size_t)length >= sizeof new || !write_new(new, text) || rename(new, path) != 0) {
+    if (has_text(path, text)) {
+        return true;
+    }
+    if (length < 0 || (size_t)length >= sizeof new) {
+        return false;
+    }
+    if (!write_new(new, text) || rename(new, path) != 0) {
+        (void)unlink(new); /* the disk may be full */
         return false;
     }
     note_folder(new);

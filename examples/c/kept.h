@@ -1,5 +1,9 @@
 /* Files that keep where devices are while there is no power, or while a program doesn't run: a reader's own place, and the stands of a panel's devices.
- * A file is written whole to the disk, and put in the place of the one before, so that a loss of power leaves one of both. */
+ * A file is written whole to the disk, and put in the place of the one before, so that a loss of power leaves one of both. It is written only where it would
+ * change, so that flash lasts: when a COMSET is given or has its end, and when a device is seen for the first time or is accepted in place of another.
+ *
+ * What has to be kept: a reader's place, since its panel looks for it where the COM said; of a panel's device its place, since it answers nowhere else; the
+ * second place while a COMSET has no end, since the device may be at either; and vendor, model and serial number, since another device gets no order. */
 #ifndef KEPT_H
 #define KEPT_H
 

@@ -1,6 +1,8 @@
 /* A device with a card reader, a keypad and a relay: `keypad_reader [--keep FILE] PORT RATE ADDRESS`. A line `RAW 0 0 26 12345640` is a card, `KEYPAD 0 31323334`
  * are keys, and `ISTATR 01` the door's contact. The relay, output 0, is on for the time that is ordered. LED and buzzer are told as they are ordered. A COMSET
  * gives the device another address and rate, which FILE keeps. What has waited for 30 s while no panel is there is told to nobody any more. */
+#include <stdio.h>
+#include <stdlib.h>
 #include <string.h>
 
 #include "kept.h"
@@ -28,6 +30,12 @@ static void switch_relay(bool on, uint64_t ends)
     relay_ends = ends;
     (void)osdp_device_set_outputs(&device, states, 1);
     tell("relay %s\n", on ? "on" : "off");
+}
+
+/* However the program ends, the relay goes off: nobody else would switch it. What is told here may fail. */
+static void release(void)
+{
+    (void)puts("relay off");
 }
 
 /* An OUT that may not be done is refused before it is answered; one that was confirmed is done. */
@@ -73,6 +81,9 @@ static void let_go(uint64_t now)
 static void take_line(const char *line)
 {
     uint8_t contact[1];
+    if (is_too_old(line)) {
+        return;
+    }
     osdp_status status = osdp_device_event_text(&device, line, strlen(line));
     (void)tell_refusal(status);
     if (status != OSDP_BAD_TEXT && strncmp(line, "ISTATR ", 7) == 0 && digits(line + 7, contact, 1) == 1) {
@@ -83,17 +94,19 @@ static void take_line(const char *line)
 int main(int count, char **words)
 {
     static struct lines lines;
-    static const uint8_t off[1] = { 0 };
+    static const uint8_t closed[1] = { 0 };
     uint8_t bytes[4096];
     words = take_words(&count, words, 3, "keypad_reader [--keep FILE] PORT RATE ADDRESS\n", &kept);
     struct osdp_device_config config = { .address = number(words[2], "address"), .capacity = 64, .gap = 20, .serial = 1, .product.vendor = { 'S', 'I', 'M' } };
     rate = number(words[1], "rate");
     (void)read_kept(kept, &config.address, &rate);
     osdp_status status = osdp_device_new(&device, &config, NULL, 0);
-    if (status != OSDP_OK || osdp_device_set_outputs(&device, off, 1) != OSDP_OK || osdp_device_set_inputs(&device, off, 1) != OSDP_OK) {
-        stop(OUT_OF_MEMORY, "%s", osdp_status_text(status));
+    if (status != OSDP_OK || osdp_device_set_inputs(&device, closed, 1) != OSDP_OK) {
+        stop(status == OSDP_DEVICE_OUT_OF_RANGE ? BAD_WORDS : OUT_OF_MEMORY, "%s", osdp_status_text(status));
     }
     port = open_port(words[0], rate);
+    switch_relay(false, UINT64_MAX); /* the program before this one may have left it on */
+    (void)atexit(release);
     for (;;) {
         size_t length = read_port(port, &lines, 10, bytes, sizeof bytes);
         uint64_t now = moment(); /* after the read: not before it */

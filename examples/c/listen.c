@@ -52,6 +52,7 @@ int main(int count, char **words)
     }
     demand_heard(osdp_monitor_new(&monitor, OSDP_PRINTS_FOUND, 0));
     int port = open_port(words[0], number(words[1], "rate"));
+    hear_all();
     for (;;) {
         size_t length = read_port(port, &lines, GAP, bytes, sizeof bytes);
         hear(bytes, length, moment());

@@ -7,6 +7,7 @@
 
 #include "places.h"
 #include "port.h"
+#include "search.h"
 #include "words.h"
 
 /* Whether a text is that of a COMSET, and to which place. */
@@ -81,7 +82,7 @@ void tell_ends(struct osdp_panel *panel, const char *cause)
 static const char *refusal(const struct known *reader, const char *text)
 {
     struct place place;
-    if (reader->state != OPEN) {
+    if (!is_open(reader)) {
         return "session not open";
     }
     if (reader->is_other) {
@@ -171,6 +172,7 @@ static bool take(struct osdp_panel *panel, size_t entry, const char *text)
     }
     if (strcmp(text + strspn(text, " "), "accept") == 0 && reader->is_other) {
         allow_other(reader);
+        search_anew();
         return true;
     }
     if (why != NULL) {

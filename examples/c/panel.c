@@ -17,6 +17,8 @@ static const char usage[] =
     "A reader whose session isn't open takes no order. Where a session is lost or moved, the orders that wait are taken\n"
     "back, and told `withdrawn`. A lost session begins again after a second. Where the program ends, at Ctrl-C or since its\n"
     "port is gone, they are told so too, and an order that is under way is told `lost` and `stopped` or `port-gone`.\n"
+    "A session is let end, and is told `lost`, where a COMSET is answered neither by a COM nor by a NAK, and where the\n"
+    "program was stopped for more than five seconds.\n"
     "A COMSET is taken where every session is open. One with another rate is given to each reader. While no session is\n"
     "open the port goes through the rates at which readers may be, told `rate`, and tries each reader there once. Readers\n"
     "whose sessions are open keep the port at their rate. One that may be at another rate is looked for there, told\n"
@@ -55,18 +57,19 @@ static void close_reader(size_t entry, struct known *reader, uint64_t pause)
 /* Does what a report asks for. */
 static void heed(const struct osdp_report *report)
 {
-    struct known *reader = known_reader(report->entry);
+    size_t entry = (size_t)report->entry;
+    struct known *reader = known_reader(entry);
     if (report->kind == OSDP_REPORT_OPENED) {
         reader_opened(reader, report);
-    } else if (report->kind == OSDP_REPORT_SETTLED && report->command.code == OSDP_COMSET) {
-        comset_over(reader);
     } else if (report->kind == OSDP_REPORT_MOVED) {
         comset_done(reader, place_told(&report->reply, rate));
-        close_reader(report->entry, reader, 0);
+        close_reader(entry, reader, 0);
     } else if (report->kind == OSDP_REPORT_LOST) {
-        close_reader(report->entry, reader, PAUSE);
-    } else if (report->kind == OSDP_REPORT_UNREAD) {
-        reader->is_moving = false; /* if it has moved, its session is lost */
+        close_reader(entry, reader, PAUSE);
+    } else if (report->command.code == OSDP_COMSET && report->reply.code == OSDP_NAK) {
+        comset_over(reader);
+    } else if (report->command.code == OSDP_COMSET) {
+        leave_reader(reader); /* its answer is no COM that can be read: it is at either place, and is looked for anew */
     }
 }
 
@@ -77,7 +80,7 @@ static void take_reports(void)
     while (osdp_panel_next_report(&panel, &report) == OSDP_OK && report.kind != OSDP_REPORT_NONE) {
         tell_report(&report);
         if (report.command.present) {
-            order_ended(report.entry);
+            order_ended((size_t)report.entry);
         }
         heed(&report);
     }
@@ -127,7 +130,7 @@ static void begin_sessions(uint64_t now)
 {
     uint32_t next = next_rate(rate);
     if (next != rate) {
-        (void)set_rate(port, next);
+        demand_rate(port, next);
         rate = next;
         rate_set();
         tell("rate %u\n", (unsigned)rate);
@@ -143,6 +146,23 @@ static void begin_sessions(uint64_t now)
     }
 }
 
+/* Lets each open session end: the program was stopped, and an order of before would be done now. */
+static void leave_readers(void)
+{
+    for (size_t i = 0; known_reader(i) != NULL; i++) {
+        leave_reader(known_reader(i));
+    }
+}
+
+/* Writes what a panel says, but for a reader that is left. */
+static void write_burst(const osdp_panel *speaks, const struct osdp_burst *burst)
+{
+    const struct known *reader = burst->length > 0 && speaks == &panel ? known_reader(reader_at(burst->bytes[1]) - 1) : NULL;
+    if (reader == NULL || !reader->is_left) {
+        write_all(port, burst);
+    }
+}
+
 /* Waits for bytes, for orders or for what is due, and hands it to the panel that speaks: that of the line, or that which looks for a reader. */
 static void turn(struct lines *lines)
 {
@@ -153,6 +173,9 @@ static void turn(struct lines *lines)
     uint64_t now = moment(); /* after the read: not before it */
     if (osdp_panel_bytes(speaks, bytes, count, now) == OSDP_MOMENT_TOO_FAR) {
         (void)osdp_panel_set_moment(speaks, now); /* the program was stopped for more than a day */
+    }
+    if (was_stopped()) {
+        leave_readers();
     }
     (void)osdp_panel_set_moment(&panel, now); /* the line's panel too while the other one speaks: in this turn it may begin sessions again */
     take_found(now);
@@ -167,7 +190,7 @@ static void turn(struct lines *lines)
         speaks = &panel;
     }
     (void)osdp_panel_tick(speaks, now, &burst);
-    write_all(port, &burst);
+    write_burst(speaks, &burst);
     answer_due = burst.length > 0 ? next_due(speaks) : answer_due;
     take_found(now);
     take_reports();
@@ -226,6 +249,7 @@ int main(int count, char **words)
     read_places(kept);
     add_readers(words[2]);
     port = open_port(words[0], rate);
+    demand_rates();
     gap = config.gap;
     prepare_search(&config, port);
     before_end(tell_last_ends);

@@ -42,13 +42,19 @@ uint32_t join_reader(uint32_t name, uint32_t rate)
         }
     }
     struct stand *stand = stand_of(stands, &stand_count, KEPT, name, rate);
-    for (size_t i = 0; i < stand->count; i++) {
-        if (!has_rate(stand->places[i].rate)) {
+    readers[known_count++] = (struct known){ .stand = stand, .state = CLOSED };
+    demand_rates();
+    return place_of(stand).address;
+}
+
+void demand_rates(void)
+{
+    for (size_t i = 0; i < 2 * known_count; i++) {
+        const struct stand *stand = readers[i / 2].stand;
+        if (i % 2 < stand->count && !has_rate(stand->places[i % 2].rate)) {
             stop(FAILED, "the port has no such rate");
         }
     }
-    readers[known_count++] = (struct known){ .stand = stand, .state = CLOSED };
-    return place_of(stand).address;
 }
 
 struct known *known_reader(size_t entry)
@@ -85,7 +91,7 @@ bool tell_other(struct known *reader, const struct osdp_report *opened)
     (void)osdp_pd_id_of(&opened->reply, &reader->other);
     reader->is_other = !is_same(stand, &reader->other);
     if (reader->is_other) {
-        size_t which = opened->entry + 1;
+        size_t which = (size_t)opened->entry + 1;
         tell("another device %zu at %u: it gets no order until `%zu accept`\n", which, (unsigned)place_of(stand).address, which);
     } else if (!stand->is_known) {
         note_device(stand, &reader->other);
@@ -107,14 +113,28 @@ void allow_other(struct known *reader)
 {
     reader->is_other = false;
     note_device(reader->stand, &reader->other);
-    comset_over(reader);
+    if (reader->state == OPEN) {
+        comset_over(reader);
+    } else {
+        try_keep(); /* it was found at another rate: where it is, is known once it has come back */
+    }
+}
+
+void leave_reader(struct known *reader)
+{
+    reader->is_left = reader->state == OPEN;
+}
+
+bool is_open(const struct known *reader)
+{
+    return reader->state == OPEN && !reader->is_left;
 }
 
 void reader_closed(struct known *reader, uint64_t begins)
 {
     reader->state = CLOSED;
     reader->begins = begins;
-    reader->is_other = reader->is_moving = false;
+    reader->is_moving = reader->is_left = false;
 }
 
 bool comset_goes(struct known *reader, struct place place)
@@ -151,7 +171,7 @@ struct place place_told(const struct osdp_message *com, uint32_t rate)
 const char *comset_refusal(void)
 {
     for (size_t i = 0; i < known_count; i++) {
-        if (readers[i].state != OPEN) {
+        if (!is_open(&readers[i])) {
             return "another session not open";
         }
         if (readers[i].is_other) {

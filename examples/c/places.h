@@ -19,14 +19,18 @@ struct known {
     bool refuses;    /* whether it has refused the rate of the others */
     bool is_moving;  /* whether a COMSET to it waits or is under way */
     bool is_told;    /* whether it was told out of reach */
-    bool is_other;   /* whether another device than before answers there: it gets no order */
+    bool is_other;   /* whether another device than before has answered there last: it gets no order */
     struct osdp_pd_id other;
+    bool is_left;    /* whether nothing more is said to it, so that its session ends */
 };
 
 /* Reads where the readers are from a file, if one is named: each one that isn't kept joins those that are, at its address and this rate. Ends the program
  * where two would be at one address. Gives the address at which the reader is. */
 void read_places(const char *path);
 uint32_t join_reader(uint32_t name, uint32_t rate);
+
+/* Ends the program where the port, which is open now, hasn't the rate of one of their places. */
+void demand_rates(void);
 
 /* Writes where they are to that file. Whether that was done. */
 bool keep_places(void);
@@ -43,6 +47,12 @@ bool is_kept_apart(uint32_t address);
 /* Whether another device than the reader has answered its opening, which is told: it gets no order, unless it is allowed. Else the device is the reader. */
 bool tell_other(struct known *reader, const struct osdp_report *opened);
 void allow_other(struct known *reader);
+
+/* Lets an open session end, by leaving out what the panel says to its reader: there is no call for it. */
+void leave_reader(struct known *reader);
+
+/* Whether its session is open, and isn't left. */
+bool is_open(const struct known *reader);
 
 /* Its session is open: it is where it was found, if it is no other device. */
 void reader_opened(struct known *reader, const struct osdp_report *opened);

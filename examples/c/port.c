@@ -22,18 +22,30 @@ static const struct {
     speed_t speed;
 } speeds[] = { { 9600, B9600 }, { 19200, B19200 }, { 38400, B38400 }, { 57600, B57600 }, { 115200, B115200 }, { 230400, B230400 } };
 
+enum { RATES = sizeof speeds / sizeof speeds[0] };
+#define OUT_SLACK 10 /* milliseconds that an adapter may take until it begins to send */
+#define LATE 5000    /* milliseconds after which no panel waits for an answer any more */
+
+static uint64_t gone_out;   /* when the last burst that was written has gone out */
+static uint32_t port_rate;  /* the rate at which it goes */
+static bool refuses[RATES]; /* which of these rates the port hasn't, as was tried when it was opened */
+
+/* CLOCK_MONOTONIC stands still while the computer sleeps: a card from before would seem to be new after it. */
 uint64_t moment(void)
 {
     struct timespec now;
-    clock_gettime(CLOCK_MONOTONIC, &now);
+#ifdef CLOCK_BOOTTIME
+    if (clock_gettime(CLOCK_BOOTTIME, &now) != 0) /* an old kernel hasn't it */
+#endif
+        clock_gettime(CLOCK_MONOTONIC, &now);
     return (uint64_t)now.tv_sec * 1000 + (uint64_t)now.tv_nsec / 1000000;
 }
 
-/* The speed of a rate; B0 where there is none. */
+/* The speed of a rate; B0 where the port hasn't it. */
 static speed_t speed_of(uint32_t rate)
 {
-    for (size_t i = 0; i < sizeof speeds / sizeof speeds[0]; i++) {
-        if (speeds[i].rate == rate) {
+    for (size_t i = 0; i < RATES; i++) {
+        if (speeds[i].rate == rate && !refuses[i]) {
             return speeds[i].speed;
         }
     }
@@ -45,19 +57,53 @@ bool has_rate(uint32_t rate)
     return speed_of(rate) != B0;
 }
 
+/* Whether the port stands as it was set: the call that sets it says so too where it has set a part. */
+static bool is_set(int port, speed_t speed)
+{
+    struct termios found;
+    return tcgetattr(port, &found) == 0 && cfgetospeed(&found) == speed && (cfgetispeed(&found) == speed || cfgetispeed(&found) == B0) &&
+           (found.c_cflag & (CSIZE | PARENB | CSTOPB)) == CS8;
+}
+
+static int wait_for(struct pollfd *ready, nfds_t count, uint64_t wait);
+
+/* Some adapters say that all has gone out while they hold the rest of it: the time that it takes is waited for. */
+static void wait_out(void)
+{
+    for (uint64_t now = moment(); now < gone_out; now = moment()) {
+        (void)wait_for(NULL, 0, gone_out - now);
+    }
+}
+
 bool set_rate(int port, uint32_t rate)
 {
-    struct termios settings;
-    if (!has_rate(rate) || tcgetattr(port, &settings) != 0) {
+    struct termios before, settings;
+    speed_t speed = speed_of(rate);
+    if (speed == B0 || tcgetattr(port, &before) != 0) {
         return false;
     }
+    wait_out();
+    settings = before;
     settings.c_iflag = settings.c_oflag = settings.c_lflag = 0;
     settings.c_cflag = CS8 | CREAD | CLOCAL;
     settings.c_cc[VMIN] = 1;
     settings.c_cc[VTIME] = 0;
-    cfsetispeed(&settings, speed_of(rate));
-    cfsetospeed(&settings, speed_of(rate));
-    return tcsetattr(port, TCSADRAIN, &settings) == 0;
+    cfsetispeed(&settings, speed);
+    cfsetospeed(&settings, speed);
+    if (tcsetattr(port, TCSADRAIN, &settings) == 0 && is_set(port, speed)) {
+        port_rate = rate;
+        return true;
+    }
+    (void)tcsetattr(port, TCSADRAIN, &before);
+    return false;
+}
+
+/* Tries each rate: a COMSET to one that the port hasn't would leave a device where nobody finds it. */
+static void try_rates(int port)
+{
+    for (size_t i = 0; i < RATES; i++) {
+        refuses[i] = !set_rate(port, speeds[i].rate);
+    }
 }
 
 static volatile sig_atomic_t stopped; /* the signal that ends the program */
@@ -91,7 +137,14 @@ static _Noreturn void fail(const char *why)
     stop(FAILED, "%s", why);
 }
 
-/* Waits so many milliseconds at most, and ends the program at Ctrl-C. The signals that end it come here alone, so that none is missed. */
+void demand_rate(int port, uint32_t rate)
+{
+    if (!set_rate(port, rate)) {
+        fail("the port can't be set");
+    }
+}
+
+/* Waits so many milliseconds at most, and ends the program at Ctrl-C, or where its terminal is closed. The signals that end it come here alone, so that none is missed. */
 static int wait_for(struct pollfd *ready, nfds_t count, uint64_t wait)
 {
     const struct timespec most = { (time_t)(wait / 1000), (long)(wait % 1000) * 1000000 };
@@ -107,15 +160,24 @@ static int wait_for(struct pollfd *ready, nfds_t count, uint64_t wait)
 static void take_signals(void)
 {
     const struct sigaction ends = { .sa_handler = note_signal };
+    static const int signals[] = { SIGINT, SIGTERM, SIGHUP };
+    const size_t count = sizeof signals / sizeof signals[0];
+    struct sigaction before;
     sigset_t held;
     sigemptyset(&held);
-    sigaddset(&held, SIGINT);
-    sigaddset(&held, SIGTERM);
+    for (size_t i = 0; i < count; i++) {
+        bool is_ignored = signals[i] == SIGHUP && sigaction(SIGHUP, NULL, &before) == 0 && before.sa_handler == SIG_IGN; /* as under `nohup` */
+        if (!is_ignored) {
+            sigaddset(&held, signals[i]);
+        }
+    }
     sigprocmask(SIG_BLOCK, &held, &while_waiting);
-    sigdelset(&while_waiting, SIGINT);
-    sigdelset(&while_waiting, SIGTERM);
-    sigaction(SIGINT, &ends, NULL);
-    sigaction(SIGTERM, &ends, NULL);
+    for (size_t i = 0; i < count; i++) {
+        if (sigismember(&held, signals[i]) == 1) {
+            sigdelset(&while_waiting, signals[i]);
+            sigaction(signals[i], &ends, NULL);
+        }
+    }
 }
 
 /* Another program has the port. */
@@ -144,8 +206,9 @@ int open_port(const char *path, uint32_t rate)
     if (flock(port, LOCK_EX | LOCK_NB) != 0 && errno == EWOULDBLOCK) {
         refuse_taken(path); /* the lock holds for programs of root too, which TIOCEXCL lets through */
     }
+    try_rates(port);
     if (!set_rate(port, rate)) {
-        stop(FAILED, "the port can't be set");
+        stop(FAILED, has_rate(rate) ? "the port can't be set" : "the port has no such rate");
     }
     (void)ioctl(port, TIOCEXCL); /* no other program opens it, but for one of root */
     take_signals();
@@ -155,16 +218,19 @@ int open_port(const char *path, uint32_t rate)
 void write_all(int port, const struct osdp_burst *burst)
 {
     size_t at = 0;
+    uint64_t began = moment();
     while (at < burst->length) {
         ssize_t count = write(port, burst->bytes + at, burst->length - at);
-        if (count < 0 && errno == EAGAIN) {
+        if (count < 0 && errno == EAGAIN && moment() - began <= LATE) {
             (void)wait_for(&(struct pollfd){ port, POLLOUT, 0 }, 1, 1000); /* what was written before has not gone out yet */
         } else if (count < 0 && errno != EINTR) {
+            (void)tcflush(port, TCOFLUSH); /* what has not gone out by now is too old */
             fail("the port can't be written");
         }
         at += count > 0 ? (size_t)count : 0;
     }
     if (burst->length > 0) {
+        gone_out = (began > gone_out ? began : gone_out) + 10000u * burst->length / port_rate + OUT_SLACK; /* a byte has ten bits */
         trace_sent(burst->bytes, burst->length);
     }
 }
@@ -190,11 +256,38 @@ static void read_lines(struct lines *lines)
     }
 }
 
+static bool is_late;  /* whether the last read ended long after it was to end */
+static bool hears_all; /* whether bytes are read that have waited for so long */
+
+bool was_stopped(void)
+{
+    return is_late;
+}
+
+void hear_all(void)
+{
+    hears_all = true;
+}
+
+/* Waits for a read, and drops what has come where that has waited for too long: an order of long ago, which its panel has given up, isn't done. */
+static int wait_to_read(struct pollfd *ready, uint64_t wait)
+{
+    static uint64_t last; /* when the last wait ended */
+    uint64_t began = last != 0 ? last : moment();
+    int found = wait_for(ready, 2, wait);
+    last = moment();
+    is_late = last - began > wait + LATE;
+    if (is_late && !hears_all) {
+        (void)tcflush(ready[0].fd, TCIFLUSH);
+    }
+    return found;
+}
+
 size_t read_port(int port, struct lines *lines, uint64_t wait, uint8_t *bytes, size_t room)
 {
     struct pollfd ready[] = { { port, POLLIN, 0 }, { lines->ended ? -1 : STDIN_FILENO, POLLIN, 0 } };
     ssize_t count = 0;
-    int found = wait_for(ready, 2, wait < 60000 ? wait : 60000);
+    int found = wait_to_read(ready, wait < 60000 ? wait : 60000);
     if (found > 0 && ready[1].revents != 0) {
         read_lines(lines);
     }
@@ -203,7 +296,7 @@ size_t read_port(int port, struct lines *lines, uint64_t wait, uint8_t *bytes, s
         if (count == 0 || (count < 0 && errno != EAGAIN && errno != EINTR)) {
             fail("the port can't be read");
         }
-        count = count > 0 ? count : 0; /* none where another program has taken them away */
+        count = count > 0 ? count : 0; /* none where another program has taken them away, or they were too old */
     }
     trace_came(bytes, (size_t)count);
     return (size_t)count;

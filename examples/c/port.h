@@ -11,27 +11,38 @@ struct lines {
     bool ended, skips;
 };
 
-/* Milliseconds of a clock that never goes backwards. */
+/* Milliseconds of a clock that never goes backwards, and goes on while the computer sleeps. */
 uint64_t moment(void);
 
-/* Opens a port, which no other program may open then; ends the program where it can't, or where another program has it. At Ctrl-C the program ends. */
+/* Opens a port, which no other program may open then; ends the program where it can't, or where another program has it. At Ctrl-C, and where its
+ * terminal is closed, the program ends. */
 int open_port(const char *path, uint32_t rate);
 
 /* What is to be told before the program ends at Ctrl-C (`stopped`) or since its port has failed (`port-gone`). */
 void before_end(void (*tells)(const char *cause));
 
-/* Whether a port may have this rate, in bits for a second. */
+/* Whether the port has this rate, in bits for a second. Before it is open: whether any port may have it. */
 bool has_rate(uint32_t rate);
 
 /* Sets the port raw: 8 bits, no parity, 1 stop bit, and each byte as it is. What was written goes out before, at the old rate, and bytes that have come
- * are kept. Whether the port has such a rate; else it stays as it is. */
+ * are kept. Whether the port has this rate then, by what is read back of it; else it stays as it is. */
 bool set_rate(int port, uint32_t rate);
 
-/* Writes a burst whole. */
+/* Sets a rate that the port has; ends the program where it can't be set. */
+void demand_rate(int port, uint32_t rate);
+
+/* Writes a burst whole. Ends the program where the port takes nothing for five seconds: what it holds is too old then, and is dropped. */
 void write_all(int port, const struct osdp_burst *burst);
 
 /* Waits so many milliseconds at most for bytes and lines. How many bytes came from the port: none where another program has taken them away. */
 size_t read_port(int port, struct lines *lines, uint64_t wait, uint8_t *bytes, size_t room);
+
+/* Whether the last read ended more than five seconds after it was to end: the program was stopped, or the computer has slept. The bytes that had come by then
+ * are dropped, as a line may lose them. A panel lets its open sessions end, since an order or a card of before would be done now. */
+bool was_stopped(void);
+
+/* From now on such bytes are read too: for a program that only listens. */
+void hear_all(void);
 
 /* The next line, without its end; NULL where none has come whole. It stays until the next read. The last line needs no line feed. A line that is too long,
  * or has bytes that aren't printable ASCII, is no call: it is told to be refused, and passed over. */

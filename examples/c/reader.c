@@ -22,7 +22,8 @@ static const char usage[] =
     "again is there, whatever its words say. Without such a file it is where its words say, and the panel doesn't find it.\n"
     "`not kept` tells that the file couldn't be written.\n"
     "`offline` and `online` tell that the panel went and came. Events that have waited for more than 10 s while it was gone\n"
-    "leave: `withdrawn`, or `in doubt` where the panel may have the event.\n"
+    "leave: `withdrawn`, or `in doubt` where the panel may have the event. A card, or keys, that came while the program was\n"
+    "stopped for more than five seconds is told `too old`, and to no panel.\n"
     "The reader has eight outputs, which an OUT switches; the time of an output is counted here.\n"
     "The file of `--trace` gets each burst, both ways, as `osdp show` reads it.\n"
     "\n"
@@ -153,6 +154,9 @@ static void take_lines(struct lines *lines)
 {
     for (const char *line = next_line(lines); line != NULL; line = next_line(lines)) {
         tell("%s\n", line);
+        if (strncmp(line, "event ", 6) == 0 && is_too_old(line + 6)) {
+            continue;
+        }
         osdp_status status = call(line);
         if (status == OSDP_EVENTS_FULL) {
             tell("refused as many events wait at this device as there is room for\n");
@@ -184,6 +188,7 @@ static void turn(struct lines *lines)
     uint8_t bytes[4096];
     size_t count = read_port(port, lines, TURN, bytes, sizeof bytes);
     uint64_t now = moment(); /* after the read: not before it */
+    (void)osdp_device_set_moment(&reader, now); /* also where the program was stopped for more than a day */
     look(now); /* before anything is heard: so a panel that is back gets no card of long ago */
     tell_outputs(now);
     hear(bytes, count, now);
@@ -192,8 +197,6 @@ static void turn(struct lines *lines)
         act(&answer, now);
         hear(bytes, 0, now);
         look(now);
-    } else {
-        (void)osdp_device_set_moment(&reader, now); /* the program was stopped for more than a day */
     }
 }
 

@@ -45,6 +45,12 @@ static struct known *next_sought(uint32_t rate, size_t *entry)
     return NULL;
 }
 
+void search_anew(void)
+{
+    due = moment();
+    pause = PAUSE;
+}
+
 uint64_t next_search(uint32_t rate)
 {
     size_t entry;
@@ -53,8 +59,7 @@ uint64_t next_search(uint32_t rate)
     }
     const struct known *reader = next_sought(rate, &entry);
     if (reader == NULL) {
-        due = moment(); /* the next one that is missing is looked for at once */
-        pause = PAUSE;
+        search_anew(); /* the next one that is missing is looked for at once */
     }
     return reader != NULL && reader->state == CLOSED ? due : NEVER; /* a session that has begun ends, and is told then */
 }
@@ -63,7 +68,7 @@ uint64_t next_search(uint32_t rate)
 static void end_search(struct known *reader, bool is_found, uint64_t now)
 {
     (void)osdp_panel_free(&finder);
-    (void)set_rate(line, home);
+    demand_rate(line, home);
     is_out = false;
     comset[0] = '\0';
     pause = is_found ? PAUSE : pause < MOST_PAUSE ? 2 * pause : MOST_PAUSE;
@@ -86,6 +91,7 @@ void begin_search(uint32_t rate, uint64_t now, bool is_idle)
     struct known *reader = next_sought(rate, &next);
     sought = next;
     there = *place_elsewhere(reader, rate);
+    try_place(reader->stand, there);
     home = rate;
     is_out = true;
     reader->state = SOUGHT;
@@ -120,15 +126,15 @@ void take_found(uint64_t now)
     static struct osdp_report report;
     struct known *reader = known_reader(sought);
     while (is_out && osdp_panel_next_report(&finder, &report) == OSDP_OK && report.kind != OSDP_REPORT_NONE) {
-        bool is_moved = report.kind == OSDP_REPORT_MOVED, is_refused = report.kind == OSDP_REPORT_SETTLED;
-        bool is_over = is_moved || is_refused || report.kind == OSDP_REPORT_LOST || report.kind == OSDP_REPORT_UNREAD;
+        bool is_moved = report.kind == OSDP_REPORT_MOVED, is_settled = report.kind == OSDP_REPORT_SETTLED;
+        bool is_over = is_moved || is_settled || report.kind == OSDP_REPORT_LOST || report.kind == OSDP_REPORT_UNREAD;
         report.entry = sought;
         tell_report(&report);
         if (report.kind == OSDP_REPORT_OPENED) {
             is_over = tell_other(reader, &report) || !fetch(reader);
         } else if (is_moved) {
             comset_done(reader, place_told(&report.reply, there.rate));
-        } else if (is_refused) {
+        } else if (is_settled && report.reply.code == OSDP_NAK) {
             comset_over(reader);
             reader->refuses = true;
         }

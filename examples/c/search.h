@@ -20,6 +20,9 @@ osdp_panel *searching(void);
 /* The moment at which the next search begins; NEVER where none does. */
 uint64_t next_search(uint32_t rate);
 
+/* The next search comes at once, since a reader that was found as another device is allowed. */
+void search_anew(void);
+
 /* Takes what that panel reports, and does what is to be done about it. */
 void take_found(uint64_t now);
 

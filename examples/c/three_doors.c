@@ -17,6 +17,7 @@ static const struct {
 static osdp_panel panel;
 static osdp_site site;
 static struct osdp_site_entry entries[DOORS];
+static bool left[DOORS]; /* whether nothing more is said to a reader, so that its session ends: it may hold an order or a card from before the program was stopped */
 static uint64_t held[DOORS]; /* when a door is held open; UINT64_MAX while it is closed, and UINT64_MAX - 1 once its buzzer sounds */
 
 static bool may_enter(const struct osdp_raw *card, size_t door)
@@ -62,7 +63,8 @@ static void take_report(const struct osdp_report *report, bool has_changed, uint
     static struct osdp_raw card;
     static struct osdp_states inputs;
     static const struct osdp_message asks = { .present = 1, .code = OSDP_ISTAT };
-    size_t door = report->entry;
+    size_t door = (size_t)report->entry;
+    left[door] = left[door] && report->kind != OSDP_REPORT_LOST;
     if (has_changed) {
         tell("door %zu is %s\n", door + 1, entries[door].is_online ? "online" : "offline");
         (void)osdp_site_order(&site, &panel, door, &asks);
@@ -71,8 +73,16 @@ static void take_report(const struct osdp_report *report, bool has_changed, uint
         take_contact(door, inputs.states[0] == OSDP_STATE_ACTIVE, now);
     }
     /* a card that may have been told before unlocks nothing again */
-    if (report->kind == OSDP_REPORT_EVENT && report->detail != OSDP_EVENT_MAYBE_AGAIN && osdp_raw_of(&report->reply, &card) == OSDP_OK && may_enter(&card, door)) {
+    if (report->kind == OSDP_REPORT_EVENT && report->detail != OSDP_EVENT_MAYBE_AGAIN && !left[door] && osdp_raw_of(&report->reply, &card) == OSDP_OK && may_enter(&card, door)) {
         unlock(door);
+    }
+}
+
+/* Leaves the sessions that are open. */
+static void leave(void)
+{
+    for (size_t door = 0; door < DOORS; door++) {
+        left[door] = entries[door].is_online;
     }
 }
 
@@ -97,7 +107,8 @@ static osdp_status make(uint64_t now)
     osdp_status status = osdp_panel_new(&panel, &config);
     osdp_site_new(&site, entries, DOORS, now);
     osdp_color(OSDP_COLOR_RED, &red);
-    for (osdp_size i = 0, door; i < DOORS && status == OSDP_OK; i++) {
+    osdp_size door;
+    for (size_t i = 0; i < DOORS && status == OSDP_OK; i++) {
         status = osdp_panel_add(&panel, (uint32_t)i + 1, &door);
         (void)osdp_site_wants(&site, i, &red);
         take_contact(i, false, now);
@@ -120,7 +131,12 @@ int main(int count, char **words)
         size_t length = read_port(port, &lines, osdp_site_wait(&site, &panel, moment(), 100), bytes, sizeof bytes);
         uint64_t now = moment(); /* after the read: not before it */
         watch(now);
+        if (was_stopped()) {
+            leave();
+        }
         osdp_site_turn(&site, &panel, bytes, length, now, take_report, &burst);
-        write_all(port, &burst);
+        if (burst.length > 0 && !left[burst.bytes[1] - 1]) { /* the readers have the addresses 1 to 3 */
+            write_all(port, &burst);
+        }
     }
 }

@@ -90,6 +90,15 @@ const char *reply_text(const struct osdp_message *reply)
     return text_of(osdp_reply_text, reply);
 }
 
+bool is_too_old(const char *event)
+{
+    bool is_old = was_stopped() && (strncmp(event, "RAW ", 4) == 0 || strncmp(event, "FMT ", 4) == 0 || strncmp(event, "KEYPAD ", 7) == 0);
+    if (is_old) {
+        tell("too old %s\n", event);
+    }
+    return is_old;
+}
+
 bool tell_refusal(osdp_status status)
 {
     if (status == OSDP_BAD_TEXT) {

@@ -32,6 +32,9 @@ size_t digits(const char *word, uint8_t *bytes, size_t room);
 const char *command_text(const struct osdp_message *command);
 const char *reply_text(const struct osdp_message *reply);
 
+/* Whether the text of an event is that of a card or of keys, and came while the program was stopped, which is told: nobody stands there any more. */
+bool is_too_old(const char *event);
+
 /* Prints what a report tells: a name, a reader's number, and the command and the reply that it has. */
 void tell_report(const struct osdp_report *report);
 

@@ -151,6 +151,16 @@ bool set_rate(int port, uint32_t rate)
     return has_rate(rate);
 }
 
+void demand_rate(int port, uint32_t rate)
+{
+    (void)set_rate(port, rate);
+}
+
+bool was_stopped(void)
+{
+    return false;
+}
+
 void write_all(int port, const struct osdp_burst *burst)
 {
     (void)port;

@@ -56,6 +56,11 @@ bool set_rate(int port, uint32_t rate)
     return has_rate(rate);
 }
 
+bool was_stopped(void)
+{
+    return false;
+}
+
 void open_trace(const char *path)
 {
     (void)path;
