@@ -80,10 +80,11 @@ static osdp_site_status judge(const struct osdp_message *command)
     }
 }
 
-void osdp_site_new(osdp_site *site, struct osdp_site_entry *entries, size_t count, uint64_t now)
+void osdp_site_new(osdp_site *site, struct osdp_site_entry *entries, size_t count, size_t bytes, uint64_t now)
 {
     site->entries = entries;
     site->count = count;
+    site->bytes = bytes;
     site->pause = OSDP_SITE_PAUSE;
     for (size_t i = 0; i < count; i++) {
         entries[i].begins = entries[i].since = now;
@@ -92,13 +93,21 @@ void osdp_site_new(osdp_site *site, struct osdp_site_entry *entries, size_t coun
     }
 }
 
+/* Whether a command, its code and its data, has more bytes than the panel has room for. */
+static bool is_too_long(const osdp_site *site, const struct osdp_message *command)
+{
+    return site->bytes != OSDP_SITE_ANY_LENGTH && (size_t)1 + command->length > site->bytes;
+}
+
 /* Takes out what was wanted of the same before. */
 static void forget(struct osdp_site_entry *entry, const struct osdp_message *command)
 {
     for (uint16_t i = 0; i < entry->count; i++) {
         if (is_same(&entry->wanted[i], command)) {
             entry->count--;
-            entry->done -= i < entry->done;
+            if (i < entry->done) {
+                entry->done--;
+            }
             memmove(&entry->wanted[i], &entry->wanted[i + 1], (entry->count - i) * sizeof entry->wanted[0]);
             return;
         }
@@ -113,6 +122,9 @@ osdp_site_status osdp_site_wants(osdp_site *site, size_t number, const struct os
     osdp_site_status status = judge(command);
     if (status != OSDP_SITE_OK) {
         return status;
+    }
+    if (is_too_long(site, command)) {
+        return OSDP_SITE_TOO_LONG;
     }
     struct osdp_site_entry *entry = &site->entries[number];
     forget(entry, command); /* where all room is taken and nothing is forgotten, nothing has changed */

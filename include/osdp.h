@@ -755,7 +755,7 @@ OSDP_CHECKED osdp_status osdp_panel_new(osdp_panel *panel, const struct osdp_pan
  * As `osdp_panel_new`, with less memory: the commands that wait for one device may have `bytes` bytes together, 1 to 1,467,392. A command has as many bytes as
  * its packet without head and check, which are its code and its data: an OUT of one output has 5. (With `osdp_panel_new` each of `capacity` commands has room,
  * however long it is, up to 1,433 bytes.) A command without room is refused with OSDP_COMMANDS_FULL. The bytes of the command that is on its way count too,
- * unless there is room for each of `capacity` commands, however long it is.
+ * unless there is room for each of `capacity` commands, however long it is. A site over the panel is made with the same `bytes` (osdp_site.h).
  *
  * The refusals are those of `osdp_panel_new`; OSDP_PANEL_OUT_OF_RANGE (B5) also where `bytes` is out of its range.
  */

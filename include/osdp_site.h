@@ -12,7 +12,7 @@
  *
  *     static struct osdp_site_entry entries[3];
  *     osdp_site site;
- *     osdp_site_new(&site, entries, 3, now);               the entries are those of the panel, in the order of adding
+ *     osdp_site_new(&site, entries, 3, OSDP_SITE_ANY_LENGTH, now);      the entries are those of the panel, in the order of adding
  *     osdp_site_wants(&site, door, &red);
  *     for (;;) {
  *         .. waits for bytes, at most until the earlier of osdp_panel_next_deadline and osdp_site_next_deadline ..
@@ -39,7 +39,9 @@ enum {
     /* From a session that has ended to the next one, in milliseconds, where the program sets no other pause. */
     OSDP_SITE_PAUSE = 1000,
     /* The data of a state, in bytes, at most: those of the longest text. */
-    OSDP_SITE_MOST_DATA = 261
+    OSDP_SITE_MOST_DATA = 261,
+    /* The `bytes` of a site over a panel of `osdp_panel_new`, which has room for each command, however long it is. */
+    OSDP_SITE_ANY_LENGTH = 0
 };
 
 /* What became of `osdp_site_wants`. A refused call has changed nothing. */
@@ -54,7 +56,9 @@ typedef enum osdp_site_status {
     /* P5: it lasts for a time, so it is an order and no state. */
     OSDP_SITE_TIMED = 5,
     /* P6: the command says nothing that holds from then on. */
-    OSDP_SITE_NO_STATE = 6
+    OSDP_SITE_NO_STATE = 6,
+    /* P7: the command has more bytes than the panel has room for, so it would never go out. */
+    OSDP_SITE_TOO_LONG = 7
 } osdp_site_status;
 
 /* A command that says a state. */
@@ -80,11 +84,16 @@ struct osdp_site_entry {
 typedef struct osdp_site {
     struct osdp_site_entry *entries;
     size_t count;
+    /* As handed to `osdp_site_new`. */
+    size_t bytes;
     uint32_t pause;
 } osdp_site;
 
-/* A site for so many entries, those of the panel: all are offline since this moment, and their sessions are due. It is made before a session opens. */
-void osdp_site_new(osdp_site *site, struct osdp_site_entry *entries, size_t count, uint64_t now);
+/*
+ * A site for so many entries, those of the panel: all are offline since this moment, and their sessions are due. It is made before a session opens. `bytes` are
+ * those that were handed to `osdp_panel_new_with_room`, or OSDP_SITE_ANY_LENGTH over a panel of `osdp_panel_new`: a state that is longer is refused.
+ */
+void osdp_site_new(osdp_site *site, struct osdp_site_entry *entries, size_t count, size_t bytes, uint64_t now);
 
 /*
  * From now on a device is to be as the command says: an OUT or LED of one record, a BUZ or a TEXT. It stands in place of what was wanted of the same output, LED,
@@ -92,7 +101,8 @@ void osdp_site_new(osdp_site *site, struct osdp_site_entry *entries, size_t coun
  *
  * OSDP_SITE_NO_ENTRY. OSDP_SITE_SEVERAL. OSDP_SITE_TIMED: an output with control 5 or 6, an LED with a temporary state, a sound that is counted, a text for a
  * time. What lasts for a time is an order: an OUT that opens a door for five seconds would open it again after each session that was lost. OSDP_SITE_NO_STATE:
- * an output with another control, an LED without a permanent state, no tone, each other kind of command. OSDP_SITE_FULL.
+ * an output with another control, an LED without a permanent state, no tone, each other kind of command. OSDP_SITE_TOO_LONG: the panel would refuse it each
+ * time, so that it and all states after it would wait for ever. OSDP_SITE_FULL.
  */
 osdp_site_status osdp_site_wants(osdp_site *site, size_t entry, const struct osdp_message *command);
 
@@ -105,8 +115,8 @@ bool osdp_site_heed(osdp_site *site, const struct osdp_report *report, uint64_t 
 /*
  * Begins each session that is due. Orders that wait for its device are stale, and are taken back: a program that is to be told of them withdraws them
  * before. Then what is wanted of each device that is online, and wasn't submitted since its session opened, goes to the panel in the order in which it was
- * wanted. What the panel refuses, as where its queue is full, and what comes after it is left for the next call. At a moment that the panel refuses
- * (OSDP_MOMENT_TOO_FAR) no order is taken back, and the sessions stay due.
+ * wanted. What the panel refuses, as where its queue is full, and what comes after it is left for the next call: it waits for room that other commands take.
+ * At a moment that the panel refuses (OSDP_MOMENT_TOO_FAR) no order is taken back, and the sessions stay due.
  */
 void osdp_site_act(osdp_site *site, osdp_panel *panel, uint64_t now);
 

@@ -28,7 +28,7 @@ osdp_status add_door(osdp_panel *panel, struct door *door, const char *kept, uin
     path = kept;
     count = read_stands(path, stands, KEPT);
     *door = (struct door){ .stand = stand_of(stands, &count, KEPT, name, rate) };
-    osdp_site_new(&door->site, &door->place, 1, 0);
+    osdp_site_new(&door->site, &door->place, 1, OSDP_SITE_ANY_LENGTH, 0);
     return osdp_panel_add(panel, place_of(door->stand).address, &door->entry);
 }
 

@@ -105,7 +105,7 @@ static osdp_status make(uint64_t now)
     osdp_panel_defaults(&config);
     config.poll_between_orders = 1; /* a card waits for no orders */
     osdp_status status = osdp_panel_new(&panel, &config);
-    osdp_site_new(&site, entries, DOORS, now);
+    osdp_site_new(&site, entries, DOORS, OSDP_SITE_ANY_LENGTH, now);
     osdp_color(OSDP_COLOR_RED, &red);
     osdp_size door;
     for (size_t i = 0; i < DOORS && status == OSDP_OK; i++) {

@@ -48,7 +48,7 @@ impl Doors {
             poll_between_orders: true, // a card waits for no orders
             ..PanelConfig::default()
         })?;
-        let mut site = Site::new(now);
+        let mut site = Site::new(&panel, now);
         for address in (1..).take(DOORS) {
             let door = panel.add(address)?;
             site.wants(door, &Command::color(color::RED)?)?;

@@ -35,7 +35,7 @@
 //! # fn main() -> Result<(), Box<dyn core::error::Error>> {
 //! let mut panel = Panel::new(&PanelConfig::default())?;
 //! let door = panel.add(5)?;
-//! let mut site = Site::new(now()); // begins the session, and again a second after it was lost
+//! let mut site = Site::new(&panel, now()); // begins the session, and again a second after it was lost
 //! site.wants(door, &Command::color(color::RED)?)?; // also when the door comes back
 //! let mut bytes = [0; 256];
 //! loop {

@@ -201,6 +201,8 @@ fn report_of(panel: u32, raw: &sys::osdp_report) -> Option<(EntryNumber, Report)
 pub struct Panel {
     handle: UnsafeCell<sys::osdp_panel>,
     number: u32,
+    /// For how many bytes of commands there is room, of each device. None where there is room for each command, however long it is.
+    pub(crate) room: Option<usize>,
 }
 
 // SAFETY: the handle is owned, nothing else points to what it holds, and a call uses nothing of its thread. What it takes and gives back is memory of the
@@ -216,7 +218,7 @@ impl Panel {
     /// `OutOfRange`: a setting is out of its range. `NoMemory`.
     pub fn new(config: &PanelConfig) -> Result<Panel, Error> {
         let settings = config.to_sys()?;
-        let panel = Panel::none();
+        let panel = Panel::none(None);
         // SAFETY: the handle is none, and both pointers are good.
         check(unsafe { sys::osdp_panel_new(panel.handle.get(), &settings) })?;
         Ok(panel)
@@ -224,27 +226,29 @@ impl Panel {
 
     /// As `new`, with less memory: the commands that wait for one device may have `bytes` bytes together, 1 to 1,467,392. A command has the bytes of its code
     /// and its data: an OUT of one output has 5. (With `new` each of `capacity` commands has room for 1,433 bytes.) A command without room is refused with
-    /// `Full`. The bytes of the command that is on its way count too, unless there is room for each command, however long it is.
+    /// `Full`. The bytes of the command that is on its way count too, unless there is room for each command, however long it is. A `Site` over the panel refuses
+    /// states that have more than `bytes` bytes.
     ///
     /// # Errors
     ///
     /// `OutOfRange`: a setting or `bytes` is out of its range. `NoMemory`.
     pub fn with_room(config: &PanelConfig, bytes: usize) -> Result<Panel, Error> {
         let settings = config.to_sys()?;
-        let panel = Panel::none();
+        let panel = Panel::none(Some(bytes));
         // SAFETY: the handle is none, and both pointers are good.
         check(unsafe { sys::osdp_panel_new_with_room(panel.handle.get(), &settings, bytes) })?;
         Ok(panel)
     }
 
     /// A handle that is none.
-    fn none() -> Panel {
+    fn none(room: Option<usize>) -> Panel {
         Panel {
             handle: UnsafeCell::new(sys::osdp_panel {
                 panel: null_mut(),
                 panel_live: 0,
             }),
             number: PANELS.fetch_add(1, Ordering::Relaxed),
+            room,
         }
     }
 

@@ -30,6 +30,8 @@ pub enum SiteError {
     Timed,
     /// The command says nothing that holds from then on, so it is no state.
     NoState,
+    /// The command has more bytes than the panel has room for (`Panel::with_room`), so it would never go out.
+    TooLong,
 }
 
 impl fmt::Display for SiteError {
@@ -40,6 +42,7 @@ impl fmt::Display for SiteError {
             SiteError::Several => "several outputs or LEDs in one command",
             SiteError::Timed => "it lasts for a time, so it is an order",
             SiteError::NoState => "the command says no state",
+            SiteError::TooLong => "the command is too long for the panel",
         })
     }
 }
@@ -98,6 +101,11 @@ impl State {
             sys::OSDP_TEXT => [self.code, data[0], data[3], data[4]],
             _ => [self.code, data[0], 0, 0],
         }
+    }
+
+    /// How many bytes its command has: its code and its data.
+    fn size(&self) -> usize {
+        1 + usize::from(self.length)
     }
 
     fn command(&self) -> Result<Command, Error> {
@@ -197,13 +205,15 @@ impl Place {
 pub struct Site<const ENTRIES: usize> {
     places: [Place; ENTRIES],
     pause: Duration,
+    /// That of the panel.
+    room: Option<usize>,
 }
 
 impl<const ENTRIES: usize> Site<ENTRIES> {
-    /// A site whose devices are all offline since this moment, and whose sessions are due. After a session has ended, the next one is due a second later.
-    /// Make it before a session of its panel opens: a device whose session was open already counts as offline until its next one, and gets neither states nor
-    /// orders.
-    pub fn new(now: Moment) -> Site<ENTRIES> {
+    /// A site over a panel, whose devices are all offline since this moment, and whose sessions are due. After a session has ended, the next one is due a second
+    /// later. Make it before a session of its panel opens: a device whose session was open already counts as offline until its next one, and gets neither states
+    /// nor orders.
+    pub fn new(panel: &Panel, now: Moment) -> Site<ENTRIES> {
         let place = Place {
             wanted: [State::NONE; ROOM],
             count: 0,
@@ -214,6 +224,7 @@ impl<const ENTRIES: usize> Site<ENTRIES> {
         Site {
             places: [place; ENTRIES],
             pause: PAUSE,
+            room: panel.room,
         }
     }
 
@@ -233,10 +244,16 @@ impl<const ENTRIES: usize> Site<ENTRIES> {
     /// # Errors
     ///
     /// `NoEntry`. `Several`. `Timed`: it lasts for a time, so it is an order; as a state, an OUT that opens a door for five seconds would open it again after
-    /// each lost session. `NoState`: the command says nothing that holds from then on. `Full`: 16 states are wanted of the device already.
+    /// each lost session. `NoState`: the command says nothing that holds from then on. `TooLong`: the panel would refuse it each time, so that it and all states
+    /// after it would wait for ever. `Full`: 16 states are wanted of the device already.
     pub fn wants(&mut self, entry: EntryNumber, command: &Command) -> Result<(), SiteError> {
         let place = self.places.get_mut(entry.index());
-        place.ok_or(SiteError::NoEntry)?.wants(State::of(command)?)
+        let place = place.ok_or(SiteError::NoEntry)?;
+        let state = State::of(command)?;
+        if self.room.is_some_and(|bytes| state.size() > bytes) {
+            return Err(SiteError::TooLong);
+        }
+        place.wants(state)
     }
 
     /// Heeds a report of the panel, at the moment at which it came. Where the device has come online or gone offline by it, that is told, once. After a
@@ -304,7 +321,7 @@ impl<const ENTRIES: usize> Site<ENTRIES> {
     /// Begins each session that is due. Before that it takes back the orders that wait for the device, since they are stale. A program that wants to know of
     /// them withdraws them itself before. Then, for each device that is online, what is wanted and wasn't submitted since the session opened goes to the
     /// panel, in the order in which it was wanted. Where the panel refuses one, as where its queue is full, that one and those after it are left for the next
-    /// call.
+    /// call: they wait for room that other commands take.
     ///
     /// # Errors
     ///

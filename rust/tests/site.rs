@@ -1,5 +1,6 @@
 //! A site over a panel and a device, which are joined in memory: what is refused; that states come once after each opening, the latest of each, and in their
-//! order, also where the panel has room for one command; that orders for a time are not repeated; when sessions begin; and that a moment too far ahead takes nothing back.
+//! order, also where the panel has room for one command; that a state which is longer than the panel's room keeps none waiting; that orders for a time are not
+//! repeated; when sessions begin; and that a moment too far ahead takes nothing back.
 mod settings;
 
 use osdp::{
@@ -26,12 +27,19 @@ struct Line {
     now: u64,
 }
 
-fn line() -> Line {
-    let mut panel = Panel::new(&PanelConfig {
+/// The settings of a panel with room for one command.
+fn one() -> PanelConfig {
+    PanelConfig {
         capacity: 1,
         ..PanelConfig::default()
-    })
-    .unwrap();
+    }
+}
+
+fn line() -> Line {
+    line_over(Panel::new(&one()).unwrap())
+}
+
+fn line_over(mut panel: Panel) -> Line {
     let door = panel.add(5).unwrap();
     let mut device = Device::new(&DeviceConfig {
         clock_limit: Duration::ZERO, // a day: the device is away for a while
@@ -39,9 +47,10 @@ fn line() -> Line {
     })
     .unwrap();
     device.set_outputs(&[0]).unwrap();
+    let site = Site::new(&panel, at(1000));
     Line {
         panel,
-        site: Site::new(at(1000)),
+        site,
         door,
         device,
         is_there: true,
@@ -204,10 +213,28 @@ fn what_lasts_for_a_time_is_refused() {
     assert_eq!(wanted, Err(SiteError::NoEntry));
 }
 
+/// A state that is longer than the panel's room is refused: it would keep each state after it waiting. One that just fits goes out, and so do those after it.
+#[test]
+fn what_is_too_long_keeps_no_state_waiting() {
+    let mut line = line_over(Panel::with_room(&one(), 12).unwrap());
+    let text = |shown| Text::new(shown).unwrap();
+    let long = Command::text(&text(b"ABCDEF")); // 13 bytes with its code
+    let too_long = Err(SiteError::TooLong);
+    assert_eq!(line.site.wants(line.door, &long), too_long);
+    line.wants(&Command::text(&text(b"ABCDE")));
+    line.wants(&Command::sound(false));
+    assert_eq!(line.site.wants(line.door, &long), too_long); // what was wanted stays
+    let timed = Command::text(&text(b"ABCDEF").for_seconds(5));
+    assert_eq!(line.site.wants(line.door, &timed), Err(SiteError::Timed));
+    line.run(4000);
+    assert_eq!(line.taken, ["TEXT 0 1 0 1 1 4142434445", "BUZ 0 1 5 5 0"]);
+    assert!(line.site.is_refreshed(line.door));
+}
+
 #[test]
 fn the_next_session_is_due_after_the_pause() {
     let mut line = line();
-    let mut site = Site::<1>::new(at(0)).with_pause(Duration::from_millis(300));
+    let mut site = Site::<1>::new(&line.panel, at(0)).with_pause(Duration::from_millis(300));
     assert!(site.is_due(line.door, at(0)));
     assert_eq!(site.act(&mut line.panel, at(0)), Ok(()));
     assert_eq!(site.next_deadline(), None);

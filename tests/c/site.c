@@ -1,6 +1,6 @@
 /* A site (osdp_site.h) over a panel and a device of this library, which are joined in memory: what is refused; that states come once after each opening, the latest of
- * each, and in their order, also where the panel has room for one command; that orders for a time are not repeated; when sessions begin; and that a moment which
- * lies too far ahead takes nothing back, and lets a device's old events go. */
+ * each, and in their order, also where the panel has room for one command; that a state which is longer than the panel's room keeps none waiting; that orders for a
+ * time are not repeated; when sessions begin; and that a moment which lies too far ahead takes nothing back, and lets a device's old events go. */
 #include <string.h>
 
 #include "demands.h"
@@ -106,7 +106,7 @@ static void room(void)
         demand(wants_text(text) == (i < OSDP_SITE_ROOM ? OSDP_SITE_OK : OSDP_SITE_FULL));
     }
     demand(wants_text("OUT 3:1:0") == OSDP_SITE_OK && entries[0].count == OSDP_SITE_ROOM);
-    osdp_site_new(&site, entries, 1, now);
+    osdp_site_new(&site, entries, 1, OSDP_SITE_ANY_LENGTH, now);
 }
 
 /* Two outputs, LEDs, buzzers or texts at two places are two states; each of them again is none. */
@@ -120,7 +120,7 @@ static void subjects(void)
         demand(wants_text(texts[i % (sizeof texts / sizeof texts[0])]) == OSDP_SITE_OK);
     }
     demand(entries[0].count == sizeof texts / sizeof texts[0]);
-    osdp_site_new(&site, entries, 1, now);
+    osdp_site_new(&site, entries, 1, OSDP_SITE_ANY_LENGTH, now);
 }
 
 static void lives(void)
@@ -172,7 +172,7 @@ static void pauses(void)
     static struct osdp_site_entry two[2];
     static struct osdp_report report;
     osdp_site other;
-    osdp_site_new(&other, two, 2, 0);
+    osdp_site_new(&other, two, 2, OSDP_SITE_ANY_LENGTH, 0);
     other.pause = 300;
     two[0].begins = two[1].begins = UINT64_MAX; /* both have begun */
     report.kind = OSDP_REPORT_LOST;
@@ -204,7 +204,7 @@ static void keeps_what_waits(void)
     osdp_panel_defaults(&config); /* a moment may lie a day after the one before */
     demand(osdp_panel_new(&far, &config) == OSDP_OK && osdp_panel_add(&far, 5, &entry) == OSDP_OK);
     demand(osdp_panel_bytes(&far, NULL, 0, 1000) == OSDP_OK && osdp_panel_submit_text(&far, entry, "LSTAT", 5) == OSDP_OK);
-    osdp_site_new(&its, one, 1, 1000);
+    osdp_site_new(&its, one, 1, OSDP_SITE_ANY_LENGTH, 1000);
     osdp_site_act(&its, &far, 1000 + 2 * 86400000ull);
     demand(osdp_site_is_due(&its, 0, 1000) && osdp_panel_is_closed(&far, entry, &closed) == OSDP_OK && closed == 1);
     demand(osdp_panel_withdraw(&far, entry, &command) == OSDP_OK && command.present);
@@ -237,7 +237,8 @@ static void lets_go(void)
     demand(osdp_device_free(&sleeper) == OSDP_OK);
 }
 
-int main(void)
+/* Both ends, and a site. The panel has room for one command, of so many bytes. */
+static void make(size_t bytes)
 {
     struct osdp_panel_config config;
     const struct osdp_device_config reader = { .address = 5, .capacity = 2, .gap = 20 };
@@ -245,9 +246,35 @@ int main(void)
     size_t entry;
     osdp_panel_defaults(&config);
     config.capacity = 1; /* so the queue is full after the first state */
-    demand(osdp_panel_new(&panel, &config) == OSDP_OK && osdp_panel_add(&panel, 5, &entry) == OSDP_OK);
+    demand((bytes == OSDP_SITE_ANY_LENGTH ? osdp_panel_new(&panel, &config) : osdp_panel_new_with_room(&panel, &config, bytes)) == OSDP_OK);
+    demand(osdp_panel_add(&panel, 5, &entry) == OSDP_OK);
     demand(osdp_device_new(&device, &reader, NULL, 0) == OSDP_OK && osdp_device_set_outputs(&device, off, 1) == OSDP_OK);
-    osdp_site_new(&site, entries, 1, now);
+    osdp_site_new(&site, entries, 1, bytes, now);
+    length = 0;
+    taken[0] = told[0] = '\0';
+}
+
+static void unmake(void)
+{
+    demand(osdp_panel_free(&panel) == OSDP_OK && osdp_device_free(&device) == OSDP_OK);
+}
+
+/* A state that is longer than the panel's room is refused: it would keep each state after it waiting. One that just fits goes out, and so do those after it. */
+static void lengths(void)
+{
+    make(12);
+    demand(wants_text("TEXT 0 1 0 1 1 414243444546") == OSDP_SITE_TOO_LONG && entries[0].count == 0); /* 13 bytes with its code */
+    demand(wants_text("TEXT 0 1 0 1 1 4142434445") == OSDP_SITE_OK && wants_text("BUZ 0 1 0 0 0") == OSDP_SITE_OK);
+    demand(wants_text("TEXT 0 1 0 1 1 464544434241") == OSDP_SITE_TOO_LONG && entries[0].count == 2); /* what was wanted stays */
+    demand(wants_text("TEXT 0 3 5 1 1 464544434241") == OSDP_SITE_TIMED);
+    run(now + 3000);
+    demand(strcmp(taken, "TEXT 0 1 0 1 1 4142434445;BUZ 0 1 0 0 0;") == 0 && osdp_site_is_refreshed(&site, 0));
+    unmake();
+}
+
+int main(void)
+{
+    make(OSDP_SITE_ANY_LENGTH);
     refusals();
     room();
     subjects();
@@ -256,6 +283,7 @@ int main(void)
     pauses();
     keeps_what_waits();
     lets_go();
-    demand(osdp_panel_free(&panel) == OSDP_OK && osdp_device_free(&device) == OSDP_OK);
+    unmake();
+    lengths();
     return 0;
 }

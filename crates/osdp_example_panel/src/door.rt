@@ -1,7 +1,7 @@
 //! The door: where it is, what it is, and when its session begins. What is to be kept of it is told by a line `keep ..` before anything more is sent.
 
 use super::kept::{Call, Identity, Place, Stand, comset, read_call};
-use osdp_panel::{Address, BusFault, Command, EntryNumber, Panel, Report};
+use osdp_panel::{Address, BusFault, Command, EntryNumber, Panel, Report, Room};
 use osdp_site::{Site, SiteConfig};
 use std::alloc::Global;
 use std::io;
@@ -25,9 +25,9 @@ pub struct Door {
 }
 
 impl Door {
-    /// At first it is where it was made to be. None where there is no memory.
-    pub fn new(alloc: Global) -> Option<Door> {
-        let site = Site::new(alloc, 1, SiteConfig::new(), 0).ok()?;
+    /// At first it is where it was made to be; its panel has this room for commands. None where there is no memory.
+    pub fn new(alloc: Global, room: Room) -> Option<Door> {
+        let site = Site::new(alloc, 1, SiteConfig::new(room), 0).ok()?;
         Some(Door {
             stand: Stand::new(FIRST),
             rate: FIRST.rate,

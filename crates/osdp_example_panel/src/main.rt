@@ -31,8 +31,8 @@ fn may_enter(card: &Raw<'_>) -> bool {
 }
 
 /// A panel with its door, which is asked for its cards between two orders. None where there is no memory.
-fn new_panel(alloc: Global) -> Option<Panel> {
-    let config = BusConfig::new(CheckKind::Crc, Room::of(16));
+fn new_panel(alloc: Global, room: Room) -> Option<Panel> {
+    let config = BusConfig::new(CheckKind::Crc, room);
     let mut panel = Panel::new_with_polls_between(alloc, config).ok()?;
     panel.add(Address::new(FIRST.address)?).ok()?;
     Some(panel)
@@ -77,8 +77,9 @@ fn turn(
 }
 
 fn main(rt: HostRuntime) -> io::Result<()> {
-    let mut panel = new_panel(rt.alloc()).ok_or(io::ErrorKind::OutOfMemory)?;
-    let mut door = Door::new(rt.alloc()).ok_or(io::ErrorKind::OutOfMemory)?;
+    let room = Room::of(16);
+    let mut panel = new_panel(rt.alloc(), room).ok_or(io::ErrorKind::OutOfMemory)?;
+    let mut door = Door::new(rt.alloc(), room).ok_or(io::ErrorKind::OutOfMemory)?;
     for line in rt.lines(rt.alloc()) {
         let line = line?;
         match read_line(rt.alloc(), line.as_str())? {

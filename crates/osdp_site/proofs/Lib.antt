@@ -2,5 +2,6 @@ pub mod Common
 pub mod Wanting
 pub mod Submitting
 pub mod States
+pub mod Fitting
 pub mod Online
 pub mod Begins

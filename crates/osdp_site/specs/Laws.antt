@@ -1,13 +1,17 @@
 -- What the calls of a site come to, whatever is called.
-use Rattle.std.specs.Prelude.{◌≡◌, ◌≢◌, ℕ, ◌+◌, ◌-◌, Bool, true, false, nat_le, min, ◌^◌, if◌then◌else◌, List, [], ◌∷◌, ◌++◌, take, Some, None, is_ok}
+use Rattle.std.specs.Prelude.{◌≡◌, ◌≢◌, ℕ, ◌+◌, ◌-◌, ◌≤◌, Bool, true, false, ◌&&◌, ◌||◌, nat_le, nat_lt, min, ◌^◌, if◌then◌else◌, List, [], ◌∷◌, ◌++◌, take, Option, Some, None, is_ok, is_some}
 use Rattle.std.specs.List.{All, list_any}
 use Rattle.osdp_msg.specs.declared.command.Command.{Command}
-use Rattle.osdp_orders.specs.Orders.{PanelState}
-use Rattle.osdp_orders.specs.Orders.{after_submit, submit_refusal}
+use Rattle.osdp_orders.specs.Orders.{PanelState, after_submit, queue_of, submit_refusal}
+use Rattle.osdp_orders.specs.declared.queue.Queue.{Queue}
+use Rattle.osdp_bus.specs.declared.entry.Entry.{Entry}
+use Rattle.osdp_bus.specs.Buses.{device_of}
 use Rattle.osdp_controller.specs.declared.report.Report.{Report}
 use Rattle.osdp_controller.specs.declared.report.Report.TheVariants as report
+use Rattle.osdp_controller.specs.Held.{on_its_way}
+use Rattle.osdp_controller.specs.Machine.{command_size}
 use Rattle.osdp_site.specs.declared.place.Presence.TheVariants.{Online, Offline}
-use Rattle.osdp_site.specs.Acting.{acts_at, refreshes, submits}
+use Rattle.osdp_site.specs.Acting.{acts_at, refreshes, submits, waiting_at}
 use Rattle.osdp_site.specs.Places.{PlaceState, after_wants, changed_unless, due_of, heeds, is_due, is_online, is_reached, is_refreshed, opens, wants_refusal}
 use Rattle.osdp_site.specs.Sites.{Both, SiteState, acts, next_begin, place_of}
 use Rattle.osdp_site.specs.States.{subject_of}
@@ -73,6 +77,35 @@ after_moves entry pause (m ∷ ms) p = after_moves entry pause ms (after_move en
 -- a command says a state: so what lasts for a time is never wanted, and never submitted again
 abbrev pub IsState : Command → Type 0
 IsState c = is_ok (subject_of c) ≡ true
+
+-- ---- what can go out
+
+-- a panel has an entry, with a place for a command and room for so many bytes, where no other command takes any
+abbrev pub has_room_in : ℕ → Option Entry → Bool
+has_room_in bytes None = false
+has_room_in bytes (Some d) = nat_le 1 d.controller.capacity && nat_le bytes d.controller.room
+
+-- .. also of the orders that are held back for POLLs, where they are
+abbrev pub has_room_held : ℕ → Option Queue → Bool
+has_room_held bytes None = true
+has_room_held bytes (Some q) = nat_le 1 q.held.capacity && nat_le bytes q.held.room
+
+abbrev pub has_room : ℕ → ℕ → PanelState → Bool
+has_room entry bytes b = has_room_in bytes (device_of entry b.bus) && has_room_held bytes (queue_of entry b.orders)
+
+-- commands of an entry take room: some wait, or one is on its way
+abbrev pub is_on_its_way : Option Entry → Bool
+is_on_its_way None = false
+is_on_its_way (Some d) = is_some (on_its_way d.controller.session.state)
+
+abbrev pub takes_room : ℕ → PanelState → Bool
+takes_room entry b = nat_lt 0 (waiting_at entry b) || is_on_its_way (device_of entry b.bus)
+
+-- each state that is wanted fits. Where the device is online, and after it has acted no command of it takes room in the panel, each was submitted
+pub record WaitsForOthers (entry bytes : ℕ) (b : PanelState) (p : PlaceState) : Type 0 where
+  pub fits : All (λ c. command_size c ≤ bytes) p.wanted
+  pub submitted : has_room entry bytes b ≡ true → is_online p.presence ≡ true
+      → takes_room entry (refreshes entry (record { place = p; panel = b })).panel ≡ false → due_of (refreshed entry b p) ≡ []
 
 -- ---- what is online
 

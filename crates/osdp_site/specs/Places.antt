@@ -3,25 +3,28 @@ use Rattle.std.specs.Prelude.{ℕ, ◌+◌, ◌-◌, ◌^◌, Bool, true, false,
 use Rattle.osdp_msg.specs.declared.command.Command.{Command}
 use Rattle.osdp_controller.specs.declared.report.Report.{Report}
 use Rattle.osdp_controller.specs.declared.report.Report.TheVariants as report
+use Rattle.osdp_controller.specs.Machine.{command_size}
 use Rattle.osdp_site.specs.declared.fault.SiteFault.{SiteFault}
-use Rattle.osdp_site.specs.declared.fault.SiteFault.TheVariants.{Full}
+use Rattle.osdp_site.specs.declared.fault.SiteFault.TheVariants.{Full, TooLong}
 use Rattle.osdp_site.specs.declared.place.Presence.{Presence}
 use Rattle.osdp_site.specs.declared.place.Presence.TheVariants.{Online, Offline}
 use Rattle.osdp_site.specs.declared.subject.Subject.{Subject}
 use Rattle.osdp_site.specs.States.{first_about, subject_of}
 
--- of an entry: how many states it has room for; the commands that say them, in the order in which they were wanted; how many of these, from the first on,
--- were submitted since the session opened; whether it is online; and the moment from which on its next session is due, where none has begun
+-- of an entry: how many states it has room for; how many bytes its panel has room for; the commands that say the states, in the order in which they were wanted;
+-- how many of these, from the first on, were submitted since the session opened; whether it is online; and the moment from which on its next session is due,
+-- where none has begun
 pub record PlaceState : Type 0 where
   pub room : ℕ
+  pub bytes : ℕ
   pub wanted : List Command
   pub done : ℕ
   pub presence : Presence
   pub begins : Option ℕ
 
 -- at first it is offline, and its session is due
-abbrev pub new_place : ℕ → ℕ → PlaceState
-new_place room now = record { room = room; wanted = []; done = 0; presence = Offline now; begins = Some now }
+abbrev pub new_place : ℕ → ℕ → ℕ → PlaceState
+new_place room bytes now = record { room = room; bytes = bytes; wanted = []; done = 0; presence = Offline now; begins = Some now }
 
 -- what is still to be submitted
 abbrev pub due_of : PlaceState → List Command
@@ -60,12 +63,16 @@ wants_over earlier c p = record p { wanted = without earlier p.wanted ++ c ∷ [
 abbrev pub room_refusal : Option ℕ → PlaceState → Option SiteFault
 room_refusal earlier p = if is_none earlier && nat_le p.room (length p.wanted) then Some Full else None
 
-abbrev pub wants_refusal_of : Result Subject SiteFault → PlaceState → Option SiteFault
-wants_refusal_of (Err fault) p = Some fault
-wants_refusal_of (Ok subject) p = room_refusal (first_about 0 subject p.wanted) p
+-- a command with more bytes than the panel has room for would never go out
+abbrev pub is_too_long : Command → PlaceState → Bool
+is_too_long c p = nat_lt p.bytes (command_size c)
+
+abbrev pub wants_refusal_of : Result Subject SiteFault → Command → PlaceState → Option SiteFault
+wants_refusal_of (Err fault) c p = Some fault
+wants_refusal_of (Ok subject) c p = if is_too_long c p then Some TooLong else room_refusal (first_about 0 subject p.wanted) p
 
 abbrev pub wants_refusal : Command → PlaceState → Option SiteFault
-wants_refusal c p = wants_refusal_of (subject_of c) p
+wants_refusal c p = wants_refusal_of (subject_of c) c p
 
 abbrev pub after_wants_of : Result Subject SiteFault → Command → PlaceState → PlaceState
 after_wants_of (Err fault) c p = p

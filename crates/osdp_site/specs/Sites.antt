@@ -7,6 +7,7 @@ use Rattle.osdp_controller.specs.declared.report.Report.{Report}
 use Rattle.osdp_site.specs.declared.fault.SiteFault.{SiteFault}
 use Rattle.osdp_site.specs.declared.fault.SiteFault.TheVariants.{NoEntry}
 use Rattle.osdp_site.specs.declared.place.Presence.{Presence}
+use Rattle.osdp_site.specs.declared.site.SiteConfig.{SiteConfig}
 use Rattle.osdp_site.specs.Acting.{Acted, acts_at}
 use Rattle.osdp_site.specs.Places.{PlaceState, after_wants, change_of, heeds, new_place, wants_refusal}
 
@@ -15,8 +16,8 @@ pub record SiteState : Type 0 where
   pub pause : ℕ
   pub places : List PlaceState
 
-abbrev pub new_site : ℕ → ℕ → ℕ → ℕ → SiteState
-new_site entries pause room now = record { pause = pause; places = replicate entries (new_place room now) }
+abbrev pub new_site : ℕ → SiteConfig → ℕ → SiteState
+new_site entries c now = record { pause = c.pause; places = replicate entries (new_place c.room c.bytes now) }
 
 abbrev pub place_of : ℕ → SiteState → Option PlaceState
 place_of entry s = slice_get s.places entry

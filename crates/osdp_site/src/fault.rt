@@ -23,4 +23,7 @@ pub enum SiteFault {
     /// P6: the command says nothing that holds from then on.
     #[error("P6: no state")]
     NoState,
+    /// P7: the command has more bytes than the panel has room for, so it would never go out.
+    #[error("P7: too long for the panel")]
+    TooLong,
 }

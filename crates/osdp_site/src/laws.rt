@@ -4,7 +4,7 @@ ghost use Rattle.std.specs.Prelude.{ℕ, List};
 ghost use Rattle.std.specs.List.{All};
 ghost use Rattle.osdp_orders.specs.Orders.{PanelState};
 ghost use Rattle.osdp_controller.specs.declared.report.Report.{Report};
-ghost use Rattle.osdp_site.specs.Laws.{IsFirstBegin, IsState, IsTaken, Move, NoneIsDue, OnlineBetween, SubmittedOnce, WaitsForThePause, after_moves};
+ghost use Rattle.osdp_site.specs.Laws.{IsFirstBegin, IsState, IsTaken, Move, NoneIsDue, WaitsForOthers, OnlineBetween, SubmittedOnce, WaitsForThePause, after_moves};
 ghost use Rattle.osdp_site.specs.Places.{PlaceState, new_place};
 ghost use Rattle.osdp_site.specs.Sites.{Both, SiteState};
 
@@ -21,7 +21,13 @@ pub fn panels_take_what_is_wanted()
 
 /// Whatever is called, all that is wanted are states: an order for a time is never given again.
 pub fn orders_are_not_repeated()
-    ensures { (entry pause room now : ℕ) (ms : List Move) → All IsState (after_moves entry pause ms (new_place room now)).wanted }
+    ensures { (entry pause room bytes now : ℕ) (ms : List Move) → All IsState (after_moves entry pause ms (new_place room bytes now)).wanted }
+{}
+
+/// Where the panel has the room that its site was told, what an entry leaves when it acts waits for room that other commands take. Each state that is wanted has
+/// no more bytes than that room.
+pub fn states_wait_for_others()
+    ensures { (entry pause room bytes now : ℕ) (ms : List Move) (b : PanelState) → WaitsForOthers entry bytes b (after_moves entry pause ms (new_place room bytes now)) }
 {}
 
 /// A device is online exactly between an opening and the end of its session, since the moment of the report.

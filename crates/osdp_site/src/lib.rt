@@ -5,7 +5,7 @@
 //! report (`Site::heed`), and calls `Site::act` in each turn. It begins the sessions that are due, and submits what is wanted and not submitted yet.
 //!
 //! ```text
-//! let mut site = Site::new(alloc, panel.entries(), SiteConfig::new(), clock.now())?;
+//! let mut site = Site::new(alloc, panel.entries(), SiteConfig::new(config.room), clock.now())?; // `config` is that of the panel
 //! site.wants(door, &red)?;
 //! loop {
 //!     .. waits for bytes, at most until the earlier of panel.next_deadline() and site.next_deadline() ..
@@ -20,7 +20,7 @@
 //!
 //! A state is what holds until something else is said: it may be said again. What lasts for a time is an order: an OUT that opens a door for five seconds would
 //! open it again after each session that was lost. So an output or an LED for a time, a counted sound and a text for a time are refused (P5), and so is all
-//! else that puts nothing.
+//! else that puts nothing. A state that is longer than the panel's room for commands would never go out, so it is refused too (P7).
 #![tactic(auto)]
 
 mod fault;
@@ -30,6 +30,6 @@ mod site;
 mod subject;
 
 pub use fault::SiteFault;
-pub use osdp_panel::{Command, EntryNumber, Panel, Report};
+pub use osdp_panel::{Command, EntryNumber, Panel, Report, Room};
 pub use place::Presence;
 pub use site::{Site, SiteConfig};

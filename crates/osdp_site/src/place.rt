@@ -2,12 +2,13 @@
 
 ghost use Rattle.std.specs.Prelude.{◌≡◌, IfErr, IfOk};
 ghost use Rattle.osdp_site.specs.declared.fault.SiteFault.TheVariants.{NoMemory};
+ghost use Rattle.osdp_controller.specs.Machine.{command_size};
 ghost use Rattle.osdp_site.specs.Acting.{acts_at, begins_anew, submits, submitted};
 ghost use Rattle.osdp_site.specs.Places.{after_wants, change_of, changed_unless, due_of, goes_offline, goes_online, heeds, is_due, is_online, is_refreshed, new_place, unless_refused, wants_refusal};
 
 use crate::fault::SiteFault;
 use crate::subject::Subject;
-use osdp_msg::KeptCommand;
+use osdp_msg::{KeptCommand, Spelling};
 use osdp_panel::{Command, EntryNumber, Panel, Report};
 use std::alloc::Global;
 use std::marker::Model;
@@ -25,6 +26,7 @@ pub enum Presence {
 #[derive(Drop)]
 pub struct Place {
     room: usize,
+    bytes: usize,
     wanted: Vec<KeptCommand>,
     done: usize,
     presence: Presence,
@@ -37,9 +39,20 @@ impl Model for Place {
 
     ghost Value = { PlaceState };
 
-    ghost view = { λ p. record { room = p.room; wanted = p.wanted.items; done = p.done; presence = p.presence; begins = p.begins } };
+    ghost view = { λ p. record { room = p.room; bytes = p.bytes; wanted = p.wanted.items; done = p.done; presence = p.presence; begins = p.begins } };
 
     ghost invariant = { λ p. p.room ≤ vec_capacity p.wanted };
+}
+
+/// How many bytes a command has: its code and its data.
+// its place of a spelling is no part of the stack of what calls it
+#[inline(never)]
+fn size_of(command: &Command<'_>) -> usize
+    ensures { result ≡ command_size command.now }
+{
+    let mut spelling = Spelling::new();
+    command.write_into(&mut spelling);
+    spelling.len()
 }
 
 /// The orders that wait for a device are taken back, and its session begins, where none has.
@@ -91,13 +104,19 @@ impl Presence {
 
 impl Place {
     /// An entry that is offline, and whose session is due. It takes the memory for so many states.
-    pub(crate) fn new(alloc: Global, room: usize, now: u64) -> Result<Place, SiteFault>
-        ensures made { IfOk result (λ p. p ≡ new_place room now) }
+    pub(crate) fn new(
+        alloc: Global,
+        room: usize,
+        bytes: usize,
+        now: u64,
+    ) -> Result<Place, SiteFault>
+        ensures made { IfOk result (λ p. p ≡ new_place room bytes now) }
         ensures fault { IfErr result (λ fault. fault ≡ NoMemory) }
     {
         match Vec::with_capacity(alloc, room) {
             Ok(wanted) => Ok(Place {
                 room,
+                bytes,
                 wanted,
                 done: 0,
                 presence: Presence::Offline(now),
@@ -135,6 +154,9 @@ impl Place {
         ensures place { self.new ≡ changed_unless (wants_refusal command.now self.old) self.old (after_wants command.now self.old) }
     {
         let subject = Subject::of(command)?;
+        if size_of(command) > self.bytes {
+            return Err(SiteFault::TooLong);
+        }
         match subject.first_in(self.wanted.as_slice()) {
             Some(i) => {
                 let _ = self.wanted.remove(i);

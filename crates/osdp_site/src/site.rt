@@ -7,7 +7,7 @@ ghost use Rattle.osdp_site.specs.Sites.{acts, earlier, heeds_at, new_site, next_
 
 use crate::fault::SiteFault;
 use crate::place::{Place, Presence};
-use osdp_panel::{Command, EntryNumber, Panel, Report};
+use osdp_panel::{Command, EntryNumber, Panel, Report, Room};
 use std::alloc::Global;
 use std::marker::Model;
 
@@ -18,16 +18,20 @@ pub struct SiteConfig {
     pub pause: u32,
     /// How many states may be wanted of each device.
     pub room: usize,
+    /// For how many bytes of commands the panel has room, of each device: those of its settings (`BusConfig::room`). A state that has more, with its code, is
+    /// refused where it is stated, since it would never go out.
+    pub bytes: usize,
 }
 
 impl SiteConfig {
-    /// A second, and room for 16 states.
-    pub fn new() -> SiteConfig
-        ensures { result ≡ record { pause = 1000; room = 16 } }
+    /// A second, and room for 16 states, over a panel that has this room for the commands of a device: `BusConfig::room` of its settings.
+    pub fn new(commands: Room) -> SiteConfig
+        ensures { result ≡ record { pause = 1000; room = 16; bytes = commands.bytes } }
     {
         SiteConfig {
             pause: 1000,
             room: 16,
+            bytes: commands.bytes,
         }
     }
 }
@@ -71,14 +75,14 @@ impl Site {
         config: SiteConfig,
         now: u64,
     ) -> Result<Site, SiteFault>
-        ensures made { IfOk result (λ s. s ≡ new_site entries config.pause config.room now) }
+        ensures made { IfOk result (λ s. s ≡ new_site entries config now) }
         ensures fault { IfErr result (λ fault. fault ≡ NoMemory) }
     {
         let Ok(mut places) = Vec::with_capacity(alloc, entries) else {
             return Err(SiteFault::NoMemory);
         };
         for _ in 0..entries {
-            places.push_reserved(Place::new(alloc, config.room, now)?);
+            places.push_reserved(Place::new(alloc, config.room, config.bytes, now)?);
         }
         Ok(Site {
             pause: config.pause,
@@ -91,8 +95,9 @@ impl Site {
     ///
     /// NoEntry (P2); else Several (P4) for several outputs or LEDs; Timed (P5) for what lasts for a time: an output with control 5 or 6, an LED with a temporary
     /// state, a sound that is counted, a text with command 3 or 4; NoState (P6) for a command that says no state: an output with control 0 or above 6, an LED whose
-    /// permanent control isn't 1, tone 0, a text with another command, and each other kind of command; else Full (P3) where as many states are wanted as there is
-    /// room for. Nothing has changed then.
+    /// permanent control isn't 1, tone 0, a text with another command, and each other kind of command; else TooLong (P7) for a command that has more bytes than the
+    /// panel has room for, which would never go out and would keep all states after it waiting; else Full (P3) where as many states are wanted as there is room
+    /// for. Nothing has changed then.
     pub fn wants(&mut self, entry: EntryNumber, command: &Command<'_>) -> Result<(), SiteFault>
         ensures result { result ≡ unless_refused (wants_refusal_at entry command.now self.old) }
         ensures site { self.new ≡ changed_unless (wants_refusal_at entry command.now self.old) self.old (wants_at entry command.now self.old) }
@@ -117,7 +122,8 @@ impl Site {
 
     /// Begins each session that is due. Orders that wait for its device are stale, and are taken back: a program that is to be told of them withdraws them
     /// before. Then what is wanted of each device that is online, and wasn't submitted since its session opened, goes to the panel in the order in which it was
-    /// wanted. What the panel refuses, as where its queue is full, and what comes after it is left for the next call.
+    /// wanted. What the panel refuses, as where its queue is full, and what comes after it is left for the next call. That waits for room that other commands
+    /// take, since each state fits into the panel's room (`laws::states_wait_for_others`).
     pub fn act(&mut self, panel: &mut Panel, now: u64)
         ensures site { self.new ≡ (acts now (record { site = self.old; panel = panel.old })).site }
         ensures panel { panel.new ≡ (acts now (record { site = self.old; panel = panel.old })).panel }

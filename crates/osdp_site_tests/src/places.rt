@@ -9,18 +9,27 @@ use std::alloc::Global;
 
 const DOOR: EntryNumber = 0;
 
-/// A panel with one device, and room for two commands.
-fn new_panel(alloc: Global) -> Option<Panel> {
-    let mut panel = Panel::new(alloc, BusConfig::new(CheckKind::Crc, Room::of(2))).ok()?;
+/// A panel with one device, and this room for its commands.
+fn new_panel(alloc: Global, room: Room) -> Option<Panel> {
+    let mut panel = Panel::new(alloc, BusConfig::new(CheckKind::Crc, room)).ok()?;
     panel.add(Address::new(5)?).ok()?;
     Some(panel)
 }
 
-/// A site of one entry with room for two states, and a pause of 300 ms.
-fn new_site(alloc: Global) -> Option<Site> {
+/// Room for two commands of twelve bytes together.
+fn twelve_bytes() -> Room {
+    Room {
+        messages: 2,
+        bytes: 12,
+    }
+}
+
+/// A site of one entry with room for two states, and a pause of 300 ms, over a panel with this room.
+fn new_site(alloc: Global, room: Room) -> Option<Site> {
     let config = SiteConfig {
         pause: 300,
         room: 2,
+        bytes: room.bytes,
     };
     Site::new(alloc, 1, config, 1000).ok()
 }
@@ -52,7 +61,7 @@ fn lost() -> Report<'static> {
 
 #[test]
 fn what_is_no_state_is_refused(rt: HostRuntime) {
-    let mut site = new_site(rt.alloc()).expect(&rt, "memory");
+    let mut site = new_site(rt.alloc(), Room::of(2)).expect(&rt, "memory");
     let timed =
         "OUT 0:5:30\nOUT 0:6:30\nLED 0:0:2:1:0:2:2:50:1:1:0:1:1\nBUZ 0 2 5 5 3\nTEXT 0 3 5 1 1 41\nTEXT 0 4 5 1 1 41";
     for text in timed.lines() {
@@ -69,7 +78,7 @@ fn what_is_no_state_is_refused(rt: HostRuntime) {
 
 #[test]
 fn there_is_room_for_so_many_states(rt: HostRuntime) {
-    let mut site = new_site(rt.alloc()).expect(&rt, "memory");
+    let mut site = new_site(rt.alloc(), Room::of(2)).expect(&rt, "memory");
     assert!(rt; wants(&mut site, DOOR, "OUT 0:2:0").is_ok());
     assert!(rt; wants(&mut site, DOOR, "BUZ 0 2 5 5 0").is_ok());
     assert!(rt; wants(&mut site, DOOR, "OUT 1:2:0").err() == Some(SiteFault::Full));
@@ -78,7 +87,7 @@ fn there_is_room_for_so_many_states(rt: HostRuntime) {
 
 #[test]
 fn a_device_comes_and_goes(rt: HostRuntime) {
-    let mut site = new_site(rt.alloc()).expect(&rt, "memory");
+    let mut site = new_site(rt.alloc(), Room::of(2)).expect(&rt, "memory");
     assert!(rt; site.presence(DOOR) == Some(Presence::Offline(1000)));
     assert!(rt; site.heed(DOOR, &lost(), 1100).is_none()); // it was offline before
     assert!(rt; site.heed(DOOR, &opened(), 1200) == Some(Presence::Online(1200)));
@@ -89,8 +98,8 @@ fn a_device_comes_and_goes(rt: HostRuntime) {
 
 #[test]
 fn a_session_begins_after_the_pause(rt: HostRuntime) {
-    let mut site = new_site(rt.alloc()).expect(&rt, "memory");
-    let mut panel = new_panel(rt.alloc()).expect(&rt, "memory");
+    let mut site = new_site(rt.alloc(), Room::of(2)).expect(&rt, "memory");
+    let mut panel = new_panel(rt.alloc(), Room::of(2)).expect(&rt, "memory");
     assert!(rt; site.next_deadline() == Some(1000));
     site.act(&mut panel, 999);
     assert!(rt; panel.is_closed(DOOR) == Some(true));
@@ -103,8 +112,8 @@ fn a_session_begins_after_the_pause(rt: HostRuntime) {
 
 #[test]
 fn states_go_to_a_device_that_is_online(rt: HostRuntime) {
-    let mut site = new_site(rt.alloc()).expect(&rt, "memory");
-    let mut panel = new_panel(rt.alloc()).expect(&rt, "memory");
+    let mut site = new_site(rt.alloc(), Room::of(2)).expect(&rt, "memory");
+    let mut panel = new_panel(rt.alloc(), Room::of(2)).expect(&rt, "memory");
     assert!(rt; wants(&mut site, DOOR, "OUT 0:2:0").is_ok());
     assert!(rt; wants(&mut site, DOOR, "BUZ 0 1 5 5 0").is_ok());
     site.act(&mut panel, 1000);
@@ -118,4 +127,32 @@ fn states_go_to_a_device_that_is_online(rt: HostRuntime) {
     assert!(rt; wants(&mut site, DOOR, "OUT 0:1:0").is_ok());
     site.act(&mut panel, 1700);
     assert!(rt; panel.waiting(DOOR) == Some(2) && site.is_refreshed(DOOR) == Some(false)); // there is no room
+}
+
+#[test]
+fn what_is_too_long_is_refused(rt: HostRuntime) {
+    let mut site = new_site(rt.alloc(), twelve_bytes()).expect(&rt, "memory");
+    let long = "TEXT 0 1 0 1 1 414243444546"; // 13 bytes with its code
+    assert!(rt; wants(&mut site, DOOR, long).err() == Some(SiteFault::TooLong));
+    assert!(rt; wants(&mut site, DOOR, "TEXT 0 1 0 1 1 4142434445").is_ok());
+    assert!(rt; wants(&mut site, DOOR, "OUT 0:2:0").is_ok());
+    assert!(rt;
+        wants(&mut site, DOOR, "TEXT 0 1 0 2 1 414243444546").err() == Some(SiteFault::TooLong)
+    ); // before the site is full
+    assert!(rt;
+        wants(&mut site, DOOR, "TEXT 0 3 5 1 1 414243444546").err() == Some(SiteFault::Timed)
+    );
+}
+
+#[test]
+fn what_is_too_long_keeps_no_state_waiting(rt: HostRuntime) {
+    let mut site = new_site(rt.alloc(), twelve_bytes()).expect(&rt, "memory");
+    let mut panel = new_panel(rt.alloc(), twelve_bytes()).expect(&rt, "memory");
+    assert!(rt; wants(&mut site, DOOR, "TEXT 0 1 0 1 1 414243444546").is_err());
+    assert!(rt; wants(&mut site, DOOR, "OUT 0:2:0").is_ok());
+    assert!(rt; wants(&mut site, DOOR, "BUZ 0 1 5 5 0").is_ok());
+    site.act(&mut panel, 1000);
+    let _ = site.heed(DOOR, &opened(), 1500);
+    site.act(&mut panel, 1500);
+    assert!(rt; panel.waiting(DOOR) == Some(2) && site.is_refreshed(DOOR) == Some(true));
 }

@@ -115,7 +115,7 @@ impl Door {
         Ok(Door {
             entry: panel.add(mine.place().0)?,
             may_order: false,
-            site: Site::new(port.now()),
+            site: Site::new(panel, port.now()),
             other: None,
             stands,
             at,

@@ -10,6 +10,7 @@ invariant-loop-at l = record {
       ≡ (submits l.entry (drop l.initial.self-inside.done l.initial.self-inside.wanted.items) l.initial.panel).panel;
   wanted : l.self-inside.wanted ≡ l.initial.self-inside.wanted;
   room : l.self-inside.room ≡ l.initial.self-inside.room;
+  bytes : l.self-inside.bytes ≡ l.initial.self-inside.bytes;
   presence : l.self-inside.presence ≡ l.initial.self-inside.presence;
   begins : l.self-inside.begins ≡ l.initial.self-inside.begins;
   done : l.self-inside.done ≡ l.at;
