@@ -28,6 +28,10 @@ class Port:
         if self.is_there:
             self.line.goes(self, burst)
 
+    @staticmethod
+    def may_have(rate):
+        return has_rate(rate)
+
     def set_rate(self, rate):
         if has_rate(rate):
             self.rate = rate

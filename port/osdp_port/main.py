@@ -6,10 +6,10 @@ from .advice import Advice
 from .console import Console, wait_for
 from .faults import BAD_WORDS, FAILED, Stop
 from .keep import PanelPlaces, ReaderPlace
-from .panel import SETTINGS, Panel, first_rate, new_devices
+from .panel import SETTINGS, Panel, at_one_rate, first_rate, new_devices
 from .program import Lines, find_program
 from .reader import ABSENT, Reader
-from .serial_port import Port, needs_pyserial
+from .serial_port import Port, needs_pyserial, sets_rate
 from .shown import Shown
 from .trace import Bursts, Trace, digits, osdpcap
 from .words import HELP, Words, addresses, bad
@@ -25,12 +25,16 @@ def moment():
 
 
 def taps(words, port, console, osdp):
-    """What else gets the bursts: a trace, and each packet as `osdp show` prints it. Their ends, which are called when the program ends."""
+    """What else gets the bursts: a trace, and each packet as `osdp show` prints it. Their ends, which are called when the program ends, and may give a status."""
+    def trace_ends():
+        console.note(file.ended())
+        return FAILED if file.file is None else 0
+
     ends = []
     if words.get("--trace"):
         file = Trace(words.get("--trace"), words.get("--size", 10) * 1000000, console.note, osdpcap if words.get("--osdpcap") else digits, lambda: port.rate)
         port.taps.append(Bursts(file.takes))
-        ends += [port.taps[-1].flush, file.ended]
+        ends += [port.taps[-1].flush, trace_ends]
     if words.get("--all"):
         shown = Shown(osdp, console, is_all=True)
         port.taps.append(Bursts(shown.takes))
@@ -68,6 +72,9 @@ def says_for_panel(port, console):
 
 
 def panel(words, port, console, osdp, kept, devices):
+    why = kept.begins() if kept else None
+    if why:
+        console.note(f"not kept: {why}")
     ends = taps(words, port, console, osdp)
     settings = [*SETTINGS, *words.rest[1:]]
     program = Lines(osdp, ["panel", *settings])
@@ -86,15 +93,12 @@ def reader(words, port, console, osdp, kept, place):
 
 
 def runs(machine, port, console, ends):
-    """Runs it, and ends all that stands beside it. The status: 1 where something was met."""
+    """Runs it, and ends all that stands beside it. The status: 1 where something was met, 3 where the trace has failed."""
     try:
         goes_on(machine, port, console)
     finally:
-        for each in ends:
-            said = each()
-            if isinstance(said, str):
-                console.note(said)
-    return 1 if machine.met else 0
+        statuses = [each() for each in ends]
+    return FAILED if FAILED in statuses else 1 if machine.met else 0
 
 
 def opened(words, rate, console):
@@ -110,13 +114,17 @@ def does_command(words, console):
     """Does what the words ask. The status."""
     osdp = find_program(words.get("--osdp"))
     if words.command == "panel":
-        kept = PanelPlaces(words.get("--keep")) if words.get("--keep") else None
+        kept = PanelPlaces(words.get("--keep"), words.port) if words.get("--keep") else None
         devices = new_devices(addresses(words.rest[0]), words.rate, kept)
+        if not sets_rate(words.port):
+            at_one_rate(devices, words.rate)
         return panel(words, opened(words, first_rate(devices, words.rate), console), console, osdp, kept, devices)
     if words.command == "reader":
         named = addresses(words.rest[0])
         if len(named) != 1:
             bad(f"word 4, {words.rest[0]}: a reader has one address")
+        if "address" in words.rest[1::2]:
+            bad(f"word {words.rest.index('address', 1) + 4}, address: word 4 says it, and no setting")
         kept = ReaderPlace(words.get("--keep")) if words.get("--keep") else None
         place = kept.read() if kept else None
         place = (place.address, place.rate) if place else (named[0], words.rate)
@@ -150,7 +158,7 @@ def main(arguments):
             console.note(stop.why)
         return stop.status
     except OSError as error:
-        console.note(f"{error.filename or 'the system'}: {error.strerror}")
+        console.note(f"{error.filename or 'the system'}: {error.strerror or error}")
         return FAILED
     finally:
         console.ends()

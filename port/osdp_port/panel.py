@@ -2,7 +2,6 @@
 from . import cards, doors
 from .faults import BAD_WORDS, Refused, Stop, is_number
 from .rounds import PAUSE, Entry, Place, Rounds
-from .serial_port import has_rate
 
 # What the panel's words may set otherwise. A device may be busy for some 0.8 s, and an exchange ends within 3.8 s; and a device is asked for its cards between two orders.
 SETTINGS = ("busy-limit", "4", "busy-wait", "200", "poll-between-orders", "on")
@@ -40,6 +39,12 @@ def new_devices(names, rate, kept):
         raise Stop(why)
     return [Device(str(at), name, known[name].places if name in known else [Place(name, rate)], known[name].identity if name in known else None)
             for at, name in enumerate(names, 1)]
+
+
+def at_one_rate(devices, rate):
+    """Puts each place at this rate, for a port whose server sets it: what was kept of another one says nothing there."""
+    for device in devices:
+        device.places = list(dict.fromkeys(Place(place.address, rate) for place in device.places))
 
 
 def first_rate(devices, rate):
@@ -132,9 +137,10 @@ class Panel:
     def heed_moved(self, device, words):
         self.has_end(device, " ".join(words).partition(" = ")[0])
         address, rate = map(int, words[-2:])
-        if not has_rate(rate):
+        has_rate = self.port.may_have(rate)
+        if not has_rate:
             self.say(f"no rate {rate}: the port hasn't it, and stays at {self.port.rate}")
-        device.stands(Place(address, rate if has_rate(rate) else device.place.rate))
+        device.stands(Place(address, rate if has_rate else device.place.rate))
         self.keep()
         self.close(device, 0)
 
@@ -163,10 +169,10 @@ class Panel:
 
     def keep(self):
         """Writes down where the devices are. Whether they are kept."""
-        if self.kept is None or self.kept.write(self.devices):
-            return True
-        self.say(f"not kept: {self.kept.path} can't be written")
-        return False
+        why = self.kept.write(self.devices) if self.kept else None
+        if why:
+            self.say(f"not kept: {why}")
+        return not why
 
     # which device it is
 
@@ -290,7 +296,7 @@ class Panel:
             raise Refused("a COMSET has an address and a rate, as COMSET 7 9600")
         if int(words[0]) > 126:
             raise Refused(f"address {words[0]}: an address is 0 to 126")
-        if not has_rate(int(words[1])) or int(words[1]) != self.port.rate and not self.port.has_own_rate:
+        if not self.port.may_have(int(words[1])):
             raise Refused(f"the port has no rate {words[1]}")
         self.may_go_to(int(words[0]))
         for each in self.devices:
@@ -357,15 +363,26 @@ class Panel:
             self.goes_round(now)
         self.call("tick")
 
-    def goes_round(self, now):
-        rate = self.rounds.next_rate(now) if self.port.is_there else None
-        if rate is not None and self.port.set_rate(rate):
+    def goes_to(self, rate, now):
+        """Begins a round at another rate. One that the port can't be set to has none, until the port is pulled and back."""
+        if self.port.set_rate(rate):
             self.rounds.begins(rate, now)
             self.say(f"rate {rate}")
             for device in filter(self.rounds.is_reached, self.devices):
                 self.gather(device)
+        elif self.port.is_there:
+            self.rounds.beyond.add(rate)
+            self.say(f"no rate {rate}: the port can't be set to it, and stays at {self.port.rate}")
+
+    def goes_round(self, now):
+        if not self.port.is_there:
+            self.rounds.beyond.clear()
+            return
+        rate = self.rounds.next_rate(now)
+        if rate is not None:
+            self.goes_to(rate, now)
         for device in self.devices:
-            place = self.rounds.next_place(device) if self.port.is_there and device.begins <= now else None
+            place = self.rounds.next_place(device) if device.begins <= now else None
             if place:
                 self.rounds.tries(device, place)
                 self.call(f"retarget {device.number} {place.address}")

@@ -4,7 +4,7 @@ import time
 from .console import wait_for
 from .panel_tricks import NUMBERED, TRICKS
 from .testing import Judge, allowed, crc, packet, status_of
-from .trace import begun
+from .trace import Record
 
 GAP = 0.05  # seconds of silence after which bytes without a packet are passed over
 TRIES = 2  # as many tricks are played again, for each, at most, whose answers were lost
@@ -295,18 +295,13 @@ class Player:
 def test_panel(words, port, console, osdp):
     """Is the device at an address, and tests the panel that asks it. The status: that of `osdp test panel`."""
     may = allowed(words)
-    kept = begun(words.get("--trace")) if words.get("--trace") else None
+    record = Record(words.get("--trace"))
     judge = Judge(osdp, ["test", "panel", *(["--tap"] if words.get("--tap") else [])], console)
 
     def write(line):
         judge.write(line.encode() + b"\n")
-        if kept:
-            kept.write(line + "\n")
-    try:
-        console.note(f"device {words.rest[1]} waits for its panel; give it an order now (an output, an LED), or rule 22 is unclear")
-        Player(port, console, Device(int(words.rest[1]), may, write), write).goes()
-    finally:
-        if kept:
-            kept.close()
+        record.write(line)
+    console.note(f"device {words.rest[1]} waits for its panel; give it an order now (an output, an LED), or rule 22 is unclear")
+    Player(port, console, Device(int(words.rest[1]), may, write), write).goes()
     is_cut_off = bool(console.stops) or not port.is_there
-    return status_of(port, console, is_cut_off, judge.ends())
+    return status_of(port, console, is_cut_off, judge.ends(), record)

@@ -3,7 +3,6 @@ from .cards import raw_of
 from .faults import Refused, is_number
 from .outputs import Outputs
 from .rounds import Place
-from .serial_port import has_rate
 
 TURN = 10  # how long a read waits, in milliseconds
 NAK = 0x41  # the code of a reply that says that nothing was done
@@ -72,19 +71,23 @@ class Reader:
             self.tell_outputs()
         if name == "moved":
             address, rate = map(int, words)
-            self.keep(Place(address, rate if has_rate(rate) else self.port.rate))
+            self.keep(Place(address, rate if self.port.may_have(rate) else self.port.rate))
             return Place(address, rate)
         return None
 
     def keep(self, place):
         """Keeps where the reader is from now on: before the panel is told."""
-        if self.kept and not self.kept.keep(place):
-            self.say(f"not kept {place}")
+        why = self.kept.keep(place) if self.kept else None
+        if why:
+            self.say(f"not kept {place}: {why}")
 
     def move(self, place):
-        """Sets the port to the rate of a COMSET, once what was sent has gone out. It keeps its rate where it hasn't that one."""
-        if not self.port.set_rate(place.rate):
-            self.say(f"no rate {place.rate}")
+        """Sets the port to the rate of a COMSET, once what was sent has gone out. Where the port doesn't take that one it stays, and so does what is kept."""
+        if self.port.set_rate(place.rate):
+            return
+        self.say(f"no rate {place.rate}")
+        if self.port.may_have(place.rate):
+            self.keep(Place(place.address, self.port.rate))
 
     def tell_outputs(self):
         """Tells the program which outputs are on, where that has changed: by it OSTAT is answered."""

@@ -7,7 +7,9 @@ tried within R rounds, whatever the others do. A round takes as long as its atte
 each device of the line.
 
 A device that has been sought for SEARCHES rounds in vain, while others are reached, keeps these from being left at each turn: the port
-stays with them for REST milliseconds between its rounds elsewhere. Then each place is tried within R rounds and the rests between them."""
+stays with them for REST milliseconds between its rounds elsewhere. Then each place is tried within R rounds and the rests between them.
+
+A rate that the port can't be set to has no rounds: a device that may be there too is tried at its other places."""
 from dataclasses import dataclass
 
 PAUSE = 1000  # from a lost session to the next one, in milliseconds
@@ -66,6 +68,7 @@ class Rounds:
         self.entries, self.rate = entries, rate
         self.number, self.last = 1, {}  # of this round; of the last round at each rate
         self.since = 0  # when it began
+        self.beyond = set()  # rates that the port can't be set to
         self.is_leaving = False  # whether the port goes to another rate as soon as no order is on its way
 
     def is_reached(self, entry):
@@ -75,10 +78,14 @@ class Rounds:
         """The places of a device at the port's rate."""
         return [place for place in entry.places if place.rate == self.rate]
 
+    def elsewhere(self, entry):
+        """The other rates at which a device may be, and the port too."""
+        return {place.rate for place in entry.places} - {self.rate} - self.beyond
+
     def seekers(self):
         """The devices that aren't reached and may be at another rate."""
         return [entry for entry in self.entries
-                if not self.is_reached(entry) and not entry.is_given_up and entry.session != "begun" and len(self.here(entry)) < len(entry.places)]
+                if not self.is_reached(entry) and not entry.is_given_up and entry.session != "begun" and self.elsewhere(entry)]
 
     def untried(self, entry):
         return [place for place in self.here(entry) if place not in entry.tried]
@@ -118,7 +125,7 @@ class Rounds:
         self.is_leaving = self.has_orders()
         if self.is_leaving:
             return None
-        rates = {place.rate for entry in seekers for place in entry.places} - {self.rate}
+        rates = set().union(*map(self.elsewhere, seekers))
         return min(sorted(rates), key=lambda rate: self.last.get(rate, 0))
 
     def begins(self, rate, now):

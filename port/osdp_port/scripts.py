@@ -3,7 +3,7 @@ from .console import write_all
 from .faults import BAD_WORDS, Stop
 from .program import Lines
 from .testing import ANSWER, Player, status_of
-from .trace import begun
+from .trace import Record
 
 LONGEST = 4000  # how many bytes of what was heard are handed over at most
 OWN = ("heard", "ready")  # the lines that are written here, and don't stand in a script
@@ -97,20 +97,16 @@ def run(words, port, console, osdp):
     wrong = refusals(osdp, path, lines)
     if wrong:
         raise Stop("\nosdp-port: ".join(wrong), BAD_WORDS)
-    kept = begun(words.get("--trace")) if words.get("--trace") else None
-    runner = Runner(port, console, Script(osdp, ["test", "script"]), lambda line: kept.write(line + "\n") if kept else None)
-    try:
-        for line in lines:
-            if console.stops or not port.is_there:
-                break
-            if " from user " in line and not line.lstrip().startswith("#"):
-                console.note(f"the user: {line.strip()}")
-            runner.runs(line)
-    finally:
-        if kept:
-            kept.close()
+    record = Record(words.get("--trace"))
+    runner = Runner(port, console, Script(osdp, ["test", "script"]), record.write)
+    for line in lines:
+        if console.stops or not port.is_there:
+            break
+        if " from user " in line and not line.lstrip().startswith("#"):
+            console.note(f"the user: {line.strip()}")
+        runner.runs(line)
     is_cut_off = bool(console.stops) or not port.is_there
     rest, status = runner.script.ends()
     for line in rest:
         console.raw(line)
-    return status_of(port, console, is_cut_off, status)
+    return status_of(port, console, is_cut_off, status, record)

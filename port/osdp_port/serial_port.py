@@ -1,4 +1,5 @@
 """A serial port, by pyserial: opened for this program alone, set raw, and opened again where its adapter was pulled."""
+import errno
 import fcntl
 import os
 import re
@@ -31,6 +32,19 @@ def has_rate(rate):
     return rate in (serial.Serial.BAUDRATES if serial else RATES) and rate > 0
 
 
+def sets_rate(path):
+    """Whether the rate of a port is set here, and not by a server on the network."""
+    return not path.startswith("socket://")
+
+
+def has_taken(made, rate):
+    """Whether an opened port has this rate, as far as the system tells: an adapter may take another one without a fault."""
+    try:
+        return termios.tcgetattr(made.fileno())[5] == getattr(termios, f"B{rate}")
+    except (OSError, termios.error, AttributeError):
+        return True  # it is a server's
+
+
 def refusal(path, error):
     """What a port that can't be opened asks for."""
     cause = getattr(error, "errno", None)
@@ -57,6 +71,7 @@ class Port:
             raise Stop(f"{path} has no rate {rate}: try {', '.join(map(str, RATES[:-1]))} or {RATES[-1]}", BAD_WORDS)
         self.path, self.rate, self.tell = path, rate, tell
         self.serial, self.tries_at, self.told_stolen = None, 0.0, -STOLEN_AGAIN
+        self.told_away = set()  # why it can't be opened again, as was told
         self.taps = []  # what else gets each burst that is sent, and the bytes that come
         try:
             self.open()
@@ -73,6 +88,9 @@ class Port:
         if "://" not in self.path:
             made.exclusive, made.write_timeout = True, 2
         made.open()
+        if not has_taken(made, self.rate):
+            made.close()
+            raise ValueError(f"its adapter can't be set to {self.rate}")
         if "://" not in self.path:
             try:
                 fcntl.ioctl(made.fileno(), termios.TIOCEXCL)
@@ -87,7 +105,11 @@ class Port:
     @property
     def has_own_rate(self):
         """Whether the rate is set here, and not by a server on the network."""
-        return not self.path.startswith("socket://")
+        return sets_rate(self.path)
+
+    def may_have(self, rate):
+        """Whether the port has this rate, or may be set to it."""
+        return has_rate(rate) and (self.has_own_rate or rate == self.rate)
 
     def others(self):
         """Which other programs have it open already."""
@@ -107,6 +129,7 @@ class Port:
         except (OSError, ValueError):
             pass
         self.serial, self.tries_at = None, time.monotonic() + AGAIN / 1000
+        self.told_away = {errno.ENOENT}
         self.tell(f"pulled {self.path}: it is opened again as soon as it is back")
 
     def comes_back(self):
@@ -116,9 +139,17 @@ class Port:
                 self.open()
                 self.tell(f"back {self.path}")
                 return True
-            except FAULTS:
+            except FAULTS as error:
                 self.tries_at = time.monotonic() + AGAIN / 1000
+                self.tell_away(error)
         return False
+
+    def tell_away(self, error):
+        """Tells why a port that was pulled can't be opened again, each cause once; that it isn't there was told."""
+        cause = getattr(error, "errno", None) or str(error)
+        if cause not in self.told_away:
+            self.told_away.add(cause)
+            self.tell(f"not back: {refusal(self.path, error)}")
 
     def is_hung_up(self):
         """Whether the device is gone, which a read without bytes doesn't tell."""
@@ -138,16 +169,23 @@ class Port:
     def read_some(self):
         if self.serial is None:
             return b""
+        read = b""
         try:
-            return self.serial.read(min(PIECE, max(1, self.serial.in_waiting)))
+            while len(read) < PIECE and (piece := self.serial.read(PIECE - len(read))):  # a port of RFC 2217 gives one byte at a time
+                read += piece
         except (OSError, TypeError, ValueError):
-            if self.is_hung_up():
-                self.pulled()
-            elif time.monotonic() - self.told_stolen >= STOLEN_AGAIN:
-                self.told_stolen = time.monotonic()
-                others = self.others()
-                self.tell(f"bytes taken from {self.path} by {' and '.join(others) if others else 'another program'}: end it")
-        return b""
+            if not read:  # else the next read tells
+                self.failed()
+        return read
+
+    def failed(self):
+        """A read has failed: the port is gone, or another program has taken the bytes."""
+        if self.is_hung_up():
+            self.pulled()
+        elif time.monotonic() - self.told_stolen >= STOLEN_AGAIN:
+            self.told_stolen = time.monotonic()
+            others = self.others()
+            self.tell(f"bytes taken from {self.path} by {' and '.join(others) if others else 'another program'}: end it")
 
     def write(self, burst):
         if self.serial is None:
@@ -161,17 +199,29 @@ class Port:
             tap.sent(burst)
 
     def set_rate(self, rate):
-        """Sets another rate. What was written goes out before, at the old one. Whether the port has such a rate; else it stays as it is."""
-        if not has_rate(rate) or not self.has_own_rate:
+        """Sets another rate. What was written goes out before, at the old one. Whether the port has taken it, or will when it is back; else it stays as it is."""
+        if not self.may_have(rate):
             return False
         try:
             if self.serial is not None:
                 self.serial.flush()
                 self.serial.baudrate = rate
-        except FAULTS:
-            return False
+                if not has_taken(self.serial, rate):
+                    raise ValueError(rate)
+        except FAULTS as error:
+            if isinstance(error, ValueError) or not self.is_hung_up():
+                self.stays()
+                return False
+            self.pulled()
         self.rate = rate
         return True
+
+    def stays(self):
+        """Another rate wasn't taken: the port gets its old one again."""
+        try:
+            self.serial.baudrate = self.rate
+        except FAULTS:
+            pass  # the next read tells that it is gone
 
     def close(self):
         if self.serial is not None:

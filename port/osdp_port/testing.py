@@ -3,10 +3,10 @@ import time
 
 from .accused import Beside, accused
 from .console import wait_for
-from .faults import BAD_WORDS, MET, Stop, is_number
+from .faults import BAD_WORDS, FAILED, MET, Stop, is_number
 from .program import Stream
 from .scenarios import NAMES, SCENARIOS
-from .trace import begun
+from .trace import Record
 
 TRIES = 3  # how often a packet is sent while nothing is heard
 FIRST = 3  # rules after which a device that has said nothing isn't there: both checks were tried
@@ -230,8 +230,12 @@ def allowed(words):
     return may
 
 
-def status_of(port, console, is_cut_off, status):
-    """The status of a test. One that was ended before its end has shown nothing of what is left, so it isn't well, and says so."""
+def status_of(port, console, is_cut_off, status, record):
+    """The status of a test. One that was ended before its end has shown nothing of what is left, so it isn't well, and says so. So does one whose trace failed."""
+    fault = record.ended()
+    if fault:
+        console.note(fault)
+        status = FAILED
     if is_cut_off and not port.is_there:
         raise Stop(f"{port.path} is gone: what is left of the test wasn't done")
     if is_cut_off:
@@ -261,22 +265,17 @@ class Accusing(Judge):
 def test(words, port, console, osdp):
     """Tests the device at an address. The status: that of `osdp test`."""
     may, lines, address = allowed(words), [], int(words.rest[1])
-    kept = begun(words.get("--trace")) if words.get("--trace") else None
+    record = Record(words.get("--trace"))
     judge = Accusing(osdp, bool(words.get("--tap")), console)
 
     def write(line):
         judge.write(line.encode() + b"\n")
         lines.append(line)
-        if kept:
-            kept.write(line + "\n")
-    try:
-        player = Player(port, console, address, may, write, "sum" if words.get("--sum") else "crc")
-        player.goes()
-    finally:
-        if kept:
-            kept.close()
+        record.write(line)
+    player = Player(port, console, address, may, write, "sum" if words.get("--sum") else "crc")
+    player.goes()
     is_cut_off = bool(console.stops) or not port.is_there or player.is_silent
     if player.is_silent and port.is_there and not console.stops:
         console.note(f"device {address} doesn't answer: osdp-port {port.path} {port.rate} find")
     judge.beside.said = accused([osdp], address, lines)
-    return status_of(port, console, is_cut_off, judge.ends())
+    return status_of(port, console, is_cut_off, judge.ends(), record)

@@ -1,4 +1,7 @@
-"""Traces: files to which each burst is appended, as lines of digits for `osdp show`, or as lines of `.osdpcap`. A file that is full is put aside."""
+"""Traces: files to which each burst is appended, as lines of digits for `osdp show`, or as lines of `.osdpcap`. A file that is full is put aside.
+
+And the lines of a test, in a file that is begun anew. Where either file can't be written, what it is beside goes on, and the end tells."""
+import errno
 import json
 import os
 import time
@@ -21,6 +24,30 @@ def begun(path):
             if file.read(10).startswith((b"# rate ", b'{"timeSec"')):
                 raise Stop(f"{path} has a trace of a line, which a test would begin anew: name another file")
     return open(path, "w", encoding="utf-8")
+
+
+class Record:
+    """The lines of a test, in a file; in none where no path is given."""
+
+    def __init__(self, path):
+        self.path, self.fault = path, None
+        self.file = begun(path) if path else None
+
+    def write(self, line):
+        if self.file and not self.fault:
+            self.tries(lambda: (self.file.write(line + "\n"), self.file.flush()))
+
+    def tries(self, does):
+        try:
+            does()
+        except OSError as error:
+            self.fault = self.fault or error.strerror
+
+    def ended(self):
+        """Why the file hasn't all lines, in a sentence, where it hasn't."""
+        if self.file:
+            self.tries(self.file.close)
+        return f"the trace can't be written: {self.path}: {self.fault}" if self.fault else None
 
 
 def rate_line(rate):
@@ -68,19 +95,29 @@ class Trace:
     def __init__(self, path, size, tell, form=digits, rate=lambda: None):
         self.path, self.size, self.tell, self.form, self.rate = path, size, tell, form, rate
         self.count = self.bytes = 0
-        self.open()
+        try:
+            self.open()
+        except OSError as error:
+            raise Stop(f"the trace can't be opened: {self.path}: {error.strerror}") from None
 
     def open(self):
         self.named = None  # the rate that this file has told last
+        self.file = open(self.path, "a", encoding="ascii")
+
+    def is_moved(self):
+        """Whether the file has another name now, or none, as where a program puts logs aside."""
         try:
-            self.file = open(self.path, "a", encoding="ascii")
+            return not os.path.samestat(os.fstat(self.file.fileno()), os.stat(self.path))
         except OSError as error:
-            raise Stop(f"the trace can't be opened: {self.path}: {error.strerror}") from None
+            return error.errno == errno.ENOENT
 
     def takes(self, since, way, burst):
         if self.file is None:
             return
         try:
+            if self.is_moved():
+                self.file.close()
+                self.open()
             if self.form is digits and self.rate() != self.named:
                 self.named = self.rate()
                 self.file.write(rate_line(self.named))
@@ -88,16 +125,26 @@ class Trace:
             self.file.flush()
             self.count, self.bytes = self.count + 1, self.bytes + len(burst)
             if self.file.seekable() and self.file.tell() >= self.size:  # a pipe is never full
-                self.file.close()
-                os.replace(self.path, f"{self.path}.1")
-                self.open()
-                self.tell(f"the trace is full and goes on: the part before is {self.path}.1")
+                self.put_aside()
         except OSError as error:
-            self.file = None
-            self.tell(f"the trace can't be written, and ends: {error.strerror}")
+            self.fails(error)
+
+    def put_aside(self):
+        """The file is full: it gets another name, and is begun anew."""
+        self.file.close()
+        os.replace(self.path, f"{self.path}.1")
+        self.open()
+        self.tell(f"the trace is full and goes on: the part before is {self.path}.1")
+
+    def fails(self, error):
+        self.file = None
+        self.tell(f"the trace can't be written, and ends: {self.path}: {error.strerror}")
 
     def ended(self):
-        """What was written, in a sentence."""
-        if self.file:
-            self.file.close()
+        """What was written, in a sentence. Whether all was says `file`, which is none then."""
+        try:
+            if self.file:
+                self.file.close()
+        except OSError as error:
+            self.fails(error)
         return f"trace {self.path}: {self.count} bursts, {self.bytes} bytes"

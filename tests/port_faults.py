@@ -1,0 +1,283 @@
+"""`osdp-port` where its port or its files fail: a rate that isn't taken, bursts of a network, a full disk, files that other programs change, two panels with
+one file. Takes the path of `osdp`, and the parts to run; all of them without."""
+import fcntl
+import os
+import signal
+import socket
+import struct
+import subprocess
+import sys
+import tempfile
+import termios
+import threading
+import time
+from pathlib import Path
+
+import port_line
+from port_line import ACK, ID, IDENTITY, PANEL, PDID, PORT, Line, asks, faults, opened, tells
+from simulated import Line as SimulatedLine
+from simulated import Port as SimulatedPort
+from terminals import Script, Terminal, packet
+
+from osdp_port.faults import Stop
+from osdp_port.keep import ReaderPlace
+from osdp_port.reader import Reader
+from osdp_port.serial_port import PIECE, Port
+from osdp_port.trace import Trace
+
+
+def until(holds, seconds=30):
+    """Waits until something holds. Whether it has come to hold."""
+    end = time.monotonic() + seconds
+    while not holds() and time.monotonic() < end:
+        time.sleep(0.02)
+    return holds()
+
+
+def ends(*words, stdin=subprocess.DEVNULL):
+    """The command, once it has ended."""
+    return subprocess.run([PORT, "--plain", "--osdp", port_line.osdp, *map(str, words)], capture_output=True, text=True, timeout=120, stdin=stdin)
+
+
+# ---- rates
+
+
+def refused_rate():
+    """An adapter that stays at its rate without a fault: the port tells so, and goes on at that rate; opened at another one it is refused."""
+    terminal, sets = Terminal(), termios.tcsetattr
+    termios.tcsetattr = lambda end, when, found: sets(end, when, [*found[:4], termios.B9600, termios.B9600, found[6]])
+    try:
+        port = Port(terminal.path, 9600)
+        asks(not port.set_rate(19200) and (port.rate, port.serial.baudrate) == (9600, 9600), f"refused rate: the port has {port.rate}")
+        port.close()
+        Port(terminal.path, 19200)
+        asks(False, "refused rate: a port is opened at it")
+    except Stop as stop:
+        asks(stop.status == 3 and f"{terminal.path} can't be opened: its adapter can't be set to 19200" in stop.why, f"refused rate: {stop.why}")
+    finally:
+        termios.tcsetattr = sets
+        terminal.close()
+
+
+class Told:
+    """A program that is told a COMSET of another rate, at a tick."""
+
+    def __init__(self):
+        self.told = [f"send {packet(0x85, 1, 0x54, bytes.fromhex('07004B0000')).hex()}", "moved 7 19200"]
+
+    def call(self, line):
+        told, self.told = (self.told, []) if line == "tick" else ([], self.told)
+        return [*told, "waiting 0"]
+
+
+def reader_stays():
+    """A reader whose port doesn't take the rate of a COMSET keeps the rate that the port has."""
+    for takes, text in ((True, "7 19200\n"), (False, "7 9600\n")):
+        with tempfile.TemporaryDirectory() as folder:
+            said, kept, port = [], Path(folder) / "place", SimulatedPort(SimulatedLine(port_line.osdp), 9600)
+            port.set_rate = lambda rate, takes=takes: takes
+            Reader(port, Told(), lambda: 0, said.append, ReaderPlace(str(kept))).turn(b"", [])
+            asks(kept.read_text() == text and ("no rate 19200" in said) != takes, f"reader stays: {kept.read_text()!r}, {said}")
+
+
+def panel_stays():
+    """A panel whose port doesn't take a rate at which its device may be: the device is tried at the rate of the port, and found there."""
+    with tempfile.TemporaryDirectory() as folder:
+        keep, line, turns = Path(folder) / "places", SimulatedLine(port_line.osdp), 0
+        keep.write_text("5 at 5 9600 or 5 19200\n")
+        line.add_panel([5], rate=19200, keep=keep)
+        line.panel.port.set_rate = lambda rate: rate == 9600 and SimulatedPort.set_rate(line.panel.port, rate)
+        asks(line.panel.port.rate == 9600, f"panel stays: the first rate is {line.panel.port.rate}")
+        while line.now < 20000 and turns < 2000:
+            line.step(20000)
+            turns += 1
+        asks(turns < 2000, "panel stays: its turns never end")
+        asks([told for told in line.told if told.startswith("no rate")] == ["no rate 19200: the port can't be set to it, and stays at 9600"], f"panel stays: {line.told[:9]}")
+        asks(sum(told.startswith("lost 5") for told in line.told) > 3, f"panel stays: the device isn't tried again: {line.told}")
+        line.add_reader(5)
+        asks(line.run(line.all_open, 20), f"panel stays: the device isn't found: {line.told[-4:]}")
+        line.close()
+
+
+# ---- a server on the network
+
+
+class Server:
+    """A server that has a port: it plays a device, or says nothing."""
+
+    def __init__(self, is_silent=False):
+        self.is_silent, self.asked = is_silent, []
+        self.socket = socket.create_server(("127.0.0.1", 0))
+        self.path = f"socket://127.0.0.1:{self.socket.getsockname()[1]}"
+        threading.Thread(target=self.serves, daemon=True).start()
+
+    def serves(self):
+        client, held = self.socket.accept()[0], b""
+        while read := client.recv(4096):
+            held += read
+            while len(held) >= 4 and len(held) >= held[2]:
+                burst, held = held[:held[2]], held[held[2]:]
+                self.asked.append(burst)
+                if not self.is_silent:
+                    client.sendall(packet(burst[1] | 0x80, burst[4] & 3, *((PDID, IDENTITY) if burst[5] == ID else (ACK, b""))))
+
+
+def kept_at_a_server():
+    """The file has two rates of a device, and the server has one of them: the device is found at the rate that the words say, and else is tried again and again."""
+    with tempfile.TemporaryDirectory() as folder:
+        for is_silent in (False, True):
+            keep, server = Path(folder) / f"places{is_silent}", Server(is_silent)
+            keep.write_text("5 at 5 9600 or 5 19200\n")
+            panel = Script(PORT, "--plain", "--osdp", port_line.osdp, "--keep", keep, server.path, 9600, "panel", "5", *PANEL, "reply-wait", 100)
+            if is_silent:
+                asks(until(lambda: len(server.asked) > 6, 60), f"kept at a server: the device is tried {len(server.asked)} times")
+            else:
+                asks(until(lambda: panel.read() or opened(panel, 5)()), f"kept at a server: {panel.lines}")
+                asks(until(lambda: "5 at 5 9600 is" in keep.read_text()), f"kept at a server: the file has {keep.read_text()!r}")
+            panel.process.kill()
+            panel.process.wait()
+
+
+def whole_bursts():
+    """What has come of a network is read at once, up to a bound."""
+    with socket.create_server(("127.0.0.1", 0)) as server:
+        port = Port(f"socket://127.0.0.1:{server.getsockname()[1]}", 9600)
+        client = server.accept()[0]
+        client.sendall(bytes(3 * PIECE))
+        has_come = lambda: struct.unpack("i", fcntl.ioctl(port.number(), termios.FIONREAD, bytes(4)))[0] == 3 * PIECE
+        asks(until(has_come), "bursts: they don't come")
+        reads = [len(port.read()) for _ in range(4)]
+        asks(reads == [PIECE, PIECE, PIECE, 0], f"bursts: {3 * PIECE} bytes are read as {reads}")
+        port.close()
+
+
+def away():
+    """A port that was pulled and can't be opened again says why, once, and comes back."""
+    with tempfile.TemporaryDirectory() as folder:
+        terminal, name, said = Terminal(), Path(folder) / "port", []
+        name.symlink_to(terminal.path)
+        port = Port(str(name), 9600, said.append)
+        name.unlink()
+        port.pulled()
+        asks(until(lambda: time.monotonic() > port.tries_at) and not port.comes_back() and len(said) == 1, f"away: {said}")
+        name.symlink_to("/etc/passwd")
+        until(lambda: port.comes_back() or len(said) > 1)
+        until(lambda: time.monotonic() > port.tries_at)
+        asks(not port.comes_back() and said[1:] == [f"not back: {name} is no serial port"], f"away: {said}")
+        name.unlink()
+        name.symlink_to(terminal.path)
+        asks(until(lambda: port.comes_back() or port.is_there) and said[-1] == f"back {name}", f"away: {said}")
+        port.close()
+        terminal.close()
+
+
+# ---- files
+
+
+def full_disk():
+    """A trace on a full disk: the verdict on the device comes out all the same, the file is named, and the status is 3. So it is of a panel that goes on without."""
+    with tempfile.TemporaryDirectory() as folder:
+        script = Path(folder) / "script"
+        script.write_text("device 5\nsend ID 0\nexpect PDID\n")
+        for words in (["device", 5], ["script", script]):
+            terminal = Terminal()
+            done = ends("--trace", "/dev/full", terminal.path, 9600, "test", *words)
+            asks(done.returncode == 3 and done.stdout and "can't be written: /dev/full: No space left on device" in done.stderr and "Traceback" not in done.stderr,
+                 f"full disk: {words}: {done}")
+            terminal.close()
+    with Line() as line:
+        line.reader(0, 5)
+        panel = line.panel("5", *PANEL, options=["--trace", "/dev/full"], stderr=subprocess.PIPE)
+        asks(line.run(opened(panel, 5)), f"full disk: the session doesn't open: {panel.lines}")
+        status, said = line.stops(panel), panel.process.stderr.read().decode()
+        asks(status == 3 and "the trace can't be written, and ends: /dev/full: No space left on device" in said, f"full disk: a panel: {status}, {said}")
+
+
+def moved_trace():
+    """A trace that another program puts aside, or removes, is begun anew under its name."""
+    with tempfile.TemporaryDirectory() as folder:
+        path, said = Path(folder) / "trace", []
+        trace = Trace(str(path), 1000000, said.append, rate=lambda: 9600)
+        trace.takes(0, "in", b"\1")
+        path.rename(f"{path}.old")
+        trace.takes(0, "in", b"\2")
+        asks(path.exists() and path.read_text().endswith("in\n02\n") and path.read_text().startswith("# rate 9600\n"), f"moved trace: {os.listdir(folder)}")
+        asks(Path(f"{path}.old").read_text().endswith("in\n01\n"), "moved trace: the old one has more")
+        path.unlink()
+        trace.takes(0, "in", b"\3")
+        trace.ended()
+        asks(path.exists() and path.read_text().endswith("in\n03\n") and not said, f"moved trace: removed, and {said}")
+
+
+def files_of_lines():
+    """A panel's file names its port: a panel at another port is refused, one at the same port by a link starts, and a file of the older form gets the name."""
+    with tempfile.TemporaryDirectory() as folder, Line() as line, Line() as other:
+        keep, link = Path(folder) / "places", Path(folder) / "link"
+        link.symlink_to(line.panel_end.path)
+        keep.write_text("5 at 5 9600\n")
+        line.reader(0, 5)
+        for path in (line.panel_end.path, str(link)):
+            line.panel_end.path = path
+            panel = line.panel("5", *PANEL, options=["--keep", keep])
+            is_kept = lambda path=path: f"port {path}\n5 at 5 9600 is" in keep.read_text()
+            asks(line.run(is_kept), f"files of lines: {panel.lines}, {keep.read_text()!r}")
+            line.stops(panel)
+        done = ends("--keep", keep, other.panel_end.path, 9600, "panel", "5")
+        said = f"{keep} is of the line at {link}, and not of {other.panel_end.path}: name another file"
+        asks(done.returncode == 3 and said in done.stderr and f"port {link}\n" in keep.read_text(), f"files of lines: {done}")
+
+
+def changed_file():
+    """A file that another program has changed is left as it is: no COMSET goes out. One that is gone is written anew."""
+    with tempfile.TemporaryDirectory() as folder:
+        keep, line = Path(folder) / "places", SimulatedLine(port_line.osdp)
+        line.add_reader(5)
+        line.add_panel([5], keep=keep)
+        asks(line.run(line.all_open, 30), "changed file: the session doesn't open")
+        keep.write_text("5 at 9 9600\n")
+        line.order("5 move 7")
+        told = "\n".join(line.told[-3:])
+        asks(f"not kept: another program has changed {keep}" in told and "not taken 5 COMSET 7 9600: the new place must be kept first" in told, f"changed file: {told}")
+        asks(keep.read_text() == "5 at 9 9600\n", f"changed file: it has {keep.read_text()!r}")
+        keep.unlink()
+        line.order("5 move 7")
+        asks(line.run(lambda: line.all_open() and line.panel.devices[0].address == 7, 30) and "5 at 7 9600" in keep.read_text(), f"changed file: {line.told[-4:]}")
+        line.close()
+
+
+def linked_file():
+    """A file that is kept by a link stays where the link says, with the rights that it had."""
+    with tempfile.TemporaryDirectory() as folder:
+        (Path(folder) / "far").mkdir()
+        far, keep = Path(folder) / "far/place", Path(folder) / "place"
+        far.write_text("5 9600\n")
+        far.chmod(0o640)
+        keep.symlink_to(far)
+        why = ReaderPlace(str(keep)).keep("7 19200")
+        asks(why is None and keep.is_symlink() and far.read_text() == "7 19200\n" and far.stat().st_mode & 0o777 == 0o640, f"linked file: {why}, {far.read_text()!r}")
+
+
+def address_twice():
+    """A reader's address is its fourth word: as a setting it is refused, and named."""
+    terminal = Terminal()
+    for words, at in ((["address", "7"], 5), (["gap", "20", "address", "5"], 7)):
+        done = ends(terminal.path, 9600, "reader", 5, *words)
+        asks(done.returncode == 2 and f"word {at}, address: word 4 says it" in done.stderr, f"address twice: {done}")
+    terminal.close()
+
+
+PARTS = (refused_rate, reader_stays, panel_stays, kept_at_a_server, whole_bursts, away, full_disk, moved_trace, files_of_lines, changed_file, linked_file, address_twice)
+
+
+def main(path, *names):
+    port_line.osdp = path
+    begun = time.monotonic()
+    for part in PARTS:
+        if not names or part.__name__ in names:
+            part()
+    print(f"port faults: {len(faults)} faults in {time.monotonic() - begun:.1f} s", *faults[:40], sep="\n")
+    return 1 if faults else 0
+
+
+if __name__ == "__main__":
+    sys.exit(main(*sys.argv[1:]))
