@@ -5,8 +5,10 @@
 - Each public name has a docstring, and each public call types.
 - A session between both ends: an order is done once, an event is told once, where answers are lost too; a device keeps what it is told, and lets old events go.
 - Each refusal comes as an OsdpError with its status, also to another process, and changes nothing; what ctypes would cut is no number for it.
+- A machine can't be copied.
 - A monitor tells what the rows of `osdp monitor` have.
 - The example prints what docs/GUIDE.md promises of such a session."""
+import copy
 import ctypes
 import inspect
 import pickle
@@ -222,6 +224,18 @@ def judge_refusals():
     tell("a refusal in another process", (osdp.OsdpError, error.status, str(error)), (type(copied), copied.status, str(copied)))
 
 
+def judge_copies():
+    """A machine can't be copied, nor handed to another process: two handles of one would be."""
+    for machine in (osdp.Panel(), osdp.Device(5), osdp.Monitor()):
+        for copies in (copy.copy, copy.deepcopy, pickle.dumps):
+            try:
+                copies(machine)
+                faults.append(f"{copies} of {machine} is taken")
+            except TypeError as error:
+                tell("of a copy", f"a {type(machine).__name__} is one machine: it can't be copied, and no other process can have it", str(error))
+        machine.close()
+
+
 def judge_rooms():
     """Of five bytes one OUT waits; of four an event of three, and no other."""
     with osdp.Panel(room=5) as panel, osdp.Device(5, room=4) as device:
@@ -319,6 +333,6 @@ if __name__ == "__main__":
     judge_structs(header()), judge_functions(header()), judge_numbers(header()), judge_docs()
     for lost in ([], [41], [46], [30, 61, 66]):
         judge_session(lost)
-    judge_again(), judge_pieces(), judge_refusals(), judge_rooms(), judge_between(), judge_device(), judge_monitor(), judge_example()
+    judge_again(), judge_pieces(), judge_refusals(), judge_copies(), judge_rooms(), judge_between(), judge_device(), judge_monitor(), judge_example()
     print(f"python: {len(faults)} faults", *faults, sep="\n")
     sys.exit(1 if faults else 0)

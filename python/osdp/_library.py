@@ -6,7 +6,7 @@ import enum
 import os
 from ctypes import POINTER, c_char_p, c_size_t, c_uint8, c_uint16, c_uint32, c_uint64, c_void_p
 from pathlib import Path
-from typing import Tuple
+from typing import NoReturn, Tuple
 
 NAME = "libosdp.so.0"
 HERE = Path(__file__).resolve().parent
@@ -56,6 +56,13 @@ class OsdpError(Exception):
 
     def __reduce__(self) -> Tuple[type, Tuple[Status]]:
         return type(self), (self.status,)  # so that it can be copied, and handed to another process
+
+
+class Machine:
+    """A panel, a device or a monitor: it has a handle, of which no copy may be used."""
+
+    def __reduce__(self) -> NoReturn:
+        raise TypeError(f"a {type(self).__name__} is one machine: it can't be copied, and no other process can have it")
 
 
 class MessageStruct(ctypes.Structure):

@@ -7,7 +7,7 @@ from dataclasses import dataclass
 from typing import Iterator, Optional, Tuple
 
 from . import message
-from ._library import AnswerStruct, DeviceConfigStruct, DeviceHandle, MessageStruct, ProductStruct, call, library, moment, whole
+from ._library import AnswerStruct, DeviceConfigStruct, DeviceHandle, Machine, MessageStruct, ProductStruct, call, library, moment, whole
 from .message import Message
 
 MOST = 2**32 - 1
@@ -68,7 +68,7 @@ def read_answer(struct: AnswerStruct) -> Answer:
     return Answer(Said(struct.kind), Order(struct.order), message.read(struct.command, False), bytes(struct.burst.bytes[: struct.burst.length]), moved)
 
 
-class Device:
+class Device(Machine):
     """A device at an address from 0 to 126, with room for `capacity` events, 1 to 1,024. `gap` is after how many milliseconds of silence a run of bytes is
     over, 1 to 3,600,000; 0 as `clock_limit` stands for a day. `vendor` has three bytes, `firmware` three numbers, and `capabilities` three bytes for each
     capability. Where `room` is given, the events that wait may have so many bytes together, 1 to 1,467,392, which takes less memory: a card of 26 bits has 9.

@@ -4,7 +4,7 @@ from __future__ import annotations
 import ctypes
 import enum
 
-from ._library import MonitorHandle, call, library
+from ._library import Machine, MonitorHandle, call, library
 
 ROOM = 4096
 
@@ -18,7 +18,7 @@ class Prints(enum.IntEnum):
     PACKETS = 2
 
 
-class Monitor:
+class Monitor(Machine):
     """A monitor of one line. It tells what it finds in lines of text, which are those of the program `osdp monitor`: the manual of that program says what
     each means. A monitor may begin to listen at any moment: what it hasn't heard it doesn't judge. With `standard` it leaves out the accusations that the
     standard doesn't ask for. OsdpError: MONITOR_NO_MEMORY.

@@ -7,7 +7,7 @@ from dataclasses import dataclass
 from typing import Iterator, Optional
 
 from . import message
-from ._library import BurstStruct, MessageStruct, MomentStruct, PanelConfigStruct, PanelHandle, ReportStruct, call, library, moment, whole
+from ._library import BurstStruct, Machine, MessageStruct, MomentStruct, PanelConfigStruct, PanelHandle, ReportStruct, call, library, moment, whole
 from .message import Message
 
 MOST = 2**32 - 1
@@ -55,7 +55,7 @@ class Report:
     maybe_again: bool
 
 
-class Panel:
+class Panel(Machine):
     """A panel without devices. Settings are those of `struct osdp_panel_config`, by their names and with their defaults; include/osdp.h says what each means.
     The times `reply_wait`, `poll_interval`, `busy_wait`, `quiet_wait` and `gap` are in milliseconds from 1 to 3,600,000. `check` is 0 for a sum and 1 for a
     CRC, `sends` 1 to 255, `busy_limit` 0 to 255, and `capacity` 1 to 1,024; 0 as `clock_limit` stands for a day. With `poll_between_orders=1` a POLL asks a
