@@ -2,7 +2,6 @@
 import os
 
 from lines import stop
-from port import has_rate
 
 
 class Kept:
@@ -38,11 +37,11 @@ class Kept:
         os.fsync(folder)
         os.close(folder)
 
-    def keep(self, address, rate, before):
-        """Keeps where the reader is from now on. A port that hasn't the rate stays at the one before. Whether it is kept, or nothing is to be."""
+    def keep(self, address, rate):
+        """Keeps where the reader is from now on. Whether it is kept, or nothing is to be."""
         try:
             if self.path:
-                self.write(address, rate if has_rate(rate) else before)
+                self.write(address, rate)
         except OSError:
             return False
         return True

@@ -41,18 +41,22 @@ class Port:
 
     def set_rate(self, rate):
         """Sets the port raw: 8 bits, no parity, 1 stop bit, and each byte as it is. What was written goes out before, at the old rate.
-        Whether the port has such a rate; else it stays as it is."""
+        Whether the port has taken the rate; else it stays as it is."""
         if not has_rate(rate):
             return False
         speed = getattr(termios, f"B{rate}")
         try:
-            characters = termios.tcgetattr(self.end)[6]
+            before = termios.tcgetattr(self.end)
+            characters = list(before[6])
             characters[termios.VMIN], characters[termios.VTIME] = 1, 0
             flags = termios.CS8 | termios.CREAD | termios.CLOCAL
             termios.tcsetattr(self.end, termios.TCSADRAIN, [0, 0, flags, 0, speed, speed, characters])
+            if termios.tcgetattr(self.end)[5] == speed:
+                return True
+            termios.tcsetattr(self.end, termios.TCSADRAIN, before)  # an adapter may take another rate without a fault
         except termios.error:
-            return False
-        return True
+            pass
+        return False
 
     def write(self, burst):
         try:

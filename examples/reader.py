@@ -20,7 +20,7 @@ Status: 2 bad words or settings, 3 the port or standard output fails, 4 out of m
 from kept import take_kept
 from lines import Lines, Program, moment, number, take_words, tell
 from outputs import Output
-from port import Port
+from port import Port, has_rate
 
 TURN = 0.01  # how long a read waits, in seconds
 NAK = 0x41  # the code of a reply that says that nothing was done
@@ -55,14 +55,18 @@ class Reader:
                 burst = b""
 
     def move(self, address, rate, burst):
-        """Goes to another place, once the panel is told: where it is kept before, it isn't lost with the power."""
-        if not self.kept.keep(address, rate, self.rate):
-            tell(f"not kept {address} {rate}")
+        """Goes to another place, once the panel is told: where it is kept before, it isn't lost with the power. A rate that the port doesn't take isn't kept."""
+        self.keep(address, rate if has_rate(rate) else self.rate)
         self.port.write(burst)
         if self.port.set_rate(rate):
             self.rate = rate
         else:
             tell(f"no rate {rate}")
+            self.keep(address, self.rate)
+
+    def keep(self, address, rate):
+        if not self.kept.keep(address, rate):
+            tell(f"not kept {address} {rate}")
 
     def tell_outputs(self):
         """Tells the program which outputs are on, where that has changed: by it OSTAT is answered."""

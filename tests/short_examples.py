@@ -188,6 +188,28 @@ def kept_place(reader_words):
         terminal.close()
 
 
+PINNED = """import termios
+sets = termios.tcsetattr
+termios.tcsetattr = lambda end, when, found: sets(end, when, [*found[:4], termios.B9600, termios.B9600, found[6]])"""
+
+
+def refused_rate(reader_words):
+    """An adapter that stays at its rate without a fault: a reader that is to leave it stays, says so, and keeps the rate that it has; at the start it ends."""
+    example, program = reader_words
+    with tempfile.TemporaryDirectory() as folder:
+        Path(folder, "sitecustomize.py").write_text(PINNED)
+        terminal, kept, streams = Terminal(), Path(folder) / "place", {"env": {**os.environ, "PYTHONPATH": folder}}
+        reader = Script(*example, "--keep", kept, terminal.path, 9600, *program, "address", 5, **streams)
+        asks(asked(terminal, 5, 0, ID, b"\0") == bytes([PDID]), "refused rate: ID isn't answered")
+        asks(asked(terminal, 5, 1, COMSET, bytes([7]) + (19200).to_bytes(4, "little")) == bytes([COM]), "refused rate: the COMSET isn't answered")
+        asks(until(reader, lambda: "no rate 19200" in reader.lines and kept.read_text() == "7 9600\n"), f"refused rate: {kept.read_text()!r}, {reader.lines}")
+        asks(asked(terminal, 7, 0, ID, b"\0") == bytes([PDID]), "refused rate: the reader isn't at its new address")
+        reader.process.kill()
+        reader.process.wait()
+        ended(Script(*example, terminal.path, 19200, *program, stderr=subprocess.PIPE, **streams), 3, "the port has no such rate", "refused rate: at the start")
+        terminal.close()
+
+
 def old_events(reader_words):
     """An event that no panel has asked for in time isn't told to the panel that comes then; without an age it is."""
     for age, told, reply in (("300", True, ACK), ("0", False, 0x53)):
@@ -214,6 +236,7 @@ def main(osdp):
     acts_first(words[1])
     no_room(words[1])
     kept_place(words[1])
+    refused_rate(words[1])
     old_events(words[1])
     for example in words:
         name = example[0][-1]
