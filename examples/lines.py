@@ -5,15 +5,15 @@ import subprocess
 import sys
 import time
 
-START = time.monotonic()
+CLOCK = getattr(time, "CLOCK_BOOTTIME", time.CLOCK_MONOTONIC)  # it goes on while the computer sleeps: a card of before its sleep is an old one
 LONGEST = 8192  # how many characters a line has at most
 BAD_WORDS, FAILED, NO_PROGRAM = 2, 3, 127  # statuses
 STOPS = (signal.SIGINT, signal.SIGTERM)
 
 
 def moment():
-    """Milliseconds since the start, by a clock that never goes backwards."""
-    return int((time.monotonic() - START) * 1000)
+    """Milliseconds by a clock that never goes backwards."""
+    return int(time.clock_gettime(CLOCK) * 1000)
 
 
 def stop(why, status=FAILED):

@@ -1,8 +1,8 @@
-"""`osdp-port` where its port or its files fail: a rate that isn't taken, bursts of a network, a full disk, files that other programs change, two panels with
-one file. Takes the path of `osdp`, and the parts to run; all of them without."""
+"""`osdp-port` where its port, its clock or its files fail: a rate that isn't taken, bursts of a network, a computer that sleeps, a full disk, files that other
+programs change, two panels with one file. Takes the path of `osdp`, and the parts to run; all of them without."""
 import fcntl
 import os
-import signal
+import select
 import socket
 import struct
 import subprocess
@@ -14,13 +14,15 @@ import time
 from pathlib import Path
 
 import port_line
-from port_line import ACK, ID, IDENTITY, PANEL, PDID, PORT, Line, asks, faults, opened, tells
+from port_line import ACK, ID, IDENTITY, PANEL, PDID, PORT, Device, Line, asks, faults, opened, tells
 from simulated import Line as SimulatedLine
 from simulated import Port as SimulatedPort
 from terminals import Script, Terminal, packet
 
+from osdp_port.console import write_all
 from osdp_port.faults import Stop
 from osdp_port.keep import ReaderPlace
+from osdp_port.main import moment
 from osdp_port.reader import Reader
 from osdp_port.serial_port import PIECE, Port
 from osdp_port.trace import Trace
@@ -97,6 +99,52 @@ def panel_stays():
         line.add_reader(5)
         asks(line.run(line.all_open, 20), f"panel stays: the device isn't found: {line.told[-4:]}")
         line.close()
+
+
+PINNED = """import termios
+sets = termios.tcsetattr
+termios.tcsetattr = lambda end, when, found: sets(end, when, [*found[:4], termios.B9600, termios.B9600, found[6]])"""
+
+
+def find_stays():
+    """At a port that stays at its rate the device is found there, and no COMSET sends it to a rate at which nobody would find it."""
+    with tempfile.TemporaryDirectory() as folder:
+        Path(folder, "sitecustomize.py").write_text(PINNED)
+        terminal = Terminal()
+        device = Device(terminal)
+        find = Script(PORT, "--plain", "--osdp", port_line.osdp, "--set-rate", 19200, terminal.path, 9600, "find", env={**os.environ, "PYTHONPATH": folder})
+        asks(device.until([find], lambda: find.process.poll() is not None), "find stays: it doesn't end")
+        find.read()
+        told = [line for line in find.lines if line.startswith(("no rate", "device"))]
+        asks(find.process.poll() == 1 and told == ["no rate 19200: the port can't be set to it", "device 0 isn't changed"], f"find stays: {find.process.poll()}, {find.lines}")
+        asks(all(burst[5] == ID for burst in device.asked), "find stays: more than ID was sent")
+        terminal.close()
+
+
+# ---- a clock, and an output
+
+
+def sleeps():
+    """The moment goes on while the computer sleeps, so that a card of before its sleep is an old one."""
+    tells_time, before = time.clock_gettime, moment()
+    time.clock_gettime = lambda clock: tells_time(clock) + 3600 * (clock == time.CLOCK_BOOTTIME)
+    try:
+        asks(moment() >= before + 3600000, f"sleeps: after an hour {moment() - before} ms have gone by")
+    finally:
+        time.clock_gettime = tells_time
+
+
+def full_output():
+    """An output that another program has set not to block, and that is full, is waited for."""
+    out, into = os.pipe()
+    os.set_blocking(into, False)
+    thread = threading.Thread(target=write_all, args=(into, bytes(1000000)), daemon=True)
+    thread.start()
+    came = 0
+    while came < 1000000 and select.select([out], [], [], 30)[0]:
+        came += len(os.read(out, 65536))
+    thread.join(30)
+    asks(not thread.is_alive() and came == 1000000, f"full output: {came} bytes come")
 
 
 # ---- a server on the network
@@ -257,6 +305,17 @@ def linked_file():
         asks(why is None and keep.is_symlink() and far.read_text() == "7 19200\n" and far.stat().st_mode & 0o777 == 0o640, f"linked file: {why}, {far.read_text()!r}")
 
 
+def kept_rate():
+    """A file with a rate that the port hasn't is named."""
+    with tempfile.TemporaryDirectory() as folder:
+        terminal, kept = Terminal(), Path(folder) / "kept"
+        for command, text in (("panel", "5 at 5 12345\n"), ("reader", "5 12345\n")):
+            kept.write_text(text)
+            done = ends("--keep", kept, terminal.path, 9600, command, 5)
+            asks(done.returncode == 3 and f"{terminal.path} has no rate 12345" in done.stderr and f"the rate is that of {kept}" in done.stderr, f"kept rate: {done}")
+        terminal.close()
+
+
 def address_twice():
     """A reader's address is its fourth word: as a setting it is refused, and named."""
     terminal = Terminal()
@@ -266,7 +325,7 @@ def address_twice():
     terminal.close()
 
 
-PARTS = (refused_rate, reader_stays, panel_stays, kept_at_a_server, whole_bursts, away, full_disk, moved_trace, files_of_lines, changed_file, linked_file, address_twice)
+PARTS = (refused_rate, reader_stays, panel_stays, find_stays, sleeps, full_output, kept_at_a_server, whole_bursts, away, full_disk, moved_trace, files_of_lines, changed_file, linked_file, kept_rate, address_twice)
 
 
 def main(path, *names):

@@ -12,8 +12,12 @@ LONGEST = 8192  # how many characters a line has at most
 
 
 def write_all(end, data):
+    """Writes all, also where another program has set the end not to block."""
     while data:
-        data = data[os.write(end, data):]
+        try:
+            data = data[os.write(end, data):]
+        except BlockingIOError:
+            select.select([], [end], [])
 
 
 def stamp(seconds=None):

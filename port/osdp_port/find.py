@@ -42,12 +42,18 @@ class Line:
         self.wait = ANSWER
         self.latency = 0.0  # how long the last answer took
         self.made = {}
+        self.beyond = set()  # rates that the port hasn't taken
 
     def goes(self, rate):
-        """Sets the port to a rate. An adapter may need a moment for it."""
-        if rate != self.port.rate:
-            self.port.set_rate(rate)
-            time.sleep(SETTLES)
+        """Sets the port to a rate. An adapter may need a moment for it. Whether the port has taken it; that it hasn't is told once."""
+        if rate == self.port.rate:
+            return True
+        has_taken = self.port.set_rate(rate)
+        if not has_taken and rate not in self.beyond:
+            self.beyond.add(rate)
+            self.console.say(f"no rate {rate}: the port can't be set to it")
+        time.sleep(SETTLES)
+        return has_taken
 
     def packet(self, address, number, check, text):
         """A packet as `osdp make` spells it."""
@@ -150,8 +156,7 @@ class Search:
 
     def goes(self):
         """Tries each rate with both checks by the configuration address."""
-        for rate in self.rates():
-            self.line.goes(rate)
+        for rate in filter(self.line.goes, self.rates()):
             for check in CHECKS:
                 if not self.line.is_going():
                     return
@@ -169,8 +174,7 @@ class Search:
     def goes_by_address(self):
         """Nobody answers at the configuration address: asks each address, at each rate, with both checks."""
         self.say(f"nobody answers at address {EVERYBODY}: each address is asked at each rate, which takes some {len(self.rates()) * 2 * EVERYBODY * self.line.wait / 60:.0f} minutes; Ctrl-C ends it")
-        for rate in self.rates():
-            self.line.goes(rate)
+        for _ in filter(self.line.goes, self.rates()):
             for check in CHECKS:
                 if self.line.is_going() and self.each_address(check):
                     break
@@ -179,7 +183,8 @@ class Search:
 def opens(line, place, check, identity):
     """Whether this device answers an opening there."""
     address, rate = place
-    line.goes(rate)
+    if not line.goes(rate):
+        return False
     for _ in range(3):
         replies, _ = line.replies(line.ask(address, 0, check, "ID 0"))
         if (address, f"PDID {identity}") in replies:
@@ -190,6 +195,9 @@ def opens(line, place, check, identity):
 def changes(line, found, address, rate, say):
     """Gives a device another place, and confirms it by an opening there. Whether it is there."""
     place = (found.address if address is None else address, found.rate if rate is None else rate)
+    if not line.goes(place[1]):
+        say(f"device {found.address} isn't changed")
+        return False
     if not opens(line, (found.address, found.rate), found.check, found.identity):
         say(f"device {found.address} doesn't answer any more: it isn't changed")
         return False

@@ -14,14 +14,15 @@ from .shown import Shown
 from .trace import Bursts, Trace, digits, osdpcap
 from .words import HELP, Words, addresses, bad
 
-START = time.monotonic()
+CLOCK = getattr(time, "CLOCK_BOOTTIME", time.CLOCK_MONOTONIC)
+START = time.clock_gettime(CLOCK)
 TESTS = {"device": testing.test, "panel": panel_testing.test_panel, "script": scripts.run}
 END = 5.0  # how many seconds after Ctrl-C answers to orders are waited for
 
 
 def moment():
-    """Milliseconds since the start, by a clock that never goes backwards."""
-    return int((time.monotonic() - START) * 1000)
+    """Milliseconds since the start, by a clock that never goes backwards, and goes on while the computer sleeps: a card of before its sleep is an old one."""
+    return int((time.clock_gettime(CLOCK) - START) * 1000)
 
 
 def taps(words, port, console, osdp):
@@ -101,9 +102,12 @@ def runs(machine, port, console, ends):
     return FAILED if FAILED in statuses else 1 if machine.met else 0
 
 
-def opened(words, rate, console):
-    """The port, opened. Other programs that have it open already are told."""
-    port = Port(words.port, rate, console.say)
+def opened(words, rate, console, kept=None):
+    """The port, opened. Other programs that have it open already are told. Where the rate is that of a file, what is wrong with it names the file."""
+    try:
+        port = Port(words.port, rate, console.say)
+    except Stop as stop:
+        raise Stop(f"{stop.why} (the rate is that of {kept.path})") if kept and rate != words.rate else stop from None
     others = port.others()
     if others:
         console.note(f"{words.port} is open in {' and '.join(others)} too, which may take bytes from it: end it")
@@ -118,7 +122,7 @@ def does_command(words, console):
         devices = new_devices(addresses(words.rest[0]), words.rate, kept)
         if not sets_rate(words.port):
             at_one_rate(devices, words.rate)
-        return panel(words, opened(words, first_rate(devices, words.rate), console), console, osdp, kept, devices)
+        return panel(words, opened(words, first_rate(devices, words.rate), console, kept), console, osdp, kept, devices)
     if words.command == "reader":
         named = addresses(words.rest[0])
         if len(named) != 1:
@@ -128,7 +132,7 @@ def does_command(words, console):
         kept = ReaderPlace(words.get("--keep")) if words.get("--keep") else None
         place = kept.read() if kept else None
         place = (place.address, place.rate) if place else (named[0], words.rate)
-        return reader(words, opened(words, place[1], console), console, osdp, kept, place)
+        return reader(words, opened(words, place[1], console, kept), console, osdp, kept, place)
     port = opened(words, words.rate, console)
     if words.command not in ("find", "test") and not words.get("--json"):
         console.say(f"{words.command} at {port.path} {port.rate}: Ctrl-C ends it")
@@ -149,6 +153,16 @@ def main(arguments):
         return 0
     console = Console()
     try:
+        return commanded(arguments, console)
+    except Stop as stop:  # a second Ctrl-C, while the end was told
+        return stop.status
+    finally:
+        console.ends()
+
+
+def commanded(arguments, console):
+    """Does what the words ask, and tells what ends it. The status."""
+    try:
         words = Words(arguments)
         console.has_times = not words.get("--plain", False)
         needs_pyserial()
@@ -160,5 +174,3 @@ def main(arguments):
     except OSError as error:
         console.note(f"{error.filename or 'the system'}: {error.strerror or error}")
         return FAILED
-    finally:
-        console.ends()
