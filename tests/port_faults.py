@@ -2,7 +2,9 @@
 programs change, two panels with one file. Takes the path of `osdp`, and the parts to run; all of them without."""
 import fcntl
 import os
+import resource
 import select
+import signal
 import socket
 import struct
 import subprocess
@@ -147,6 +149,27 @@ def full_output():
     asks(not thread.is_alive() and came == 1000000, f"full output: {came} bytes come")
 
 
+def cursor():
+    """A picture that two Ctrl-C end at once leaves the terminal its cursor."""
+    terminal, port = Terminal(), Terminal()
+    live = subprocess.Popen([PORT, "--osdp", port_line.osdp, "--live", port.path, "9600", "monitor"], stdin=subprocess.DEVNULL, stdout=terminal.other, stderr=subprocess.DEVNULL)
+    os.close(terminal.other)
+    shown, end = b"", time.monotonic() + 30
+    while b"\x1b[?25l" not in shown and time.monotonic() < end:
+        shown += os.read(terminal.end, 4096)
+    live.send_signal(signal.SIGINT)
+    live.send_signal(signal.SIGINT)
+    try:
+        while read := os.read(terminal.end, 4096):
+            shown += read
+    except OSError:
+        pass  # it has ended
+    live.wait(30)
+    asks(shown.rfind(b"\x1b[?25h") > shown.rfind(b"\x1b[?25l"), f"cursor: it stays away: {shown[-60:]}")
+    os.close(terminal.end)
+    port.close()
+
+
 # ---- a server on the network
 
 
@@ -210,11 +233,17 @@ def away():
         asks(until(lambda: time.monotonic() > port.tries_at) and not port.comes_back() and len(said) == 1, f"away: {said}")
         name.symlink_to("/etc/passwd")
         until(lambda: port.comes_back() or len(said) > 1)
-        until(lambda: time.monotonic() > port.tries_at)
-        asks(not port.comes_back() and said[1:] == [f"not back: {name} is no serial port"], f"away: {said}")
+        tries_at = port.tries_at
+        until(lambda: port.comes_back() or port.tries_at > tries_at)
+        asks(said[1:] == [f"not back: {name} is no serial port"], f"away: {said}")
         name.unlink()
         name.symlink_to(terminal.path)
         asks(until(lambda: port.comes_back() or port.is_there) and said[-1] == f"back {name}", f"away: {said}")
+        for again in (1.0, 2.0):  # it is gone again and again: it is tried later each time
+            port.pulled()
+            asks(port.again == again, f"away: it is tried again after {port.again} s")
+            port.tries_at = 0
+            port.comes_back()
         port.close()
         terminal.close()
 
@@ -293,6 +322,27 @@ def changed_file():
         line.close()
 
 
+def unwritten_file():
+    """A panel whose file can't be written tells so once, takes no COMSET, and ends with status 3. No part of a file is left."""
+    with tempfile.TemporaryDirectory() as folder, Line() as line:
+        keep = Path(folder) / "places"
+        line.reader(0, 5)
+        panel = line.panel("5", *PANEL, options=["--keep", keep], stderr=subprocess.DEVNULL, preexec_fn=no_file)
+        asks(line.run(opened(panel, 5)), f"unwritten file: the session doesn't open: {panel.lines}")
+        panel.say("5 on\n5 off\n5 move 7")
+        why = f"{keep} can't be written: File too large"
+        asks(line.run(tells(panel, f"not taken 5 COMSET 7 9600: the new place must be kept first, and {why}")), f"unwritten file: {panel.lines[-3:]}")
+        line.run(tells(panel, "settled 5 OUT", 2))
+        status = line.stops(panel)
+        asks(status == 3 and panel.lines.count(f"not kept: {why}") == 1 and not os.listdir(folder), f"unwritten file: {status}, {panel.lines}, {os.listdir(folder)}")
+
+
+def no_file():
+    """No byte of a file can be written from now on."""
+    signal.signal(signal.SIGXFSZ, signal.SIG_IGN)
+    resource.setrlimit(resource.RLIMIT_FSIZE, (0, 0))
+
+
 def linked_file():
     """A file that is kept by a link stays where the link says, with the rights that it had."""
     with tempfile.TemporaryDirectory() as folder:
@@ -325,7 +375,7 @@ def address_twice():
     terminal.close()
 
 
-PARTS = (refused_rate, reader_stays, panel_stays, find_stays, sleeps, full_output, kept_at_a_server, whole_bursts, away, full_disk, moved_trace, files_of_lines, changed_file, linked_file, kept_rate, address_twice)
+PARTS = (refused_rate, reader_stays, panel_stays, find_stays, sleeps, full_output, cursor, kept_at_a_server, whole_bursts, away, full_disk, moved_trace, files_of_lines, changed_file, unwritten_file, linked_file, kept_rate, address_twice)
 
 
 def main(path, *names):

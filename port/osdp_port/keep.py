@@ -1,4 +1,5 @@
 """The files that keep, while there is no power, where devices stand: one of a panel, and one of a reader."""
+import contextlib
 import os
 import stat
 
@@ -12,6 +13,21 @@ def write_whole(path, text):
     """Writes the whole text to the disk, and puts it in the place of the one before, so that a loss of power leaves one of both. A link stays one."""
     path = os.path.realpath(path)
     new = f"{path}.new"
+    try:
+        write_beside(path, new, text)
+    except OSError:
+        with contextlib.suppress(OSError):
+            os.unlink(new)
+        raise
+    folder = os.open(os.path.dirname(path), os.O_RDONLY)
+    try:
+        os.fsync(folder)
+    finally:
+        os.close(folder)
+
+
+def write_beside(path, new, text):
+    """Writes a text to a new file, with the rights of the one whose place it takes."""
     with open(new, "w", encoding="ascii") as file:
         if os.path.exists(path):
             os.fchmod(file.fileno(), stat.S_IMODE(os.stat(path).st_mode))
@@ -19,11 +35,6 @@ def write_whole(path, text):
         file.flush()
         os.fsync(file.fileno())
     os.replace(new, path)
-    folder = os.open(os.path.dirname(path), os.O_RDONLY)
-    try:
-        os.fsync(folder)
-    finally:
-        os.close(folder)
 
 
 def text_of(path):
@@ -139,7 +150,7 @@ class PanelPlaces:
             return True  # it is no text any more
 
     def changed(self):
-        return f"another program has changed {self.path}: end both, and give each line a file of its own"
+        return f"another program has changed {self.path}, as an editor or the panel of another line: start this panel again, with a file of its own"
 
     def begins(self):
         """Writes down whose line it is, before anything goes out. Why it isn't kept; none where it is. Refused is a file that another panel has begun meanwhile."""

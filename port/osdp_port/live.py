@@ -1,4 +1,6 @@
 """The monitor as a picture on a terminal: its table, redrawn in place, what came of the last seconds, and what was told last under it."""
+import atexit
+import contextlib
 import re
 import shutil
 import sys
@@ -21,6 +23,11 @@ CLEAR, HOME, LINE_END, REST, HIDE, SHOW = "\x1b[2J", "\x1b[H", "\x1b[K", "\x1b[J
 
 def is_terminal():
     return sys.stdout.isatty()
+
+
+def shows_cursor():
+    with contextlib.suppress(OSError):
+        write_all(1, SHOW.encode())
 
 
 def is_other(line, address):
@@ -74,6 +81,7 @@ class Live(Stream):
         self.size, self.came, self.drawn, self.leaves_out = 0, None, 0.0, False
         self.lock = threading.Lock()
         super().__init__(osdp, ["monitor", "--raw", "--every", str(words.get("--every", 1)), *(["--packets"] if words.get("--all") else [])], console)
+        atexit.register(shows_cursor)  # however it ends
         write_all(1, (HIDE + CLEAR).encode())
 
     def write(self, data):

@@ -94,12 +94,12 @@ def reader(words, port, console, osdp, kept, place):
 
 
 def runs(machine, port, console, ends):
-    """Runs it, and ends all that stands beside it. The status: 1 where something was met, 3 where the trace has failed."""
+    """Runs it, and ends all that stands beside it. The status: 1 where something was met, 3 where the trace has failed, or the places aren't kept."""
     try:
         goes_on(machine, port, console)
     finally:
         statuses = [each() for each in ends]
-    return FAILED if FAILED in statuses else 1 if machine.met else 0
+    return FAILED if machine.unkept or FAILED in statuses else 1 if machine.met else 0
 
 
 def opened(words, rate, console, kept=None):

@@ -65,6 +65,7 @@ class Panel:
         self.goal, self.has_turned_back = (port.rate if len({place.rate for device in devices for place in device.places}) > 1 else None), False
         self.is_ending = False
         self.met = 0  # what was met: how many sessions were lost
+        self.unkept = None  # why the places aren't in the file
         for device in devices:
             self.call(f"add {device.address}")
 
@@ -169,10 +170,10 @@ class Panel:
 
     def keep(self):
         """Writes down where the devices are. Whether they are kept."""
-        why = self.kept.write(self.devices) if self.kept else None
-        if why:
-            self.say(f"not kept: {why}")
-        return not why
+        before, self.unkept = self.unkept, self.kept.write(self.devices) if self.kept else None
+        if self.unkept and self.unkept != before:  # else each order would tell it again
+            self.say(f"not kept: {self.unkept}")
+        return not self.unkept
 
     # which device it is
 
@@ -319,7 +320,7 @@ class Panel:
             device.may_be(Place(*map(int, text.split()[1:3])))
             if not self.keep():
                 device.places = before
-                self.say(f"not taken {before[0].address} {text}: the new place must be kept first")
+                self.say(f"not taken {before[0].address} {text}: the new place must be kept first, and {self.unkept}")
                 return False
         if not is_told:
             self.say(f"ordered {device.address} {text}")

@@ -40,6 +40,7 @@ class Reader:
         self.outputs = Outputs(clock)
         self.told = None  # what the program was told of them
         self.met = 0
+        self.unkept = None  # why the place isn't in the file
         self.tell_outputs()
 
     def call(self, line):
@@ -77,9 +78,9 @@ class Reader:
 
     def keep(self, place):
         """Keeps where the reader is from now on: before the panel is told."""
-        why = self.kept.keep(place) if self.kept else None
-        if why:
-            self.say(f"not kept {place}: {why}")
+        self.unkept = self.kept.keep(place) if self.kept else None
+        if self.unkept:
+            self.say(f"not kept {place}: {self.unkept}")
 
     def move(self, place):
         """Sets the port to the rate of a COMSET, once what was sent has gone out. Where the port doesn't take that one it stays, and so does what is kept."""

@@ -16,7 +16,10 @@ except ImportError:
 
 RATES = (9600, 19200, 38400, 57600, 115200, 230400)  # those of the standard
 PIECE = 2048  # how many bytes a read takes at most: a line to `osdp` has 8,192 characters at most, and a byte two of them
-AGAIN = 500  # after how many milliseconds a port that isn't there is tried again
+AGAIN = 0.5  # after how many seconds a port that isn't there is tried again
+LONGEST_AGAIN = 30.0  # .. one that was back and gone again each time, so that no log is filled by it
+TELLS = 2  # a cause that keeps it from being opened is told where it has done so this often: the system may give a new port its rights a moment later
+STAYS = 10.0  # after how many seconds a port that is back is there to stay
 FAULTS = (OSError, ValueError, NotImplementedError, termios.error)  # what pyserial raises
 SERVER = re.compile(r"(?:rfc2217|socket)://(?:\[[^]]+\]|[^:/\s]+):[0-9]{1,5}(?:[/?].*)?")  # a port that a server has
 STOLEN_AGAIN = 10.0  # after how many seconds it is told again that bytes were taken
@@ -71,7 +74,8 @@ class Port:
             raise Stop(f"{path} has no rate {rate}: try {', '.join(map(str, RATES[:-1]))} or {RATES[-1]}", BAD_WORDS)
         self.path, self.rate, self.tell = path, rate, tell
         self.serial, self.tries_at, self.told_stolen = None, 0.0, -STOLEN_AGAIN
-        self.told_away = set()  # why it can't be opened again, as was told
+        self.causes = {}  # why it couldn't be opened again, and how often
+        self.again, self.back_at = AGAIN, -STAYS
         self.taps = []  # what else gets each burst that is sent, and the bytes that come
         try:
             self.open()
@@ -128,8 +132,10 @@ class Port:
             self.serial.close()
         except (OSError, ValueError):
             pass
-        self.serial, self.tries_at = None, time.monotonic() + AGAIN / 1000
-        self.told_away = {errno.ENOENT}
+        now = time.monotonic()
+        self.again = min(2 * self.again, LONGEST_AGAIN) if now < self.back_at + STAYS else AGAIN
+        self.serial, self.tries_at = None, now + self.again
+        self.causes = {errno.ENOENT: TELLS}
         self.tell(f"pulled {self.path}: it is opened again as soon as it is back")
 
     def comes_back(self):
@@ -137,18 +143,19 @@ class Port:
         if self.serial is None and time.monotonic() >= self.tries_at:
             try:
                 self.open()
+                self.back_at = time.monotonic()
                 self.tell(f"back {self.path}")
                 return True
             except FAULTS as error:
-                self.tries_at = time.monotonic() + AGAIN / 1000
-                self.tell_away(error)
+                self.tries_at = time.monotonic() + AGAIN
+                self.tell_cause(error)
         return False
 
-    def tell_away(self, error):
-        """Tells why a port that was pulled can't be opened again, each cause once; that it isn't there was told."""
+    def tell_cause(self, error):
+        """Tells why a port that was pulled can't be opened again, each cause once. That it isn't there was told, and what is over at the next try isn't."""
         cause = getattr(error, "errno", None) or str(error)
-        if cause not in self.told_away:
-            self.told_away.add(cause)
+        self.causes[cause] = self.causes.get(cause, 0) + 1
+        if self.causes[cause] == TELLS:
             self.tell(f"not back: {refusal(self.path, error)}")
 
     def is_hung_up(self):
