@@ -149,6 +149,15 @@ def full_output():
     asks(not thread.is_alive() and came == 1000000, f"full output: {came} bytes come")
 
 
+def unwritten_help():
+    """Help and version that can't be written end with a sentence and status 3."""
+    for program in (PORT, PORT.parent / "osdp-report"):
+        for word in ("--help", "--version"):
+            for end in (">/dev/full", ">&-"):
+                done = subprocess.run(["sh", "-c", f'exec "$0" {word} {end}', program], stderr=subprocess.PIPE, text=True, timeout=60)
+                asks(done.returncode == 3 and len(done.stderr.splitlines()) == 1 and "can't be written" in done.stderr, f"unwritten help: {program.name} {word} {end}: {done}")
+
+
 def cursor():
     """A picture that two Ctrl-C end at once leaves the terminal its cursor."""
     terminal, port = Terminal(), Terminal()
@@ -375,7 +384,7 @@ def address_twice():
     terminal.close()
 
 
-PARTS = (refused_rate, reader_stays, panel_stays, find_stays, sleeps, full_output, cursor, kept_at_a_server, whole_bursts, away, full_disk, moved_trace, files_of_lines, changed_file, unwritten_file, linked_file, kept_rate, address_twice)
+PARTS = (refused_rate, reader_stays, panel_stays, find_stays, sleeps, full_output, unwritten_help, cursor, kept_at_a_server, whole_bursts, away, full_disk, moved_trace, files_of_lines, changed_file, unwritten_file, linked_file, kept_rate, address_twice)
 
 
 def main(path, *names):

@@ -140,17 +140,15 @@ def does_command(words, console):
     return does(words, port, console, osdp)
 
 
+def text_alone(arguments):
+    """The text that is all that these words ask for; none where they ask for more."""
+    if arguments[:1] and arguments[0] in ("--version", "-V"):
+        return f"osdp-port {VERSION}"
+    return HELP.rstrip("\n") if not arguments or arguments[0] == "help" or {"--help", "-h"} & set(arguments) else None
+
+
 def main(arguments):
     """The status of the program."""
-    if not arguments or arguments[0] in ("--help", "-h", "help"):
-        Console.raw(HELP.rstrip("\n"))
-        return 0 if arguments else BAD_WORDS
-    if arguments[0] in ("--version", "-V"):
-        Console.raw(f"osdp-port {VERSION}")
-        return 0
-    if "--help" in arguments or "-h" in arguments:
-        Console.raw(HELP.rstrip("\n"))
-        return 0
     console = Console()
     try:
         return commanded(arguments, console)
@@ -163,6 +161,10 @@ def main(arguments):
 def commanded(arguments, console):
     """Does what the words ask, and tells what ends it. The status."""
     try:
+        text = text_alone(arguments)
+        if text:
+            console.raw(text)
+            return 0 if arguments else BAD_WORDS
         words = Words(arguments)
         console.has_times = not words.get("--plain", False)
         needs_pyserial()

@@ -5,6 +5,7 @@ import subprocess
 import sys
 
 from . import VERSION
+from .console import write_all
 from .faults import BAD_WORDS, FAILED, NO_PROGRAM, Stop
 from .figures import Figures, Packet, seconds
 from .program import PROGRAM_FAULTS, find_program
@@ -169,20 +170,22 @@ def write(text):
     """Writes the page, whose bytes are UTF-8 as its head says, whatever the system's are."""
     if sys.stdout is None:
         raise Stop("the page can't be written: standard output is closed")
-    sys.stdout.buffer.write(text.encode(errors="replace"))
-    sys.stdout.flush()
+    write_all(1, text.encode(errors="replace"))
+
+
+def text_of(words):
+    """What these words ask for: the page, its lines, the help or the version."""
+    if words[:1] == ["help"] or "--help" in words or "-h" in words:
+        return HELP
+    if words[:1] == ["--version"]:
+        return f"osdp-report {VERSION}\n"
+    form, writes, rate, given, file = words_of(words)
+    return report(find_program(given), form, writes, rate, read(file))
 
 
 def main(words):
-    if words[:1] == ["help"] or "--help" in words or "-h" in words:
-        print(HELP, end="")
-        return 0
-    if words[:1] == ["--version"]:
-        print(f"osdp-report {VERSION}")
-        return 0
     try:
-        form, writes, rate, given, file = words_of(words)
-        write(report(find_program(given), form, writes, rate, read(file)))
+        write(text_of(words))
     except Stop as stop:
         print(f"osdp-report: {stop.why}", file=sys.stderr)
         return stop.status
