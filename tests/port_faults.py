@@ -16,7 +16,7 @@ import time
 from pathlib import Path
 
 import port_line
-from port_line import ACK, ID, IDENTITY, PANEL, PDID, PORT, Device, Line, asks, faults, opened, tells
+from port_line import ACK, ID, IDENTITY, OUT, PANEL, PDID, PORT, Device, Line, asks, faults, has, opened, tells
 from simulated import Line as SimulatedLine
 from simulated import Port as SimulatedPort
 from terminals import Script, Terminal, packet
@@ -147,6 +147,32 @@ def full_output():
         came += len(os.read(out, 65536))
     thread.join(30)
     asks(not thread.is_alive() and came == 1000000, f"full output: {came} bytes come")
+
+
+def service_ends():
+    """A service manager sends SIGTERM to each process of a service, also to the program beside: the panel tells the ends of its orders, and the monitor its table."""
+    with Line(readers=2) as line:
+        line.reader(0, 5)
+        panel = line.panel("5", *PANEL)
+        asks(line.run(opened(panel, 5)), f"service ends: the session doesn't open: {panel.lines}")
+        line.loses = lambda way, burst: burst[5] == OUT
+        panel.say("5 OUT 0:2:1\n5 OUT 0:2:2")
+        line.run(lambda: any(burst[5] == OUT for _, burst in line.bursts))
+        terminates_children(panel)
+        status = line.stops(panel, signal.SIGTERM)
+        asks(status == 1 and has(panel, "lost 5 no-reply OUT 0:2:1", "withdrawn 5 OUT 0:2:2")(), f"service ends: {status}, {panel.lines[-3:]}")
+        monitor = line.start(line.reader_ends[1], 9600, "monitor")
+        line.run(lambda: monitor.lines)
+        os.write(line.reader_ends[1].end, packet(5, 0, ID, b"\0") + packet(0x85, 0, PDID, IDENTITY))
+        line.rests(0.6)
+        terminates_children(monitor)
+        status = line.stops(monitor, signal.SIGTERM)
+        asks(status == 0 and tells(monitor, "device  asked")(), f"service ends: the monitor: {status}, {monitor.lines}")
+
+
+def terminates_children(script):
+    for child in Path(f"/proc/{script.process.pid}/task/{script.process.pid}/children").read_text().split():
+        os.kill(int(child), signal.SIGTERM)
 
 
 def unwritten_help():
@@ -384,7 +410,7 @@ def address_twice():
     terminal.close()
 
 
-PARTS = (refused_rate, reader_stays, panel_stays, find_stays, sleeps, full_output, unwritten_help, cursor, kept_at_a_server, whole_bursts, away, full_disk, moved_trace, files_of_lines, changed_file, unwritten_file, linked_file, kept_rate, address_twice)
+PARTS = (refused_rate, reader_stays, panel_stays, find_stays, sleeps, full_output, service_ends, unwritten_help, cursor, kept_at_a_server, whole_bursts, away, full_disk, moved_trace, files_of_lines, changed_file, unwritten_file, linked_file, kept_rate, address_twice)
 
 
 def main(path, *names):

@@ -26,12 +26,15 @@ def find_program(given=None):
 
 
 def start(path, words, **streams):
-    """Starts the program. Ctrl-C doesn't reach it, so that it can tell its end."""
+    """Starts the program. No Ctrl-C reaches it, and no SIGTERM, which a service manager sends to it too: so it tells its end once its input is over."""
     pipes = {"stdin": subprocess.PIPE, "stdout": subprocess.PIPE, **streams}
+    before = signal.pthread_sigmask(signal.SIG_BLOCK, STOPS)  # it inherits that
     try:
         return subprocess.Popen([path, *words], start_new_session=True, **pipes)
     except OSError:
         raise Stop(f"the program can't be started: {path}", NO_PROGRAM) from None
+    finally:
+        signal.pthread_sigmask(signal.SIG_SETMASK, before)
 
 
 def end_of(process):
@@ -59,7 +62,8 @@ class Stream:
         """Hands on each line. Where it can't be printed, or no line comes any more, the program ends, as the main thread is told."""
         try:
             for text in self.process.stdout:
-                self.prints(text.decode().rstrip("\n"))
+                if text.endswith(b"\n"):  # else it was killed within the line
+                    self.prints(text.decode().rstrip("\n"))
             if not self.is_ending:
                 raise end_of(self.process)
         except Stop as stop:
@@ -97,7 +101,7 @@ class Lines:
         try:
             while not answer or not answer[-1].startswith(("due ", "waiting ")):
                 text = self.process.stdout.readline()
-                if not text:
+                if not text.endswith(b"\n"):  # no line, or a part of one
                     self.ended()
                 answer.append(text.decode().rstrip("\n"))
         finally:

@@ -20,7 +20,7 @@ class Script(Lines):
             pass  # it has ended, and its output ends too
         while True:
             text = self.process.stdout.readline()
-            if not text:
+            if not text.endswith(b"\n"):
                 self.ended()
             if text == b"ready\n":
                 return answer
