@@ -175,6 +175,19 @@ def terminates_children(script):
         os.kill(int(child), signal.SIGTERM)
 
 
+def many_stops():
+    """Three Ctrl-C without a pause between them: the program ends without a traceback."""
+    terminal = Terminal()
+    for _ in range(5):
+        reader = subprocess.Popen([PORT, "--osdp", port_line.osdp, terminal.path, "9600", "reader", "5"], stdin=subprocess.DEVNULL, stdout=subprocess.PIPE, stderr=subprocess.PIPE)
+        reader.stdout.readline()
+        for _ in range(3):
+            reader.send_signal(signal.SIGINT)
+        said = reader.communicate(timeout=60)[1]
+        asks(reader.returncode in (0, 130) and b"Traceback" not in said, f"many stops: {reader.returncode}, {said}")
+    terminal.close()
+
+
 def unwritten_help():
     """Help and version that can't be written end with a sentence and status 3."""
     for program in (PORT, PORT.parent / "osdp-report"):
@@ -410,7 +423,7 @@ def address_twice():
     terminal.close()
 
 
-PARTS = (refused_rate, reader_stays, panel_stays, find_stays, sleeps, full_output, service_ends, unwritten_help, cursor, kept_at_a_server, whole_bursts, away, full_disk, moved_trace, files_of_lines, changed_file, unwritten_file, linked_file, kept_rate, address_twice)
+PARTS = (refused_rate, reader_stays, panel_stays, find_stays, sleeps, full_output, service_ends, many_stops, unwritten_help, cursor, kept_at_a_server, whole_bursts, away, full_disk, moved_trace, files_of_lines, changed_file, unwritten_file, linked_file, kept_rate, address_twice)
 
 
 def main(path, *names):

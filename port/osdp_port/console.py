@@ -39,9 +39,11 @@ class Console:
         signal.signal(signal.SIGTTIN, signal.SIG_IGN)  # in the background of a terminal it would stand still once a key is pressed there
 
     def stopped(self, number, _):
-        """Ctrl-C: the first one ends the program as soon as all is told, and the second one at once."""
+        """Ctrl-C: the first one ends the program as soon as all is told, and the second one at once. After that no more is told by a further one."""
         self.stops += 1
         os.write(self.woken, b"x")
+        if self.stops > 2:
+            os._exit(128 + number)
         if self.stops > 1:
             raise Stop("", 128 + number)
 

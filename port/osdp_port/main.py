@@ -151,11 +151,12 @@ def main(arguments):
     """The status of the program."""
     console = Console()
     try:
-        return commanded(arguments, console)
+        try:
+            return commanded(arguments, console)
+        finally:
+            console.ends()
     except Stop as stop:  # a second Ctrl-C, while the end was told
         return stop.status
-    finally:
-        console.ends()
 
 
 def commanded(arguments, console):
