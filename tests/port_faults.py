@@ -16,7 +16,7 @@ import time
 from pathlib import Path
 
 import port_line
-from port_line import ACK, ID, IDENTITY, OUT, PANEL, PDID, PORT, Device, Line, asks, faults, has, opened, tells
+from port_line import ACK, COMSET, ID, IDENTITY, OUT, PANEL, PDID, PORT, Device, Line, asks, faults, has, opened, tells
 from simulated import Line as SimulatedLine
 from simulated import Port as SimulatedPort
 from terminals import Script, Terminal, packet
@@ -106,6 +106,18 @@ def panel_stays():
 PINNED = """import termios
 sets = termios.tcsetattr
 termios.tcsetattr = lambda end, when, found: sets(end, when, [*found[:4], termios.B9600, termios.B9600, found[6]])"""
+
+
+def devices_stay():
+    """A panel whose port can't be set to a rate sends no device there: nobody would reach it."""
+    with tempfile.TemporaryDirectory() as folder, Line() as line:
+        Path(folder, "sitecustomize.py").write_text(PINNED)
+        line.reader(0, 5)
+        panel = line.panel("5", *PANEL, env={**os.environ, "PYTHONPATH": folder})
+        asks(line.run(opened(panel, 5)), f"devices stay: the session doesn't open: {panel.lines}")
+        panel.say("5 rate 19200\n5 on")
+        asks(line.run(has(panel, "not taken 5 rate 19200: the port has no rate 19200")), f"devices stay: {panel.lines[-3:]}")
+        asks(line.run(tells(panel, "settled 5 OUT 0:2:0")) and not any(burst[5] == COMSET for _, burst in line.bursts), f"devices stay: {panel.lines[-3:]}")
 
 
 def find_stays():
@@ -423,7 +435,7 @@ def address_twice():
     terminal.close()
 
 
-PARTS = (refused_rate, reader_stays, panel_stays, find_stays, sleeps, full_output, service_ends, many_stops, unwritten_help, cursor, kept_at_a_server, whole_bursts, away, full_disk, moved_trace, files_of_lines, changed_file, unwritten_file, linked_file, kept_rate, address_twice)
+PARTS = (refused_rate, reader_stays, panel_stays, devices_stay, find_stays, sleeps, full_output, service_ends, many_stops, unwritten_help, cursor, kept_at_a_server, whole_bursts, away, full_disk, moved_trace, files_of_lines, changed_file, unwritten_file, linked_file, kept_rate, address_twice)
 
 
 def main(path, *names):

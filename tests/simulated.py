@@ -32,6 +32,8 @@ class Port:
     def may_have(rate):
         return has_rate(rate)
 
+    can_have = may_have
+
     def set_rate(self, rate):
         if has_rate(rate):
             self.rate = rate

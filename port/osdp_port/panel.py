@@ -297,14 +297,14 @@ class Panel:
             raise Refused("a COMSET has an address and a rate, as COMSET 7 9600")
         if int(words[0]) > 126:
             raise Refused(f"address {words[0]}: an address is 0 to 126")
-        if not self.port.may_have(int(words[1])):
-            raise Refused(f"the port has no rate {words[1]}")
         self.may_go_to(int(words[0]))
         for each in self.devices:
             if each.session != "open":
                 raise Refused(f"the session with {each.address} isn't open: it would stay at its rate, where nobody finds it")
             if each.is_in_doubt() or each.move:
                 raise Refused(f"the COMSET of {each.address} isn't answered yet")
+        if not self.port.can_have(int(words[1])):
+            raise Refused(f"the port has no rate {words[1]}")
 
     def may_go_to(self, address):
         """Refuses an address at which a device may be that the file knows and this panel hasn't."""

@@ -74,6 +74,7 @@ class Port:
             raise Stop(f"{path} has no rate {rate}: try {', '.join(map(str, RATES[:-1]))} or {RATES[-1]}", BAD_WORDS)
         self.path, self.rate, self.tell = path, rate, tell
         self.serial, self.tries_at, self.told_stolen = None, 0.0, -STOLEN_AGAIN
+        self.taken = set()  # rates that it has taken since it was opened
         self.causes = {}  # why it couldn't be opened again, and how often
         self.again, self.back_at = AGAIN, -STAYS
         self.taps = []  # what else gets each burst that is sent, and the bytes that come
@@ -104,7 +105,7 @@ class Port:
                 made.set_low_latency_mode(True)  # a USB adapter hands its bytes on at once
             except (*FAULTS, AttributeError):
                 pass  # it has no such timer
-        self.serial = made
+        self.serial, self.taken = made, {self.rate}
 
     @property
     def has_own_rate(self):
@@ -221,7 +222,16 @@ class Port:
                 return False
             self.pulled()
         self.rate = rate
+        self.taken.add(rate)
         return True
+
+    def can_have(self, rate):
+        """Whether the port can be set to this rate. Where that isn't known it is set to it, and back: so no device is sent to a rate at which it isn't found."""
+        before = self.rate
+        if rate not in self.taken and self.set_rate(rate) and not self.set_rate(before):
+            self.rate = before
+            self.pulled()  # it is opened anew, at the rate before
+        return rate in self.taken
 
     def stays(self):
         """Another rate wasn't taken: the port gets its old one again."""
