@@ -1,5 +1,6 @@
 """`osdp-port` where its port, its clock or its files fail: a rate that isn't taken, bursts of a network, a computer that sleeps, a full disk, files that other
 programs change, two panels with one file. Takes the path of `osdp`, and the parts to run; all of them without."""
+import contextlib
 import fcntl
 import os
 import resource
@@ -244,13 +245,14 @@ class Server:
 
     def serves(self):
         client, held = self.socket.accept()[0], b""
-        while read := client.recv(4096):
-            held += read
-            while len(held) >= 4 and len(held) >= held[2]:
-                burst, held = held[:held[2]], held[held[2]:]
-                self.asked.append(burst)
-                if not self.is_silent:
-                    client.sendall(packet(burst[1] | 0x80, burst[4] & 3, *((PDID, IDENTITY) if burst[5] == ID else (ACK, b""))))
+        with contextlib.suppress(OSError):  # the panel is killed in the end
+            while read := client.recv(4096):
+                held += read
+                while len(held) >= 4 and len(held) >= held[2]:
+                    burst, held = held[:held[2]], held[held[2]:]
+                    self.asked.append(burst)
+                    if not self.is_silent:
+                        client.sendall(packet(burst[1] | 0x80, burst[4] & 3, *((PDID, IDENTITY) if burst[5] == ID else (ACK, b""))))
 
 
 def kept_at_a_server():
@@ -280,6 +282,19 @@ def whole_bursts():
         reads = [len(port.read()) for _ in range(4)]
         asks(reads == [PIECE, PIECE, PIECE, 0], f"bursts: {3 * PIECE} bytes are read as {reads}")
         port.close()
+
+
+def deaf_server():
+    """A server that reads no more is hung up on, and not waited for for ever."""
+    with socket.create_server(("127.0.0.1", 0)) as server:
+        said = []
+        port = Port(f"socket://127.0.0.1:{server.getsockname()[1]}", 9600, said.append)
+        client = server.accept()[0]
+        thread = threading.Thread(target=port.write, args=(bytes(50000000),), daemon=True)
+        thread.start()
+        thread.join(60)
+        asks(not thread.is_alive() and said == [f"pulled {port.path}: it is opened again as soon as it is back"], f"deaf server: {said}")
+        client.close()
 
 
 def away():
@@ -435,7 +450,7 @@ def address_twice():
     terminal.close()
 
 
-PARTS = (refused_rate, reader_stays, panel_stays, devices_stay, find_stays, sleeps, full_output, service_ends, many_stops, unwritten_help, cursor, kept_at_a_server, whole_bursts, away, full_disk, moved_trace, files_of_lines, changed_file, unwritten_file, linked_file, kept_rate, address_twice)
+PARTS = (refused_rate, reader_stays, panel_stays, devices_stay, find_stays, sleeps, full_output, service_ends, many_stops, unwritten_help, cursor, kept_at_a_server, whole_bursts, deaf_server, away, full_disk, moved_trace, files_of_lines, changed_file, unwritten_file, linked_file, kept_rate, address_twice)
 
 
 def main(path, *names):

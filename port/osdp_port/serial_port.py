@@ -91,7 +91,9 @@ class Port:
         """Opens the port, for this program alone: other programs are refused by a lock, and, but for root, by the system."""
         made = serial.serial_for_url(self.path, self.rate, timeout=0, do_not_open=True)
         if "://" not in self.path:
-            made.exclusive, made.write_timeout = True, 2
+            made.exclusive = True
+        if not self.path.startswith("rfc2217://"):  # pyserial has none there
+            made.write_timeout = 2
         made.open()
         if not has_taken(made, self.rate):
             made.close()
