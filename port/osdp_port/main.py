@@ -131,7 +131,7 @@ def does_command(words, console):
             bad(f"word {words.rest.index('address', 1) + 4}, address: word 4 says it, and no setting")
         kept = ReaderPlace(words.get("--keep")) if words.get("--keep") else None
         place = kept.read() if kept else None
-        place = (place.address, place.rate) if place else (named[0], words.rate)
+        place = (place.address, place.rate if sets_rate(words.port) else words.rate) if place else (named[0], words.rate)
         return reader(words, opened(words, place[1], console, kept), console, osdp, kept, place)
     port = opened(words, words.rate, console)
     if words.command not in ("find", "test") and not words.get("--json"):
