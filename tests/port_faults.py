@@ -17,7 +17,7 @@ import time
 from pathlib import Path
 
 import port_line
-from port_line import ACK, COMSET, ID, IDENTITY, OUT, PANEL, PDID, PORT, Device, Line, asks, faults, has, opened, tells
+from port_line import ACK, COMSET, ID, IDENTITY, OUT, PANEL, PDID, POLL, PORT, Device, Line, asks, faults, has, opened, tells
 from simulated import Line as SimulatedLine
 from simulated import Port as SimulatedPort
 from terminals import Script, Terminal, packet
@@ -176,7 +176,7 @@ def service_ends():
         asks(status == 1 and has(panel, "lost 5 no-reply OUT 0:2:1", "withdrawn 5 OUT 0:2:2")(), f"service ends: {status}, {panel.lines[-3:]}")
         monitor = line.start(line.reader_ends[1], 9600, "monitor")
         line.run(lambda: monitor.lines)
-        os.write(line.reader_ends[1].end, packet(5, 0, ID, b"\0") + packet(0x85, 0, PDID, IDENTITY))
+        os.write(line.reader_ends[1].end, packet(5, 0, ID, b"\0") + packet(0x85, 0, PDID, IDENTITY) + packet(5, 1, POLL) + packet(0x85, 1, ACK))
         line.rests(0.6)
         terminates_children(monitor)
         status = line.stops(monitor, signal.SIGTERM)
