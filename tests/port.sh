@@ -8,6 +8,7 @@ cd "$(dirname "$0")/.." || exit 1
 failed=0
 timeout 400 /usr/bin/python3 -B tests/port_places.py "$program" || failed=1
 timeout 300 /usr/bin/python3 -B tests/port_faults.py "$program" || failed=1
+timeout 300 /usr/bin/python3 -B tests/port_files.py "$program" || failed=1
 timeout 500 /usr/bin/python3 -B tests/port_walk.py "$program" || failed=1
 timeout 200 /usr/bin/python3 -B tests/port_noise.py "$program" || failed=1
 timeout 200 /usr/bin/python3 -B tests/short_examples.py "$program" || failed=1

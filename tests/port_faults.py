@@ -1,9 +1,8 @@
-"""`osdp-port` where its port, its clock or its files fail: a rate that isn't taken, bursts of a network, a computer that sleeps, a full disk, files that other
-programs change, two panels with one file. Takes the path of `osdp`, and the parts to run; all of them without."""
+"""`osdp-port` where its port, its clock or its end fails: a rate that isn't taken, bursts of a network, a server that is deaf, a computer that sleeps, an output that
+is full, signals. Its files are in port_files.py. Takes the path of `osdp`, and the parts to run; all of them without."""
 import contextlib
 import fcntl
 import os
-import resource
 import select
 import signal
 import socket
@@ -28,7 +27,6 @@ from osdp_port.keep import ReaderPlace
 from osdp_port.main import moment
 from osdp_port.reader import Reader
 from osdp_port.serial_port import PIECE, Port
-from osdp_port.trace import Trace
 
 
 def until(holds, seconds=30):
@@ -37,11 +35,6 @@ def until(holds, seconds=30):
     while not holds() and time.monotonic() < end:
         time.sleep(0.02)
     return holds()
-
-
-def ends(*words, stdin=subprocess.DEVNULL):
-    """The command, once it has ended."""
-    return subprocess.run([PORT, "--plain", "--osdp", port_line.osdp, *map(str, words)], capture_output=True, text=True, timeout=120, stdin=stdin)
 
 
 # ---- rates
@@ -284,6 +277,19 @@ def whole_bursts():
         port.close()
 
 
+def gone_in_a_search():
+    """An adapter that is pulled while `find` or a test runs ends it with status 3: nobody is told that it is waited for."""
+    for words in (["find"], ["test", "device", "5"]):
+        terminal = Terminal()
+        script = Script(PORT, "--plain", "--osdp", port_line.osdp, terminal.path, 9600, *words, stderr=subprocess.PIPE)
+        asks(select.select([terminal.end], [], [], 60)[0], f"gone in a search: {words} sends nothing")
+        terminal.close()
+        os.set_blocking(script.process.stdout.fileno(), True)
+        told = [line for line in script.process.stdout.read().decode().splitlines() if "pulled" in line]
+        said = script.process.stderr.read().decode()
+        asks(script.process.wait(60) == 3 and told == [f"pulled {terminal.path}"] and "is gone" in said, f"gone in a search: {words}: {told}, {said}")
+
+
 def deaf_server():
     """A server that reads no more is hung up on, and not waited for for ever."""
     with socket.create_server(("127.0.0.1", 0)) as server:
@@ -323,134 +329,7 @@ def away():
         terminal.close()
 
 
-# ---- files
-
-
-def full_disk():
-    """A trace on a full disk: the verdict on the device comes out all the same, the file is named, and the status is 3. So it is of a panel that goes on without."""
-    with tempfile.TemporaryDirectory() as folder:
-        script = Path(folder) / "script"
-        script.write_text("device 5\nsend ID 0\nexpect PDID\n")
-        for words in (["device", 5], ["script", script]):
-            terminal = Terminal()
-            done = ends("--trace", "/dev/full", terminal.path, 9600, "test", *words)
-            asks(done.returncode == 3 and done.stdout and "can't be written: /dev/full: No space left on device" in done.stderr and "Traceback" not in done.stderr,
-                 f"full disk: {words}: {done}")
-            terminal.close()
-    with Line() as line:
-        line.reader(0, 5)
-        panel = line.panel("5", *PANEL, options=["--trace", "/dev/full"], stderr=subprocess.PIPE)
-        asks(line.run(opened(panel, 5)), f"full disk: the session doesn't open: {panel.lines}")
-        status, said = line.stops(panel), panel.process.stderr.read().decode()
-        asks(status == 3 and "the trace can't be written, and ends: /dev/full: No space left on device" in said, f"full disk: a panel: {status}, {said}")
-
-
-def moved_trace():
-    """A trace that another program puts aside, or removes, is begun anew under its name."""
-    with tempfile.TemporaryDirectory() as folder:
-        path, said = Path(folder) / "trace", []
-        trace = Trace(str(path), 1000000, said.append, rate=lambda: 9600)
-        trace.takes(0, "in", b"\1")
-        path.rename(f"{path}.old")
-        trace.takes(0, "in", b"\2")
-        asks(path.exists() and path.read_text().endswith("in\n02\n") and path.read_text().startswith("# rate 9600\n"), f"moved trace: {os.listdir(folder)}")
-        asks(Path(f"{path}.old").read_text().endswith("in\n01\n"), "moved trace: the old one has more")
-        path.unlink()
-        trace.takes(0, "in", b"\3")
-        trace.ended()
-        asks(path.exists() and path.read_text().endswith("in\n03\n") and not said, f"moved trace: removed, and {said}")
-
-
-def files_of_lines():
-    """A panel's file names its port: a panel at another port is refused, one at the same port by a link starts, and a file of the older form gets the name."""
-    with tempfile.TemporaryDirectory() as folder, Line() as line, Line() as other:
-        keep, link = Path(folder) / "places", Path(folder) / "link"
-        link.symlink_to(line.panel_end.path)
-        keep.write_text("5 at 5 9600\n")
-        line.reader(0, 5)
-        for path in (line.panel_end.path, str(link)):
-            line.panel_end.path = path
-            panel = line.panel("5", *PANEL, options=["--keep", keep])
-            is_kept = lambda path=path: f"port {path}\n5 at 5 9600 is" in keep.read_text()
-            asks(line.run(is_kept), f"files of lines: {panel.lines}, {keep.read_text()!r}")
-            line.stops(panel)
-        done = ends("--keep", keep, other.panel_end.path, 9600, "panel", "5")
-        said = f"{keep} is of the line at {link}, and not of {other.panel_end.path}: name another file"
-        asks(done.returncode == 3 and said in done.stderr and f"port {link}\n" in keep.read_text(), f"files of lines: {done}")
-
-
-def changed_file():
-    """A file that another program has changed is left as it is: no COMSET goes out. One that is gone is written anew."""
-    with tempfile.TemporaryDirectory() as folder:
-        keep, line = Path(folder) / "places", SimulatedLine(port_line.osdp)
-        line.add_reader(5)
-        line.add_panel([5], keep=keep)
-        asks(line.run(line.all_open, 30), "changed file: the session doesn't open")
-        keep.write_text("5 at 9 9600\n")
-        line.order("5 move 7")
-        told = "\n".join(line.told[-3:])
-        asks(f"not kept: another program has changed {keep}" in told and "not taken 5 COMSET 7 9600: the new place must be kept first" in told, f"changed file: {told}")
-        asks(keep.read_text() == "5 at 9 9600\n", f"changed file: it has {keep.read_text()!r}")
-        keep.unlink()
-        line.order("5 move 7")
-        asks(line.run(lambda: line.all_open() and line.panel.devices[0].address == 7, 30) and "5 at 7 9600" in keep.read_text(), f"changed file: {line.told[-4:]}")
-        line.close()
-
-
-def unwritten_file():
-    """A panel whose file can't be written tells so once, takes no COMSET, and ends with status 3. No part of a file is left."""
-    with tempfile.TemporaryDirectory() as folder, Line() as line:
-        keep = Path(folder) / "places"
-        line.reader(0, 5)
-        panel = line.panel("5", *PANEL, options=["--keep", keep], stderr=subprocess.DEVNULL, preexec_fn=no_file)
-        asks(line.run(opened(panel, 5)), f"unwritten file: the session doesn't open: {panel.lines}")
-        panel.say("5 on\n5 off\n5 move 7")
-        why = f"{keep} can't be written: File too large"
-        asks(line.run(tells(panel, f"not taken 5 COMSET 7 9600: the new place must be kept first, and {why}")), f"unwritten file: {panel.lines[-3:]}")
-        line.run(tells(panel, "settled 5 OUT", 2))
-        status = line.stops(panel)
-        asks(status == 3 and panel.lines.count(f"not kept: {why}") == 1 and not os.listdir(folder), f"unwritten file: {status}, {panel.lines}, {os.listdir(folder)}")
-
-
-def no_file():
-    """No byte of a file can be written from now on."""
-    signal.signal(signal.SIGXFSZ, signal.SIG_IGN)
-    resource.setrlimit(resource.RLIMIT_FSIZE, (0, 0))
-
-
-def linked_file():
-    """A file that is kept by a link stays where the link says, with the rights that it had."""
-    with tempfile.TemporaryDirectory() as folder:
-        (Path(folder) / "far").mkdir()
-        far, keep = Path(folder) / "far/place", Path(folder) / "place"
-        far.write_text("5 9600\n")
-        far.chmod(0o640)
-        keep.symlink_to(far)
-        why = ReaderPlace(str(keep)).keep("7 19200")
-        asks(why is None and keep.is_symlink() and far.read_text() == "7 19200\n" and far.stat().st_mode & 0o777 == 0o640, f"linked file: {why}, {far.read_text()!r}")
-
-
-def kept_rate():
-    """A file with a rate that the port hasn't is named."""
-    with tempfile.TemporaryDirectory() as folder:
-        terminal, kept = Terminal(), Path(folder) / "kept"
-        for command, text in (("panel", "5 at 5 12345\n"), ("reader", "5 12345\n")):
-            kept.write_text(text)
-            done = ends("--keep", kept, terminal.path, 9600, command, 5)
-            asks(done.returncode == 3 and f"{terminal.path} has no rate 12345" in done.stderr and f"the rate is that of {kept}" in done.stderr, f"kept rate: {done}")
-        terminal.close()
-
-
-def address_twice():
-    """A reader's address is its fourth word: as a setting it is refused, and named."""
-    terminal = Terminal()
-    for words, at in ((["address", "7"], 5), (["gap", "20", "address", "5"], 7)):
-        done = ends(terminal.path, 9600, "reader", 5, *words)
-        asks(done.returncode == 2 and f"word {at}, address: word 4 says it" in done.stderr, f"address twice: {done}")
-    terminal.close()
-
-
-PARTS = (refused_rate, reader_stays, panel_stays, devices_stay, find_stays, sleeps, full_output, service_ends, many_stops, unwritten_help, cursor, kept_at_a_server, whole_bursts, deaf_server, away, full_disk, moved_trace, files_of_lines, changed_file, unwritten_file, linked_file, kept_rate, address_twice)
+PARTS = (refused_rate, reader_stays, panel_stays, devices_stay, find_stays, sleeps, full_output, service_ends, many_stops, unwritten_help, cursor, kept_at_a_server, whole_bursts, gone_in_a_search, deaf_server, away)
 
 
 def main(path, *names):

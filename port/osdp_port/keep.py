@@ -1,6 +1,7 @@
 """The files that keep, while there is no power, where devices stand: one of a panel, and one of a reader."""
 import contextlib
 import os
+import re
 import stat
 
 from .faults import FAILED, Stop, is_number
@@ -89,7 +90,8 @@ class Known:
 
 def port_name(port):
     """A port as a line of a file names it."""
-    return (port if "://" in port else os.path.abspath(port)).encode("unicode_escape").decode()
+    path = port if "://" in port else os.path.abspath(port)
+    return re.sub(r"[^ -~]", lambda found: found[0].encode("unicode_escape").decode(), path)
 
 
 def is_same_port(name, other):
@@ -112,7 +114,7 @@ class PanelPlaces:
         self.seen = kept_text(self.path)
         for at, line in enumerate((self.seen or "").splitlines(), 1):
             if line.startswith("port "):
-                self.is_of(line.removeprefix("port "))
+                self.is_of(line.removeprefix("port ").strip())
             elif line.strip() and not line.startswith("#"):
                 try:
                     name, known = self.parsed(line)

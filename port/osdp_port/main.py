@@ -108,6 +108,7 @@ def opened(words, rate, console, kept=None):
         port = Port(words.port, rate, console.say)
     except Stop as stop:
         raise Stop(f"{stop.why} (the rate is that of {kept.path})") if kept and rate != words.rate else stop from None
+    port.is_awaited = words.command not in ("find", "test")
     others = port.others()
     if others:
         console.note(f"{words.port} is open in {' and '.join(others)} too, which may take bytes from it: end it")

@@ -75,6 +75,7 @@ class Port:
         self.path, self.rate, self.tell = path, rate, tell
         self.serial, self.tries_at, self.told_stolen = None, 0.0, -STOLEN_AGAIN
         self.taken = set()  # rates that it has taken since it was opened
+        self.is_awaited = True  # whether it is opened again where it was pulled
         self.causes = {}  # why it couldn't be opened again, and how often
         self.again, self.back_at = AGAIN, -STAYS
         self.taps = []  # what else gets each burst that is sent, and the bytes that come
@@ -139,7 +140,7 @@ class Port:
         self.again = min(2 * self.again, LONGEST_AGAIN) if now < self.back_at + STAYS else AGAIN
         self.serial, self.tries_at = None, now + self.again
         self.causes = {errno.ENOENT: TELLS}
-        self.tell(f"pulled {self.path}: it is opened again as soon as it is back")
+        self.tell(f"pulled {self.path}" + (": it is opened again as soon as it is back" if self.is_awaited else ""))
 
     def comes_back(self):
         """Tries to open a port that was pulled. Whether it is back."""
