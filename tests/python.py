@@ -7,6 +7,7 @@
 - Each refusal comes as an OsdpError with its status, also to another process, and changes nothing; what ctypes would cut is no number for it.
 - A machine can't be copied.
 - A monitor tells what the rows of `osdp monitor` have.
+- A door of the examples keeps the rate that its port has.
 - The example prints what docs/GUIDE.md promises of such a session."""
 import copy
 import ctypes
@@ -15,6 +16,8 @@ import pickle
 import re
 import subprocess
 import sys
+import tempfile
+import termios
 from pathlib import Path
 
 TOP = Path(__file__).resolve().parent.parent
@@ -329,10 +332,27 @@ def judge_example():
         tell(f"{name} with a word too many", (2, "bad words: --help tells the right ones\n"), (done.returncode, done.stderr))
 
 
+def judge_door():
+    """A door of the examples keeps a rate that its port has taken, and no other: an adapter may stay at its rate without a fault."""
+    sys.path[:0] = [str(TOP / "python/examples")]
+    import door_device
+    from kept import Kept
+    from terminals import Terminal
+    sets, stays = termios.tcsetattr, lambda end, when, found: sets(end, when, [*found[:4], termios.B9600, termios.B9600, found[6]])
+    for sets_rate, rate in ((sets, 19200), (stays, 9600)):
+        with tempfile.TemporaryDirectory() as folder:
+            terminal, termios.tcsetattr = Terminal(), sets_rate
+            door = door_device.Door(terminal.path, 9600, Kept(f"{folder}/place"))
+            door.take([osdp.Answer(osdp.Said.TAKEN, osdp.Order.NONE, None, b"", (7, 19200))])
+            tell("a door's rate, and the one that it keeps", (rate, f"7 {rate}\n"), (door.rate, Path(f"{folder}/place").read_text()))
+            termios.tcsetattr = sets
+            terminal.close()
+
+
 if __name__ == "__main__":
     judge_structs(header()), judge_functions(header()), judge_numbers(header()), judge_docs()
     for lost in ([], [41], [46], [30, 61, 66]):
         judge_session(lost)
-    judge_again(), judge_pieces(), judge_refusals(), judge_copies(), judge_rooms(), judge_between(), judge_device(), judge_monitor(), judge_example()
+    judge_again(), judge_pieces(), judge_refusals(), judge_copies(), judge_rooms(), judge_between(), judge_device(), judge_monitor(), judge_door(), judge_example()
     print(f"python: {len(faults)} faults", *faults, sep="\n")
     sys.exit(1 if faults else 0)

@@ -12,7 +12,7 @@ sys.path[:0] = [str(HERE.parent), str(HERE.parent.parent / "examples")]
 import osdp  # noqa: E402
 from kept import take_kept  # noqa: E402
 from lines import BAD_WORDS, Lines, moment, number, stop, take_words, tell  # noqa: E402
-from port import Port  # noqa: E402
+from port import Port, has_rate  # noqa: E402
 
 OUT = 0x68
 OFF, ON_FOR_A_TIME = 1, 5
@@ -43,15 +43,26 @@ class Door:
         for answer in answers:
             if answer.order is osdp.Order.PENDING and not all(may_be_done(*each) for each in records(answer.command)):
                 self.device.answer_refused(NOT_PROCESSED)
-            if answer.moved and not self.kept.keep(*answer.moved, self.rate):  # kept before the panel is told
-                tell(f"not kept {answer.moved[0]} {answer.moved[1]}")
+            if answer.moved:
+                self.keep(answer.moved[0], answer.moved[1] if has_rate(answer.moved[1]) else self.rate)  # before the panel is told
             if answer.order is osdp.Order.ONCE:
                 for output, control in records(answer.command):
                     if control == ON_FOR_A_TIME:
                         tell(f"on {output}")
             self.port.write(answer.data)
-            if answer.moved and self.port.set_rate(answer.moved[1]):
-                self.rate = answer.moved[1]
+            if answer.moved:
+                self.move(*answer.moved)
+
+    def keep(self, address, rate):
+        if not self.kept.keep(address, rate):
+            tell(f"not kept {address} {rate}")
+
+    def move(self, address, rate):
+        """Sets the port to another rate. One that it doesn't take isn't kept."""
+        if self.port.set_rate(rate):
+            self.rate = rate
+        else:
+            self.keep(address, self.rate)
 
     def take_line(self, line):
         """A card of 26 bits was read, where a line says so: it is told to the next POLL."""
