@@ -234,7 +234,7 @@ class Port:
         if rate not in self.taken and self.set_rate(rate) and not self.set_rate(before):
             self.rate = before
             self.pulled()  # it is opened anew, at the rate before
-        return rate in self.taken
+        return self.is_there and rate in self.taken
 
     def stays(self):
         """Another rate wasn't taken: the port gets its old one again."""
