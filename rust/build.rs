@@ -65,7 +65,9 @@ fn main() {
         } else {
             "set OSDP_C_LIB_DIR to the folder of one for this target (tools/retarget makes it)"
         };
-        println!("cargo:warning=no archive of the machines: nothing that uses it can be linked; {wanted}");
+        println!(
+            "cargo:warning=no archive of the machines: nothing that uses it can be linked; {wanted}"
+        );
         return;
     };
     let archive = folder.join(format!("lib{name}.a"));

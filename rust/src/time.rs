@@ -4,7 +4,8 @@ use core::time::Duration;
 
 /// A moment: how many whole milliseconds it lies after a beginning, which the program chooses once, by a clock that doesn't go backwards.
 ///
-/// With `std` it is `Moment::after(started.elapsed())`, where `started` is the `Instant` at which the program began.
+/// With `std` it is `Moment::after(started.elapsed())`, where `started` is the `Instant` at which the program began. An `Instant` of Linux stands still while the
+/// computer sleeps, and a card from before is no old one then: `examples/port` takes a clock that goes on.
 #[derive(Clone, Copy, Debug, PartialEq, Eq, PartialOrd, Ord, Hash)]
 pub struct Moment(u64);
 

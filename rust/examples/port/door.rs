@@ -76,6 +76,8 @@ pub struct Door {
     stands: Vec<Stand>,
     at: usize,
     kept: Option<String>,
+    /// The text of the file, which is written only where it is another one: each writing wears flash out.
+    written: String,
 }
 
 impl Door {
@@ -120,14 +122,18 @@ impl Door {
             stands,
             at,
             kept: port.kept.clone(),
+            written: text,
         })
     }
 
-    fn keep(&self) -> io::Result<()> {
+    fn keep(&mut self) -> io::Result<()> {
         let text = self.stands.iter().map(Stand::line).collect::<String>();
-        self.kept
-            .as_ref()
-            .map_or(Ok(()), |path| keep_text(path, &text))
+        match &self.kept {
+            Some(path) if text != self.written => keep_text(path, &text)?,
+            _ => {}
+        }
+        self.written = text;
+        Ok(())
     }
 
     /// It is at this place.
@@ -155,8 +161,9 @@ impl Door {
                 println!("another device: it gets no order until `accept`");
                 self.other = Some(id);
             }
-            Report::Settled(command, _) if command.code() == 0x6E => {
-                self.stands_at(self.stands[self.at].place())?; // it was refused
+            // A COMSET that was refused. After any other answer it may be at either place, and is looked for at both once it is lost.
+            Report::Settled(command, Reply::Nak(_)) if command.code() == 0x6E => {
+                self.stands_at(self.stands[self.at].place())?;
             }
             Report::Moved(_, reply) => {
                 (self.may_order, self.other) = (false, None);

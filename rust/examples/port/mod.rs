@@ -11,11 +11,12 @@ use std::os::unix::fs::{MetadataExt, OpenOptionsExt};
 use std::process::{Command, ExitCode};
 use std::sync::mpsc::{Receiver, RecvTimeoutError, Sender, channel};
 use std::thread::spawn;
-use std::time::Instant;
+use std::time::Duration;
 
 unsafe extern "C" {
-    /// Of the C library.
+    // Of the C library.
     fn ioctl(file: c_int, request: c_ulong, ...) -> c_int;
+    fn clock_gettime(clock: c_int, time: &mut [i64; 2]) -> c_int;
 }
 
 // Numbers of Linux: not to wait for a carrier at the opening, nor to take the port as the terminal of the program; to wait at each read again; and to let no
@@ -23,6 +24,8 @@ unsafe extern "C" {
 const O_NONBLOCK_NOCTTY: i32 = 0o4400;
 const FIONBIO: c_ulong = 0x5421;
 const TIOCEXCL: c_ulong = 0x540C;
+/// The clock that goes on while the computer sleeps, so that a card from before is seen as old. That of `Instant` stands still then.
+const CLOCK_BOOTTIME: c_int = 7;
 
 /// Rates of lines, which a port has.
 pub const RATES: [u32; 6] = [9600, 19200, 38400, 57600, 115200, 230400];
@@ -37,7 +40,7 @@ pub enum Came {
 pub struct Port {
     file: File,
     came: Receiver<io::Result<Came>>,
-    started: Instant,
+    started: Duration,
     /// The rate that the words of the program have, and the file that they name by `--keep`.
     pub rate: u32,
     pub kept: Option<String>,
@@ -82,7 +85,7 @@ impl Port {
         Ok(Port {
             file,
             came,
-            started: Instant::now(),
+            started: boot_time(),
             rate,
             kept,
         })
@@ -98,7 +101,7 @@ impl Port {
     }
 
     pub fn now(&self) -> Moment {
-        Moment::after(self.started.elapsed())
+        Moment::after(boot_time().saturating_sub(self.started))
     }
 
     /// Waits for bytes or a line, up to a moment. An error where the port is gone.
@@ -113,6 +116,14 @@ impl Port {
     pub fn write(&mut self, bytes: &[u8]) -> io::Result<()> {
         self.file.write_all(bytes)
     }
+}
+
+/// How long the computer has been on.
+fn boot_time() -> Duration {
+    let mut time = [0; 2];
+    // SAFETY: it writes seconds and nanoseconds into what it is lent, each of 64 bits on each target that the crate has. Linux has this clock.
+    unsafe { clock_gettime(CLOCK_BOOTTIME, &mut time) };
+    Duration::new(time[0] as u64, time[1] as u32)
 }
 
 /// Sets an open port: `stty` waits until what was written has gone out.
