@@ -70,7 +70,6 @@ module _ {H : Type 0} where
   stays_told = record {
     begins_so = λ moment y t is. is;
     issues_so = λ command y t is. is;
-    takes_so = λ commands y t is. is;
     hears_so = λ said y t is. hears_told said t ∙ ap (with_one said) is;
     opens_so = λ waiting y t is. begins_told waiting t ∙ is;
   }

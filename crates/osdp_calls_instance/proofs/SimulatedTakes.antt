@@ -35,7 +35,6 @@ module _ {H : Type 0} where
   stays_taking d y = record {
     begins_so = λ moment x t is. is;
     issues_so = λ command x t is. is;
-    takes_so = λ commands x t is. is;
     hears_so = λ said x t is. (is.0, hears_takes said t ∙ is.1);
     opens_so = λ waiting x t is. (is.0, begins_takes waiting t ∙ is.1);
   }
