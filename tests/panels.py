@@ -537,14 +537,15 @@ def stopped_device(c, _, name):
     terminal.close()
 
 
-def relay_is_released(c, _):
-    """The relay is off as the reader with keys begins, and where it ends: at Ctrl-C, where its terminal is closed, and where its port is gone."""
-    for how, status in (("Ctrl-C", 130), ("a closed terminal", 129), ("the port is gone", 3)):
+def relay_is_released(c, rust):
+    """The relay is off as the reader with keys begins, and where it ends: at Ctrl-C and where its terminal is closed, in C, and where its port is gone."""
+    in_c, in_rust = ("C", f"{c}/keypad_reader", 5, [5]), ("Rust", f"{rust}/keypad_reader", 1, [])
+    for (language, program, address, rest), how, status in ((in_c, "Ctrl-C", 130), (in_c, "a closed terminal", 129), (in_c, "the port is gone", 3), (in_rust, "the port is gone", 1)):
         terminal = Terminal()
-        device = Script(f"{c}/keypad_reader", terminal.path, 9600, 5, stderr=subprocess.DEVNULL)
+        device = Script(program, terminal.path, 9600, *rest, stderr=subprocess.DEVNULL)
         for number, code, data, reply in ((0, ID, b"\0", PDID), (1, OUT, bytes([0, 5, 100, 0]), ACK)):
-            os.write(terminal.end, packet(5, number, code, data))
-            asks(terminal.next_burst()[5:6] == bytes([reply]), f"relay, {how}: the reply to {code:02X} is another one")
+            os.write(terminal.end, packet(address, number, code, data))
+            asks(terminal.next_burst()[5:6] == bytes([reply]), f"relay, {language}, {how}: the reply to {code:02X} is another one")
         if how == "the port is gone":
             os.close(terminal.end)
             terminal.end = os.open("/dev/null", os.O_RDONLY)
@@ -552,7 +553,7 @@ def relay_is_released(c, _):
             device.process.send_signal(signal.SIGINT if how == "Ctrl-C" else signal.SIGHUP)
         found = device.process.wait(timeout=30)
         device.read()
-        asks(found == status and device.lines == ["relay off", "relay on", "relay off"], f"relay, {how}: status {found}, told is {device.lines}")
+        asks(found == status and device.lines == ["relay off", "relay on", "relay off"], f"relay, {language}, {how}: status {found}, told is {device.lines}")
         terminal.close()
 
 

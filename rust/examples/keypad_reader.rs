@@ -9,6 +9,7 @@ use osdp::{
 };
 use port::{Came, Port, run_on_port};
 use std::error::Error;
+use std::io::{self, Write};
 use std::process::ExitCode;
 use std::time::Duration;
 
@@ -48,7 +49,7 @@ impl Reader {
         &mut self,
         answer: Answer<'_>,
         now: Moment,
-    ) -> std::io::Result<Option<DeviceAnswer<'static>>> {
+    ) -> io::Result<Option<DeviceAnswer<'static>>> {
         if let Some(Order::Once(command)) = answer.order() {
             for record in command.outputs() {
                 let time = Duration::from_millis(100) * u32::from(record.timer);
@@ -82,6 +83,13 @@ impl Reader {
     }
 }
 
+/// Where the port is gone, or a call fails, the relay goes off: nobody else would switch it. (A program that is ended by a signal does nothing more.)
+impl Drop for Reader {
+    fn drop(&mut self) {
+        let _ = writeln!(io::stdout(), "relay off"); // its reader may be gone
+    }
+}
+
 /// A card, keys or the contact, by its text: it is told to the next POLL. What the contact is from now on is the answer to ISTAT, also where as many events wait
 /// as may.
 fn take_line(device: &mut Device, line: &str) -> Result<(), osdp::Error> {
@@ -98,6 +106,7 @@ fn run(mut port: Port) -> Done {
     device.set_inputs(&[0])?;
     device.set_outputs(&[0])?;
     let mut reader = Reader { port, relay: None };
+    reader.switch(None); // the program before this one may have left it on
     loop {
         let came = reader.port.wait(reader.port.now() + TURN)?;
         let now = reader.port.now(); // after the read: not before it

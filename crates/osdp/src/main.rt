@@ -9,12 +9,14 @@ use osdp_tool::{
     Choice, Job, VERSION, arguments, choose, format_of, help_text, job, lent, make, without_formats,
 };
 use osdp_tool_inputs::{Reads, do_all, read_words};
+use osdp_tool_captures::{Format, Unmarked};
 use osdp_tool_plan::plan;
 use osdp_tool_script::script;
 use osdp_tool_sim::sim;
 use osdp_tool_streams::{ToolFault, Watched, flush_out, write_out};
 use osdp_tool_test::test;
 use osdp_tool_test_panel::test_panel;
+use std::io::Stdin;
 use std::process::ExitCode;
 
 /// Prints a text.
@@ -24,12 +26,17 @@ fn print(rt: &HostRuntime, text: &str) -> Result<(), ToolFault> {
     flush_out(&mut output)
 }
 
+/// The lines of standard input, without the mark that an editor may have put in front of them.
+fn lines_in(rt: &HostRuntime) -> Watched<Unmarked<Stdin>> {
+    Watched::new(Unmarked::new(Format::Digits, rt.stdin()))
+}
+
 /// Answers the lines of standard input, with the settings that the words after the command's name give.
 fn run_machine<P: LineCommand>(rt: &HostRuntime, words: &[&str]) -> Result<(), ToolFault> {
     let mut run = LineRun {
         alloc: rt.alloc(),
         words: after_name(words),
-        input: Watched::new(rt.stdin()),
+        input: lines_in(rt),
         output: Watched::new(rt.stdout()),
     };
     run_lines::<P, _, _>(&mut run)
@@ -57,7 +64,7 @@ fn run_plan(rt: &HostRuntime, words: &[&str]) -> Result<(), ToolFault> {
 
 /// Judges a device, or runs a script, by the lines of standard input. The status.
 fn run_test(rt: &HostRuntime, words: &[&str]) -> Result<u8, ToolFault> {
-    let mut input = Watched::new(rt.stdin());
+    let mut input = lines_in(rt);
     let mut output = Watched::new(rt.stdout());
     match words {
         ["script", rest @ ..] => script(rt.alloc(), rest, &mut input, &mut output),
@@ -71,7 +78,7 @@ fn run_job(rt: &HostRuntime, words: &[&str]) -> Result<(), ToolFault> {
     let mut output = Watched::new(rt.stdout());
     match job(words)? {
         Job::Make => make(rt.alloc(), after_name(words), &mut output),
-        Job::Sim => sim(rt.alloc(), &mut Watched::new(rt.stdin()), &mut output),
+        Job::Sim => sim(rt.alloc(), &mut lines_in(rt), &mut output),
     }
 }
 

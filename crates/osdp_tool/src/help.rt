@@ -89,7 +89,7 @@ usage: osdp monitor [FORM] [OPTION]... [FILE]...
 
   --raw      the input is bytes, as they come from a port
   --osdpcap  the input is .osdpcap: an object of JSON a line
-  --xxd      the input is what xxd wrote of bytes, and one run
+  --xxd      the input is what xxd wrote of bytes: each line is a run
   --stamped  the input is lines of a stamp, TX or RX, and digits
   --packets  print each packet, skipped byte and refused byte too, as show does
   --talk     the same, but no POLL, and no ACK that answers a POLL; and the reason of a NAK in words
@@ -248,7 +248,7 @@ Answers: before the last line of an answer stand lines like these.
   withdrawn I X         command X was taken back
   refused line          no call: its name, how many words it has, or one that is no value or out of its range
   refused B2, B3        sixteen devices are there; the address is another device's, or reserved for one
-  refused B4, B5        there is no device I; the address is above 126
+  refused B4, B5        there is no device I; the address is 127
   refused B6            a COMSET goes to an address above 126
   refused C3, C4        no room for another command; a POLL is not submitted
   refused C5            the session is not closed

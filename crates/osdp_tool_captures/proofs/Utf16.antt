@@ -8,7 +8,7 @@ use Rattle.hex.specs.declared.error.FromHexError.TheVariants.{OddLength}
 use Rattle.osdp_tool_streams.specs.Cut.{ended_after, last_line, line_feed, lines_of, unended_after}
 use Rattle.osdp_tool_streams.specs.Line.{kept}
 use Rattle.osdp_tool_streams.specs.Runs.{bad_line}
-use Rattle.osdp_tool_captures.specs.Hints.{are_digits, are_text, begins_dump, begins_utf16, hint_of, of_bytes, of_digits, of_text}
+use Rattle.osdp_tool_captures.specs.Hints.{are_bytes, are_digits, are_text, begins_dump, begins_utf16, hint_of, of_bytes, of_digits, of_text}
 use Rattle.osdp_tool_captures.specs.Laws.{StandsUtf16, TellsUtf16}
 use Rattle.osdp_tool_captures.specs.Marks.{without_mark}
 use Rattle.osdp_tool_captures.specs.declared.format.Format.{Format}
@@ -71,9 +71,9 @@ other_text true t other not_so h = cc
 other_text false true other not_so h = cc
 other_text false false other not_so h = not_so h
 
-other_digits : (s : Bool) (text : Option Hint) → text ≢ Some hint.Utf16 → cond s text (Some hint.Bytes) ≢ Some hint.Utf16
-other_digits true text not_so h = not_so h
-other_digits false text not_so h = cc
+other_digits : (s : Bool) (text : Option Hint) → text ≢ Some hint.Utf16 → cond s (Some hint.Bytes) text ≢ Some hint.Utf16
+other_digits true text not_so h = cc
+other_digits false text not_so h = not_so h
 
 other_bytes : (s t : Bool) (text : Option Hint) → text ≢ Some hint.Utf16 → cond s None (cond t (Some hint.Digits) text) ≢ Some hint.Utf16
 other_bytes true t text not_so h = cc
@@ -84,7 +84,7 @@ no_text : (front : List ℕ) (other : Option Hint) → other ≢ Some hint.Utf16
 no_text front other = other_text (slice_index front 0 == 123) (begins_dump front) other
 
 no_digits : (front : List ℕ) → of_digits front ≢ Some hint.Utf16
-no_digits front = other_digits (are_text front) (of_text front None) (no_text front None (λ h. cc h))
+no_digits front = other_digits (are_bytes front) (of_text front None) (no_text front None (λ h. cc h))
 
 no_bytes : (front : List ℕ) → of_bytes front ≢ Some hint.Utf16
 no_bytes front =

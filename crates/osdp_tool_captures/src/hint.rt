@@ -1,7 +1,7 @@
 //! Inputs that plainly are in another form than the one that they are read in.
 
 ghost use Rattle.std.specs.Prelude.{◌≡◌};
-ghost use Rattle.osdp_tool_captures.specs.Hints.{are_digits, are_text, begins_dump, begins_utf16, hint_of, is_digit, is_spread, is_text, of_bytes, of_digits, of_text};
+ghost use Rattle.osdp_tool_captures.specs.Hints.{are_bytes, are_digits, are_text, begins_dump, begins_utf16, hint_of, is_digit, is_no_text, is_spread, is_text, of_bytes, of_digits, of_text};
 
 use crate::format::Format;
 use crate::mark::without_mark;
@@ -50,6 +50,14 @@ fn is_spread(byte: u8) -> bool
     byte == b'\t' || (byte == b'\n' || byte == b'\r')
 }
 
+/// Whether a byte is of no text in UTF-8: a control character, or a byte that UTF-8 never has.
+fn is_no_text(byte: u8) -> bool
+    ensures { result ≡ is_no_text byte }
+{
+    (byte < 32 && !is_spread(byte))
+        || (byte == 127 || (byte == 0xC0 || (byte == 0xC1 || byte >= 0xF5)))
+}
+
 /// Whether a byte is a hexadecimal digit, a space, a tab or of a line's end.
 fn is_digit(byte: u8) -> bool
     ensures { result ≡ is_digit byte }
@@ -62,6 +70,13 @@ fn are_text(front: &[u8]) -> bool
     ensures { result ≡ are_text front.now }
 {
     front.iter().all(|byte| is_text(*byte))
+}
+
+/// Whether some byte is of no text.
+fn are_bytes(front: &[u8]) -> bool
+    ensures { result ≡ are_bytes front.now }
+{
+    front.iter().any(|byte| is_no_text(*byte))
 }
 
 /// Whether all bytes are digits, blanks and line ends.
@@ -102,14 +117,14 @@ fn begins_utf16(front: &[u8]) -> bool
     }
 }
 
-/// What a text is that is read as digits.
+/// What is read as digits. A text may have comments in any language.
 fn of_digits(front: &[u8]) -> Option<Hint>
     ensures { result ≡ of_digits front.now }
 {
-    if are_text(front) {
-        return of_text(front, None);
+    if are_bytes(front) {
+        return Some(Hint::Bytes);
     }
-    Some(Hint::Bytes)
+    of_text(front, None)
 }
 
 /// What bytes are.
