@@ -1,0 +1,178 @@
+#!/usr/bin/env python3
+"""Ends the panel of `python/examples/stored_panel.py` at random moments by SIGKILL, starts it again each time, and reads its journal at last. Takes a seed, if
+not 1. OSDP_LIBRARY names the library.
+
+The device is the package's own, over a pseudo terminal. It does each order at once, and writes down which. One packet in ten is lost, there and back. Cards are shown
+to it meanwhile. At last the panel isn't ended any more, until each order has an end and each card is told. Then:
+
+- The device has acted on no order twice, on each that is settled and on none that was taken back or refused, and in the order in which they were given.
+- Each order has one end, and those that are in doubt were acted on once or never.
+- Each card was told, in the order in which they were shown, and the door was opened once for each that may enter.
+- The numbers of the orders go on from each start to the next.
+
+A journal that is cut within its last line is read as if that line was never written, another one isn't read, and a second program may not write it."""
+import os
+import random
+import select
+import subprocess
+import sys
+import tempfile
+import time
+import tty
+from pathlib import Path
+
+TOP = Path(__file__).resolve().parent.parent
+sys.path.insert(0, str(TOP / "python"))
+sys.dont_write_bytecode = True
+
+import osdp  # noqa: E402
+
+PROGRAM = TOP / "python/examples/stored_panel.py"
+STARTS, LIMIT = 12, 60.0
+OUT = 0x68
+MAY_ENTER = ("12345640", "65432180")
+faults = []
+
+
+def asks(holds, what):
+    if not holds:
+        faults.append(what)
+
+
+class World:
+    """The line, the device at its end, and the panel's program, which is ended and started again."""
+
+    def __init__(self, chance, journal):
+        self.chance, self.journal = chance, journal
+        self.end, self.other = os.openpty()  # the other end stays open, so that the line does
+        tty.setraw(self.other)
+        self.device, self.acted, self.shown = osdp.Device(5, serial=1), [], []
+        self.device.set_outputs(bytes(2))
+        self.process, self.given = None, 0
+
+    def start(self):
+        self.process = subprocess.Popen([sys.executable, "-B", PROGRAM, self.journal, os.ttyname(self.other), "9600"], stdin=subprocess.PIPE, stdout=subprocess.DEVNULL)
+
+    def kill(self):
+        self.process.kill()
+        self.process.wait()
+
+    def order(self):
+        """Each order has a time of its own, by which it is told from the others."""
+        self.given += 1
+        self.process.stdin.write(f"OUT 1:5:{self.given}\n".encode())
+        self.process.stdin.flush()
+
+    def show(self):
+        """A card of its own, or one that may enter, but not twice in turn: nobody could tell that from a repeat."""
+        card = self.chance.choice([each for each in MAY_ENTER if self.shown[-1:] != [each]]) if self.chance.random() < 0.3 else f"{len(self.shown) + 1:06X}00"
+        self.device.event(f"RAW 0 0 26 {card}")
+        self.shown.append(card)
+
+    def answer(self, answers):
+        for each in answers:
+            if each.order is osdp.Order.ONCE and each.command.code == OUT:
+                self.acted.append(str(each.command))
+            if each.data and self.chance.random() >= 0.1:
+                os.write(self.end, each.data)
+
+    def turn(self):
+        """The device's turn."""
+        data = os.read(self.end, 4096) if select.select([self.end], [], [], 0.003)[0] else b""
+        now = int(time.monotonic() * 1000)
+        if data and self.chance.random() >= 0.1:
+            self.answer(self.device.hear(data, now))
+        self.answer(self.device.tick(now))
+
+    def runs(self, seconds, busy=True):
+        """The line goes on for some seconds, with orders and cards."""
+        end, next_order, next_card = time.monotonic() + seconds, 0.0, 0.0
+        while time.monotonic() < end:
+            self.turn()
+            now = time.monotonic()
+            if busy and now >= next_order:
+                self.order()
+                next_order = now + self.chance.uniform(0.02, 0.3)
+            if busy and now >= next_card:
+                self.show()
+                next_card = now + self.chance.uniform(0.05, 0.6)
+
+
+def entries(journal):
+    return [line.split(" ", 2) for line in journal.read_text().splitlines()]
+
+
+def judge(world):
+    """What the journal says, beside what the device did and was shown."""
+    lines = entries(world.journal)
+    orders = {int(words[1]): words[2] for words in lines if words[0] == "order"}
+    ends = [(int(words[1]), words[2]) for words in lines if words[0] == "end"]
+    asks(list(orders) == list(range(1, len(orders) + 1)), "the numbers of the orders don't go on")
+    asks(len(world.acted) == len(set(world.acted)) or any(text.startswith("OUT 0:") for text in world.acted), "an order was acted on twice")
+    asks(sorted(which for which, _ in ends) == list(orders), "an order has no end, or two")
+    by_time = [text for text in world.acted if text.startswith("OUT 1:")]
+    asks(len(by_time) == len(set(by_time)) and by_time == sorted(by_time, key=lambda text: int(text.split(":")[2])), "an order was acted on twice, or out of turn")
+    asks(set(world.acted) <= set(orders.values()), "an order was acted on that wasn't stored")
+    for which, how in ends:
+        times = world.acted.count(orders[which])
+        if orders[which].startswith("OUT 1:"):
+            wanted = {"settled ACK": (1,), "doubt": (0, 1), "back": (0,)}.get(how, (0,))
+            asks(times in wanted and (how in ("settled ACK", "doubt", "back") or how.startswith("refused ")), f"{orders[which]} {how} was acted on {times} times")
+    strikes = [which for which, text in orders.items() if text == "OUT 0:5:30"]
+    asks(len(strikes) == sum(card in MAY_ENTER for card in world.shown), f"{len(strikes)} orders for {sum(card in MAY_ENTER for card in world.shown)} cards that may enter")
+    asks(world.acted.count("OUT 0:5:30") <= len(strikes), "the door was opened more often than it was ordered")
+    told = [" ".join(words[1:]).split(" ")[-1] for words in lines if words[0] == "event"]
+    once = [card for at, card in enumerate(told) if told[at - 1:at] != [card]]
+    asks(once == world.shown, f"the cards told are others than those shown: {len(once)} for {len(world.shown)}")
+    return orders, ends, told
+
+
+def many_ends(chance, folder):
+    world = World(chance, Path(folder) / "journal")
+    for _ in range(STARTS):
+        world.start()
+        world.runs(chance.uniform(0.3, 2.5))
+        world.kill()
+    world.start()
+    limit = time.monotonic() + LIMIT
+    while time.monotonic() < limit:
+        world.runs(0.5, busy=False)
+        lines = entries(world.journal)
+        if sum(words[0] == "order" for words in lines) == sum(words[0] == "end" for words in lines) and not world.device.waiting():
+            break
+    world.kill()
+    asks(not world.device.waiting(), "cards still wait")
+    orders, ends, told = judge(world)
+    kinds = {how.split(" ")[0]: sum(each[1].split(" ")[0] == how.split(" ")[0] for each in ends) for _, how in ends}
+    asks(kinds.get("settled", 0) > 20 and kinds.get("doubt", 0) > 5, f"too little has happened: {kinds}")
+    print(f"stored: {len(orders)} orders {kinds}, {len(world.acted)} acted on, {len(world.shown)} cards, {len(told)} told, {STARTS + 1} starts")
+
+
+def journals(folder):
+    """What is read of a journal, and which isn't."""
+    _, other = os.openpty()
+    path = Path(folder) / "cut"
+    path.write_text("order 1 OUT 1:5:1\nevent RAW 0 0 26 12345640\nend 1 settled ACK\norder 2 OUT 1:5:2\nend 2 sett")
+    words = [sys.executable, "-B", PROGRAM, path, os.ttyname(other), "9600"]
+    process = subprocess.Popen(words, stdin=subprocess.PIPE, stdout=subprocess.PIPE, text=True)
+    asks(process.stdout.readline() == "doubt 2 OUT 1:5:2\n", "a line that is cut counts")
+    second = subprocess.run(words[:3] + [path, os.ttyname(os.openpty()[1]), "9600"], stdin=subprocess.DEVNULL, capture_output=True, text=True, check=False)
+    asks((second.returncode, second.stderr) == (3, f"another program writes the journal: {path}\n"), f"a second program writes the journal: {second}")
+    process.kill()
+    process.wait()
+    asks(path.read_text().endswith("order 2 OUT 1:5:2\nend 2 doubt\n"), "what is in doubt isn't stored")
+    path.write_text("order 1 OUT 1:5:1\nnonsense\n")
+    bad = subprocess.run(words, stdin=subprocess.DEVNULL, capture_output=True, text=True, check=False)
+    asks((bad.returncode, bad.stderr) == (3, f"the journal can't be read: {path}\n"), f"a bad journal is read: {bad}")
+
+
+def main(seed=1):
+    with tempfile.TemporaryDirectory() as folder:
+        many_ends(random.Random(int(seed)), folder)
+        journals(folder)
+    for fault in faults:
+        print(f"stored: {fault}")
+    sys.exit(bool(faults))
+
+
+main(*sys.argv[1:])
