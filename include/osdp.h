@@ -71,8 +71,8 @@
  * and in order, and each that is settled has the answer that the device gave. Events are reported once and in order, except those
  * that a restart of the device threw away, and those that its program withdrew or let lapse. No order that the panel accepted is
  * taken twice. This holds whatever calls are made, at whatever moments, and however bytes are cut. docs/HEADLINE.md has the promise
- * in full, and under "What is asked" its premises, and what a program does for each. Above all `quiet_wait` is more than twice the
- * longest time that a packet takes until it is read, and addresses are given by the rule that docs/PROTOCOL.md has.
+ * in full, and under "What is asked" its premises. docs/PROGRAMS.md has what a program does for each. Above all `quiet_wait` is more
+ * than twice the longest time that a packet takes until it is read, and addresses are given by the rule for addresses there.
  */
 #ifndef OSDP_H
 #define OSDP_H
