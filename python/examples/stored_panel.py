@@ -153,8 +153,9 @@ def main():
             else:
                 tell("refused line")
         door.begin(now)
-        port.write(door.panel.tick(now))
-        door.take_reports(now)
+        burst = door.panel.tick(now)
+        door.take_reports(now)  # before the packet goes out: by that the device may forget an event
+        port.write(burst)
 
 
 if __name__ == "__main__":
