@@ -7,7 +7,8 @@ to it meanwhile. At last the panel isn't ended any more, until each order has an
 
 - The device has acted on no order twice, on each that is settled and on none that was taken back or refused, and in the order in which they were given.
 - Each order has one end, and those that are in doubt were acted on once or never.
-- Each card was told, in the order in which they were shown, and the door was opened once for each that may enter.
+- Each card was told, in the order in which they were shown, and the door was ordered once at most for each that may enter, and not at all only where the panel was
+  ended between a card and its order.
 - The numbers of the orders go on from each start to the next.
 
 A journal that is cut within its last line is read as if that line was never written, another one isn't read, and a second program may not write it."""
@@ -28,7 +29,8 @@ sys.dont_write_bytecode = True
 import osdp  # noqa: E402
 
 PROGRAM = TOP / "python/examples/stored_panel.py"
-STARTS, LIMIT = 12, 60.0
+ENDS, MOST, LIMIT = 12, 60, 60.0  # the panel is ended so often at least, and at most; seconds after which what is waited for has failed to come
+SETTLED, DOUBTED = 40, 6  # so many orders are wanted at least
 OUT = 0x68
 MAY_ENTER = ("12345640", "65432180")
 faults = []
@@ -48,9 +50,10 @@ class World:
         tty.setraw(self.other)
         self.device, self.acted, self.shown = osdp.Device(5, serial=1), [], []
         self.device.set_outputs(bytes(2))
-        self.process, self.given = None, 0
+        self.process, self.given, self.is_heard, self.ended = None, 0, False, 0
 
     def start(self):
+        self.is_heard = False
         self.process = subprocess.Popen([sys.executable, "-B", PROGRAM, self.journal, os.ttyname(self.other), "9600"], stdin=subprocess.PIPE, stdout=subprocess.DEVNULL)
 
     def kill(self):
@@ -80,6 +83,7 @@ class World:
         """The device's turn."""
         data = os.read(self.end, 4096) if select.select([self.end], [], [], 0.003)[0] else b""
         now = int(time.monotonic() * 1000)
+        self.is_heard = self.is_heard or bool(data)
         if data and self.chance.random() >= 0.1:
             self.answer(self.device.hear(data, now))
         self.answer(self.device.tick(now))
@@ -108,7 +112,6 @@ def judge(world):
     orders = {int(words[1]): words[2] for words in lines if words[0] == "order"}
     ends = [(int(words[1]), words[2]) for words in lines if words[0] == "end"]
     asks(list(orders) == list(range(1, len(orders) + 1)), "the numbers of the orders don't go on")
-    asks(len(world.acted) == len(set(world.acted)) or any(text.startswith("OUT 0:") for text in world.acted), "an order was acted on twice")
     asks(sorted(which for which, _ in ends) == list(orders), "an order has no end, or two")
     by_time = [text for text in world.acted if text.startswith("OUT 1:")]
     asks(len(by_time) == len(set(by_time)) and by_time == sorted(by_time, key=lambda text: int(text.split(":")[2])), "an order was acted on twice, or out of turn")
@@ -119,7 +122,8 @@ def judge(world):
             wanted = {"settled ACK": (1,), "doubt": (0, 1), "back": (0,)}.get(how, (0,))
             asks(times in wanted and (how in ("settled ACK", "doubt", "back") or how.startswith("refused ")), f"{orders[which]} {how} was acted on {times} times")
     strikes = [which for which, text in orders.items() if text == "OUT 0:5:30"]
-    asks(len(strikes) == sum(card in MAY_ENTER for card in world.shown), f"{len(strikes)} orders for {sum(card in MAY_ENTER for card in world.shown)} cards that may enter")
+    may = sum(card in MAY_ENTER for card in world.shown)
+    asks(may - world.ended <= len(strikes) <= may, f"{len(strikes)} orders for {may} cards that may enter")  # none where the panel was ended between both lines
     asks(world.acted.count("OUT 0:5:30") <= len(strikes), "the door was opened more often than it was ordered")
     told = [" ".join(words[1:]).split(" ")[-1] for words in lines if words[0] == "event"]
     once = [card for at, card in enumerate(told) if told[at - 1:at] != [card]]
@@ -127,12 +131,25 @@ def judge(world):
     return orders, ends, told
 
 
+def ends_of(journal, how):
+    return sum(words[0] == "end" and words[2].startswith(how) for words in entries(journal))
+
+
+def is_enough(journal):
+    """Whether enough has happened."""
+    return ends_of(journal, "settled") >= SETTLED and ends_of(journal, "doubt") >= DOUBTED
+
+
 def many_ends(chance, folder):
     world = World(chance, Path(folder) / "journal")
-    for _ in range(STARTS):
+    while world.ended < MOST and (world.ended < ENDS or not is_enough(world.journal)):
         world.start()
-        world.runs(chance.uniform(0.3, 2.5))
+        limit = time.monotonic() + LIMIT
+        while not world.is_heard and time.monotonic() < limit:  # until the panel is there
+            world.turn()
+        world.runs(chance.uniform(0.0, 2.5))
         world.kill()
+        world.ended += 1
     world.start()
     limit = time.monotonic() + LIMIT
     while time.monotonic() < limit:
@@ -142,10 +159,10 @@ def many_ends(chance, folder):
             break
     world.kill()
     asks(not world.device.waiting(), "cards still wait")
-    orders, ends, told = judge(world)
-    kinds = {how.split(" ")[0]: sum(each[1].split(" ")[0] == how.split(" ")[0] for each in ends) for _, how in ends}
-    asks(kinds.get("settled", 0) > 20 and kinds.get("doubt", 0) > 5, f"too little has happened: {kinds}")
-    print(f"stored: {len(orders)} orders {kinds}, {len(world.acted)} acted on, {len(world.shown)} cards, {len(told)} told, {STARTS + 1} starts")
+    orders, all_ends, told = judge(world)
+    kinds = {kind: ends_of(world.journal, kind) for kind in sorted({how.split(" ")[0] for _, how in all_ends})}
+    asks(is_enough(world.journal), f"too little has happened: {kinds}")
+    print(f"stored: {len(orders)} orders {kinds}, {len(world.acted)} acted on, {len(world.shown)} cards, {len(told)} told, ended {world.ended} times")
 
 
 def journals(folder):
