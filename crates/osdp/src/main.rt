@@ -8,8 +8,8 @@ use osdp_line_calls::{LineCommand, LineDevice, LineRun, OrderedPanel, run_lines}
 use osdp_tool::{
     Choice, Job, VERSION, arguments, choose, format_of, help_text, job, lent, make, without_formats,
 };
-use osdp_tool_inputs::{Reads, do_all, read_words};
 use osdp_tool_captures::{Format, Unmarked};
+use osdp_tool_inputs::{Reads, do_all, read_words};
 use osdp_tool_plan::plan;
 use osdp_tool_script::script;
 use osdp_tool_sim::sim;
