@@ -3,6 +3,9 @@
 
 mod wrong;
 
+ghost use Rattle.std.specs.Prelude.{◌≡◌, false};
+ghost use Rattle.osdp_tool_streams.specs.Watched.{has_failed};
+
 use crate::wrong::{after_name, tell_wrong};
 use osdp_line_calls::{LineCommand, LineDevice, LineRun, OrderedPanel, run_lines};
 use osdp_tool::{
@@ -27,7 +30,9 @@ fn print(rt: &HostRuntime, text: &str) -> Result<(), ToolFault> {
 }
 
 /// The lines of standard input, without the mark that an editor may have put in front of them.
-fn lines_in(rt: &HostRuntime) -> Watched<Unmarked<Stdin>> {
+fn lines_in(rt: &HostRuntime) -> Watched<Unmarked<Stdin>>
+    ensures { has_failed result ≡ false }
+{
     Watched::new(Unmarked::new(Format::Digits, rt.stdin()))
 }
 
