@@ -50,7 +50,7 @@ const char *osdp_status_text(osdp_status status)
     case OSDP_ADDRESS_OUT_OF_RANGE:
         return "no device has an address above 126";
     case OSDP_COMMANDS_FULL:
-        return "as many commands wait as there is room for";
+        return "no more commands may wait now: there is no room, or a COMSET may not go out yet";
     case OSDP_POLL_SUBMITTED:
         return "a POLL can't be submitted";
     case OSDP_NOT_CLOSED:

@@ -36,7 +36,8 @@
  *             stops. docs/SIZES.md has all of these numbers.
  * Stack.      Each call takes at most 4 KiB of stack, except that `osdp_monitor_bytes` takes at most 5, and `osdp_panel_new` and
  *             `osdp_monitor_new` at most 6. What a heap over malloc takes of the stack is counted in. This was measured and counted on
- *             64-bit x86.
+ *             64-bit x86, in a program that is linked with `-z now`. One that binds calls of the C library late takes some 3 KiB more
+ *             at the first of each.
  * Targets.    The archive is built for 64-bit x86 and ARM. For 32-bit ARM, RISC-V, x86 and WebAssembly, and for 64-bit ARM,
  *             `tools/retarget` lowers the proved module of 64-bit x86: what it makes is tested, and not proved. On a 32-bit target a
  *             count or a length is an `osdp_size`, of 64 bits.
@@ -471,7 +472,8 @@ struct osdp_text {
  * Each reads the fields of one kind of reply, such as the `reply` of a report, and writes them to the struct.
  *
  * OSDP_OTHER_MESSAGE: it is a reply of another kind. OSDP_UNKNOWN_CODE (M1), OSDP_BAD_LENGTH (M2), OSDP_BAD_COUNT (M3): it is no reply. Nothing is written
- * in any of these cases. Where `present` is 0 the code is 0, which no reply has, so the call gives OSDP_UNKNOWN_CODE.
+ * in any of these cases. Where `present` is 0 the code is 0, which no reply has, so the call gives OSDP_UNKNOWN_CODE. The struct has no more than 1,432
+ * bytes of data, so a `length` above that, which no call of the library writes, counts as 1,432.
  */
 OSDP_CHECKED osdp_status osdp_raw_of(const struct osdp_message *reply, struct osdp_raw *raw);
 OSDP_CHECKED osdp_status osdp_formatted_of(const struct osdp_message *reply, struct osdp_formatted *formatted);
@@ -794,8 +796,8 @@ OSDP_CHECKED osdp_status osdp_panel_begin(osdp_panel *panel, osdp_size entry, ui
 OSDP_CHECKED static inline osdp_status osdp_panel_submit(osdp_panel *panel, osdp_size entry, uint8_t code, const uint8_t *data, osdp_size length);
 
 /*
- * As `osdp_panel_submit`, for the text of a command, such as `OUT 0:5:30`. One or more spaces stand between two words. The text ends after `length` bytes,
- * and needs no zero.
+ * As `osdp_panel_submit`, for the text of a command, such as `OUT 0:5:30`. One or more spaces stand between two words, and spaces may stand at both ends. The
+ * text ends after `length` bytes, and needs no zero; a line feed is no part of it.
  *
  * OSDP_NO_MACHINE. OSDP_BAD_TEXT: it is the text of no command. The others are those of `osdp_panel_submit`, without M1 to M3.
  */
