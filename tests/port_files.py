@@ -1,4 +1,4 @@
-"""The files of `osdp-port`: a full disk, files that other programs change or move, two panels with one file, and words that a file contradicts. Takes the path
+"""The files of `osdp-port`: a full disk, files that other programs change or move, two panels or readers with one file, and words that a file contradicts. Takes the path
 of `osdp`, and the parts to run; all of them without."""
 import os
 import resource
@@ -143,6 +143,22 @@ def linked_file():
         asks(why is None and keep.is_symlink() and far.read_text() == "7 19200\n" and far.stat().st_mode & 0o777 == 0o640, f"linked file: {why}, {far.read_text()!r}")
 
 
+def two_readers():
+    """A file in which a reader keeps its place is refused to a second one while that runs, also where it wasn't there as both began."""
+    with tempfile.TemporaryDirectory() as folder:
+        keep = Path(folder) / "place"
+        first, second = ReaderPlace(str(keep)), ReaderPlace(str(keep))
+        asks(first.read() is None and second.read() is None and first.keep("7 19200") is None, "two readers: a new file isn't kept")
+        asks(second.keep("5 9600") == f"another reader keeps its place in {keep}" and keep.read_text() == "7 19200\n", f"two readers: the second one writes {keep.read_text()!r}")
+        asks(first.keep("8 19200") is None and keep.read_text() == "8 19200\n", "two readers: the first one writes no more")
+        terminal = Terminal()
+        done = ends("--keep", keep, terminal.path, 9600, "reader", 5)
+        asks(done.returncode == 3 and f"another reader keeps its place in {keep}: name another file" in done.stderr, f"two readers: {done}")
+        first.held.close()
+        asks(second.keep("5 9600") is None and keep.read_text() == "5 9600\n", "two readers: the file of one that has ended is refused")
+        terminal.close()
+
+
 def kept_rate():
     """A file with a rate that the port hasn't is named."""
     with tempfile.TemporaryDirectory() as folder:
@@ -163,7 +179,7 @@ def address_twice():
     terminal.close()
 
 
-PARTS = (full_disk, moved_trace, files_of_lines, strange_ports, changed_file, unwritten_file, linked_file, kept_rate, address_twice)
+PARTS = (full_disk, moved_trace, files_of_lines, strange_ports, changed_file, unwritten_file, linked_file, two_readers, kept_rate, address_twice)
 
 
 def main(path, *names):

@@ -1,5 +1,6 @@
 """The files that keep, while there is no power, where devices stand: one of a panel, and one of a reader."""
 import contextlib
+import fcntl
 import os
 import re
 import stat
@@ -56,16 +57,36 @@ def kept_text(path):
 
 
 class ReaderPlace:
-    """A reader's address and rate: one line with both numbers."""
+    """A reader's address and rate: one line with both numbers. The file is held while the program runs, so two readers don't write their places into one."""
 
     def __init__(self, path):
-        self.path = path
+        self.path, self.held = path, None
+
+    def hold(self):
+        """Holds the file, where it is there. Whether no other reader does."""
+        try:
+            file = open(self.path, encoding="ascii")
+        except FileNotFoundError:
+            return True
+        if self.held and os.path.sameopenfile(file.fileno(), self.held.fileno()):
+            return True
+        try:
+            fcntl.flock(file, fcntl.LOCK_EX | fcntl.LOCK_NB)
+        except BlockingIOError:
+            return False
+        self.held = file
+        return True
+
+    def others(self):
+        return f"another reader keeps its place in {self.path}"
 
     def read(self):
-        """The place; none where nothing was kept yet."""
+        """The place; none where nothing was kept yet. Refused is the file of another reader that runs."""
         text = kept_text(self.path)
         if text is None:
             return None
+        if not self.hold():
+            raise Stop(f"{self.others()}: name another file")
         lines = text.splitlines()
         words = lines[0].split() if len(lines) == 1 else []
         if len(words) != 2 or not (is_number(words[0], 0, 126) and is_number(words[1], 1, 4000000)):
@@ -75,7 +96,10 @@ class ReaderPlace:
     def keep(self, place):
         """Keeps a place. Why it isn't kept; none where it is."""
         try:
+            if not self.hold():
+                return self.others()
             write_whole(self.path, f"{place}\n")
+            self.hold()  # the new file
         except OSError as error:
             return f"{self.path} can't be written: {error.strerror}"
         return None
