@@ -1,6 +1,6 @@
 #!/usr/bin/env python3
-"""Ends the panel of `python/examples/stored_panel.py` at random moments by SIGKILL, starts it again each time, and reads its journal at last. Takes a seed, if
-not 1. OSDP_LIBRARY names the library.
+"""Ends a panel that stores its orders and reports at random moments by SIGKILL, starts it again each time, and reads its journal at last. Takes a seed and the
+program, `examples/c/stored_panel`; without it that is `python/examples/stored_panel.py`. OSDP_LIBRARY names the library.
 
 The device is the package's own, over a pseudo terminal. It does each order at once, and writes down which. One packet in ten is lost, there and back. Cards are shown
 to it meanwhile. At last the panel isn't ended any more, until each order has an end and each card is told. Then:
@@ -28,11 +28,11 @@ sys.dont_write_bytecode = True
 
 import osdp  # noqa: E402
 
-PROGRAM = TOP / "python/examples/stored_panel.py"
 ENDS, MOST, LIMIT = 12, 60, 60.0  # the panel is ended so often at least, and at most; seconds after which what is waited for has failed to come
 SETTLED, DOUBTED = 40, 6  # so many orders are wanted at least
 OUT = 0x68
 MAY_ENTER = ("12345640", "65432180")
+program = [sys.executable, "-B", TOP / "python/examples/stored_panel.py"]
 faults = []
 
 
@@ -54,7 +54,7 @@ class World:
 
     def start(self):
         self.is_heard = False
-        self.process = subprocess.Popen([sys.executable, "-B", PROGRAM, self.journal, os.ttyname(self.other), "9600"], stdin=subprocess.PIPE, stdout=subprocess.DEVNULL)
+        self.process = subprocess.Popen([*program, self.journal, os.ttyname(self.other), "9600"], stdin=subprocess.PIPE, stdout=subprocess.DEVNULL)
 
     def kill(self):
         self.process.kill()
@@ -162,7 +162,7 @@ def many_ends(chance, folder):
     orders, all_ends, told = judge(world)
     kinds = {kind: ends_of(world.journal, kind) for kind in sorted({how.split(" ")[0] for _, how in all_ends})}
     asks(is_enough(world.journal), f"too little has happened: {kinds}")
-    print(f"stored: {len(orders)} orders {kinds}, {len(world.acted)} acted on, {len(world.shown)} cards, {len(told)} told, ended {world.ended} times")
+    print(f"stored, {Path(program[-1]).name}: {len(orders)} orders {kinds}, {len(world.acted)} acted on, {len(world.shown)} cards, {len(told)} told, ended {world.ended} times")
 
 
 def journals(folder):
@@ -170,10 +170,10 @@ def journals(folder):
     _, other = os.openpty()
     path = Path(folder) / "cut"
     path.write_text("order 1 OUT 1:5:1\nevent RAW 0 0 26 12345640\nend 1 settled ACK\norder 2 OUT 1:5:2\nend 2 sett")
-    words = [sys.executable, "-B", PROGRAM, path, os.ttyname(other), "9600"]
+    words = [*program, path, os.ttyname(other), "9600"]
     process = subprocess.Popen(words, stdin=subprocess.PIPE, stdout=subprocess.PIPE, text=True)
     asks(process.stdout.readline() == "doubt 2 OUT 1:5:2\n", "a line that is cut counts")
-    second = subprocess.run(words[:3] + [path, os.ttyname(os.openpty()[1]), "9600"], stdin=subprocess.DEVNULL, capture_output=True, text=True, check=False)
+    second = subprocess.run([*program, path, os.ttyname(os.openpty()[1]), "9600"], stdin=subprocess.DEVNULL, capture_output=True, text=True, check=False)
     asks((second.returncode, second.stderr) == (3, f"another program writes the journal: {path}\n"), f"a second program writes the journal: {second}")
     process.kill()
     process.wait()
@@ -183,7 +183,9 @@ def journals(folder):
     asks((bad.returncode, bad.stderr) == (3, f"the journal can't be read: {path}\n"), f"a bad journal is read: {bad}")
 
 
-def main(seed=1):
+def main(seed=1, path=None):
+    global program
+    program = [path] if path else program
     with tempfile.TemporaryDirectory() as folder:
         many_ends(random.Random(int(seed)), folder)
         journals(folder)
