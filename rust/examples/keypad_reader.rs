@@ -9,7 +9,6 @@ use osdp::{
 };
 use port::{Came, Port, run_on_port};
 use std::error::Error;
-use std::io::{self, Write};
 use std::process::ExitCode;
 use std::time::Duration;
 
@@ -49,7 +48,7 @@ impl Reader {
         &mut self,
         answer: Answer<'_>,
         now: Moment,
-    ) -> io::Result<Option<DeviceAnswer<'static>>> {
+    ) -> std::io::Result<Option<DeviceAnswer<'static>>> {
         if let Some(Order::Once(command)) = answer.order() {
             for record in command.outputs() {
                 let time = Duration::from_millis(100) * u32::from(record.timer);
@@ -80,13 +79,6 @@ impl Reader {
                 None => {}
             }
         }
-    }
-}
-
-/// Where the port is gone, or a call fails, the relay goes off: nobody else would switch it. (A program that is ended by a signal does nothing more.)
-impl Drop for Reader {
-    fn drop(&mut self) {
-        let _ = writeln!(io::stdout(), "relay off"); // its reader may be gone
     }
 }
 
@@ -131,5 +123,8 @@ fn run(mut port: Port) -> Done {
 }
 
 fn main() -> ExitCode {
-    run_on_port("keypad_reader", run)
+    // However it ends, the relay goes off: nobody else would switch it.
+    run_on_port("keypad_reader", |port| {
+        run(port).inspect_err(|_| println!("relay off"))
+    })
 }
