@@ -411,18 +411,21 @@ class Trial:
         return tuple(it for it in self.tools.USES if it in (self.crate, over) or it in self.tools.below(over) and self.crate in self.tools.below(it))
 
     def above_in(self, over, edit):
-        """Returns the functions of a crate above whose contracts, or those of their traits, reach a definition, the shortest proofs first."""
+        """Returns the functions of a crate above whose contracts, or those of their traits, reach a definition, and its laws that call a law of this crate whose
+        contract does; the shortest proofs first."""
         if self.crate not in self.tools.below(over) or over.endswith("_tests") or not (names := self.log_of(over)):
             return []
         words = self.words_over(edit.unit.name.partition(".")[0])
         definitions, functions = citing(over)
         named = re.compile(rf"Rattle\.{self.crate}\.specs\.[\w.]+\.\{{([^}}]*)\}}|\b{self.crate}::([\w:]+(?:\{{[^}}]*\}})?)")
         taken = {word for text in texts_of(over) for it in named.findall(text) for word in re.findall(r"[^\W\d][\w'-]*", " ".join(it))} & words
-        if not taken:
+        laws = {unit.name for _, unit, contract, _ in citing(self.crate)[1] if generated.is_law(unit) and words & contract}
+        callers = {name for path, unit, _, body in functions if generated.is_law(unit) and self.crate in body and laws & body for name in self.named(path, unit, names)}
+        if not taken and not callers:
             return []
         while more := {name for name, cited in definitions.items() if cited & taken} - taken:
             taken |= more
-        found = {name for path, unit, contract, _ in functions if taken & contract for name in self.named(path, unit, names)}
+        found = callers | {name for path, unit, contract, _ in functions if taken & contract for name in self.named(path, unit, names)}
         found |= {name for name in names for it in taken if re.search(rf"\w{it}::\w+$", name)}
         size = {name: sum(os.path.getsize(f"{at}/{it}") for at, _, files in os.walk(f"{generated.TOP}/crates/{over}/proofs/{name.replace('::', '/')}") for it in files) for name in found}
         return sorted(found, key=size.get)[:8]
