@@ -11,6 +11,7 @@
 #include <sys/file.h>
 #include <unistd.h>
 
+#include "kept.h"
 #include "words.h"
 
 #define LINE 8300 /* how many bytes a line has at most: a text has 6,144 */
@@ -108,22 +109,6 @@ static long read_lines(FILE *text)
     return ferror(text) ? -1 : end;
 }
 
-/* Writes to the disk that the folder of a file has that file. */
-static void keep_name(const char *path)
-{
-    char *folder = strdup(path);
-    char *end = folder != NULL ? strrchr(folder, '/') : NULL;
-    if (end != NULL) {
-        end[end == folder] = '\0';
-    }
-    int opened = open(end != NULL ? folder : ".", O_RDONLY);
-    if (opened >= 0) {
-        (void)fsync(opened);
-        close(opened);
-    }
-    free(folder);
-}
-
 void open_journal(const char *path)
 {
     file = open(path, O_RDWR | O_CREAT | O_APPEND, 0666);
@@ -138,7 +123,12 @@ void open_journal(const char *path)
     if (end < 0 || ftruncate(file, end) != 0 || fsync(file) != 0) {
         stop(FAILED, "the journal can't be read: %s", path);
     }
-    keep_name(path);
+    char *copy = strdup(path);
+    if (copy == NULL) {
+        stop(OUT_OF_MEMORY, "out of memory");
+    }
+    note_folder(copy);
+    free(copy);
 }
 
 /* Writes a line whole, with its line feed. */

@@ -41,8 +41,7 @@ static bool write_new(const char *path, const char *text)
     return fclose(file) == 0 && written;
 }
 
-/* Writes to the disk that the folder of a file has that file. */
-static void note_folder(char *path)
+void note_folder(char *path)
 {
     char *end = strrchr(path, '/');
     if (end != NULL) {

@@ -54,6 +54,9 @@ struct place place_of(const struct stand *stand);
 /* Takes the place that is in use after the others: of two places each is tried in its turn. */
 void try_place(struct stand *stand, struct place place);
 
+/* Writes to the disk that the folder of a file has that file. The path is cut. */
+void note_folder(char *path);
+
 /* Whether a device is the one that stood here before, as far as that is known. */
 bool is_same(const struct stand *stand, const struct osdp_pd_id *id);
 

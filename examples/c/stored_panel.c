@@ -111,7 +111,7 @@ static void take_reports(uint64_t now)
     while (osdp_panel_next_report(&panel, &report) == OSDP_OK && report.kind != OSDP_REPORT_NONE) {
         if (report.kind == OSDP_REPORT_SETTLED) {
             settled(&report);
-        } else if (report.kind == OSDP_REPORT_UNREAD) {
+        } else if (report.kind == OSDP_REPORT_UNREAD && report.command.present) { /* none where a POLL was answered so */
             ended("doubt", NULL);
         } else if (report.kind == OSDP_REPORT_EVENT) {
             take_event(&report);

@@ -101,14 +101,14 @@ class Door:
         for report in self.panel.reports():
             if report.kind is osdp.Kind.SETTLED:
                 self.ended(f"settled {report.reply}", report.reply)
-            elif report.kind is osdp.Kind.UNREAD:
+            elif report.kind is osdp.Kind.UNREAD and report.command:  # none where a POLL was answered so
                 self.ended("doubt", None)
             elif report.kind is osdp.Kind.EVENT:
                 self.event(report)
             elif report.kind in (osdp.Kind.LOST, osdp.Kind.MOVED):
                 self.lost(report, now)
             else:
-                tell(f"{report.kind.name.lower()} {report.reply}")
+                tell(f"{report.kind.name.lower()} {report.reply or ''}".strip())
             if report.kind is osdp.Kind.OPENED:
                 self.ask()
 
