@@ -38,7 +38,7 @@ ASKED = {
         (("osdp_link_laws::asked::fitting_is_exact", "osdp_link_laws::asked::leaving_is_exact", "osdp_link_laws::asked::each_is_asked", "osdp_link_laws::asked::readers_hear_on"),
          ("osdp_shared_line::first_rounds::rounds_happen", "osdp_shared_line::promises::each_refuses_no_number", "osdp_shared_line::each_is_a_link", "osdp_link_laws::refuses_no_number"),
          ("osdp_line_ledger::each_acts_by_one_handler", "osdp_line_ledger::each_ordinary_ends_told", "osdp_shared_line::progress::each_comes_through", "osdp_link_laws::comes_through")),
-        {"Headline": ("MaySubmit", "SaysWhatFits", "SaysWhatFitsIf", "MoveFits", "MovesFit", "Begins"), "Addresses": ("SetsNoOther",), "OneHandler": ("KeepsHandler", "KeepsDevice", "KeepHandler"),
+        {"Beginning": ("MaySubmit", "SaysWhatFits", "SaysWhatFitsIf", "MoveFits", "MovesFit", "Begins"), "Addresses": ("SetsNoOther",), "OneHandler": ("KeepsHandler", "KeepsDevice", "KeepHandler"),
          "Ordinary": ("IsOrdinary", "IsSteady"), "Refusals": ("KeepsReader", "IsNoRefusal"),
          "Progress": ("IsClear", "AreClear", "SetsNoAddress", "NoComset", "HearsOn", "AreDue", "AreLate")},
     ),

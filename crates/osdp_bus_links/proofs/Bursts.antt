@@ -1,5 +1,5 @@
 -- A run of bytes that comes to a bus, and is over: what it holds is heard by the first controller at its address.
-use Rattle.osdp_bus_links.proofs.Common.{◌≡◌, ◌⊎◌, All, ◌+◌, ℕ, zero, suc, max, Bool, true, false, cond, List, [], ◌∷◌, ◌++◌, map, Some, None, refl, sym, subst, ap, ◌∙◌, inl, inr, arith, eqb_tells, append-nil, slice_get, slice_set, Packet, silent_frame, first_from, is_at, after_silence, hears_at, hears_bytes, hears_items, hears_packet, hears_with, nothing_silent, IsPlainlySaid, each_of, heard_so, Site, changed, first_gets, gets, site_at, HearsAsAMove, IsHeard, IsNoRefusalOf, TellsEach, device_of, heard}
+use Rattle.osdp_bus_links.proofs.Common.{◌≡◌, ◌⊎◌, All, ◌+◌, ℕ, zero, suc, max, Bool, true, false, cond, List, [], ◌∷◌, ◌++◌, map, Option, Some, None, refl, sym, subst, ap, ◌∙◌, inl, inr, arith, eqb_tells, append-nil, slice_get, slice_set, Packet, Report, silent_frame, first_from, is_at, after_silence, hears_at, hears_bytes, hears_items, hears_packet, hears_with, nothing_silent, IsPlainlySaid, each_of, heard_so, Site, changed, first_gets, gets, site_at, HearsAsAMove, IsHeard, IsNoRefusalOf, TellsEach, device_of, heard, told_by_first}
 use Rattle.osdp_frame.specs.Bytes.{AreBytes}
 use Rattle.osdp_frame.specs.Items.{items, left_over, packets_in, reading, whole_packets}
 use Rattle.osdp_frame.specs.Reading.{RunItem, PacketItem, SkippedItem, RefusedItem}
@@ -61,12 +61,12 @@ module _ {H : Type 0} (ends : EndsAreTold) where
 
   abbrev Found : Packet → ℕ → ℕ → List (Site H) → Type 0
   Found p now at ss =
-      ((first_from at (is_at p.address) (map device_of ss) ≡ None) × (first_gets p now ss ≡ ss))
+      ((first_from at (is_at p.address) (map device_of ss) ≡ None) × (first_gets p now ss ≡ ss) × (told_by_first at p now ss ≡ None))
       ⊎ ((k : ℕ) × (s : Site H) × (first_from at (is_at p.address) (map device_of ss) ≡ Some (at + k)) × (site_at k ss ≡ Some s)
-      × (first_gets p now ss ≡ changed k (gets p now s) ss))
+      × (first_gets p now ss ≡ changed k (gets p now s) ss) × (told_by_first at p now ss ≡ waiting_after (at + k) (devices.told_of p now (device_of s)) None))
 
   found : (p : Packet) (now at : ℕ) (ss : List (Site H)) → Found p now at ss
-  found p now at [] = inl (refl, refl)
+  found p now at [] = inl (refl, refl, refl)
   found p now at (s ∷ ss) =
       elim (eqb_tells (line.address_of s) p.address) [
         | inl here ↦
@@ -77,13 +77,16 @@ module _ {H : Type 0} (ends : EndsAreTold) where
               ap (λ b. cond b (Some at) (first_from (at + 1) (is_at p.address) (map device_of ss))) here.0 ∙ ap Some first,
               refl,
               ap (λ b. cond b (gets p now s ∷ ss) (s ∷ first_gets p now ss)) here.0,
+              ap (λ b. cond b (waiting_after at (devices.told_of p now (device_of s)) None) (told_by_first (at + 1) p now ss)) here.0
+                  ∙ ap (λ m. waiting_after m (devices.told_of p now (device_of s)) None) first,
             )
         | inr other ↦ elim (found p now (at + 1) ss) [
           | inl none ↦ inl (
             ap (λ b. cond b (Some at) (first_from (at + 1) (is_at p.address) (map device_of ss))) other.0 ∙ none.0,
             ap (λ b. cond b (gets p now s ∷ ss) (s ∷ first_gets p now ss)) other.0 ∙ ap (λ us. s ∷ us) none.1,
+            ap (λ b. cond b (waiting_after at (devices.told_of p now (device_of s)) None) (told_by_first (at + 1) p now ss)) other.0 ∙ none.2,
           )
-          | inr (k, t, some, is, got) ↦
+          | inr (k, t, some, is, got, told) ↦
               let next : at + 1 + k ≡ at + suc k = omega arith in
               inr (
                 suc k,
@@ -91,31 +94,37 @@ module _ {H : Type 0} (ends : EndsAreTold) where
                 ap (λ b. cond b (Some at) (first_from (at + 1) (is_at p.address) (map device_of ss))) other.0 ∙ some ∙ ap Some next,
                 is,
                 ap (λ b. cond b (gets p now s ∷ ss) (s ∷ first_gets p now ss)) other.0 ∙ ap (λ us. s ∷ us) got,
+                ap (λ b. cond b (waiting_after at (devices.told_of p now (device_of s)) None) (told_by_first (at + 1) p now ss)) other.0 ∙ told
+                    ∙ ap (λ m. waiting_after m (devices.told_of p now (device_of t)) None) next,
               )
         ]
       ]
 
-  record Hears (Plain : Type 0) (ds : Devices) (ss next : List (Site H)) : Type 0 where
+  record Hears (Plain : Type 0) (report : Option (ℕ × Report)) (ds : Devices) (ss next : List (Site H)) : Type 0 where
     entries : ds.entries ≡ map device_of next
+    report_is : ds.report ≡ report
     told : TellsEach ds.report [] ss next
     plain : Plain → IsNoRefusalOf ds.report
 
   packet_heard : (p : Packet) (now : ℕ) (ds : Devices) (ss : List (Site H)) → ds.entries ≡ map device_of ss → ds.report ≡ None
-      → Hears (IsPlainlySaid p) (hears_packet p now ds) ss (first_gets p now ss)
+      → Hears (IsPlainlySaid p) (told_by_first 0 p now ss) (hears_packet p now ds) ss (first_gets p now ss)
   packet_heard p now ds ss entries report =
       elim (found p now 0 ss) [
         | inl none ↦
-            subst (λ o. Hears (IsPlainlySaid p) (hears_at p now o ds) ss (first_gets p now ss)) (sym (ap (first_from 0 (is_at p.address)) entries ∙ none.0))
-            (subst (Hears (IsPlainlySaid p) ds ss) (sym none.1) (record {
+            subst (λ o. Hears (IsPlainlySaid p) (told_by_first 0 p now ss) (hears_at p now o ds) ss (first_gets p now ss)) (sym (ap (first_from 0 (is_at p.address)) entries ∙ none.0))
+            (subst (Hears (IsPlainlySaid p) (told_by_first 0 p now ss) ds ss) (sym none.1) (record {
               entries = entries;
+              report_is = report ∙ sym none.2;
               told = subst (λ o. TellsEach o [] ss ss) (sym report) (told_nothing ss);
               plain = λ said. subst IsNoRefusalOf (sym report) tt;
             }))
-        | inr (k, s, some, is, got) ↦
+        | inr (k, s, some, is, got, tells) ↦
             let here : 0 + k ≡ k = omega arith in
-            subst (λ o. Hears (IsPlainlySaid p) (hears_at p now o ds) ss (first_gets p now ss)) (sym (ap (first_from 0 (is_at p.address)) entries ∙ some ∙ ap Some here))
-            (subst (λ d. Hears (IsPlainlySaid p) (hears_with p now k d ds) ss (first_gets p now ss)) (sym (ap (λ es. slice_get es k) entries ∙ get_device k s ss is))
-            (subst (Hears (IsPlainlySaid p) (hears_with p now k (Some (device_of s)) ds) ss) (sym got) (record {
+            subst (λ o. Hears (IsPlainlySaid p) (told_by_first 0 p now ss) (hears_at p now o ds) ss (first_gets p now ss)) (sym (ap (first_from 0 (is_at p.address)) entries ∙ some ∙ ap Some here))
+            (subst (λ d. Hears (IsPlainlySaid p) (told_by_first 0 p now ss) (hears_with p now k d ds) ss (first_gets p now ss)) (sym (ap (λ es. slice_get es k) entries ∙ get_device k s ss is))
+            (subst (Hears (IsPlainlySaid p) (told_by_first 0 p now ss) (hears_with p now k (Some (device_of s)) ds) ss) (sym got) (record {
+              report_is = ap (waiting_after k (devices.told_of p now (device_of s))) report
+                  ∙ sym (tells ∙ ap (λ m. waiting_after m (devices.told_of p now (device_of s)) None) here);
               entries = ap (λ es. slice_set es k (devices.entry_hears p now (device_of s))) entries
                   ∙ ap (λ r. slice_set (map device_of ss) k (record { controller = controllers.after_frame p now s.controller; reserved = r }))
                   (freed_same (devices.told_of p now (device_of s)) s.reserved)
@@ -124,8 +133,6 @@ module _ {H : Type 0} (ends : EndsAreTold) where
                   (told_one k (devices.told_of p now (device_of s)) s (gets p now s) ss is (record {
                     reader = refl;
                     coming = sym (append-nil s.coming);
-                    account = refl;
-                    earlier = refl;
                     closes = (ends now s.controller.session).closed_by_frame p;
                     once = silent_frame p now s.controller.session;
                   }));
@@ -134,25 +141,33 @@ module _ {H : Type 0} (ends : EndsAreTold) where
             })))
       ]
 
-  as_heard : (b : BusState) (now : ℕ) (bytes : List ℕ) (ss next : List (Site H)) → Hears (All IsPlainlySaid (packets_in bytes)) (heard bytes now b).devices ss next
-      → IsHeard b now bytes ss next
-  as_heard b now bytes ss next h = record { bus = record { entries = h.entries; held = refl; report = refl }; told = h.told; plain = h.plain }
+  as_heard : (b : BusState) (now : ℕ) (bytes : List ℕ) (report : Option (ℕ × Report)) (ss next : List (Site H))
+      → Hears (All IsPlainlySaid (packets_in bytes)) report (heard bytes now b).devices ss next → IsHeard b now bytes report ss next
+  as_heard b now bytes report ss next h = record {
+    bus = record { entries = h.entries; held = refl; report = refl };
+    told = h.told;
+    report_is = h.report_is;
+    plain = h.plain;
+  }
 
   pub hears_as_a_move : InPieces → HearsAsAMove H
   hears_as_a_move law b ss now bytes h fits = (
-    λ none. as_heard b now bytes ss ss
-        (subst (λ ds. Hears (All IsPlainlySaid (packets_in bytes)) ds ss ss)
+    λ none. as_heard b now bytes None ss ss
+        (subst (λ ds. Hears (All IsPlainlySaid (packets_in bytes)) None ds ss ss)
         (sym (run_heard law b now bytes fits h.held ∙ none_heard (max b.greatest now) (reading bytes) b.devices none)) (record {
           entries = h.entries;
+          report_is = h.report;
           told = subst (λ o. TellsEach o [] ss ss) (sym h.report) (told_nothing ss);
           plain = λ said. subst IsNoRefusalOf (sym h.report) tt;
         })),
     λ p one.
-        let heard_one = packet_heard p (max b.greatest now) b.devices ss h.entries h.report in
-        as_heard b now bytes ss (first_gets p (max b.greatest now) ss)
-        (subst (λ ds. Hears (All IsPlainlySaid (packets_in bytes)) ds ss (first_gets p (max b.greatest now) ss))
-        (sym (run_heard law b now bytes fits h.held ∙ one_heard (max b.greatest now) p (reading bytes) b.devices one)) (record {
+        let g = max b.greatest now in
+        let heard_one = packet_heard p g b.devices ss h.entries h.report in
+        as_heard b now bytes (told_by_first 0 p g ss) ss (first_gets p g ss)
+        (subst (λ ds. Hears (All IsPlainlySaid (packets_in bytes)) (told_by_first 0 p g ss) ds ss (first_gets p g ss))
+        (sym (run_heard law b now bytes fits h.held ∙ one_heard g p (reading bytes) b.devices one)) (record {
           entries = heard_one.entries;
+          report_is = heard_one.report_is;
           told = heard_one.told;
           plain = λ said. heard_one.plain (each_of IsPlainlySaid (p ∷ []) (subst (All IsPlainlySaid) one said)).0;
         })),

@@ -1,5 +1,5 @@
 -- What a packet may make of the controller's address, and of the one that is kept for its COMSET.
-use Rattle.osdp_bus_links.proofs.Common.{◌≡◌, ◌⊎◌, ◌<◌, ◌+◌, ℕ, Bool, true, false, cond, eqb, ltb, List, [], ◌∷◌, ◌++◌, Option, Some, None, IfSome, refl, sym, subst, ap, ◌∙◌, inl, inr, ltb-true, eqb_tells, Packet, CommandFits, Command, Communication, Event, Reply, said_by, Heard, answered, answered_unread, com_of, command_answered, comset_of, hears, hears_busy, hears_in, ignores, is_ack, is_numbered, loses, moved_by, opening_answered, pausing_hears, pd_id_of, poll_told, waiting_hears, later, seen, NotTaken, Damaged, NumberRefused, Plain, Unreadable, Exchange, Opening, Polling, Asking, Outstanding, Report, Session, State, Waiting, Pausing, IsNoDevice, IsToldAsAsked, both, each_rest, Each, asked_by, asked_in}
+use Rattle.osdp_bus_links.proofs.Common.{◌≡◌, ◌⊎◌, ◌<◌, ◌+◌, ℕ, Bool, true, false, cond, eqb, ltb, List, [], ◌∷◌, ◌++◌, Option, Some, None, IfSome, refl, sym, subst, ap, ◌∙◌, inl, inr, ltb-true, eqb_tells, Packet, CommandFits, Command, Communication, Event, Reply, said_by, Heard, answered, answered_unread, com_of, command_answered, comset_of, hears, hears_busy, hears_in, ignores, is_ack, is_numbered, loses, moved_by, opening_answered, pausing_hears, pd_id_of, poll_told, waiting_hears, later, seen, NotTaken, Damaged, NumberRefused, Plain, Unreadable, Exchange, Opening, Polling, Asking, Outstanding, Report, Session, State, Waiting, Pausing, IsNoDevice, IsToldAsAsked, both, each_rest, Each, option_to_list, outstanding_command, submitted_command}
 use Rattle.std.specs.Prelude.{◌&&◌, not}
 use Rattle.osdp_msg.specs.declared.reply.Reply.TheVariants as reply
 use Rattle.osdp_msg.specs.declared.reply_fields.PdId.{PdId}
@@ -60,27 +60,27 @@ module _ (r : Option ℕ) (here : ℕ) (ws : List Command) where
     pub device : answered.address < 127
 
   pub record HeardWell (said : ReplyMeaning) (h : Heard) : Type 0 where
-    pub one : One (freed_by h.report r) (asked_in h.session.state ++ ws)
-    pub fits : Each CommandFits (asked_in h.session.state ++ ws)
+    pub one : One (freed_by h.report r) (option_to_list (outstanding_command h.session.state) ++ ws)
+    pub fits : Each CommandFits (option_to_list (outstanding_command h.session.state) ++ ws)
     pub goes : StaysHere h ⊎ Frees h ⊎ Goes said h
 
   -- nothing is told of a command, or the session ends without one that was settled
   stays_well : (said : ReplyMeaning) (h : Heard) → freed_by h.report r ≡ r → h.session.config.address ≡ here
-      → Each CommandFits (asked_in h.session.state ++ ws) → One r (asked_in h.session.state ++ ws) → HeardWell said h
+      → Each CommandFits (option_to_list (outstanding_command h.session.state) ++ ws) → One r (option_to_list (outstanding_command h.session.state) ++ ws) → HeardWell said h
   stays_well said h kept is fits one = record {
-    one = subst (λ q. One q (asked_in h.session.state ++ ws)) (sym kept) one;
+    one = subst (λ q. One q (option_to_list (outstanding_command h.session.state) ++ ws)) (sym kept) one;
     fits = fits;
     goes = inl (is, kept);
   }
 
   opened_well : (said : ReplyMeaning) (id : Option PdId) (s : Session) → s.config.address ≡ here
-      → Each CommandFits (asked_in s.state ++ ws) → One r (asked_in s.state ++ ws) → Each CommandFits ws → One r ws → HeardWell said (opening_answered id s)
+      → Each CommandFits (option_to_list (outstanding_command s.state) ++ ws) → One r (option_to_list (outstanding_command s.state) ++ ws) → Each CommandFits ws → One r ws → HeardWell said (opening_answered id s)
   opened_well said None s is fits one left rest = stays_well said (ignores s) refl is fits one
   opened_well said (Some id) s is fits one left rest = stays_well said (opening_answered (Some id) s) refl is left rest
 
   -- a COMSET is done with, and was the one that an address was kept for
   front_well : (said : ReplyMeaning) (h : Heard) (c : Command) (d : Communication) → comset_of c ≡ Some d
-      → freed_by h.report r ≡ freed_for (comset_of c) r → asked_in h.session.state ≡ [] → Each CommandFits ws → One r (c ∷ ws)
+      → freed_by h.report r ≡ freed_for (comset_of c) r → option_to_list (outstanding_command h.session.state) ≡ [] → Each CommandFits ws → One r (c ∷ ws)
       → (freed_by h.report r ≡ None → r ≡ Some d.address → Frees h ⊎ Goes said h) → HeardWell said h
   front_well said h c d is frees none fits one goes =
       let front = front_is (comset_of c) d r ws is one.0 in
@@ -113,62 +113,62 @@ module _ (r : Option ℕ) (here : ℕ) (ws : List Command) where
         device = moves.4;
       }))
 
-  answered_well : (x : Exchange) (a : Reply) (s : Session) → s.config.address ≡ here → Each CommandFits (asked_in s.state ++ ws) → One r (asked_in s.state ++ ws)
-      → Each CommandFits (asked_by x ++ ws) → One r (asked_by x ++ ws) → HeardWell (Plain a) (answered x a s)
+  answered_well : (x : Exchange) (a : Reply) (s : Session) → s.config.address ≡ here → Each CommandFits (option_to_list (outstanding_command s.state) ++ ws) → One r (option_to_list (outstanding_command s.state) ++ ws)
+      → Each CommandFits (option_to_list (submitted_command x) ++ ws) → One r (option_to_list (submitted_command x) ++ ws) → HeardWell (Plain a) (answered x a s)
   answered_well Opening a s at fits one left rest = opened_well (Plain a) (pd_id_of a) s at fits one left rest
   answered_well Polling a s at fits one left rest =
       stays_well (Plain a) (answered Polling a s) (polls_free_none r (event_in a) a) at left rest
   answered_well (Asking c) a s at fits one left rest =
       command_well (moved_by (comset_of c) (com_of a)) c a s refl at left.1 rest
 
-  unread_well : (said : ReplyMeaning) (x : Exchange) (code : ℕ) (s : Session) → s.config.address ≡ here → Each CommandFits (asked_in s.state ++ ws)
-      → One r (asked_in s.state ++ ws) → Each CommandFits (asked_by x ++ ws) → One r (asked_by x ++ ws) → HeardWell said (answered_unread x code s)
+  unread_well : (said : ReplyMeaning) (x : Exchange) (code : ℕ) (s : Session) → s.config.address ≡ here → Each CommandFits (option_to_list (outstanding_command s.state) ++ ws)
+      → One r (option_to_list (outstanding_command s.state) ++ ws) → Each CommandFits (option_to_list (submitted_command x) ++ ws) → One r (option_to_list (submitted_command x) ++ ws) → HeardWell said (answered_unread x code s)
   unread_well said Opening code s at fits one left rest = stays_well said (ignores s) refl at fits one
   unread_well said Polling code s at fits one left rest = stays_well said (answered_unread Polling code s) refl at left rest
   unread_well said (Asking c) code s at fits one left rest = stays_well said (answered_unread (Asking c) code s) refl at left.1 rest.1
 
-  loses_well : (said : ReplyMeaning) (cause : LostCause) (o : Outstanding) (s : Session) → s.config.address ≡ here → Each CommandFits (asked_by o.exchange ++ ws)
-      → One r (asked_by o.exchange ++ ws) → HeardWell said (loses cause o s)
+  loses_well : (said : ReplyMeaning) (cause : LostCause) (o : Outstanding) (s : Session) → s.config.address ≡ here → Each CommandFits (option_to_list (submitted_command o.exchange) ++ ws)
+      → One r (option_to_list (submitted_command o.exchange) ++ ws) → HeardWell said (loses cause o s)
   loses_well said cause o s at left rest =
-      stays_well said (loses cause o s) refl at (each_rest CommandFits (asked_by o.exchange) ws left) (one_rest r (asked_by o.exchange) ws rest)
+      stays_well said (loses cause o s) refl at (each_rest CommandFits (option_to_list (submitted_command o.exchange)) ws left) (one_rest r (option_to_list (submitted_command o.exchange)) ws rest)
 
-  busy_well : (said : ReplyMeaning) (o : Outstanding) (s : Session) → s.config.address ≡ here → Each CommandFits (asked_by o.exchange ++ ws)
-      → One r (asked_by o.exchange ++ ws) → HeardWell said (hears_busy o s)
+  busy_well : (said : ReplyMeaning) (o : Outstanding) (s : Session) → s.config.address ≡ here → Each CommandFits (option_to_list (submitted_command o.exchange) ++ ws)
+      → One r (option_to_list (submitted_command o.exchange) ++ ws) → HeardWell said (hears_busy o s)
   busy_well said o s at left rest =
       let paused : Heard = record { session = record s { state = Pausing (later s.config.busy_wait s) (record o { busies = o.busies + 1 }) }; report = None } in
       both (HeardWell said) (ltb s.config.busy_limit (o.busies + 1)) (loses causes.TooBusy o s) paused
       (loses_well said causes.TooBusy o s at left rest) (stays_well said paused refl at left rest)
 
-  waiting_well : (a : ReplyMeaning) (k : ℕ) (o : Outstanding) (s : Session) → s.config.address ≡ here → Each CommandFits (asked_in s.state ++ ws)
-      → One r (asked_in s.state ++ ws) → Each CommandFits (asked_by o.exchange ++ ws) → One r (asked_by o.exchange ++ ws) → HeardWell a (waiting_hears a k o s)
+  waiting_well : (a : ReplyMeaning) (k : ℕ) (o : Outstanding) (s : Session) → s.config.address ≡ here → Each CommandFits (option_to_list (outstanding_command s.state) ++ ws)
+      → One r (option_to_list (outstanding_command s.state) ++ ws) → Each CommandFits (option_to_list (submitted_command o.exchange) ++ ws) → One r (option_to_list (submitted_command o.exchange) ++ ws) → HeardWell a (waiting_hears a k o s)
   waiting_well NotTaken k o s at fits one left rest = busy_well NotTaken o s at left rest
   waiting_well Damaged k o s at fits one left rest = stays_well Damaged (waiting_hears Damaged k o s) refl at left rest
   waiting_well NumberRefused k o s at fits one left rest = loses_well NumberRefused causes.NumberRefused o s at left rest
   waiting_well (Plain a) k o s at fits one left rest = answered_well o.exchange a s at fits one left rest
   waiting_well (Unreadable code) k o s at fits one left rest = unread_well (Unreadable code) o.exchange code s at fits one left rest
 
-  pausing_well : (a : ReplyMeaning) (o : Outstanding) (s : Session) → s.config.address ≡ here → Each CommandFits (asked_in s.state ++ ws)
-      → One r (asked_in s.state ++ ws) → Each CommandFits (asked_by o.exchange ++ ws) → One r (asked_by o.exchange ++ ws) → HeardWell a (pausing_hears a o s)
+  pausing_well : (a : ReplyMeaning) (o : Outstanding) (s : Session) → s.config.address ≡ here → Each CommandFits (option_to_list (outstanding_command s.state) ++ ws)
+      → One r (option_to_list (outstanding_command s.state) ++ ws) → Each CommandFits (option_to_list (submitted_command o.exchange) ++ ws) → One r (option_to_list (submitted_command o.exchange) ++ ws) → HeardWell a (pausing_hears a o s)
   pausing_well NotTaken o s at fits one left rest = stays_well NotTaken (ignores s) refl at fits one
   pausing_well Damaged o s at fits one left rest = stays_well Damaged (ignores s) refl at fits one
   pausing_well NumberRefused o s at fits one left rest = loses_well NumberRefused causes.NumberRefused o s at left rest
   pausing_well (Plain a) o s at fits one left rest = answered_well o.exchange a s at fits one left rest
   pausing_well (Unreadable code) o s at fits one left rest = unread_well (Unreadable code) o.exchange code s at fits one left rest
 
-  in_well : (state : State) (number : ℕ) (a : ReplyMeaning) (s : Session) → s.state ≡ state → s.config.address ≡ here → Each CommandFits (asked_in s.state ++ ws)
-      → One r (asked_in s.state ++ ws) → HeardWell a (hears_in state number a s)
+  in_well : (state : State) (number : ℕ) (a : ReplyMeaning) (s : Session) → s.state ≡ state → s.config.address ≡ here → Each CommandFits (option_to_list (outstanding_command s.state) ++ ws)
+      → One r (option_to_list (outstanding_command s.state) ++ ws) → HeardWell a (hears_in state number a s)
   in_well (Waiting until k o) number a s is at fits one =
       both (HeardWell a) (is_numbered number a s) (waiting_hears a k o s) (ignores s)
-      (waiting_well a k o s at fits one (subst (λ q. Each CommandFits (asked_in q ++ ws)) is fits) (subst (λ q. One r (asked_in q ++ ws)) is one))
+      (waiting_well a k o s at fits one (subst (λ q. Each CommandFits (option_to_list (outstanding_command q) ++ ws)) is fits) (subst (λ q. One r (option_to_list (outstanding_command q) ++ ws)) is one))
       (stays_well a (ignores s) refl at fits one)
   in_well (Pausing until o) number a s is at fits one =
       both (HeardWell a) (is_numbered number a s) (pausing_hears a o s) (ignores s)
-      (pausing_well a o s at fits one (subst (λ q. Each CommandFits (asked_in q ++ ws)) is fits) (subst (λ q. One r (asked_in q ++ ws)) is one))
+      (pausing_well a o s at fits one (subst (λ q. Each CommandFits (option_to_list (outstanding_command q) ++ ws)) is fits) (subst (λ q. One r (option_to_list (outstanding_command q) ++ ws)) is one))
       (stays_well a (ignores s) refl at fits one)
   in_well _ number a s is at fits one = stays_well a (ignores s) refl at fits one
 
   -- nothing happens, or the packet is from the reader at this address
-  pub heard_well : (p : Packet) (now : ℕ) (s : Session) → s.config.address ≡ here → Each CommandFits (asked_in s.state ++ ws) → One r (asked_in s.state ++ ws)
+  pub heard_well : (p : Packet) (now : ℕ) (s : Session) → s.config.address ≡ here → Each CommandFits (option_to_list (outstanding_command s.state) ++ ws) → One r (option_to_list (outstanding_command s.state) ++ ws)
       → HeardWell (said_by p) (hears p now s) × (StaysHere (hears p now s) ⊎ (p.address ≡ here))
   heard_well p now s at fits one = by_test p.reply (eqb p.address s.config.address) (not p.block) refl
     where

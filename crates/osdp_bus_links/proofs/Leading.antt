@@ -1,5 +1,5 @@
 -- A link that a first session has begun on, and moves have led to: it keeps to its names.
-use Rattle.osdp_bus_links.proofs.Common.{◌≡◌, ◌<◌, ℕ, List, [], ◌∷◌, ◌++◌, Option, Some, None, IfSome, sym, subst, ap, ◌∙◌, inl, option_to_list, CommandFits, Command, Report, Answer, Begins, MaySubmit, MovesFit, IsToldAsAsked, NameOneDevice, NamesOne, TellAsAsked, ReadsWhatIsAnswered, ReadsWhatIsAsked, NoComset, reports, told_by, each_append, each_of, each_rest, Each, moves_more, run_more, asked_in}
+use Rattle.osdp_bus_links.proofs.Common.{◌≡◌, ◌<◌, ℕ, List, [], ◌∷◌, ◌++◌, Option, Some, None, IfSome, sym, subst, ap, ◌∙◌, inl, option_to_list, CommandFits, Command, Report, Answer, Begins, MaySubmit, MovesFit, IsToldAsAsked, NameOneDevice, NamesOne, TellAsAsked, ReadsWhatIsAnswered, ReadsWhatIsAsked, NoComset, reports, told_by, each_append, each_of, each_rest, Each, moves_more, run_more, outstanding_command}
 use Rattle.osdp_link_laws.specs.Link.{Link, Move, after_move, run}
 use Rattle.osdp_bus_links.proofs.ControllerNames.{ToldAsAsked}
 use Rattle.osdp_bus_links.proofs.Names.{BeginsTogether, IsUsual, MayMoves, reserved_after, reserved_after_moves}
@@ -59,8 +59,8 @@ module _ {H : Type 0} (answer_of : H → Command → Answer) (after : H → Comm
       let cs = l.controller.waiting in
       let here = l.controller.session.config.address in
       record {
-        one = subst (λ state. One None (asked_in state ++ cs)) (sym b.begins.quiet.1) (one_of_none None cs (each_of NoComset cs b.waiting));
-        fits = subst (λ state. Each CommandFits (asked_in state ++ cs)) (sym b.begins.quiet.1) (waiting_fit cs (each_of MaySubmit cs b.begins.waiting));
+        one = subst (λ state. One None (option_to_list (outstanding_command state) ++ cs)) (sym b.begins.quiet.1) (one_of_none None cs (each_of NoComset cs b.waiting));
+        fits = subst (λ state. Each CommandFits (option_to_list (outstanding_command state) ++ cs)) (sym b.begins.quiet.1) (waiting_fit cs (each_of MaySubmit cs b.begins.waiting));
         names = record {
           device = subst (λ a. a < 127) (sym b.together) b.begins.address;
           reader = inl b.together;

@@ -1,5 +1,5 @@
 -- After each move the reader is at an address of its link, and no packet on the line can send an end to any other.
-use Rattle.osdp_bus_links.proofs.Common.{◌≡◌, ◌≢◌, ◌⊎◌, ◌<◌, ℕ, Bool, true, false, List, [], ◌∷◌, ◌++◌, Option, Some, None, IfSome, Result, Ok, Err, refl, sym, subst, ap, ◌∙◌, inl, inr, arith, append_assoc, append-nil, eqb_tells, option_to_list, Packet, CommandFits, ReplyFits, Command, Communication, Event, said_by, comset_of, hears, seen, ticks_in, ControllerFault, State, was_closed, MsgFault, command_in, SetsReader, address_in, asked_in, Answer, lacks_room, MoveFits, SaysWhatFitsIf, IsCommandTo, IsReplyFrom, NamesOne, ReadsWhatIsAnswered, ReadsWhatIsAsked, told_by, told_by_front, each_append, each_map, each_of, Each}
+use Rattle.osdp_bus_links.proofs.Common.{◌≡◌, ◌≢◌, ◌⊎◌, ◌<◌, ℕ, Bool, true, false, List, [], ◌∷◌, ◌++◌, Option, Some, None, IfSome, Result, Ok, Err, refl, sym, subst, ap, ◌∙◌, inl, inr, arith, append_assoc, append-nil, eqb_tells, option_to_list, Packet, CommandFits, ReplyFits, Command, Communication, Event, said_by, comset_of, hears, seen, ticks_in, ControllerFault, State, was_closed, MsgFault, command_in, SetsReader, address_in, outstanding_command, ahead, Answer, lacks_room, MoveFits, SaysWhatFitsIf, IsCommandTo, IsReplyFrom, NamesOne, ReadsWhatIsAnswered, ReadsWhatIsAsked, told_by, told_by_front, each_append, each_map, each_of, Each}
 use Rattle.osdp_controller.specs.Machine as controllers
 use Rattle.osdp_reader.specs.Table as reader
 use Rattle.osdp_link_laws.specs.Link as link
@@ -75,8 +75,8 @@ module _ {H : Type 0} where
   Names here r l = NamesAt here r l.reader.config.address l.reader.stored l.to_reader l.to_controller
 
   pub record Keeps (r : Option ℕ) (l : Link H) : Type 0 where
-    pub one : One r (asked_in l.controller.session.state ++ l.controller.waiting)
-    pub fits : Each CommandFits (asked_in l.controller.session.state ++ l.controller.waiting)
+    pub one : One r (ahead l.controller)
+    pub fits : Each CommandFits (ahead l.controller)
     pub names : Names l.controller.session.config.address r l
 
 -- ---- names
@@ -117,7 +117,7 @@ module _ {H : Type 0} (answer_of : H → Command → Answer) (after : H → Comm
       → Keeps (accepted_for refusal c r) (link.submits refusal c l)
   submitting (Some fault) c r l may fits h = h
   submitting None c r l may fits h =
-      let cs = asked_in l.controller.session.state in
+      let cs = option_to_list (outstanding_command l.controller.session.state) in
       let here = l.controller.session.config.address in
       let there = l.reader.config.address in
       let new = asked_for (comset_of c) r in
@@ -143,8 +143,8 @@ module _ {H : Type 0} (answer_of : H → Command → Answer) (after : H → Comm
   queueing true e r l h = h
   queueing false e r l h = record { one = h.one; fits = h.fits; names = h.names }
 
-  none_asked : (state : State) → controllers.refused_unless_closed state ≡ None → asked_in state ≡ []
-  none_asked state e = ap asked_in (was_closed state e)
+  none_asked : (state : State) → controllers.refused_unless_closed state ≡ None → option_to_list (outstanding_command state) ≡ []
+  none_asked state e = ap (λ st. option_to_list (outstanding_command st)) (was_closed state e)
 
   reopening : (refusal : Option ControllerFault) (ps qs : List Packet) (now : ℕ) (r : Option ℕ) (l : Link H) → controllers.begin_refusal l.controller ≡ refusal
       → Keeps r l → Keeps r (link.reopens refusal ps qs now l)

@@ -1,5 +1,5 @@
 -- One COMSET at most is under way, to the address that is kept for it.
-use Rattle.osdp_bus_links.proofs.Common.{◌≡◌, ◌<◌, ◌+◌, ℕ, Bool, true, false, cond, leb, ltb, List, [], ◌∷◌, ◌++◌, Option, Some, None, IfSome, refl, sym, subst, ap, ◌∙◌, arith, leb-true, Packet, next_sequence, CommandFits, Command, Communication, comset_of, frame_of, seen, Ticked, begins, gives_up, sends_frame, stays, ticks_in, tries_again, Exchange, Opening, Polling, Asking, Outstanding, Session, State, Closed, Quiet, Idle, Waiting, Pausing, ReadsWhatIsAsked, NoComset, both, each_append, each_rest, tick_so, Each, new_address, SetsReader, address_in, asked_by, asked_in}
+use Rattle.osdp_bus_links.proofs.Common.{◌≡◌, ◌<◌, ◌+◌, ℕ, Bool, true, false, cond, leb, ltb, List, [], ◌∷◌, ◌++◌, Option, Some, None, IfSome, refl, sym, subst, ap, ◌∙◌, arith, leb-true, Packet, next_sequence, CommandFits, Command, Communication, comset_of, frame_of, seen, Ticked, begins, gives_up, sends_frame, stays, ticks_in, tries_again, Exchange, Opening, Polling, Asking, Outstanding, Session, State, Closed, Quiet, Idle, Waiting, Pausing, ReadsWhatIsAsked, NoComset, both, each_append, each_rest, tick_so, Each, new_address, SetsReader, address_in, option_to_list, outstanding_command, submitted_command}
 use Rattle.osdp_msg.specs.declared.command.Command.TheVariants as command
 use Rattle.osdp_bus_links.proofs.Names.{MovesReader, asked_for, freed_by, MayAsk}
 
@@ -79,40 +79,40 @@ module _ (reads : ReadsWhatIsAsked) (r : Option ℕ) (here : ℕ) where
   Sends p = (to : ℕ) → SetsReader to p → r ≡ Some to
 
   pub record TickedWell (t : Ticked) : Type 0 where
-    pub one : One r (asked_in t.session.state ++ t.waiting)
-    pub fits : Each CommandFits (asked_in t.session.state ++ t.waiting)
+    pub one : One r (option_to_list (outstanding_command t.session.state) ++ t.waiting)
+    pub fits : Each CommandFits (option_to_list (outstanding_command t.session.state) ++ t.waiting)
     pub address : t.session.config.address ≡ here
     pub frame : IfSome t.step.frame Sends
 
-  frame_sets : (x : Exchange) (s : Session) (ws : List Command) → Each CommandFits (asked_by x ++ ws) → One r (asked_by x ++ ws) → Sends (frame_of x s)
+  frame_sets : (x : Exchange) (s : Session) (ws : List Command) → Each CommandFits (option_to_list (submitted_command x) ++ ws) → One r (option_to_list (submitted_command x) ++ ws) → Sends (frame_of x s)
   frame_sets Opening s ws fits one to sets = absurd (let none = sym (ap address_in (reads Opening s (omega arith))) ∙ sets in cc)
   frame_sets Polling s ws fits one to sets = absurd (let none = sym (ap address_in (reads Polling s tt)) ∙ sets in cc)
   frame_sets (Asking c) s ws fits one to sets =
       let set = new_is c to (sym (ap address_in (reads (Asking c) s fits.0)) ∙ sets) in
       (front_is (comset_of c) set.0 r ws set.1 one.0).0 ∙ ap Some set.2
 
-  sending : (k : ℕ) (o : Outstanding) (s : Session) (ws : List Command) → s.config.address ≡ here → Each CommandFits (asked_by o.exchange ++ ws)
-      → One r (asked_by o.exchange ++ ws) → TickedWell (sends_frame k o s ws)
+  sending : (k : ℕ) (o : Outstanding) (s : Session) (ws : List Command) → s.config.address ≡ here → Each CommandFits (option_to_list (submitted_command o.exchange) ++ ws)
+      → One r (option_to_list (submitted_command o.exchange) ++ ws) → TickedWell (sends_frame k o s ws)
   sending k o s ws is fits one = record { one = one; fits = fits; address = is; frame = frame_sets o.exchange s ws fits one }
 
-  giving_up : (o : Outstanding) (s : Session) (ws : List Command) → s.config.address ≡ here → Each CommandFits (asked_by o.exchange ++ ws)
-      → One r (asked_by o.exchange ++ ws) → TickedWell (gives_up o s ws)
+  giving_up : (o : Outstanding) (s : Session) (ws : List Command) → s.config.address ≡ here → Each CommandFits (option_to_list (submitted_command o.exchange) ++ ws)
+      → One r (option_to_list (submitted_command o.exchange) ++ ws) → TickedWell (gives_up o s ws)
   giving_up o s ws is fits one =
-      record { one = one_rest r (asked_by o.exchange) ws one; fits = each_rest CommandFits (asked_by o.exchange) ws fits; address = is; frame = tt }
+      record { one = one_rest r (option_to_list (submitted_command o.exchange)) ws one; fits = each_rest CommandFits (option_to_list (submitted_command o.exchange)) ws fits; address = is; frame = tt }
 
-  resting : (s : Session) (ws : List Command) → s.config.address ≡ here → Each CommandFits (asked_in s.state ++ ws) → One r (asked_in s.state ++ ws)
+  resting : (s : Session) (ws : List Command) → s.config.address ≡ here → Each CommandFits (option_to_list (outstanding_command s.state) ++ ws) → One r (option_to_list (outstanding_command s.state) ++ ws)
       → TickedWell (stays s ws)
   resting s ws is fits one = record { one = one; fits = fits; address = is; frame = tt }
 
-  ticked_in : (state : State) (s : Session) (ws : List Command) → s.state ≡ state → s.config.address ≡ here → Each CommandFits (asked_in state ++ ws)
-      → One r (asked_in state ++ ws) → TickedWell (ticks_in state s ws)
+  ticked_in : (state : State) (s : Session) (ws : List Command) → s.state ≡ state → s.config.address ≡ here → Each CommandFits (option_to_list (outstanding_command state) ++ ws)
+      → One r (option_to_list (outstanding_command state) ++ ws) → TickedWell (ticks_in state s ws)
   ticked_in state s ws at is fits one = by_state state at fits one
     where
-      rests : (state : State) → s.state ≡ state → Each CommandFits (asked_in state ++ ws) → One r (asked_in state ++ ws) → TickedWell (stays s ws)
+      rests : (state : State) → s.state ≡ state → Each CommandFits (option_to_list (outstanding_command state) ++ ws) → One r (option_to_list (outstanding_command state) ++ ws) → TickedWell (stays s ws)
       rests state at fits one =
-          resting s ws is (subst (λ q. Each CommandFits (asked_in q ++ ws)) (sym at) fits) (subst (λ q. One r (asked_in q ++ ws)) (sym at) one)
+          resting s ws is (subst (λ q. Each CommandFits (option_to_list (outstanding_command q) ++ ws)) (sym at) fits) (subst (λ q. One r (option_to_list (outstanding_command q) ++ ws)) (sym at) one)
 
-      by_state : (state : State) → s.state ≡ state → Each CommandFits (asked_in state ++ ws) → One r (asked_in state ++ ws) → TickedWell (ticks_in state s ws)
+      by_state : (state : State) → s.state ≡ state → Each CommandFits (option_to_list (outstanding_command state) ++ ws) → One r (option_to_list (outstanding_command state) ++ ws) → TickedWell (ticks_in state s ws)
       by_state Closed at fits one = rests Closed at fits one
       by_state (Quiet until) at fits one =
           both TickedWell (leb until s.greatest) (begins Opening 0 s ws) (stays s ws)
@@ -123,7 +123,7 @@ module _ (reads : ReadsWhatIsAsked) (r : Option ℕ) (here : ℕ) where
           idle [] at fits one =
               both TickedWell (leb due s.greatest) (begins Polling (next_sequence s.number) s []) (stays s [])
               (sending 1 (record { exchange = Polling; busies = 0; sent = 0 }) (record s { number = next_sequence s.number }) [] is tt tt)
-              (resting s [] is (subst (λ q. Each CommandFits (asked_in q ++ [])) (sym at) tt) (subst (λ q. One r (asked_in q ++ [])) (sym at) tt))
+              (resting s [] is (subst (λ q. Each CommandFits (option_to_list (outstanding_command q) ++ [])) (sym at) tt) (subst (λ q. One r (option_to_list (outstanding_command q) ++ [])) (sym at) tt))
           idle (c ∷ rest) at fits one =
               sending 1 (record { exchange = Asking c; busies = 0; sent = 0 }) (record s { number = next_sequence s.number }) rest is fits one
       by_state (Waiting until k o) at fits one =
@@ -133,8 +133,8 @@ module _ (reads : ReadsWhatIsAsked) (r : Option ℕ) (here : ℕ) where
       by_state (Pausing until o) at fits one =
           both TickedWell (leb until s.greatest) (sends_frame 1 o s ws) (stays s ws) (sending 1 o s ws is fits one) (rests (Pausing until o) at fits one)
 
-  pub ticked_well : (now : ℕ) (s : Session) (ws : List Command) → s.config.address ≡ here → Each CommandFits (asked_in s.state ++ ws)
-      → One r (asked_in s.state ++ ws) → TickedWell (ticks_in s.state (seen now s) ws)
+  pub ticked_well : (now : ℕ) (s : Session) (ws : List Command) → s.config.address ≡ here → Each CommandFits (option_to_list (outstanding_command s.state) ++ ws)
+      → One r (option_to_list (outstanding_command s.state) ++ ws) → TickedWell (ticks_in s.state (seen now s) ws)
   ticked_well now s ws is fits one = ticked_in s.state (seen now s) ws refl is fits one
 
 pub tick_frees_none : (r : Option ℕ) (state : State) (s : Session) (ws : List Command) → freed_by (ticks_in state s ws).step.report r ≡ r

@@ -1,6 +1,6 @@
 -- What a bus accepts it gives to nobody else: where nobody restarts and no address is set but by COMSETs, all addresses at which a device is, or
 -- may come, are its controller's or kept for it.
-use Rattle.osdp_bus_links.proofs.Common.{◌≡◌, ◌||◌, ◌==◌, ℕ, not, Bool, true, false, List, [], ◌∷◌, ◌++◌, Option, Some, None, refl, sym, subst, ap, ◌∙◌, inl, inr, eqb_tells, is_some, Packet, Command, Communication, comset_of, Answer, each_of, is_true, Each, HasNoOther, IsAsked, IsSaid, IsSetUp, IsThere, MayComeTo, NetMoveFits, NetMovesFit, NobodyElseHears, Sets, SetsReader, Somewhere, asked_in, EachMoveIsItsOwn, OpensQuietly, move_of, own, view, none_beside, or_false, move_fits, own_first, own_rest, some_same, AllOthersFit, BusSuffices, IsScheduled, NothingIsKept, OthersFit}
+use Rattle.osdp_bus_links.proofs.Common.{◌≡◌, ◌||◌, ◌==◌, ℕ, not, Bool, true, false, List, [], ◌∷◌, ◌++◌, Option, Some, None, refl, sym, subst, ap, ◌∙◌, inl, inr, eqb_tells, is_some, Packet, Command, Communication, comset_of, Answer, each_of, is_true, Each, HasNoOther, IsAsked, IsSaid, IsSetUp, IsThere, MayComeTo, NetMoveFits, NetMovesFit, NobodyElseHears, Sets, SetsReader, Somewhere, ahead, EachMoveIsItsOwn, OpensQuietly, move_of, own, view, none_beside, or_false, move_fits, own_first, own_rest, some_same, AllOthersFit, BusSuffices, IsScheduled, NothingIsKept, OthersFit}
 use Rattle.osdp_controller.specs.Machine as controllers
 use Rattle.osdp_shared_line.specs.Line.{Net, NetMove, Queue, Reopen, SetBusy, Site, Submit, Tick, ToPanel, ToReader, address_of, after_net, is_command_accepted, is_comset_refused, is_reserved, is_taken_beside, run, takes_up}
 use Rattle.osdp_bus_links.proofs.Keeping.{before, moves_may}
@@ -56,7 +56,7 @@ module _ {H : Type 0} (answer_of : H → Command → Answer) (after : H → Comm
   named : (a k : ℕ) (s : Site H) (n : Net H) → IsLinked answer_of after k s n → MayComeTo a k s → IsName (address_of s) s.reserved a
   named a k s n h (IsThere is) = subst (IsName (address_of s) s.reserved) is h.keeps.names.reader
   named a k s n h (IsAsked found) =
-      inr (one_sets s.reserved a (asked_in s.controller.session.state ++ s.controller.waiting) h.keeps.one found)
+      inr (one_sets s.reserved a (ahead s.controller) h.keeps.one found)
   named a k s n h (IsSaid found) =
       of_own (λ p. (to : ℕ) → SetsReader to p → IsName (address_of s) s.reserved to) (SetsReader a) (IsName (address_of s) s.reserved a) k s.coming
       (λ p names sets. names a sets) h.keeps.names.commands found

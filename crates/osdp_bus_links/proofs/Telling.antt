@@ -16,11 +16,11 @@ refuses_none entry (Some r) may = none_refused (Some r) may
 
 -- ---- who is told
 
-for_entry : (k entry : ℕ) (r : Option Report) → k ≡ entry → report_for k (waiting_after entry r None) ≡ r
+pub for_entry : (k entry : ℕ) (r : Option Report) → k ≡ entry → report_for k (waiting_after entry r None) ≡ r
 for_entry k entry None is = refl
 for_entry k entry (Some r) is = ap (λ b. cond b (Some r) None) (is_true entry k (sym is))
 
-for_others : (k entry : ℕ) (r : Option Report) → k ≢ entry → report_for k (waiting_after entry r None) ≡ None
+pub for_others : (k entry : ℕ) (r : Option Report) → k ≢ entry → report_for k (waiting_after entry r None) ≡ None
 for_others k entry None other = refl
 for_others k entry (Some r) other = ap (λ b. cond b (Some r) None) (is_false entry k (λ e. other (sym e)))
 
@@ -34,8 +34,6 @@ module _ {H : Type 0} where
   none_told s = record {
     reader = refl;
     coming = sym (append-nil s.coming);
-    account = refl;
-    earlier = refl;
     closes = or_false (is_closed s.controller.session.state);
     once = λ is. refl;
   }
@@ -78,8 +76,6 @@ module _ {H : Type 0} where
   said_to said r s t is = record {
     reader = is.reader;
     coming = ap (λ ps. ps ++ said) (is.coming ∙ append-nil s.coming);
-    account = is.account;
-    earlier = is.earlier;
     closes = is.closes;
     once = is.once;
   }

@@ -1,5 +1,5 @@
 -- A tick of a bus that holds no bytes is one of one of its controllers, or none.
-use Rattle.osdp_bus_links.proofs.Common.{◌≡◌, ◌||◌, ℕ, not, Bool, true, false, if◌then◌else◌, List, [], ◌∷◌, map, Option, Some, None, refl, sym, subst, ap, ◌∙◌, append-nil, is_some, slice_get, slice_set, option_to_list, Packet, Command, Session, State, silent_tick, Answer, ends_run, ends_silent, after_next_report, nothing_ends, nothing_silent, tick_so, Net, NetMove, Site, Tick, changed, is_told, link_of, run, site_at, tagged, IsBusOf, IsNoRefusalOf, TellsEach, TicksAsAMove, device_of, due_by, one_ticks, packets_on, who_ticks}
+use Rattle.osdp_bus_links.proofs.Common.{◌≡◌, ◌||◌, ℕ, not, Bool, true, false, if◌then◌else◌, List, [], ◌∷◌, map, Option, Some, None, refl, sym, subst, ap, ◌∙◌, append-nil, is_some, slice_get, slice_set, option_to_list, Packet, Command, Report, Session, State, silent_tick, Answer, ends_run, ends_silent, after_next_report, nothing_ends, nothing_silent, tick_so, Net, Site, changed, is_told, run, site_at, tagged, IsBusOf, IsNoRefusalOf, TellsEach, TicksAsAMove, device_of, due_by, one_ticks, packets_on, told_by_one, told_by_tick, who_ticks}
 use Rattle.osdp_controller.specs.Machine as controllers
 use Rattle.osdp_controller.specs.Sessions as clocks
 use Rattle.osdp_controller.specs.Ticking as controller
@@ -41,20 +41,22 @@ module _ {H : Type 0} (ends : EndsAreTold) (answer_of : H → Command → Answer
   -- ---- a tick
 
   -- the bus and the line afterwards
-  pub record Ends (t : BusTicked) (n next : Net H) : Type 0 where
+  pub record Ends (report : Option (ℕ × Report)) (t : BusTicked) (n next : Net H) : Type 0 where
     pub bus : IsBusOf (after_next_report t.bus) next.sites
     pub said : List (ℕ × Packet)
     pub sent : packets_on said ≡ option_to_list t.sent
     pub told : TellsEach t.bus.devices.report said n.sites next.sites
+    pub report_is : t.bus.devices.report ≡ report
     pub back : next.to_panel ≡ n.to_panel
     pub plain : IsNoRefusalOf t.bus.devices.report
 
-  stayed : (b : BusState) (n : Net H) → IsBusOf b n.sites → Ends (stays b) n n
+  stayed : (b : BusState) (n : Net H) → IsBusOf b n.sites → Ends None (stays b) n n
   stayed b n h = record {
     bus = record { entries = h.entries; held = h.held; report = refl };
     said = [];
     sent = refl;
     told = subst (λ o. TellsEach o [] n.sites n.sites) (sym h.report) (told_nothing n.sites);
+    report_is = h.report;
     back = refl;
     plain = subst IsNoRefusalOf (sym h.report) tt;
   }
@@ -65,7 +67,7 @@ module _ {H : Type 0} (ends : EndsAreTold) (answer_of : H → Command → Answer
   same_devices said (s ∷ ss) = ap (λ ds. device_of s ∷ ds) (same_devices said ss)
 
   pub one_ticked : (b : BusState) (n : Net H) (entry : ℕ) (s : Site H) → IsBusOf b n.sites → site_at entry n.sites ≡ Some s
-      → Ends (ticks_with entry (Some (device_of s)) b) n (line.tick_at answer_of after entry b.greatest (Some s) n)
+      → Ends (told_by_one entry b.greatest (Some s)) (ticks_with entry (Some (device_of s)) b) n (line.tick_at answer_of after entry b.greatest (Some s) n)
   one_ticked b n entry s h at =
       let t = controller.ticks b.greatest s.controller.session s.controller.waiting in
       let u = line.ticks answer_of after b.greatest s in
@@ -87,11 +89,10 @@ module _ {H : Type 0} (ends : EndsAreTold) (answer_of : H → Command → Answer
             (told_one entry t.step.report s u n.sites at (record {
               reader = refl;
               coming = sym (append-nil s.coming);
-              account = refl;
-              earlier = refl;
               closes = (ends b.greatest s.controller.session).closed_by_tick s.controller.waiting;
               once = silent_tick s.controller.session.state (clocks.seen b.greatest s.controller.session) s.controller.waiting;
             })));
+        report_is = ap (waiting_after entry t.step.report) h.report;
         back = refl;
         plain = subst (λ o. IsNoRefusalOf (waiting_after entry t.step.report o)) (sym h.report)
             (tick_so (λ r. IsNoRefusalOf (waiting_after entry r None)) tt (λ o. tt) s.controller.session.state (clocks.seen b.greatest s.controller.session)
@@ -102,7 +103,7 @@ module _ {H : Type 0} (ends : EndsAreTold) (answer_of : H → Command → Answer
       frees_none r state c ws = tick_so (λ o. devices.reserved_after o r ≡ r) refl (λ o. refl) state c ws
 
   abbrev TicksTo : ℕ → Net H → Option ℕ → BusTicked → Type 0
-  TicksTo now n o t = Ends t n (run answer_of after (one_ticks o now) n)
+  TicksTo now n o t = Ends (told_by_tick o now n.sites) t n (run answer_of after (one_ticks o now) n)
 
   ticked_at : (o : Option ℕ) (b : BusState) (n : Net H) → IsBusOf b n.sites → TicksTo b.greatest n o (ticks_at o b)
   ticked_at None b n h = stayed b n h
@@ -111,10 +112,10 @@ module _ {H : Type 0} (ends : EndsAreTold) (answer_of : H → Command → Answer
       by_site : (o : Option (Site H)) → site_at entry n.sites ≡ o → TicksTo b.greatest n (Some entry) (ticks_with entry (slice_get b.devices.entries entry) b)
       by_site None is =
           subst (λ d. TicksTo b.greatest n (Some entry) (ticks_with entry d b)) (sym (ap (λ ds. slice_get ds entry) h.entries ∙ get_none entry n.sites is))
-          (subst (Ends (stays b) n) (sym (ap (λ o. line.tick_at answer_of after entry b.greatest o n) is)) (stayed b n h))
+          (subst (λ o. Ends (told_by_one entry b.greatest o) (stays b) n (line.tick_at answer_of after entry b.greatest o n)) (sym is) (stayed b n h))
       by_site (Some s) is =
           subst (λ d. TicksTo b.greatest n (Some entry) (ticks_with entry d b)) (sym (ap (λ ds. slice_get ds entry) h.entries ∙ get_device entry s n.sites is))
-          (subst (Ends (ticks_with entry (Some (device_of s)) b) n) (sym (ap (λ o. line.tick_at answer_of after entry b.greatest o n) is))
+          (subst (λ o. Ends (told_by_one entry b.greatest o) (ticks_with entry (Some (device_of s)) b) n (line.tick_at answer_of after entry b.greatest o n)) (sym is)
           (one_ticked b n entry s h is))
 
   pub ticks_as_a_move : TicksAsAMove answer_of after
@@ -125,4 +126,4 @@ module _ {H : Type 0} (ends : EndsAreTold) (answer_of : H → Command → Answer
       subst (λ r. TicksTo later.greatest n (who_ticks now b) (if is_some r then stays later else ticks_on (ends_silent later))) (sym h.report)
       (subst (λ c. TicksTo later.greatest n (who_ticks now b) (ticks_on c)) (sym (nothing_silent later h.held))
       (ticks_some (TicksTo later.greatest n) later h.held (stayed later n at_later) (λ o. ticked_at o later n at_later))) in
-      record { bus = done.bus; said = done.said; sent = done.sent; told = done.told; back = done.back; plain = done.plain }
+      record { bus = done.bus; said = done.said; sent = done.sent; told = done.told; report = done.report_is; back = done.back; plain = done.plain }

@@ -1,23 +1,24 @@
 -- A bus, seen as the controllers of several links on one line: what its calls are to them.
-use Rattle.std.specs.Prelude.{◌≡◌, ◌||◌, ℕ, suc, max, true, false, All, ◌==◌, if◌then◌else◌, List, [], ◌∷◌, ◌++◌, map, Option, Some, None, option_to_list}
+use Rattle.std.specs.Prelude.{◌≡◌, ◌+◌, ◌||◌, ℕ, suc, max, true, false, All, ◌==◌, if◌then◌else◌, List, [], ◌∷◌, ◌++◌, map, Option, Some, None, option_to_list}
 use Rattle.osdp_frame.specs.Items.{packets_in}
 use Rattle.osdp_frame.specs.Bytes.{AreBytes}
 use Rattle.osdp_frame.specs.Packet.{Packet}
 use Rattle.osdp_msg.specs.declared.command.Command.{Command}
+use Rattle.osdp_controller.specs.Hearing.{hears}
 use Rattle.osdp_controller.specs.States.{is_closed}
+use Rattle.osdp_controller.specs.Ticking.{ticks}
 use Rattle.osdp_controller.specs.declared.report.Report.{Report}
 use Rattle.osdp_controller_laws.specs.Commands.{tells_end}
 use Rattle.osdp_reader.specs.declared.handler.Answer.{Answer}
-use Rattle.osdp_bus.specs.Buses.{BusState, holder, seen}
+use Rattle.osdp_bus.specs.Buses.{BusState, holder, seen, waiting_after}
 use Rattle.osdp_bus.specs.Hearing.{after_bytes, after_silence}
 use Rattle.osdp_bus.specs.Machine.{after_begin_at, after_next_report, after_submit_at, begin_refusal_at, submit_refusal_at}
 use Rattle.osdp_bus.specs.Ticking.{asks_free, asks_holder, bus_ticks, is_due_at}
 use Rattle.osdp_bus.specs.declared.entry.Entry.{Entry}
 use Rattle.osdp_bus.specs.declared.fault.BusFault.{BusFault}
-use Rattle.osdp_link_laws.specs.Link.{after_report}
 use Rattle.osdp_link_laws.specs.Peers.{IsPlainlySaid}
 use Rattle.osdp_link_laws.specs.Refusals.{IsNoRefusal}
-use Rattle.osdp_shared_line.specs.Line.{Net, NetMove, Reopen, Site, Submit, Tick, after_net, changed, first_gets, is_command_accepted, run, site_at, submits}
+use Rattle.osdp_shared_line.specs.Line.{Net, NetMove, Reopen, Site, Submit, Tick, address_of, after_net, changed, first_gets, is_command_accepted, run, site_at, submits}
 
 -- the packets among these, whoever said them
 abbrev pub packets_on : List (ℕ × Packet) → List Packet
@@ -66,12 +67,25 @@ module _ {H : Type 0} where
     pub held : b.held ≡ []
     pub report : b.devices.report ≡ None
 
-  -- the reader stays as it is, more is said to it, and the account is told the report; the session ends exactly where that is told
+  -- what the controller that ticks tells, with its place
+  abbrev pub told_by_one : ℕ → ℕ → Option (Site H) → Option (ℕ × Report)
+  told_by_one k now None = None
+  told_by_one k now (Some s) = waiting_after k (ticks now s.controller.session s.controller.waiting).step.report None
+
+  abbrev pub told_by_tick : Option ℕ → ℕ → List (Site H) → Option (ℕ × Report)
+  told_by_tick None now ss = None
+  told_by_tick (Some entry) now ss = told_by_one entry now (site_at entry ss)
+
+  -- what the first controller at the packet's address tells that hears it, the first of these at this place
+  abbrev pub told_by_first : ℕ → Packet → ℕ → List (Site H) → Option (ℕ × Report)
+  told_by_first k p now [] = None
+  told_by_first k p now (s ∷ ss) =
+      if address_of s == p.address then waiting_after k (hears p now s.controller.session).report None else told_by_first (k + 1) p now ss
+
+  -- the reader stays as it is, and more is said to it; the session ends exactly where the report tells that
   pub record IsTold (report : Option Report) (said : List (ℕ × Packet)) (s t : Site H) : Type 0 where
     pub reader : t.reader ≡ s.reader
     pub coming : t.coming ≡ s.coming ++ said
-    pub account : t.account ≡ after_report report s.account
-    pub earlier : t.earlier ≡ s.earlier
     pub closes : is_closed t.controller.session.state ≡ (is_closed s.controller.session.state || tells_end report)
     pub once : is_closed s.controller.session.state ≡ true → tells_end report ≡ false
 
@@ -108,22 +122,26 @@ module _ {H : Type 0} where
       pub said : List (ℕ × Packet)
       pub sent : packets_on said ≡ option_to_list (bus_ticks now b).sent
       pub told : TellsEach (bus_ticks now b).bus.devices.report said n.sites next.sites
+      pub report : (bus_ticks now b).bus.devices.report ≡ told_by_tick (who_ticks now b) (max b.greatest now) n.sites
       pub back : next.to_panel ≡ n.to_panel
       pub plain : IsNoRefusalOf (bus_ticks now b).bus.devices.report
 
     abbrev pub TicksAsAMove : Type 0
     TicksAsAMove = (b : BusState) (n : Net H) (now : ℕ) → IsBusOf b n.sites → IsTicked b now n (run answer_of after (tick_moves now b) n)
 
-  -- a run that holds a packet is heard by the first controller at its address, and one that holds none by nobody; nothing is said then
-  pub record IsHeard (b : BusState) (now : ℕ) (bytes : List ℕ) (ss next : List (Site H)) : Type 0 where
+  -- a run that holds a packet is heard by the first controller at its address, and one that holds none by nobody; this waits to be told then, and
+  -- nothing is said
+  pub record IsHeard (b : BusState) (now : ℕ) (bytes : List ℕ) (report : Option (ℕ × Report)) (ss next : List (Site H)) : Type 0 where
     pub bus : IsBusOf (after_next_report (heard bytes now b)) next
     pub told : TellsEach (heard bytes now b).devices.report [] ss next
+    pub report_is : (heard bytes now b).devices.report ≡ report
     pub plain : All IsPlainlySaid (packets_in bytes) → IsNoRefusalOf (heard bytes now b).devices.report
 
 abbrev pub HearsAsAMove : Type 0 → Type 0
 HearsAsAMove H = (b : BusState) (ss : List (Site H)) (now : ℕ) (bytes : List ℕ) → IsBusOf b ss → AreBytes bytes
-    → (packets_in bytes ≡ [] → IsHeard b now bytes ss ss)
-    × ((p : Packet) → packets_in bytes ≡ p ∷ [] → IsHeard b now bytes ss (first_gets p (max b.greatest now) ss))
+    → (packets_in bytes ≡ [] → IsHeard b now bytes None ss ss)
+    × ((p : Packet) → packets_in bytes ≡ p ∷ []
+    → let g = max b.greatest now in IsHeard b now bytes (told_by_first 0 p g ss) ss (first_gets p g ss))
 
 -- each call of a bus is a move of its controllers
 pub record CallsAreMoves {H : Type 0} (answer_of : H → Command → Answer) (after : H → Command → H) : Type 0 where

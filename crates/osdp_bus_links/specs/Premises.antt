@@ -4,7 +4,7 @@ use Rattle.std.specs.Prelude.{◌≡◌, ℕ, All, List, [], ◌∷◌, Some, No
 use Rattle.osdp_msg.specs.CommandTable.{CommandFits}
 use Rattle.osdp_msg.specs.declared.command.Command.{Command}
 use Rattle.osdp_reader.specs.declared.handler.Answer.{Answer}
-use Rattle.osdp_link_laws.specs.Headline.{SaysWhatFitsIf}
+use Rattle.osdp_link_laws.specs.Beginning.{SaysWhatFitsIf}
 use Rattle.osdp_shared_line.specs.Addresses.{IsSetUp, NetMovesFit, in_front}
 use Rattle.osdp_shared_line.specs.Line.{LoseToPanel, LoseToReader, Net, NetMove, Queue, Reopen, RestartPanel, RestartReader, Retarget, SetBusy, SetHandler, Site, Submit, Tick, ToPanel, ToReader, Withdraw, LapseEvent, WithdrawEvent, after_net, site_at}
 use Rattle.osdp_shared_line.specs.Views.{OpensQuietly}

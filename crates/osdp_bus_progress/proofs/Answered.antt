@@ -1,12 +1,12 @@
 -- What `run_bus` answers after a line that was cleared and rounds that lose nothing.
-use Rattle.osdp_bus_progress.proofs.Common.{◌≡◌, ◌≤◌, ◌<◌, ◌++◌, ℕ, zero, suc, false, All, List, [], ◌∷◌, length, Some, Ok, refl, sym, subst, ap, ◌∙◌, arith, Command, Answer, SetsNoAddress, each_all, each_append, each_of, Each, runs_on, Account, rounds, SimStep, Busy, HasAnAccountEach, lists_of_all, LineState, ReaderSite, accounts, set_up, after_step, IsInSession, done, losses, IsNoOrder, none_reopen, rounds_within, AccountsAreOnce, SameIssued, idle_sites, issued_idle, StaysAt, stays_all, stays_then, unmapped, get_within, ComesOn, EachAnswerRecovers, EachRecovers, NoneMoves, all_ready, clear}
+use Rattle.osdp_bus_progress.proofs.Common.{◌≡◌, ◌≤◌, ◌<◌, ◌++◌, ℕ, zero, suc, false, All, List, [], ◌∷◌, length, Some, Ok, refl, sym, subst, ap, ◌∙◌, arith, Command, Answer, SetsNoAddress, each_all, each_append, each_of, Each, runs_on, Account, rounds, SimStep, Busy, HasAnAccountEach, lists_of_all, LineState, ReaderSite, accounts, set_up, after_step, IsInSession, done, losses, IsNoOrder, none_reopen, rounds_within, AccountsAreOnce, SameIssued, issued_idle, unmapped, get_within, ComesOn, EachAnswerRecovers, EachRecovers, NoneMoves, all_ready, clear}
 use Rattle.std.proofs.lemmas.Option.{slice_get-map}
 use Rattle.std.specs.Prelude.{◌/◌, ◌-◌, ◌+◌, min, option_map, slice_get}
 use Rattle.osdp_sim_bus.specs.Runs as simulation
 use Rattle.osdp_sim_laws.proofs.Answered.{all_done}
 use Rattle.osdp_bus_progress.proofs.Clearing.{in_session}
 use Rattle.osdp_bus_progress.proofs.Coming.{get_each, there_is}
-use Rattle.osdp_bus_progress.proofs.Ends.{rounds_idle}
+use Rattle.osdp_bus_progress.proofs.Ends.{idle_run, rounds_idle}
 
 -- what holds at each place holds of each
 each_at : {A : Type 0} (P : A → Type 0) (xs : List A) → ((k : ℕ) (x : A) → slice_get xs k ≡ Some x → P x) → Each P xs
@@ -28,17 +28,6 @@ clear_idle readers steps = each_append IsNoOrder (all_ready readers) (losses ste
 module _ {H : Type 0} (answer_of : H → Command → Answer) (after : H → Command → H) where
   -- ---- what was issued is what was issued before these steps
 
-  abbrev Same : ReaderSite H → ReaderSite H → Type 0
-  Same u v = SameIssued answer_of after u v
-
-  issued_stays : (k : ℕ) (steps : List SimStep) (s : LineState H) → Each IsNoOrder steps
-      → StaysAt Same k s.sites (simulation.run answer_of after steps s).sites
-  issued_stays k [] s idles = stays_all Same (λ u. refl) k s.sites
-  issued_stays k (step ∷ steps) s idles =
-      let next = after_step answer_of after step s in
-      stays_then Same (λ u v w one more. more ∙ one) k s.sites next.sites (simulation.run answer_of after steps next).sites
-      (idle_sites answer_of after Same (issued_idle answer_of after) k step s idles.0) (issued_stays k steps next idles.1)
-
   abbrev Moves : Account → Type 0
   Moves a = All SetsNoAddress a.issued
 
@@ -52,7 +41,7 @@ module _ {H : Type 0} (answer_of : H → Command → Answer) (after : H → Comm
       at_place : (k : ℕ) (a : Account) → slice_get (accounts s) k ≡ Some a → Moves a
       at_place k a at =
           let u = unmapped (λ (site : ReaderSite H). site.account) k a s.sites at in
-          let v = issued_stays k steps s idles u.0 u.1 in
+          let v = idle_run answer_of after (SameIssued answer_of after) (issued_idle answer_of after) k steps s idles u.0 u.1 in
           let there : slice_get (accounts later) k ≡ Some v.0.account =
           slice_get-map (λ (site : ReaderSite H). site.account) later.sites k ∙ ap (option_map (λ (site : ReaderSite H). site.account)) v.1 in
           let moves = get_each Moves k v.0.account (accounts later) (each_of Moves (accounts later) none) there in

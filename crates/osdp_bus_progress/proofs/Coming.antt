@@ -1,24 +1,33 @@
 -- Something comes through for each of several readers.
-use Rattle.osdp_link_laws.proofs.Counting.{issues_all}
-use Rattle.osdp_bus_progress.proofs.Common.{◌≡◌, ◌≤◌, ◌<◌, ◌+◌, ◌++◌, ℕ, zero, suc, All, List, [], ◌∷◌, length, map, Some, inl, inr, refl, sym, subst, ap, ◌∙◌, arith, append_assoc, append-nil, length-map, Packet, spelling, Command, new_machine, IsInRange, longest_wait, Begin, Answer, controller_config, BusConfig, MovesFit, Link, SetsNoAddress, each_all, each_append, each_of, moves_so, begins_so, set_no_other, steady_ordinary, Each, IsSetUp, NetMovesFit, Net, NetMove, run, site_at, IsEmpty, own, view, apart_all, apart_first, some_same, device_of, packets_on, Account, round, rounds, SimStep, Given, LineState, ReaderSite, accounts, set_up, StepFits, after_step, fault_of, IsInSession, IsOf, none_earlier, none_reopen, rounds_within, holds_on, runs_on, well_on, AreItsMoves, FollowsSites, moves_of, IsRun, first_net, first_site, follows_first, has_site, is_set_up, nothing_is_kept, unmapped, get_within, get_site, same_count, ComesOn, EachComesThrough, IsClear, IsReady, EachRoundRests, IsAtRest, SeveralLinks, at_length, fits_first, fits_then, net_more, keeps_own}
+use Rattle.osdp_bus_progress.proofs.Common.{◌≡◌, ◌≤◌, ◌<◌, ◌+◌, ◌++◌, ℕ, zero, suc, false, All, List, [], ◌∷◌, length, map, Some, inl, inr, refl, sym, subst, ap, ◌∙◌, arith, append_assoc, length-map, Packet, spelling, Command, new_machine, IsInRange, longest_wait, Begin, Answer, controller_config, BusConfig, MovesFit, Link, SetsNoAddress, each_all, each_append, each_of, set_no_other, Each, IsSetUp, NetMovesFit, Net, NetMove, run, site_at, IsEmpty, own, view, apart_all, apart_first, some_same, device_of, packets_on, Account, round, rounds, SimStep, Given, LineState, ReaderSite, accounts, set_up, StepFits, after_step, fault_of, IsInSession, none_reopen, rounds_within, holds_on, runs_on, well_on, AreItsMoves, FollowsSites, moves_of, IsRun, first_net, first_site, follows_first, has_site, is_set_up, nothing_is_kept, SameIssued, issued_idle, unmapped, get_within, get_site, same_count, ComesOn, EachComesThrough, IsClear, IsReady, EachRoundRests, IsAtRest, SeveralLinks, at_length, fits_then, net_more, keeps_own}
 use Rattle.std.proofs.Math.Nat.{div-mul-le_self, suc-mul}
-use Rattle.std.specs.Prelude.{◌/◌, ◌*◌, ◌-◌, slice_get}
+use Rattle.std.proofs.lemmas.Option.{slice_get-map}
+use Rattle.std.specs.Prelude.{◌/◌, ◌*◌, ◌-◌, option_map, slice_get}
+use Rattle.osdp_controller.specs.States.{is_closed}
+use Rattle.osdp_link_laws.specs.Ahead.{ahead, left}
 use Rattle.osdp_link_laws.specs.Link as link
-use Rattle.osdp_link_laws.specs.Ordinary.{IsOrdinary, IsSteady}
+use Rattle.osdp_link_laws.specs.Link.{Move}
 use Rattle.osdp_link_laws.specs.Progress as progress
+use Rattle.osdp_link_laws.specs.Reports.{reports, told_in}
 use Rattle.osdp_link_laws.specs.Sessions.{all_submitted}
 use Rattle.osdp_shared_line.specs.Line as line
 use Rattle.osdp_shared_line.specs.Runs.{IsItsLink}
 use Rattle.osdp_shared_line.specs.Runs as runs
+use Rattle.osdp_shared_line.proofs.Linking.{viewed}
 use Rattle.osdp_bus_links.specs.Premises.{IsScheduled}
 use Rattle.osdp_bus_links.proofs.Keeping.{moves_usual}
 use Rattle.osdp_bus_links.proofs.Names.{are_steady}
 use Rattle.osdp_sim_bus.specs.Runs as simulation
+use Rattle.osdp_sim_bus.specs.State.{new_site}
+use Rattle.osdp_sim_laws.specs.Moves.{TellsOfMoves}
+use Rattle.osdp_sim_laws.proofs.Ledger.{IsRunOf, ahead_among}
+use Rattle.osdp_sim_laws.proofs.Left.{Brings, brings, open_is}
 use Rattle.osdp_sim_bus_laws.proofs.Begun.{sessions_counted}
+use Rattle.osdp_sim_bus_laws.proofs.Idling.{NoneQueued, events_idle}
 use Rattle.osdp_sim_bus_laws.proofs.Scheduling.{moves_more}
 use Rattle.osdp_bus_progress.proofs.Along.{first_at, run_at_all}
 use Rattle.osdp_bus_progress.proofs.Bursts.{at_each}
-use Rattle.osdp_bus_progress.proofs.Ends.{NoEnd, lasts_there, none_before_rounds}
+use Rattle.osdp_bus_progress.proofs.Ends.{HasBegun, NoEnd, idle_run, lasts_there, none_before_rounds, rounds_idle}
 use Rattle.osdp_bus_progress.proofs.Round.{AtRest, sited}
 use Rattle.osdp_bus_progress.proofs.Rounds.{HasRounds, all_rounds, all_turns}
 use Rattle.osdp_bus_progress.proofs.Turns.{IsAway, IsTurn, once_around, some_turn}
@@ -47,10 +56,6 @@ split_rounds (suc r) (suc m) wait few =
     let less : suc m - suc r ≡ m - r = omega arith in
     ap (λ l. round wait ++ l) (split_rounds r m wait (omega (arith, few))) ∙ ap (λ k. round wait ++ (rounds r wait ++ rounds k wait)) (sym less)
 
-rounds_ordinary : (H : Type 0) (moments : List ℕ) → Each (IsOrdinary {H = H}) (progress.rounds moments)
-rounds_ordinary H [] = tt
-rounds_ordinary H (now ∷ later) = (tt, (tt, (tt, rounds_ordinary H later)))
-
 -- so many turns as go into m
 all_is : (turns count : ℕ) → all_turns turns count ≡ turns * count
 all_is zero count = let none : 0 * count ≡ 0 = omega arith in sym none
@@ -62,22 +67,8 @@ share : (m count : ℕ) → all_turns (m / count) count ≤ m
 share m count = subst (λ all. all ≤ m) (sym (all_is (m / count) count)) (div-mul-le_self m count)
 
 module _ {H : Type 0} (answer_of : H → Command → Answer) (after : H → Command → H) where
-  -- ---- the lists of one session
-
-  pub record AsLong (a : Account) (t : link.Account) : Type 0 where
-    pub settled : length a.settled ≡ length t.settled
-    pub reported : length a.reported ≡ length t.reported
-    pub issued : length a.issued ≡ length t.issued
-    pub queued : length a.queued ≡ length t.queued
-
-  pub as_long : (a : Account) (t : link.Account) (earlier : List link.Account) → IsOf a t earlier → length a.sessions ≡ 1 → AsLong a t
-  as_long a t earlier lists one =
-      let none = none_earlier a t earlier lists one in
-      let only : IsOf a t [] = subst (IsOf a t) none lists in
-      record { settled = ap length only.settled; reported = ap length only.reported; issued = ap length (only.issued refl); queued = ap length (only.queued refl) }
-
   module _ (on : SeveralLinks answer_of after) where
-    open on use {schedules, counts, links, laws, ranges, comes, laws.{in_time, stays}}
+    open on use {schedules, counts, links, laws, ledger, ranges, comes, laws.{in_time, forgets, stays}}
 
     module _ (config : BusConfig) (readers : List (Given H)) (steps : List SimStep) (m wait : ℕ)
         (is : IsRun answer_of after config readers (steps ++ rounds m wait)) (within : All IsInSession steps) where
@@ -107,14 +98,16 @@ module _ {H : Type 0} (answer_of : H → Command → Answer) (after : H → Comm
             fits = (holds_on (after_step answer_of after) (StepFits answer_of after) (steps ++ rounds r wait) (rounds (m - r) wait) start before.fits).0;
           }
 
-      -- they are moves of all sites
-      done : (r : ℕ) → r ≤ m → AreItsMoves answer_of after (steps ++ rounds r wait) start first
-      done r few =
-          let before = fewer r few in
-          schedules (steps ++ rounds r wait) start first up (nothing_is_kept config readers) (follows_first config readers) before.well before.fits
+      so_far : IsRun answer_of after config readers steps
+      so_far = record {
+        settings = is.settings;
+        well = (well_on (after_step answer_of after) fault_of steps (rounds m wait) start is.well).0;
+        fits = (holds_on (after_step answer_of after) (StepFits answer_of after) steps (rounds m wait) start is.fits).0;
+      }
 
-      no_rounds : moves_of answer_of after (steps ++ rounds 0 wait) start ≡ moves_of answer_of after steps start
-      no_rounds = ap (λ l. moves_of answer_of after l start) (append-nil steps)
+      -- steps are moves of all sites
+      done_by : (list : List SimStep) → IsRun answer_of after config readers list → AreItsMoves answer_of after list start first
+      done_by list run = schedules list start first up (nothing_is_kept config readers) (follows_first config readers) run.well run.fits
 
       abbrev pub n : Net H
       n = run answer_of after (moves_of answer_of after steps start) first
@@ -131,19 +124,19 @@ module _ {H : Type 0} (answer_of : H → Command → Answer) (after : H → Comm
       pub goes : (r : ℕ) → r ≤ m → FollowsSites (simulation.run answer_of after (rounds r wait) s) (run answer_of after (round_moves r) n)
       goes r few =
           subst (λ t. FollowsSites t (run answer_of after (round_moves r) n)) (runs_on (after_step answer_of after) steps (rounds r wait) start)
-          (subst (FollowsSites (simulation.run answer_of after (steps ++ rounds r wait) start)) (both_are r) (done r few).follows)
+          (subst (FollowsSites (simulation.run answer_of after (steps ++ rounds r wait) start)) (both_are r) (done_by (steps ++ rounds r wait) (fewer r few)).follows)
 
       all_fit : NetMovesFit answer_of after (moves_of answer_of after steps start ++ round_moves m) first
-      all_fit = subst (λ ms. NetMovesFit answer_of after ms first) (moves_more answer_of after steps (rounds m wait) start) (done m (omega arith)).fits
+      all_fit = subst (λ ms. NetMovesFit answer_of after ms first) (moves_more answer_of after steps (rounds m wait) start) (done_by (steps ++ rounds m wait) is).fits
 
       fits : NetMovesFit answer_of after (moves_of answer_of after steps start) first
-      fits = fits_first answer_of after (moves_of answer_of after steps start) (round_moves m) first all_fit
+      fits = (done_by steps so_far).fits
 
       pub rounds_fit : NetMovesFit answer_of after (round_moves m) n
       rounds_fit = fits_then answer_of after (moves_of answer_of after steps start) (round_moves m) first all_fit
 
       follows : FollowsSites s n
-      follows = goes 0 (omega arith)
+      follows = (done_by steps so_far).follows
 
       -- each reader has its site from the beginning on
       pub counted : length s.sites ≡ length readers
@@ -156,30 +149,59 @@ module _ {H : Type 0} (answer_of : H → Command → Answer) (after : H → Comm
       pub sites_count : length n.sites ≡ length readers
       sites_count = sym (same_count s.sites n.sites follows.sites) ∙ counted
 
+      -- the moves of a reader's link in these steps, from the link on which its first session begins
+      abbrev pub moves_in : List SimStep → ℕ → List (Move H)
+      moves_in list k = runs.moves_of answer_of after k (moves_of answer_of after list start) first
+
+      abbrev pub link_of : ℕ → Given H → Link H
+      link_of k given = view k (first_site config given) first
+
+      pub record ItsLink (list : List SimStep) (k : ℕ) (given : Given H) : Type 0 where
+        pub its : IsItsLink answer_of after k (first_site config given) (moves_of answer_of after list start) first
+        pub run_of : IsRunOf answer_of after (moves_in list k) (link_of k given)
+        pub tells : (u : ReaderSite H) → slice_get (simulation.run answer_of after list start).sites k ≡ Some u
+            → TellsOfMoves answer_of after u.account (moves_in list k) (link_of k given)
+
+      its_link : (list : List SimStep) → IsRun answer_of after config readers list → (k : ℕ) (given : Given H) → slice_get readers k ≡ Some given → ItsLink list k given
+      its_link list run k given at =
+          let done = done_by list run in
+          let ms = moves_of answer_of after list start in
+          let begins = has_site config k given readers at in
+          let its = links first ms up done.fits k (first_site config given) begins in
+          let told = done.tells k (new_site given) (first_site config given) (slice_get-map new_site readers k ∙ ap (option_map new_site) at) refl begins in
+          record {
+            its = its;
+            run_of = record {
+              begins = up.begins k (first_site config given) begins;
+              commands = refl;
+              events = refl;
+              fits = its.fits;
+              steady = are_steady (moves_in list k) (moves_usual answer_of after ms k first (each_of IsScheduled ms done.scheduled));
+            };
+            tells = λ u there.
+                subst (λ (v : ReaderSite H). TellsOfMoves answer_of after v.account (moves_in list k) (link_of k given)) (some_same told.0 u (sym told.1 ∙ there)) told.2;
+          }
+
       -- its link so far
       pub record HasLink (k : ℕ) (t : line.Site H) : Type 0 where
         pub given : Given H
+        pub there : slice_get readers k ≡ Some given
         pub begins : site_at k first.sites ≡ Some (first_site config given)
-        pub its : IsItsLink answer_of after k (first_site config given) (moves_of answer_of after steps start) first
-        pub moved : view k t n ≡ link.run answer_of after (runs.moves_of answer_of after k (moves_of answer_of after steps start) first) (view k (first_site config given) first)
-        pub steady : Each IsSteady (runs.moves_of answer_of after k (moves_of answer_of after steps start) first)
+        pub link_is : ItsLink steps k given
+        pub moved : view k t n ≡ link.run answer_of after (moves_in steps k) (link_of k given)
 
       pub link_at : (k : ℕ) (t : line.Site H) → site_at k n.sites ≡ Some t → HasLink k t
       link_at k t at =
           let few = at_length k t n.sites at in
           let same = sites_count in
           let given = there_is k readers (omega (arith, few, same)) in
-          let begins = has_site config k given.0 readers given.1 in
-          let ms = moves_of answer_of after steps start in
-          let its = links first ms up fits k (first_site config given.0) begins in
+          let its = its_link steps so_far k given.0 given.1 in
           record {
             given = given.0;
-            begins = begins;
-            its = its;
-            moved = subst (λ u. view k u n ≡ link.run answer_of after (runs.moves_of answer_of after k ms first) (view k (first_site config given.0) first))
-                (some_same its.moved.site t (sym its.moved.there ∙ at)) its.moved.moved;
-            steady = are_steady (runs.moves_of answer_of after k ms first)
-                (moves_usual answer_of after ms k first (each_of IsScheduled ms (subst (λ r. All IsScheduled r) no_rounds (done 0 (omega arith)).scheduled)));
+            there = given.1;
+            begins = has_site config k given.0 readers given.1;
+            link_is = its;
+            moved = subst (λ u. view k u n ≡ link.run answer_of after (moves_in steps k) (link_of k given.0)) (some_same its.its.moved.site t (sym its.its.moved.there ∙ at)) its.its.moved.moved;
           }
 
       -- one session each
@@ -189,16 +211,51 @@ module _ {H : Type 0} (answer_of : H → Command → Answer) (after : H → Comm
           let given = there_is k readers few in
           omega (arith, sessions_counted answer_of after k config readers given.0 given.1 list u at, none_reopen (suc k) list inside)
 
-      pub one_at : (k : ℕ) (u : ReaderSite H) → slice_get s.sites k ≡ Some u → length u.account.sessions ≡ 1
+      one_at : (k : ℕ) (u : ReaderSite H) → slice_get s.sites k ≡ Some u → length u.account.sessions ≡ 1
       one_at k u at =
           let few = get_within k u s.sites at in
           let same = counted in
           one_in steps k u (each_of IsInSession steps within) (omega (arith, few, same)) at
 
-      pub one_later : (k : ℕ) (u : ReaderSite H) → k < length readers → slice_get later.sites k ≡ Some u → length u.account.sessions ≡ 1
+      one_later : (k : ℕ) (u : ReaderSite H) → k < length readers → slice_get later.sites k ≡ Some u → length u.account.sessions ≡ 1
       one_later k u few at =
           one_in (steps ++ rounds m wait) k u (each_append IsInSession steps (rounds m wait) (each_of IsInSession steps within) (rounds_within m wait)) few
           (ap (λ (w : LineState H). slice_get w.sites k) (runs_on (after_step answer_of after) steps (rounds m wait) start) ∙ at)
+
+      -- what the rounds bring to a reader whose session lasts, where these are its own
+      pub rounds_bring : (k : ℕ) (t last : line.Site H) (at : site_at k n.sites ≡ Some t) (moments : List ℕ) → let last_net = run answer_of after (round_moves m) n in
+          site_at k last_net.sites ≡ Some last
+          → view k last last_net ≡ link.run answer_of after (progress.rounds moments) (view k t n) → MovesFit answer_of after (progress.rounds moments) (view k t n)
+          → (u v : ReaderSite H) → slice_get s.sites k ≡ Some u → slice_get later.sites k ≡ Some v → v.account.ends ≡ []
+          → let mid = link.run answer_of after (moves_in steps k) (link_of k (link_at k t at).given) in
+          Brings u.account v.account (told_in (reports answer_of after (progress.rounds moments) mid)) (left mid)
+      rounds_bring k t last at moments there seen fits u v was is_later none =
+          let l = link_at k t at in
+          let all = steps ++ rounds m wait in
+          let whole = its_link all is k l.given l.there in
+          let last_net = run answer_of after (round_moves m) n in
+          let mid = link.run answer_of after (moves_in steps k) (link_of k l.given) in
+          let few = get_within k l.given readers l.there in
+          let ended = runs_on (after_step answer_of after) steps (rounds m wait) start in
+          let v_there = ap (λ (w : LineState H). slice_get w.sites k) ended ∙ is_later in
+          let one = one_at k u was in
+          let both = one_later k v few is_later in
+          let through : view k last last_net ≡ link.run answer_of after (progress.rounds moments) mid = seen ∙ ap (link.run answer_of after (progress.rounds moments)) l.moved in
+          let joined : link.run answer_of after (moves_in all k) (link_of k l.given) ≡ link.run answer_of after (progress.rounds moments) mid =
+          sym (subst (λ (w : Net H). view k last w ≡ link.run answer_of after (moves_in all k) (link_of k l.given)) (both_are m)
+          (viewed answer_of after first (moves_of answer_of after all start) k (first_site config l.given) last whole.its
+          (ap (λ (w : Net H). site_at k w.sites) (both_are m) ∙ there))) ∙ through in
+          let begun : HasBegun k later = λ w here. omega (arith, one_later k w few here) in
+          let no_end : NoEnd k later = λ w here. subst (λ (x : ReaderSite H). x.account.ends ≡ []) (some_same v w (sym is_later ∙ here)) none in
+          let lasts = subst (λ (x : Link H). is_closed x.controller.session.state ≡ false) through
+          (open_is last.controller.session.state (lasts_there k later last_net (goes m (omega arith)) begun no_end last there)) in
+          let issued = idle_run answer_of after (SameIssued answer_of after) (issued_idle answer_of after) k (rounds m wait) s (rounds_idle answer_of after m wait) u was in
+          let events = idle_run answer_of after (NoneQueued answer_of after) (events_idle answer_of after) k (rounds m wait) s (rounds_idle answer_of after m wait) u was in
+          let same_issued = subst (λ (w : ReaderSite H). w.account.issued ≡ u.account.issued) (some_same issued.0 v (sym issued.1 ∙ is_later)) issued.2 in
+          let same_queued = subst (λ (w : ReaderSite H). w.account.queued ≡ u.account.queued) (some_same events.0 v (sym events.1 ∙ is_later)) events.2.queued in
+          brings answer_of after ranges forgets (moves_in steps k) (moves_in all k) moments (link_of k l.given) u.account v.account l.link_is.run_of whole.run_of
+          (l.link_is.tells u was) (whole.tells v v_there) one both joined (subst (MovesFit answer_of after (progress.rounds moments)) l.moved fits) lasts
+          (ap length same_issued) (ap length same_queued)
 
       module _ (long : longest_wait (controller_config 0 config) ≤ wait)
           (clear : IsClear (simulation.run answer_of after steps (set_up config readers))) where
@@ -216,17 +273,13 @@ module _ {H : Type 0} (answer_of : H → Command → Answer) (after : H → Comm
             let l = link_at k t at in
             let u = get_site k t s.sites n.sites follows.sites at in
             let ready = ready_at k u.0 u.1 in
-            let ms = runs.moves_of answer_of after k (moves_of answer_of after steps start) first in
-            let old = view k (first_site config l.given) first in
-            let begun = up.begins k (first_site config l.given) l.begins in
+            let ms = moves_in steps k in
+            let old = link_of k l.given in
+            let its = l.link_is.run_of in
+            let tells = l.link_is.tells u.0 u.1 in
             let issued = each_of SetsNoAddress u.0.account.issued ready.issued in
-            let none = none_earlier u.0.account t.account t.earlier u.2.tells (one_at k u.0 u.1) in
-            let placed = ap (λ (v : Link H). v.account.issued) l.moved
-            ∙ issues_all answer_of after ms old (ap (λ (v : Link H). length v.earlier) (sym l.moved) ∙ ap length none ∙ sym (ap length begun.earlier))
-            ∙ ap (λ (a : link.Account). a.issued ++ all_submitted answer_of after ms old) begun.account in
-            let submitted = subst (Each SetsNoAddress) (u.2.tells.issued none ∙ placed) issued in
-            let stay = stays old ms begun l.its.fits (each_all SetsNoAddress (old.controller.waiting ++ all_submitted answer_of after ms old) submitted)
-            (set_no_other old.reader.config.address old.controller.session.config.address ms l.steady) in
+            let stay = stays old ms its.begins its.fits (each_all SetsNoAddress (all_submitted answer_of after ms old) (subst (Each SetsNoAddress) tells.issued issued))
+            (set_no_other old.reader.config.address old.controller.session.config.address ms its.steady) in
             let moved = l.moved in
             record {
               to_reader = ap (own k) (empty.coming k t at);
@@ -234,7 +287,8 @@ module _ {H : Type 0} (answer_of : H → Command → Answer) (after : H → Comm
               address = ap (λ (v : Link H). v.reader.config.address) moved ∙ stay.0 ∙ up.together k (first_site config l.given) l.begins ∙ sym stay.1
                   ∙ sym (ap (λ (v : Link H). v.controller.session.config.address) moved);
               ready = sym (ap (λ r. r.busy) u.2.reader) ∙ ready.ready;
-              issued = each_all SetsNoAddress t.account.issued (subst (Each SetsNoAddress) (u.2.tells.issued none) issued);
+              stays = subst (λ (v : Link H). All SetsNoAddress (ahead v.controller)) (sym moved) (each_all SetsNoAddress (ahead (link.run answer_of after ms old).controller)
+                  (ahead_among answer_of after ledger SetsNoAddress ms old u.0.account its tells issued));
             }
 
         entries_count : length s.bus.devices.entries ≡ length readers
@@ -249,15 +303,16 @@ module _ {H : Type 0} (answer_of : H → Command → Answer) (after : H → Comm
           empty = empty;
           led = λ i u there. let l = link_at i u there in record {
             first = view i (first_site config l.given) first;
-            moves = runs.moves_of answer_of after i (moves_of answer_of after steps start) first;
-            begins = up.begins i (first_site config l.given) l.begins;
-            fits = l.its.fits;
+            moves = moves_in steps i;
+            begins = l.link_is.run_of.begins;
+            fits = l.link_is.run_of.fits;
             leads = l.moved;
           };
           clear = λ i u there unended. clear_at i u there;
           stored = λ i u there.
               let l = link_at i u there in
               keeps_own answer_of after laws.known (moves_of answer_of after steps start) first fits (apart_first first up) i (first_site config l.given) u l.begins there tt;
+          begun = λ u there. omega (arith, one_at k u there);
           lasts = none_before_rounds answer_of after k m wait s none;
           there = (t, at);
           count_is = sites_count;
@@ -301,42 +356,28 @@ module _ {H : Type 0} (answer_of : H → Command → Answer) (after : H → Comm
             let t = sited k n.sites (omega (arith, few, same, total)) in
             let l = link_at k t.0 t.1 in
             let has = its_rounds k t.0 t.1 no_end in
-            let ms = runs.moves_of answer_of after k (moves_of answer_of after steps start) first in
-            let old = view k (first_site config l.given) first in
-            let begun = up.begins k (first_site config l.given) l.begins in
+            let old = link_of k l.given in
+            let its = l.link_is.run_of in
             let last_net = run answer_of after (round_moves m) n in
-            let last_follows = goes m (omega arith) in
             let machine = controller_config l.given.0.address config in
             let range : IsInRange old.controller.session = ranges.later (new_machine machine config.room.messages config.room.bytes) (Begin 0 ∷ []) (ranges.new machine config.room.messages config.room.bytes) in
-            let through = in_time old ms has.moments begun range l.its.fits
+            let through = in_time old (moves_in steps k) has.moments its.begins range its.fits
             (subst progress.IsClear l.moved (clear_at k t.0 t.1))
             (subst (progress.AreLate answer_of after has.moments) l.moved has.late)
             (subst (MovesFit answer_of after (progress.rounds has.moments)) l.moved has.fits) in
             let last = has.seen_then.site in
-            let then_ : view k last last_net ≡ link.run answer_of after (progress.rounds has.moments) (link.run answer_of after ms old) =
+            let then_ : view k last last_net ≡ link.run answer_of after (progress.rounds has.moments) (link.run answer_of after (moves_in steps k) old) =
             has.seen_then.seen ∙ ap (link.run answer_of after (progress.rounds has.moments)) l.moved in
-            let u_is = get_site k t.0 s.sites n.sites follows.sites t.1 in
-            let v_is = get_site k last later.sites last_net.sites last_follows.sites has.seen_then.there in
-            let u_same : u_is.0 ≡ u = some_same u_is.0 u (sym u_is.1 ∙ at) in
-            let v_same : v_is.0 ≡ v = some_same v_is.0 v (sym v_is.1 ∙ there) in
-            let u_long = as_long u_is.0.account t.0.account t.0.earlier u_is.2.tells (one_at k u_is.0 u_is.1) in
-            let v_long = as_long v_is.0.account last.account last.earlier v_is.2.tells (one_later k v_is.0 (omega (arith, few, same)) v_is.1) in
-            let so = moves_so answer_of after (progress.rounds has.moments) (link.run answer_of after ms old) (rounds_ordinary H has.moments)
-            (moves_so answer_of after ms old (steady_ordinary ms l.steady) (begins_so old begun)) in
-            let kept : last.account.kept ≡ last.account.queued = subst (λ (x : Link H). x.account.kept ≡ x.account.queued) (sym then_) so.0.kept in
             let turns = m / length readers in
             let part = share m (length readers) in
             let enough : turns ≤ length has.moments = has.enough turns (omega (arith, part)) in
-            subst (λ (x : ReaderSite H). ComesOn m (length readers) x.account v.account) u_same
-            (subst (λ (y : ReaderSite H). ComesOn m (length readers) u_is.0.account y.account) v_same
-            (elim through [
-              | inl closed ↦ absurd (lasts_there k later last_net last_follows no_end last has.seen_then.there (ap (λ (x : Link H). x.controller.session.state) then_ ∙ closed))
-              | inr on ↦ (
-                  let counted_on : progress.ComeOn has.moments t.0.account last.account =
-                  subst (λ (x : Link H). progress.ComeOn has.moments x.account last.account) (sym l.moved)
-                  (subst (λ (x : Link H). progress.ComeOn has.moments (link.run answer_of after ms old).account x.account) (sym then_) on) in
-                  omega (arith, counted_on, enough, u_long.settled, u_long.reported, v_long.settled, v_long.reported, v_long.issued, v_long.queued, ap length kept))
-            ]))
+            elim through [
+              | inl closed ↦ absurd (lasts_there k later last_net (goes m (omega arith)) (λ w here. omega (arith, one_later k w (omega (arith, few, same)) here)) no_end last
+                  has.seen_then.there (ap (λ (x : Link H). x.controller.session.state) then_ ∙ closed))
+              | inr on ↦
+                  let brought = rounds_bring k t.0 last t.1 has.moments has.seen_then.there has.seen_then.seen has.fits u v at there none in
+                  omega (arith, on, enough, brought.more, brought.all)
+            ]
 
         -- the last round ends at rest, where this reader's session lasts
         rests : (k : ℕ) (v : ReaderSite H) → slice_get later.sites k ≡ Some v → v.account.ends ≡ [] → k < length readers → 1 ≤ m → IsAtRest later

@@ -1,6 +1,6 @@
 -- The names that most proofs of this crate cite, passed on from one place. Declares nothing.
 pub use Rattle.std.proofs.Common.{[], All, ap, append_assoc, arith, Bool, cond, eqb, false, if◌then◌else◌, inl, inr, is_some, length, List, map, max, None, Ok, Option, refl, Some, subst, suc, sym, take, true, zero, ℕ, ◌&&◌, ◌++◌, ◌+◌, ◌-◌, ◌<◌, ◌||◌, ◌∙◌, ◌∷◌, ◌≡◌, ◌≢◌, ◌≤◌}
-pub use Rattle.std.specs.Prelude.{min, nat_le, slice_get, slice_set}
+pub use Rattle.std.specs.Prelude.{nat_le, slice_get, slice_set}
 pub use Rattle.std.specs.Option.{option_map_or}
 pub use Rattle.std.proofs.lemmas.List.{append-nil, length-append, length-map}
 pub use Rattle.std.specs.List.{flat_map}
@@ -31,9 +31,9 @@ pub use Rattle.osdp_sim.specs.Steps.{damage_fault, moment_after}
 pub use Rattle.osdp_sim.specs.declared.step.SimStep.{SimStep}
 pub use Rattle.osdp_sim_bus.specs.State.{accounts, begun_bus, begun_device, Given, LineState, ReaderSite, set_up}
 pub use Rattle.osdp_sim_bus.specs.Steps.{after_step, all_hear, all_hear_each, changed_site, fault_of, hears_run, is_there, issued, report_told, site_is_busy, site_says, StepFits, takes_report, waited}
-pub use Rattle.osdp_sim_laws.specs.Accounts.{AnswersHoldOnce, IsInSession, IsOf}
+pub use Rattle.osdp_sim_laws.specs.Accounts.{AnswersHoldOnce, IsInSession}
 pub use Rattle.osdp_link_laws.specs.Progress.{SetsNoAddress}
-pub use Rattle.osdp_link_laws.proofs.Lines.{each_all, each_append, each_of, each_rest}
+pub use Rattle.osdp_link_laws.proofs.Lines.{each_all, each_append, each_of}
 pub use Rattle.osdp_sim.proofs.Schedules.{begins, first_well, goes_on, HasCome, holds_on, runs_on, well_on}
 pub use Rattle.osdp_sim.specs.Account.{Account, lists_of, with_report}
 pub use Rattle.osdp_sim.specs.Rounds.{clean, round, rounds}
@@ -61,12 +61,10 @@ pub use Rattle.osdp_sim_bus_laws.proofs.Beginning.{first_net, first_site, follow
 pub use Rattle.osdp_bus_progress.specs.SeveralLinks.{LinkLaws, SeveralLinks}
 pub use Rattle.osdp_bus_progress.specs.Resting.{after_rounds, AreRounds, ClearsTheLine, EachHasItsRound, EachIsIdle, EachRoundBringsOneMore, EachRoundRests, HasNotEnded, IsAtRest, IsItsRound}
 pub use Rattle.osdp_controller_laws.specs.Runs.{Begin}
-pub use Rattle.osdp_link_laws.specs.Headline.{MovesFit}
+pub use Rattle.osdp_link_laws.specs.Beginning.{MovesFit}
 pub use Rattle.osdp_link_laws.specs.Link.{Delivered, Link}
-pub use Rattle.osdp_link_laws.proofs.Ordinary.{moves_so}
-pub use Rattle.osdp_link_laws.proofs.OrdinaryRuns.{begins_so, set_no_other, steady_ordinary}
+pub use Rattle.osdp_link_laws.proofs.OrdinaryRuns.{keep_reader, set_no_other}
 pub use Rattle.osdp_shared_line.specs.Progress.{all_read, IsEmpty, net_round}
-pub use Rattle.osdp_sim_laws.proofs.Accounts.{none_earlier, some_begun}
 pub use Rattle.osdp_sim_bus_laws.proofs.Sites.{get_site, same_count}
 pub use Rattle.osdp_shared_line.proofs.Rounds.{at_length, fits_first, fits_then, IsRound, net_more, one_round}
 pub use Rattle.osdp_shared_line.proofs.Storing.{keeps_own}

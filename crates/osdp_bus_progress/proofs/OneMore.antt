@@ -1,12 +1,13 @@
 -- Between rounds of a bus: each reader has its round, its controller is idle after it, and each round of it but the first brings one more.
-use Rattle.osdp_bus_progress.proofs.Common.{◌≡◌, ◌≤◌, ◌<◌, ◌+◌, ◌-◌, ◌++◌, ℕ, suc, true, cond, All, List, [], ◌∷◌, length, Some, inl, inr, refl, sym, subst, ap, ◌∙◌, arith, append_assoc, min, slice_get, Command, is_due, Idle, Answer, BusConfig, Entry, MovesFit, Link, each_all, each_append, each_of, is_true, moves_so, begins_so, steady_ordinary, NetMovesFit, Net, run, view, some_same, device_of, Account, rounds, SimStep, runs_on, Given, LineState, ReaderSite, accounts, set_up, after_step, IsInSession, rounds_within, FollowsSites, moves_of, first_net, first_site, unmapped, get_within, get_site, IsRun, AreRounds, EachHasItsRound, EachIsIdle, EachRoundBringsOneMore, HasNotEnded, IsItsRound, after_rounds, SeveralLinks}
+use Rattle.osdp_bus_progress.proofs.Common.{◌≡◌, ◌≤◌, ◌<◌, ◌+◌, ◌-◌, ◌++◌, ℕ, suc, true, cond, All, List, [], ◌∷◌, length, Some, inl, inr, refl, sym, subst, ap, ◌∙◌, arith, append_assoc, slice_get, Command, is_due, Idle, Answer, BusConfig, Entry, MovesFit, Link, keep_reader, each_all, each_append, each_of, is_true, NetMovesFit, Net, net_more, net_round, run, site_at, view, some_same, device_of, Account, rounds, SimStep, runs_on, Given, LineState, ReaderSite, accounts, set_up, after_step, IsInSession, rounds_within, FollowsSites, moves_of, first_net, unmapped, get_within, IsRun, AreRounds, EachHasItsRound, EachIsIdle, EachRoundBringsOneMore, HasNotEnded, IsItsRound, after_rounds, SeveralLinks}
 use Rattle.osdp_link_laws.specs.Link as link
 use Rattle.osdp_link_laws.specs.Progress as progress
-use Rattle.osdp_shared_line.specs.Runs as runs
+use Rattle.osdp_link_laws.specs.Refusals.{KeepsReader}
+use Rattle.osdp_link_laws.proofs.Counting.{none_in_session}
 use Rattle.osdp_sim_bus.specs.Runs as simulation
 use Rattle.osdp_sim_laws.specs.Resting.{BringsOneMore}
 use Rattle.osdp_bus_progress.proofs.Coming as coming
-use Rattle.osdp_bus_progress.proofs.Coming.{as_long, split_rounds}
+use Rattle.osdp_bus_progress.proofs.Coming.{split_rounds}
 use Rattle.osdp_bus_progress.proofs.Ends.{NoEnd, lasts_there, none_before_rounds}
 use Rattle.osdp_bus_progress.proofs.Round.{AtRest, after_round, entry_there, next_round, round_net, sited}
 use Rattle.osdp_bus_progress.proofs.Rounds.{Idles, idles_later, its_round, stands}
@@ -17,10 +18,6 @@ two_parts : (m more wait : ℕ) → rounds (m + more) wait ≡ rounds m wait ++ 
 two_parts m more wait =
     let left : m + more - m ≡ more = omega arith in
     split_rounds m (m + more) wait (omega arith) ∙ ap (λ c. rounds m wait ++ rounds c wait) left
-
--- one more of this session is settled or reported, or all are
-abbrev MoreByOne : link.Account → link.Account → Type 0
-MoreByOne a b = min (length a.settled + length a.reported + 1) (length b.issued + length b.kept) ≤ length b.settled + length b.reported
 
 module _ {H : Type 0} (answer_of : H → Command → Answer) (after : H → Command → H) where
   -- the reader at place k has this account, and no end in it
@@ -149,37 +146,26 @@ module _ {H : Type 0} (answer_of : H → Command → Answer) (after : H → Comm
             let now = it.now in
             let t = rest.there in
             let l = coming.link_at answer_of after on config readers more 1 wait is inside k t.0 t.1 in
-            let up = coming.up answer_of after on config readers more 1 wait is inside in
-            let ms = runs.moves_of answer_of after k (moves_of answer_of after more start) first in
-            let old = view k (first_site config l.given) first in
-            let begun = up.begins k (first_site config l.given) l.begins in
-            let so = moves_so answer_of after ms old (steady_ordinary ms l.steady) (begins_so old begun) in
-            let calm = rest.clear k t.0 t.1 (lasts_there k s n rest.follows rest.lasts t.0 t.1) in
+            let its = l.link_is.run_of in
+            let ms = coming.moves_in answer_of after on config readers more 1 wait is inside more k in
+            let old = coming.link_of answer_of after on config readers more 1 wait is inside k l.given in
+            let calm = rest.clear k t.0 t.1 (lasts_there k s n rest.follows rest.begun rest.lasts t.0 t.1) in
             let idle = stands_here.idles r earlier had t.0 t.1 in
             let fits = subst (λ b. MovesFit answer_of after (cond b (progress.round now) []) (view k t.0 n)) (is_true it.at k same) (it.each k t.0 t.1).fits in
-            let brought = from_rest old ms (now ∷ []) begun l.its.fits (subst progress.IsClear l.moved calm) (subst progress.IsAtRest l.moved idle)
-            (inl so.0.restarts) (subst (λ (x : Link H). is_due now x.controller ≡ true) l.moved (it.own t.0 t.1 same).0, tt)
+            let brought = from_rest old ms (now ∷ []) its.begins its.fits (subst progress.IsClear l.moved calm) (subst progress.IsAtRest l.moved idle)
+            (inl (none_in_session answer_of after ms old (each_of KeepsReader ms (keep_reader ms its.steady))))
+            (subst (λ (x : Link H). is_due now x.controller ≡ true) l.moved (it.own t.0 t.1 same).0, tt)
             (subst (MovesFit answer_of after (progress.round now)) l.moved fits) in
             let seen = (it.each k t.0 t.1).seen in
+            let net_is : run answer_of after (moves_of answer_of after (rounds 1 wait) s) n ≡ round_net answer_of after laws (length readers) it.at now n =
+            ap (λ ms. run answer_of after ms n) (it.moves 0) ∙ net_more answer_of after (net_round (length readers) (it.at, now)) [] n in
             let last = seen.site in
-            let net = round_net answer_of after laws (length readers) it.at now n in
-            let through : view k last net ≡ link.run answer_of after (progress.round now) (link.run answer_of after ms old) =
-            seen.seen ∙ ap (λ b. link.run answer_of after (cond b (progress.round now) []) (view k t.0 n)) (is_true it.at k same)
-            ∙ ap (link.run answer_of after (progress.round now)) l.moved in
-            let so_last = moves_so answer_of after (progress.round now) (link.run answer_of after ms old) (tt, (tt, (tt, tt))) so in
-            let kept : last.account.kept ≡ last.account.queued = subst (λ (x : Link H). x.account.kept ≡ x.account.queued) (sym through) so_last.0.kept in
-            let counted : MoreByOne t.0.account last.account =
-            subst (λ (x : Link H). MoreByOne x.account last.account) (sym l.moved)
-            (subst (λ (x : Link H). MoreByOne (link.run answer_of after ms old).account x.account) (sym through) brought) in
-            let u_is = get_site k t.0 s.sites n.sites rest.follows.sites t.1 in
-            let v_is = get_site k last next_line.sites net.sites it.rest.follows.sites seen.there in
-            let u_long = as_long answer_of after u_is.0.account t.0.account t.0.earlier u_is.2.tells
-            (coming.one_at answer_of after on config readers more 1 wait is inside k u_is.0 u_is.1) in
-            let v_long = as_long answer_of after v_is.0.account last.account last.earlier v_is.2.tells
-            (coming.one_later answer_of after on config readers more 1 wait is inside k v_is.0 few v_is.1) in
-            subst (λ (x : ReaderSite H). BringsOneMore x.account v.account) (some_same u_is.0 u (sym u_is.1 ∙ at))
-            (subst (λ (y : ReaderSite H). BringsOneMore u_is.0.account y.account) (some_same v_is.0 v (sym v_is.1 ∙ there))
-            (omega (arith, counted, u_long.settled, u_long.reported, v_long.settled, v_long.reported, v_long.issued, v_long.queued, ap length kept)))
+            let bring = coming.rounds_bring answer_of after on config readers more 1 wait is inside k t.0 last t.1 (now ∷ [])
+            (ap (λ (w : Net H). site_at k w.sites) net_is ∙ seen.there)
+            (subst (λ (w : Net H). view k last w ≡ link.run answer_of after (progress.round now) (view k t.0 n)) (sym net_is)
+            (seen.seen ∙ ap (λ b. link.run answer_of after (cond b (progress.round now) []) (view k t.0 n)) (is_true it.at k same)))
+            fits u v at there (none v there) in
+            omega (arith, brought, bring.more, bring.all)
 
     pub each_has_its_round : EachHasItsRound answer_of after
     each_has_its_round config readers steps m wait k a are lasts =

@@ -1,5 +1,5 @@
 -- A round of a bus: it is an exchange of the entry whose turn it is.
-use Rattle.osdp_bus_progress.proofs.Common.{◌≡◌, ◌≤◌, ◌<◌, ◌+◌, ℕ, zero, suc, max, true, false, cond, eqb, List, [], ◌∷◌, ◌++◌, length, map, Option, Some, None, refl, sym, subst, ap, ◌∙◌, inl, inr, arith, append_assoc, eqb_tells, append-nil, length-map, slice_get, packets_in, Command, is_due, is_outstanding, later_by, seen_at, State, Closed, Idle, Waiting, Pausing, ComesDue, StaysInRange, longest_wait, Answer, BusState, holder, seen, holds, after_next_report, BusTicked, bus_ticks, ticks_with, Entry, has_exchange, IsBefore, unless_true, MovesFit, Delivered, Link, is_true, NetMovesFit, Net, NetMove, Tick, ToPanel, address_of, run, site_at, IsEmpty, all_read, net_round, view, IsRound, at_length, fits_first, one_round, some_same, keeps_own, device_of, one_ticks, who_ticks, handed, rounds, moment_after, Deliver, LineState, after_step, waited, FollowsSites, each_reads, moment_of, moves_for, moves_of, same_count, LinkLaws}
+use Rattle.osdp_bus_progress.proofs.Common.{◌≡◌, ◌≤◌, ◌<◌, ◌+◌, ℕ, zero, suc, max, true, false, cond, eqb, List, [], ◌∷◌, ◌++◌, length, map, Option, Some, None, refl, sym, subst, ap, ◌∙◌, inl, inr, arith, append_assoc, eqb_tells, append-nil, length-map, slice_get, packets_in, Command, is_due, is_outstanding, later_by, seen_at, State, Closed, Idle, Waiting, Pausing, ComesDue, StaysInRange, longest_wait, Answer, BusState, holder, seen, holds, after_next_report, BusTicked, bus_ticks, ticks_with, Entry, has_exchange, IsBefore, unless_true, MovesFit, Delivered, Link, is_true, NetMovesFit, Net, NetMove, Tick, ToPanel, address_of, run, site_at, IsEmpty, all_read, net_round, view, IsRound, at_length, fits_first, one_round, some_same, keeps_own, device_of, one_ticks, who_ticks, handed, rounds, moment_after, Deliver, LineState, after_step, waited, FollowsSites, each_reads, moment_of, moves_for, moves_of, get_site, same_count, LinkLaws}
 use Rattle.osdp_link_laws.specs.Link as link
 use Rattle.osdp_link_laws.specs.Progress as progress
 use Rattle.osdp_link_laws.proofs.Due.{closed_rests}
@@ -11,7 +11,7 @@ use Rattle.osdp_sim.specs.declared.step.SimStep.TheVariants as step
 use Rattle.osdp_sim_bus.proofs.Counts.{same_many}
 use Rattle.osdp_sim_laws.proofs.Resting.{EndsOrRests, IsLed, led_on, round_rests}
 use Rattle.osdp_bus_progress.proofs.Along.{BusAt, DeviceAt, step_at}
-use Rattle.osdp_bus_progress.proofs.Ends.{NoEnd, lasts_there}
+use Rattle.osdp_bus_progress.proofs.Ends.{HasBegun, NoEnd, begun_after_rounds, lasts_there}
 use Rattle.osdp_bus_progress.proofs.Turns.{BusTicks, IsAfter, IsFirst, IsTurn, Lasts, LastingDue, first_around, next_turn, tick_is}
 use Rattle.osdp_bus_progress.proofs.Unmoved.{first_from_bus, heard_bus, heard_clock, told_bus, told_clock}
 
@@ -63,6 +63,7 @@ module _ {H : Type 0} (answer_of : H → Command → Answer) (after : H → Comm
     pub led : (i : ℕ) (t : line.Site H) → site_at i n.sites ≡ Some t → IsLed answer_of after (view i t n)
     pub clear : (i : ℕ) (t : line.Site H) → site_at i n.sites ≡ Some t → IsOpen (view i t n) → progress.IsClear (view i t n)
     pub stored : (i : ℕ) (t : line.Site H) → site_at i n.sites ≡ Some t → StoresFrom IsNoAddress t.reader
+    pub begun : HasBegun k s
     pub lasts : NoEnd k s
     pub there : (t : line.Site H) × (site_at k n.sites ≡ Some t)
     pub count_is : length n.sites ≡ count
@@ -153,7 +154,7 @@ module _ {H : Type 0} (answer_of : H → Command → Answer) (after : H → Comm
           let mine = h.there in
           let d = entry_there s n h.follows k mine.0 mine.1 in
           tick_is now entry k s.bus due_all h.in_time.one h.follows.bus.held h.follows.bus.report h.turn (device_of mine.0) d
-          (due_all k (device_of mine.0) d (lasts_there k s n h.follows h.lasts mine.0 mine.1))
+          (due_all k (device_of mine.0) d (lasts_there k s n h.follows h.begun h.lasts mine.0 mine.1))
 
       abbrev at : ℕ
       at = ticks_one.turn.at
@@ -361,6 +362,7 @@ module _ {H : Type 0} (answer_of : H → Command → Answer) (after : H → Comm
               led = led_after;
               clear = clear_after;
               stored = stored_after;
+              begun = let mine = get_site k h.there.0 s.sites n.sites h.follows.sites h.there.1 in begun_after_rounds answer_of after k 1 wait s mine.0 mine.1 h.begun;
               lasts = lasts;
               there = (own.seen.site, own.seen.there);
               count_is = count_sites;

@@ -194,7 +194,7 @@ module _ {H : Type 0} (answer_of : H → Command → Answer) (after : H → Comm
           | inl equal ↦ (
               let own = is ∙ ap (λ b. link.run answer_of after (cond b (progress.round it.now) []) (view k old.0 n)) equal.0 in
               elim (it.own old.0 old.1 equal.1).1 [
-                | inl closed ↦ absurd (lasts_there k (after_round answer_of after laws wait s) net it.rest.follows lasts t at
+                | inl closed ↦ absurd (lasts_there k (after_round answer_of after laws wait s) net it.rest.follows it.rest.begun lasts t at
                     (ap (λ (l : Link H). l.controller.session.state) own ∙ closed))
                 | inr calm ↦ subst progress.IsAtRest (sym own) calm.1
               ])

@@ -1,13 +1,13 @@
--- What the laws of progress stand on: the moves of a schedule, the theory of one link and of several, and progress of one link.
+-- What the laws of progress stand on: the moves of a schedule, the theory of one link and of several, progress of one link and its ledger.
 use Rattle.osdp_msg.specs.declared.command.Command.{Command}
 use Rattle.osdp_controller_laws.specs.Calls.{ComesDue, StaysInRange}
 use Rattle.osdp_reader.specs.declared.handler.Answer.{Answer}
 use Rattle.osdp_link_laws.specs.Addresses.{StayWhereTheyAre}
 use Rattle.osdp_link_laws.specs.Peers.{ReadsWhatIsAsked}
-use Rattle.osdp_link_laws.specs.Progress.{ComesThroughFromRest, ComesThroughInTime, ComesToRest}
+use Rattle.osdp_link_laws.specs.Progress.{ComesThroughFromRest, ComesThroughInTime, ComesToRest, ForgetsNone}
 use Rattle.osdp_shared_line.specs.Runs.{EachIsALink}
 use Rattle.osdp_sim_bus.specs.Laws.{HasAnAccountEach}
-use Rattle.osdp_sim_laws.specs.OneLink.{ReadsPackets}
+use Rattle.osdp_sim_laws.specs.OneLink.{KeepsLedger, ReadsPackets}
 use Rattle.osdp_sim_bus_laws.specs.Moves.{SchedulesAreMoves}
 
 module _ {H : Type 0} (answer_of : H → Command → Answer) (after : H → Command → H) where
@@ -17,6 +17,7 @@ module _ {H : Type 0} (answer_of : H → Command → Answer) (after : H → Comm
     pub rests : ComesToRest answer_of after
     pub in_time : ComesThroughInTime answer_of after
     pub from_rest : ComesThroughFromRest answer_of after
+    pub forgets : ForgetsNone answer_of after
     pub stays : StayWhereTheyAre answer_of after
 
   pub record SeveralLinks : Type 0 where
@@ -25,5 +26,6 @@ module _ {H : Type 0} (answer_of : H → Command → Answer) (after : H → Comm
     pub counts : HasAnAccountEach answer_of after
     pub links : EachIsALink answer_of after
     pub laws : LinkLaws
+    pub ledger : KeepsLedger answer_of after
     pub ranges : StaysInRange
     pub comes : ComesDue

@@ -9,7 +9,7 @@ ghost use Rattle.osdp_bus_progress.specs.Laws.{ClearsTheLine, EachAnswerRecovers
 use osdp_reader::Handler;
 use osdp_script::ScriptReader;
 
-/// What the laws of progress stand on: the moves of a schedule, the theory of one link and of several, and progress of one link.
+/// What the laws of progress stand on: the moves of a schedule, the theory of one link and of several, progress of one link and its ledger.
 fn stands_on_several_links<H: Handler>()
     ensures { SeveralLinks H.answer_of H.after }
 {
@@ -19,6 +19,7 @@ fn stands_on_several_links<H: Handler>()
     osdp_link_laws::reads_what_is_asked();
     osdp_link_laws::comes_through::<H>();
     osdp_link_laws::stay_where_they_are::<H>();
+    osdp_sim_laws::keeps_ledger::<H>();
     osdp_controller_laws::stays_in_range();
     osdp_controller_laws::ticks_come_due();
 }

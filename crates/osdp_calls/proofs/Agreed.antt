@@ -1,10 +1,10 @@
 -- What is noted of the entries of a line in use agrees with what is noted along the moves of its net, as a controller ticks.
-use Rattle.osdp_calls.proofs.Common.{◌≡◌, ◌≢◌, ◌⊎◌, ℕ, Bool, true, false, cond, List, [], ◌∷◌, ◌++◌, Option, Some, None, refl, sym, subst, ap, ◌∙◌, inl, inr, eqb_tells, ◌==◌, ◌&&◌, is_some, slice_get, Packet, Command, is_closed, Report, BusState, device_of, entry_ticks, step_of, ticks_at, ticks_with, Entry, told_at, told_by_device, told_by_ticking, ReadsWhatIsAsked, each_append, each_map, is_false, is_true, tick_so, Each, Answer, Net, NetMove, Reopen, Site, Tick, after_net, run, site_at, at_changed, at_other, some_same, all_hear, begins_session, begins_with, begun_of, changes_at, panel_says, waiting_of, InUse, Station, noted_report, noted_reports}
+use Rattle.osdp_calls.proofs.Common.{◌≡◌, ◌≢◌, ◌⊎◌, ℕ, Bool, true, false, cond, List, [], ◌∷◌, ◌++◌, Option, Some, None, refl, sym, subst, ap, ◌∙◌, inl, inr, eqb_tells, ◌==◌, ◌&&◌, is_some, slice_get, Packet, Command, is_closed, Report, BusState, device_of, entry_ticks, step_of, ticks_at, ticks_with, Entry, told_at, told_by_device, told_by_ticking, ReadsWhatIsAsked, each_append, each_map, is_false, is_true, tick_so, Each, Answer, Net, NetMove, Reopen, Site, Tick, after_net, run, site_at, at_changed, at_other, some_same, begins_session, begins_with, begun_of, changes_at, panel_says, InUse, Station, noted_report, noted_reports}
 use Rattle.osdp_controller.specs.Sessions as clocks
 use Rattle.osdp_shared_line.specs.Programs.{Note, is_opened, noted_at, notes_after}
-use Rattle.osdp_calls.proofs.Agreeing.{AllAgree, begun_heard, told_note}
+use Rattle.osdp_calls.proofs.Agreeing.{AllAgree, told_note}
 use Rattle.osdp_calls.proofs.Along.{IsFree, along_then, notes_along, still_along, still_free}
-use Rattle.osdp_calls.proofs.Lasting.{heard_keeps, says_keep}
+use Rattle.osdp_calls.proofs.Lasting.{says_keep}
 use Rattle.osdp_calls.proofs.Losing.{IsLoss, IsStill, loss_still}
 use Rattle.osdp_calls.proofs.Matching.{IsOurs}
 use Rattle.osdp_calls.proofs.Noticing.{Agrees, agrees_next, got_new, got_other, same_begun, ticked_closed, ticked_next}
@@ -73,7 +73,7 @@ module _ {H : Type 0} where
 
       by_begun : (q : Option ℕ) → begun_of (site_at j (begins_with e p q l).stations) ≡ begun_of (site_at j l.stations)
       by_begun None = refl
-      by_begun (Some moment) = by_station (begins_session (waiting_of (device_of e l.bus))) (site_at e l.stations)
+      by_begun (Some moment) = by_station begins_session (site_at e l.stations)
 
   says_on : (e : ℕ) (s : Option Packet) (l : InUse H) → begun_of (site_at e l.stations) ≡ None → begun_of (site_at e (panel_says (Some e) s l).stations) ≡ None
   says_on e None l none = none
@@ -84,9 +84,9 @@ module _ {H : Type 0} where
   says_opening e began p l is = ap (λ q. begun_of (site_at e (begins_with e p q l).stations)) is ∙ by_station (site_at e l.stations) refl
     where
       by_station : (o : Option (Station H)) → site_at e l.stations ≡ o
-          → begun_of (site_at e (changes_at e (begins_session (waiting_of (device_of e l.bus))) o l.stations)) ≡ None
+          → begun_of (site_at e (changes_at e begins_session o l.stations)) ≡ None
       by_station None at = ap begun_of at
-      by_station (Some t) at = ap begun_of (at_changed e (begins_session (waiting_of (device_of e l.bus)) t) t l.stations at)
+      by_station (Some t) at = ap begun_of (at_changed e (begins_session t) t l.stations at)
 
   -- ---- a session that begins is noted of its site
 
@@ -122,21 +122,18 @@ module _ {H : Type 0} where
 
     -- the line after the tick of this controller, or of none
     abbrev pub ticks_to : Option ℕ → InUse H → InUse H
-    ticks_to o l = panel_says o (ticks_at o l.bus).sent (record l { bus = (ticks_at o l.bus).bus; stations = all_hear (told_by_ticking o l.bus) l.stations })
+    ticks_to o l = panel_says o (ticks_at o l.bus).sent (record l { bus = (ticks_at o l.bus).bus })
 
     module _ (e : ℕ) (l : InUse H) (n : Net H) (notes noted : ℕ → Note) (agree : AllAgree l notes noted) where
       abbrev Ticked : InUse H
-      Ticked = record l { bus = (ticks_at (Some e) l.bus).bus; stations = all_hear (told_by_ticking (Some e) l.bus) l.stations }
+      Ticked = record l { bus = (ticks_at (Some e) l.bus).bus }
 
       -- of another entry
       of_other : (k : ℕ) (d : Entry) → k ≢ e → IsOurs k l.stations → device_of k l.bus ≡ Some d → (moves : List (NetMove H)) → IsTicked answer_of after (Some e) l n moves
           → Agrees (begun_of (site_at k (ticks_to (Some e) l).stations)) d.controller.session.state (notes k) (notes_along answer_of after moves n noted k)
       of_other k d other own was moves ticked =
           subst (λ (q : Option ℕ × Note). Agrees q.0 d.controller.session.state (notes k) q.1)
-          (λ i. (
-            sym (says_other k e (ticks_at (Some e) l.bus).sent Ticked other ∙ begun_heard k (told_by_ticking (Some e) l.bus) l.stations) i,
-            sym (by_moves ticked) i,
-          )) (agree k d own was)
+          (λ i. (sym (says_other k e (ticks_at (Some e) l.bus).sent Ticked other) i, sym (by_moves ticked) i)) (agree k d own was)
         where
           by_moves : IsTicked answer_of after (Some e) l n moves → notes_along answer_of after moves n noted k ≡ noted k
           by_moves (Rests are told sent) = ap (λ ms. notes_along answer_of after ms n noted k) are
@@ -161,9 +158,8 @@ module _ {H : Type 0} where
         where
           begun : begun_of (site_at e (ticks_to (Some e) l).stations) ≡ begun_of (site_at e l.stations)
           begun = elim why [
-            | inl none ↦ says_on e (ticks_at (Some e) l.bus).sent Ticked (begun_heard e (told_by_ticking (Some e) l.bus) l.stations ∙ none) ∙ sym none
-            | inr nothing ↦
-                ap (λ s. begun_of (site_at e (panel_says (Some e) s Ticked).stations)) nothing ∙ begun_heard e (told_by_ticking (Some e) l.bus) l.stations
+            | inl none ↦ says_on e (ticks_at (Some e) l.bus).sent Ticked none ∙ sym none
+            | inr nothing ↦ ap (λ s. begun_of (site_at e (panel_says (Some e) s Ticked).stations)) nothing
           ]
 
       -- .. or one does
@@ -183,7 +179,7 @@ module _ {H : Type 0} where
           let old = subst (λ o. Agrees o d.controller.session.state (notes e) (noted e)) to_begin (agree e d own was) in
           let opened : begun_of (site_at e (ticks_to (Some e) l).stations) ≡ None =
           ap (λ q. begun_of (site_at e (panel_says (Some e) q Ticked).stations)) sent
-          ∙ says_opening e began p Ticked (begun_heard e (told_by_ticking (Some e) l.bus) l.stations ∙ to_begin) in
+          ∙ says_opening e began p Ticked to_begin in
           let note : notes_along answer_of after moves n noted e ≡ record (noted e) { begun = true } =
           (λ i. opened_along j began l.bus.greatest mid n lost moves noted (each_map IsLoss IsStill loss_still lost losses) runs are i e)
           ∙ ap (λ i. noted_at e (site_at e mid.sites) (Reopen i began) mid (noted e)) mine
@@ -207,13 +203,10 @@ module _ {H : Type 0} where
     all_ticked reads (Some e) l n notes noted agree moves ticked k next still at = by_entry (ticked_at e k l.bus next at_bus)
       where
         at_bus : slice_get (ticks_at (Some e) l.bus).bus.devices.entries k ≡ Some next
-        at_bus = ap (λ b. device_of k b) (sym (says_bus (Some e) (ticks_at (Some e) l.bus).sent
-            (record l { bus = (ticks_at (Some e) l.bus).bus; stations = all_hear (told_by_ticking (Some e) l.bus) l.stations }))) ∙ at
+        at_bus = ap (λ b. device_of k b) (sym (says_bus (Some e) (ticks_at (Some e) l.bus).sent (record l { bus = (ticks_at (Some e) l.bus).bus }))) ∙ at
 
         own : IsOurs k l.stations
-        own = sym (says_keep k (Some e) (ticks_at (Some e) l.bus).sent
-            (record l { bus = (ticks_at (Some e) l.bus).bus; stations = all_hear (told_by_ticking (Some e) l.bus) l.stations })
-            ∙ heard_keeps k (told_by_ticking (Some e) l.bus) l.stations) ∙ still
+        own = sym (says_keep k (Some e) (ticks_at (Some e) l.bus).sent (record l { bus = (ticks_at (Some e) l.bus).bus })) ∙ still
 
         by_entry : TickedAt e k l.bus next
             → Agrees (begun_of (site_at k (ticks_to (Some e) l).stations)) next.controller.session.state (notes k) (notes_along answer_of after moves n noted k)

@@ -1,14 +1,13 @@
 -- What is noted of the entries of a line in use agrees with what is noted along the moves of its net, as the panel reads.
-use Rattle.osdp_calls.proofs.Common.{◌≡◌, ◌≢◌, ◌≤◌, ℕ, Bool, true, false, cond, List, [], ◌∷◌, ◌++◌, length, Option, Some, None, refl, sym, subst, ap, ◌∙◌, arith, inl, inr, eqb_tells, ◌==◌, ◌&&◌, is_some, slice_get, Packet, PacketItem, Command, Heard, hears, ignores, Machine, Report, Session, Devices, device_of, told_of, hears_packet, Entry, told_at, told_by_item, Repeated, each_map, Each, Answer, IsSetUp, NobodyElseHears, Net, NetMove, Site, ToPanel, address_of, changed, site_at, Note, RuleSuffices, all_addresses, is_opened, noted_at, noted_opened, noted_panel, HeardByOwn, closed_hears, at_changed, at_other, some_same, all_hear, begun_of, change_at, changes_at, hears_of, last_of, hears_all, told_by_all, Burst, InUse, Station, noted_reports, at_length}
+use Rattle.osdp_calls.proofs.Common.{◌≡◌, ◌≢◌, ◌≤◌, ℕ, Bool, true, false, cond, List, [], ◌∷◌, ◌++◌, length, Option, Some, None, refl, sym, subst, ap, ◌∙◌, arith, inl, inr, eqb_tells, ◌==◌, ◌&&◌, is_some, slice_get, Packet, PacketItem, Command, Heard, hears, ignores, Machine, Report, Session, Devices, device_of, told_of, hears_packet, Entry, told_at, told_by_item, Repeated, each_map, Each, Answer, IsSetUp, NobodyElseHears, Net, NetMove, Site, ToPanel, address_of, changed, site_at, Note, RuleSuffices, all_addresses, is_opened, noted_at, noted_opened, noted_panel, HeardByOwn, closed_hears, at_changed, at_other, some_same, begun_of, change_at, changes_at, last_of, hears_all, told_by_all, Burst, InUse, Station, noted_reports, at_length}
 use Rattle.osdp_controller.specs.Sessions as clocks
 use Rattle.osdp_bus.specs.Entries as devices
 use Rattle.osdp_calls.proofs.Along.{IsFree, Path, free_rule, heard_by_own, notes_along, path_on, still_along, still_free}
 use Rattle.osdp_calls.proofs.Controllers.{config_same, hears_same, ignored_quiet, waiting_same}
 use Rattle.osdp_calls.proofs.Losing.{IsLoss, IsStill, loss_still}
-use Rattle.osdp_calls.proofs.Lasting.{heard_keeps}
 use Rattle.osdp_calls.proofs.Matching.{FoundAt, IsOurs, Nobody, Somebody, found, ours_below}
 use Rattle.osdp_calls.proofs.Noticing.{Agrees, HeardAt, Touched, Untouched, address_stays, begun_before, chosen, false_so, heard_at, reports_then, same_reports, touched}
-use Rattle.osdp_calls.proofs.Panel.{IsHeard, IsIgnored, IsRead, hears_one, panel_on, reads_here, told_then}
+use Rattle.osdp_calls.proofs.Panel.{IsHeard, IsIgnored, IsRead, hears_one, panel_on, reads_here}
 use Rattle.osdp_calls.proofs.Runs.{NotPast, unheard}
 use Rattle.osdp_calls.proofs.Same.{Controls, IsNetOf, IsSame, IsToOpen}
 use Rattle.osdp_calls.proofs.Stations.{Sites}
@@ -62,10 +61,6 @@ module _ {H : Type 0} where
       by_station : (o : Option (Station H)) → site_at i ts ≡ o → begun_of (site_at k (changes_at i change o ts)) ≡ begun_of (site_at k ts)
       by_station None is = refl
       by_station (Some t) is = begun_changed k i (change t) t ts is (same t)
-
-  pub begun_heard : (k : ℕ) (told : List (ℕ × Report)) (ts : List (Station H)) → begun_of (site_at k (all_hear told ts)) ≡ begun_of (site_at k ts)
-  begun_heard k [] ts = refl
-  begun_heard k (x ∷ xs) ts = begun_heard k xs (change_at x.0 (hears_of x.1) ts) ∙ begun_change k x.0 (hears_of x.1) ts (λ t. refl)
 
   -- ---- of all entries
 
@@ -202,16 +197,8 @@ module _ {H : Type 0} where
           → IsRead answer_of after b l n (told_by_item l.bus.greatest (PacketItem p) l.bus.devices) moves
           → AllAgree (hears_one answer_of after p l) (told_notes l.bus.devices (told_by_item l.bus.greatest (PacketItem p) l.bus.devices) notes)
           (notes_along answer_of after moves n noted)
-      one_read notes agree moves read k e still at =
-          subst (λ o. Agrees o e.controller.session.state
-          (told_note k (slice_get l.bus.devices.entries k) (told_by_item l.bus.greatest (PacketItem p) l.bus.devices) (notes k))
-          (notes_along answer_of after moves n noted k))
-          (sym (begun_heard k (told_by_item l.bus.greatest (PacketItem p) l.bus.devices) l.stations))
-          (by_entry (heard_at p l.bus.greatest k l.bus.devices))
+      one_read notes agree moves read k e own at = by_entry (heard_at p l.bus.greatest k l.bus.devices)
         where
-          own : IsOurs k l.stations
-          own = sym (heard_keeps k (told_by_item l.bus.greatest (PacketItem p) l.bus.devices) l.stations) ∙ still
-
           by_entry : HeardAt p l.bus.greatest k l.bus.devices
               → Agrees (begun_of (site_at k l.stations)) e.controller.session.state
               (told_note k (slice_get l.bus.devices.entries k) (told_by_item l.bus.greatest (PacketItem p) l.bus.devices) (notes k))
@@ -280,7 +267,6 @@ module _ {H : Type 0} where
     abbrev pub reads_those : List Packet → List ℕ → InUse H → InUse H
     reads_those ps places l = record l {
       bus = record l.bus { devices = hears_all l.bus.greatest ps l.bus.devices };
-      stations = all_hear (told_by_all l.bus.greatest ps l.bus.devices) l.stations;
       place = last_of places l.place;
     }
 
@@ -312,12 +298,7 @@ module _ {H : Type 0} where
           let agree2 = one_read p b l n h whole refl noted notes agree [] (IsIgnored (others_hear p g l off).told refl) in
           ruled_notes (reads_those (p ∷ ps) places l) (told_notes (hears_packet p g l.bus.devices) more (told_notes l.bus.devices told notes))
           (told_notes l.bus.devices (told_by_all g (p ∷ ps) l.bus.devices) notes)
-          (λ k own. told_on p l notes noted agree more k (sym (heard_keeps k (told_by_all g (p ∷ ps) l.bus.devices) l.stations) ∙ own))
-          (subst (λ ts. Ruled n0 (record l {
-            bus = record l.bus { devices = hears_all g ps (hears_packet p g l.bus.devices) };
-            stations = ts;
-            place = last_of places l.place;
-          }) (told_notes (hears_packet p g l.bus.devices) more (told_notes l.bus.devices told notes))) (sym (told_then told more l.stations)) (rest agree2))
+          (λ k own. told_on p l notes noted agree more k own) (rest agree2)
 
       pub all_read : (ps : List Packet) (places : List ℕ) (l : InUse H) (n : Net H) (notes noted : ℕ → Note) → IsNetOf l n
           → Path answer_of after n0 n noted → Ordered l ps places → Each (NotPast l) places → AllAgree l notes noted
@@ -335,12 +316,12 @@ module _ {H : Type 0} where
           let told = told_by_item l.bus.greatest (PacketItem p) l.bus.devices in
           unread p ps [] l n notes noted h path agree all.0 (λ agree2.
           all_read ps [] (hears_one answer_of after p l) n (told_notes l.bus.devices told notes) noted (unheard answer_of after p l n h all.0) path
-          (ordered_heard told p l ps [] l.place all.1) past agree2)
+          (ordered_heard p l ps [] l.place all.1) past agree2)
       all_read (p ∷ ps) (i ∷ places) l n notes noted h path (inr others) past agree =
           let told = told_by_item l.bus.greatest (PacketItem p) l.bus.devices in
           unread p ps (i ∷ places) l n notes noted h path agree others.0 (λ agree2.
           all_read ps (i ∷ places) (hears_one answer_of after p l) n (told_notes l.bus.devices told notes) noted (unheard answer_of after p l n h others.0) path
-          (ordered_heard told p l ps (i ∷ places) l.place others.1) past agree2)
+          (ordered_heard p l ps (i ∷ places) l.place others.1) past agree2)
       all_read (p ∷ ps) (i ∷ places) l n notes noted h path (inl all) past agree =
           let inside = at_length i all.0 l.said all.1 in
           let l1 = record l { place = i } in
@@ -362,12 +343,7 @@ module _ {H : Type 0} where
           (free_rule answer_of after r.reached.moves o.net noted (read_free all.0 l1 o.net told r.reached.moves read.made) r.reached.fit) r.reached.run in
           let agree2 = one_read p all.0 l1 o.net o.same whole all.2 noted notes agree r.reached.moves read.made in
           let rest = all_read ps places l2 r.net (told_notes l.bus.devices told notes) (notes_along answer_of after r.reached.moves o.net noted)
-          r.same path2 (ordered_heard told p l ps places i all.4) past.1 agree2 in
+          r.same path2 (ordered_heard p l ps places i all.4) past.1 agree2 in
           ruled_notes (reads_those (p ∷ ps) (i ∷ places) l) (told_notes (hears_packet p g l.bus.devices) more (told_notes l.bus.devices told notes))
           (told_notes l.bus.devices (told_by_all g (p ∷ ps) l.bus.devices) notes)
-          (λ k own. told_on p l notes noted agree more k (sym (heard_keeps k (told_by_all g (p ∷ ps) l.bus.devices) l.stations) ∙ own))
-          (subst (λ ts. Ruled n0 (record l {
-            bus = record l.bus { devices = hears_all g ps (hears_packet p g l.bus.devices) };
-            stations = ts;
-            place = last_of places i;
-          }) (told_notes (hears_packet p g l.bus.devices) more (told_notes l.bus.devices told notes))) (sym (told_then told more l.stations)) rest)
+          (λ k own. told_on p l notes noted agree more k own) rest

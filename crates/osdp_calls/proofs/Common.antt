@@ -22,54 +22,52 @@ pub use Rattle.osdp_bus.specs.declared.entry.Entry.{Entry}
 pub use Rattle.osdp_link_laws.proofs.Lines.{both, each_all, each_append, each_map, each_of}
 pub use Rattle.osdp_reader.specs.State.{after_set_busy, after_set_handler, ReaderState}
 pub use Rattle.osdp_reader.specs.declared.handler.Answer.{Answer}
-pub use Rattle.osdp_shared_line.specs.Addresses.{asked_in, HasNoOther, in_front, IsNameOf, IsSetUp, NetMoveFits, NetMovesFit, NobodyElseHears, NoTwoAreTogether, Sets, Somewhere}
+pub use Rattle.osdp_shared_line.specs.Addresses.{HasNoOther, in_front, IsNameOf, IsSetUp, NetMoveFits, NetMovesFit, NobodyElseHears, NoTwoAreTogether, Sets, Somewhere}
 pub use Rattle.osdp_shared_line.specs.Line.{address_of, after_net, all_restart, changed, first_gets, freed_by, gets, is_command_accepted, is_retarget_accepted, is_told, left_by, link_of, Net, NetMove, Queue, Reopen, RestartPanel, RestartReader, restarts, Retarget, run, Site, site_at, Submit, tagged, Tick, ToPanel, ToReader, Withdraw}
 pub use Rattle.osdp_shared_line.specs.Programs.{all_addresses, also_at, is_opened, KeepRule, no_notes, Note, noted_at, noted_opened, noted_panel, RuleSuffices, two_addresses}
-pub use Rattle.osdp_shared_line.proofs.Sites.{at_changed, at_other, changed_from, some_same}
+pub use Rattle.osdp_shared_line.proofs.Sites.{at_changed, at_other, some_same}
 pub use Rattle.osdp_calls.specs.Lines.{ahead_of_device, ahead_of_panel, Burst, bus_with, concerns, InUse, is_ahead_of_device, is_ahead_of_panel, is_before, is_past_for_device, is_past_for_panel, Opening, Station, those}
-pub use Rattle.osdp_calls.specs.Premises.{Addresses, AllKeep, AreInOrder, InOrder, InRange, IsAsked, IsFreeFor, IsNoOthers, IsOfOthers, IsSaid, IsSetUp as IsSetUpLine, IsThere, Keeps, MayBeAt, NextInOrder, NextInRange, PanelAddresses, PanelIsApart, QuietOpening}
+pub use Rattle.osdp_calls.specs.Premises.{Addresses, AreInOrder, InOrder, InRange, IsAsked, IsFreeFor, IsNoOthers, IsOfOthers, IsSaid, IsThere, Keeps, MayBeAt, NextInOrder, NextInRange, PanelAddresses, PanelIsApart, QuietOpening}
 pub use Rattle.osdp_calls.specs.Programs.{AllKeepRule, CallsRuleSuffices, first_note, first_notes, IsKnown, KeepsRule, noted_of, noted_report, noted_reports, notes_after, PanelKeepsRule}
-pub use Rattle.osdp_calls.specs.Calls.{after_call, after_calls, after_next, after_panel, all_forget, all_hear, answers, asked_at, asked_by_holder, begins_session, begins_with, begun_of, by_device, Call, change_at, changes_at, first_answered, forgets, hears_of, is_to_begin, issues, last_of, made_anew, NewDevice, NewPanel, Next, nexts, noted, OfPanel, on_station, panel_made_anew, panel_says, Pending, queues, read_at_end, read_at_silence, read_at_tick, read_by, read_by_holder, read_of_bytes, read_up_to, reply_to, said_at, said_for, SetBusy, SetHandler, Silence, Step, SubmitEvent, Take, TickDevice, waiting_of, LapseEvent, WithdrawEvent, withdrawn, lapses_event, withdraws_event}
+pub use Rattle.osdp_calls.specs.Calls.{after_call, after_calls, after_next, after_panel, all_forget, asked_at, asked_by_holder, begins_session, begins_with, begun_of, by_device, Call, change_at, changes_at, first_answered, forgets, is_to_begin, last_of, made_anew, NewDevice, NewPanel, Next, nexts, noted, OfPanel, on_station, panel_made_anew, panel_says, Pending, queues, read_at_end, read_at_silence, read_at_tick, read_by, read_by_holder, read_of_bytes, read_up_to, reply_to, said_at, said_for, SetBusy, SetHandler, Silence, Step, SubmitEvent, Take, TickDevice, LapseEvent, WithdrawEvent, withdrawn, lapses_event, withdraws_event}
 pub use Rattle.osdp_shared_line.proofs.Rounds.{at_length, fits_both, fits_first, fits_then, net_more}
 pub use Rattle.osdp_controller.specs.States.{is_closed}
 pub use Rattle.osdp_controller.specs.declared.report.Report.{Report}
 pub use Rattle.osdp_bus.specs.Entries.{entry_hears, entry_ticks, first_from, is_at, reserved_after, reserved_for, step_of, told_of}
 pub use Rattle.osdp_bus.specs.Ticking.{bus_ticks, BusTicked, is_due_at, is_held_and_due, next_due, stays, ticks_at, ticks_by, ticks_with}
-pub use Rattle.osdp_bus_laws.specs.Reports.{taken_along, TellsEachOnce, told_along, told_at, told_by_bytes, told_by_device, told_by_end, told_by_entry, told_by_holder, told_by_item, told_by_items, told_by_silence, told_by_tick, told_by_ticking, told_in, told_with}
+pub use Rattle.osdp_bus_laws.specs.Reports.{taken_along, TellsEachOnce, told_along, told_at, told_by_device, told_by_end, told_by_entry, told_by_holder, told_by_item, told_by_items, told_by_silence, told_by_tick, told_by_ticking, told_in, told_with}
 pub use Rattle.osdp_link_laws.specs.Peers.{ReadsWhatIsAsked}
 pub use Rattle.osdp_link_laws.proofs.Numbers.{is_false, is_true}
 pub use Rattle.osdp_link_laws.proofs.Reports.{tick_so}
 pub use Rattle.osdp_link_laws.proofs.Stages.{Each}
 pub use Rattle.osdp_frame.specs.Reading.{PacketItem, RefusedItem, RunItem, SkippedItem}
 pub use Rattle.osdp_controller.specs.declared.session.Session.{Session}
-pub use Rattle.osdp_bus.specs.Hearing.{after_bytes, ends_run, ends_silent, hears_at, hears_bytes, hears_item, hears_items, hears_packet, hears_with}
-pub use Rattle.osdp_link_laws.specs.Link.{Account, after_move, after_report, Delivered, Delivery, front_of, Link, Lost, lost_at, Move, new_account, Repeated, taken, taken_command}
-pub use Rattle.osdp_shared_line.specs.Views.{EachMoveIsItsOwn, front_to_panel, HeardByOwn, IsQuiet, lost, move_of, one_if, OpensQuietly, other_reply, own, own_front, own_place, own_reply, sees, view}
+pub use Rattle.osdp_bus.specs.Hearing.{after_bytes, ends_run, ends_silent, hears_at, hears_bytes, hears_items, hears_packet, hears_with}
+pub use Rattle.osdp_link_laws.specs.Link.{after_move, Link, lost_at, Move, outstanding_command, Repeated}
+pub use Rattle.osdp_shared_line.specs.Views.{EachMoveIsItsOwn, HeardByOwn, IsQuiet, move_of, OpensQuietly, own, view}
 pub use Rattle.osdp_shared_line.proofs.Hearing.{closed_hears}
 pub use Rattle.osdp_calls.specs.Handing.{HandsOver, heard, hears_all, told_by_all}
 pub use Rattle.osdp_controller.specs.Answers.{meaning_of, meaning_of as said_by}
 pub use Rattle.osdp_controller.specs.Ticking.{Ticked, ticks, ticks_in}
-pub use Rattle.osdp_shared_line.specs.Runs.{EachRefusesNoNumber, moves_at, moves_of}
+pub use Rattle.osdp_shared_line.specs.Runs.{moves_at, moves_of}
 pub use Rattle.osdp_msg.specs.ReplyTable.{ReplyFits}
 pub use Rattle.osdp_msg.specs.declared.event.Event.{Event}
 pub use Rattle.osdp_frame.specs.Receiving.{after_silence, after_take, after_tick, Received}
 pub use Rattle.osdp_device.specs.Telling.{items_of, next_told, Told, told_by, told_or}
-pub use Rattle.osdp_link_laws.specs.Sessions.{accepted, queued, submitted, unless_full}
 pub use Rattle.osdp_reader.specs.Queue.{event_for, lacks_room, offering, released, unoffered}
-pub use Rattle.osdp_calls.specs.Accepted.{accepted_by, all_accepted, all_queued, queued_at, queued_by}
 pub use Rattle.osdp_device.specs.Deciding.{passed, pending_of, settles, turned_by}
 pub use Rattle.osdp_calls.specs.Ends.{BusIsReached, CanStand, device_after, device_after_all, GoByTheirOwn, Held, held_by, is_of_device, IsThatOfABus, KeepsPanel, one_panel_call, OneExchange, panel_calls, takes_event}
 pub use Rattle.osdp_calls.specs.Turning.{asks, IsTurned, panel_turn_calls, PanelTurnsByCalls, settle_calls, settles_by, TurnsByCalls}
 pub use Rattle.osdp_frame.specs.Items.{items, left_over, whole_packets}
 pub use Rattle.osdp_bus_laws.specs.Turns.{judged}
-pub use Rattle.osdp_bus.specs.Machine.{add_refusal, after_add, after_begin_at, after_retarget_at, after_submit_at, begin_refusal_at, begin_refusal_of, bus_fault, changed_unless, changes_entry, entry_begins, entry_retargets, entry_submits, entry_withdraws, new_device, retarget_refusal_at, submit_refusal_at, withdrawal_at}
+pub use Rattle.osdp_bus.specs.Machine.{add_refusal, after_add, after_begin_at, after_submit_at, begin_refusal_at, begin_refusal_of, bus_fault, changed_unless, changes_entry, entry_begins, entry_retargets, entry_submits, entry_withdraws, new_device, retarget_refusal_at, submit_refusal_at, withdrawal_at}
 pub use Rattle.osdp_bus.specs.declared.fault.BusFault.{BusFault}
 pub use Rattle.osdp_msg.specs.declared.command.Command.TheVariants.{Poll}
 pub use Rattle.osdp_msg.specs.declared.reply.Reply.{Reply}
 pub use Rattle.osdp_reader.specs.declared.kind.Kind.{Kind}
 pub use Rattle.osdp_bus.specs.Remembering.{event_bytes, may_be_again, memory_at, nothing_yet, Remembered, remembers}
-pub use Rattle.osdp_calls.specs.Marks.{all_reported, all_taken, CallsMarkRepeats, event_of, event_waiting, is_equal_to, last_event, marked, marked_in, MarksWhatIsToldAgain, taken_in, unmarked}
-pub use Rattle.osdp_device.specs.Saying.{but_poll, said_to, speaks, taken_by, unless_silent}
+pub use Rattle.osdp_calls.specs.Marks.{all_handed, CallsMarkRepeats, event_of, event_waiting, events_of, events_told, handed_in, is_told_again, marked, MarksWhatIsToldAgain, sessions_of}
+pub use Rattle.osdp_device.specs.Saying.{said_to, speaks, unless_silent}
 pub use Rattle.osdp_shared_line.proofs.Controllers.{hears_well}
 pub use Rattle.osdp_msg.specs.Limits.{AreRoom, most_data}
 pub use Rattle.osdp_reader.specs.declared.config.ReaderConfig.{ReaderConfig}

@@ -1,75 +1,9 @@
 -- What the moves of a net hand to the link of a site, one after another, is what the moves of that link do.
-use Rattle.osdp_calls.proofs.Common.{◌≡◌, ℕ, Bool, cond, List, [], ◌∷◌, ◌++◌, Option, Some, None, refl, sym, subst, ap, ◌∙◌, append_assoc, ◌==◌, option_map, option_to_list, Packet, Command, Answer, Delivered, Delivery, Link, Lost, Move, Repeated, after_move, both, Each, IsSetUp, NetMoveFits, NetMovesFit, NobodyElseHears, moves_at, moves_of, EachMoveIsItsOwn, HeardByOwn, OpensQuietly, front_to_panel, lost, move_of, one_if, other_reply, own_front, own_place, own_reply, sees, view, fits_first, net_more}
+use Rattle.osdp_calls.proofs.Common.{◌≡◌, ℕ, List, [], ◌∷◌, ◌++◌, Option, Some, None, refl, sym, subst, ap, ◌∙◌, append_assoc, Command, Answer, Link, Move, after_move, IsSetUp, NetMoveFits, NetMovesFit, NobodyElseHears, moves_at, moves_of, EachMoveIsItsOwn, HeardByOwn, OpensQuietly, move_of, view, fits_first, net_more}
 use Rattle.osdp_link_laws.specs.Link as link
-use Rattle.osdp_shared_line.specs.Line.{LoseToPanel, LoseToReader, Net, NetMove, Queue, Reopen, RestartPanel, RestartReader, Retarget, SetBusy, SetHandler, Site, Submit, Tick, ToPanel, ToReader, Withdraw, LapseEvent, WithdrawEvent, address_of, after_net, is_retarget_refused, run, site_at}
+use Rattle.osdp_shared_line.specs.Line.{Net, NetMove, Reopen, Site, after_net, run, site_at}
 
 module _ {H : Type 0} where
-  -- ---- moves that give no command and no event
-
-  abbrev pub GivesNone : NetMove H → Type 0
-  GivesNone (Submit k command) = ⊥
-  GivesNone (Queue k event) = ⊥
-  GivesNone _ = Unit {0}
-
-  abbrev pub LinkGivesNone : Move H → Type 0
-  LinkGivesNone (link.Submit command) = ⊥
-  LinkGivesNone (link.Queue event) = ⊥
-  LinkGivesNone _ = Unit {0}
-
-  one_none : (i k : ℕ) (move : Move H) → LinkGivesNone move → Each LinkGivesNone (one_if i k move)
-  one_none i k move none = both (Each LinkGivesNone) (i == k) (move ∷ []) [] (none, tt) tt
-
-front_none : (H : Type 0) → (k : ℕ) (qs : List (ℕ × Packet)) (how : Delivery) → Each (LinkGivesNone {H = H}) (own_front {H = H} k qs how)
-front_none H k [] how = tt
-front_none H k (q ∷ qs) how = one_none q.0 k (link.ToReader how) tt
-
-lost_none : (H : Type 0) → (how : Delivery) (now : ℕ) → Each (LinkGivesNone {H = H}) (lost {H = H} how now)
-lost_none H Delivered now = (tt, tt)
-lost_none H Lost now = (tt, tt)
-lost_none H Repeated now = tt
-
-sees_none : (H : Type 0) → (how : Delivery) (now : ℕ) → Each (LinkGivesNone {H = H}) (sees {H = H} how now)
-sees_none H Delivered now = (tt, tt)
-sees_none H Lost now = tt
-sees_none H Repeated now = (tt, tt)
-
-reply_none : (H : Type 0) → (mine : Bool) (here : ℕ) (p : Packet) (how : Delivery) (now : ℕ)
-    → Each (LinkGivesNone {H = H}) (cond mine (own_reply {H = H} here p how now) (other_reply here p how now))
-reply_none H mine here p how now =
-    both (Each (LinkGivesNone {H = H})) mine (own_reply here p how now) (other_reply here p how now)
-    (both (Each (LinkGivesNone {H = H})) (here == p.address) (link.ToController how now ∷ []) (lost how now) (tt, tt) (lost_none H how now))
-    (both (Each (LinkGivesNone {H = H})) (here == p.address) (sees how now) [] (sees_none H how now) tt)
-
-panel_none : (H : Type 0) → (k here : ℕ) (qs : List (ℕ × Packet)) (how : Delivery) (now : ℕ) → Each (LinkGivesNone {H = H}) (front_to_panel {H = H} k here qs how now)
-panel_none H k here [] how now = tt
-panel_none H k here (q ∷ qs) how now = reply_none H (q.0 == k) here q.1 how now
-
-module _ {H : Type 0} where
-  loss_none : (f : ℕ → Move H) (o : Option ℕ) → ((place : ℕ) → LinkGivesNone (f place)) → Each LinkGivesNone (option_to_list (option_map f o))
-  loss_none f None none = tt
-  loss_none f (Some place) none = (none place, tt)
-
-  each_none : (k : ℕ) (s : Site H) (move : NetMove H) (n : Net H) → GivesNone move → Each LinkGivesNone (move_of k s move n)
-  each_none k s (Submit i command) n none = absurd none
-  each_none k s (Queue i event) n none = absurd none
-  each_none k s (SetBusy i busy) n none = one_none i k (link.SetBusy busy) tt
-  each_none k s (SetHandler i handler) n none = one_none i k (link.SetHandler handler) tt
-  each_none k s (Withdraw i) n none = one_none i k link.Withdraw tt
-  each_none k s (WithdrawEvent i) n none = one_none i k link.WithdrawEvent tt
-  each_none k s (LapseEvent i) n none = one_none i k link.LapseEvent tt
-  each_none k s (Retarget i address) n none =
-      both (Each LinkGivesNone) (is_retarget_refused i address s n.sites) [] (one_if i k (link.Retarget address)) tt (one_none i k (link.Retarget address) tt)
-  each_none k s (Tick i now) n none = one_none i k (link.Tick now) tt
-  each_none k s (ToReader i how) n none = both (Each LinkGivesNone) (i == k) (own_front k s.coming how) [] (front_none H k s.coming how) tt
-  each_none k s (ToPanel how now) n none = panel_none H k (address_of s) n.to_panel how now
-  each_none k s (LoseToReader i place) n none =
-      both (Each LinkGivesNone) (i == k) (option_to_list (option_map link.LoseToReader (own_place k place s.coming))) []
-      (loss_none link.LoseToReader (own_place k place s.coming) (λ place. tt)) tt
-  each_none k s (LoseToPanel place) n none = loss_none link.LoseToController (own_place k place n.to_panel) (λ place. tt)
-  each_none k s (Reopen i now) n none = one_none i k (link.Reopen now) tt
-  each_none k s (RestartReader i config handler room) n none = one_none i k (link.RestartReader config handler room) tt
-  each_none k s (RestartPanel settings) n none = (tt, tt)
-
   pub quietly : (answer_of : H → Command → Answer) (after : H → Command → H) (move : NetMove H) (n : Net H) → NetMoveFits answer_of after move n
       → OpensQuietly move n
   quietly answer_of after (Reopen i now) n fits = fits
@@ -137,20 +71,3 @@ module _ {H : Type 0} where
           ∙ ap (λ l. counted mine (view k s n) ++ counted rest l) (sym moved.moved)
           ∙ ap (λ xs. counted mine (view k s n) ++ xs) (in_link own k ms next moved.site heard.1 fits.1 moved.there)
           ∙ ap (λ o. at_site k o m n ++ in_net k ms next) (sym is)
-
-      module _ (none : (m : Move H) (l : Link H) → LinkGivesNone m → f m l ≡ []) where
-        counts_none : (ms : List (Move H)) (l : Link H) → Each LinkGivesNone ms → counted ms l ≡ []
-        counts_none [] l all = refl
-        counts_none (m ∷ ms) l all =
-            let next = after_move answer_of after m l in
-            ap (λ xs. xs ++ counted ms next) (none m l all.0) ∙ counts_none ms next all.1
-
-        site_none : (k : ℕ) (o : Option (Site H)) (m : NetMove H) (n : Net H) → GivesNone m → at_site k o m n ≡ []
-        site_none k None m n gives = refl
-        site_none k (Some s) m n gives = counts_none (move_of k s m n) (view k s n) (each_none k s m n gives)
-
-        pub net_none : (k : ℕ) (ms : List (NetMove H)) (n : Net H) → Each GivesNone ms → in_net k ms n ≡ []
-        net_none k [] n all = refl
-        net_none k (m ∷ ms) n all =
-            let next = after_net answer_of after m n in
-            ap (λ xs. xs ++ in_net k ms next) (site_none k (site_at k n.sites) m n all.0) ∙ net_none k ms next all.1

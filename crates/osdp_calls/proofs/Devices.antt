@@ -1,5 +1,5 @@
 -- Each call of a device is a list of moves of its site.
-use Rattle.osdp_calls.proofs.Common.{◌≡◌, ◌≤◌, ℕ, Bool, true, false, cond, List, [], ◌∷◌, ◌++◌, length, All, Option, Some, None, IfSome, refl, sym, subst, ap, ◌∙◌, ◌==◌, ReplyFits, Command, Event, Entry, Received, items_of, next_told, Repeated, unless_full, each_append, each_map, each_of, Each, Answer, lacks_room, Net, NetMove, Queue, Site, ToReader, after_net, changed, left_by, link_of, site_at, at_changed, some_same, queued_at, SubmitEvent, after_next, answers, by_device, changes_at, first_answered, last_of, on_station, queues, read_up_to, reply_to, lapses_event, withdraws_event, Burst, InUse, Station, is_past_for_device, NextInOrder, NextInRange}
+use Rattle.osdp_calls.proofs.Common.{◌≡◌, ◌≤◌, ℕ, Bool, true, false, List, [], ◌∷◌, ◌++◌, length, All, Option, Some, None, IfSome, refl, sym, subst, ap, ◌∙◌, ReplyFits, Command, Event, Entry, Received, items_of, next_told, Repeated, each_append, each_map, each_of, Each, Answer, lacks_room, Net, NetMove, Queue, Site, ToReader, changed, left_by, link_of, site_at, at_changed, some_same, SubmitEvent, after_next, by_device, changes_at, first_answered, last_of, on_station, queues, read_up_to, reply_to, lapses_event, withdraws_event, Burst, InUse, Station, is_past_for_device, NextInOrder, NextInRange}
 use Rattle.osdp_link_laws.specs.Link as link
 use Rattle.osdp_reader.specs.State.{ReaderState, after_lapse_event, after_set_handler, after_submit, after_withdraw_event}
 use Rattle.osdp_reader.specs.Table.{hears}
@@ -12,7 +12,7 @@ use Rattle.osdp_calls.proofs.Replying.{told_first, reader_with}
 use Rattle.osdp_calls.proofs.Same.{IsNetOf, read_so}
 use Rattle.osdp_calls.proofs.Stations.{Makes, Sites, both_change, make_none, makes_is, station_changes}
 use Rattle.osdp_calls.proofs.Strangers.{order_for_device}
-use Rattle.osdp_calls.proofs.Steps.{StepsTo, by_own, one_queue, queue_no_command, site_queues}
+use Rattle.osdp_calls.proofs.Steps.{StepsTo, by_own}
 
 module _ {H : Type 0} (answer_of : H → Command → Answer) (after : H → Command → H) where
   -- ---- events, and another handler
@@ -21,68 +21,45 @@ module _ {H : Type 0} (answer_of : H → Command → Answer) (after : H → Comm
       → Sites l k d (queues full event t) (left_by s (link.queues full event (link_of s [] [])))
   queued_so true event l k d t s is = is
   queued_so false event l k d t s is =
-      read_so is (ap (after_submit event) is.reader)
-      (ap (λ (a : link.Account). record a { queued = a.queued ++ event ∷ []; kept = a.kept ++ event ∷ [] }) is.account) is.stored
-
-  takes_same : (k : ℕ) (event : Event) (l : InUse H) (n : Net H) → IsNetOf l n
-      → site_queues (site_at k n.sites) event ≡ queued_at (site_at k l.stations) event
-  takes_same k event l n h = by_found (found (Sites l) k l.bus.devices.entries l.stations n.sites h.sites)
-    where
-      by_found : FoundAt (Sites l) k k l.bus.devices.entries l.stations n.sites
-          → site_queues (site_at k n.sites) event ≡ queued_at (site_at k l.stations) event
-      by_found (Nobody o a b c) = ap (λ o. site_queues o event) c ∙ sym (ap (λ o. queued_at o event) b)
-      by_found (Somebody d t s a b c is) =
-          ap (λ o. site_queues o event) c
-          ∙ ap (λ (r : ReaderState H). unless_full (lacks_room event r.queue) event) is.reader
-          ∙ sym (ap (λ o. queued_at o event) b)
+      read_so is (ap (after_submit event) is.reader) is.stored
 
   pub queueing : (k : ℕ) (event : Event) (l : InUse H) (n : Net H) → IsNetOf l n
       → StepsTo answer_of after (SubmitEvent k event) l n (on_station k (λ t. queues (lacks_room event t.reader.queue) event t) l)
-  queueing k event l n h = record {
-    net = after_net answer_of after (Queue k event) n;
-    moves = Queue k event ∷ [];
-    fit = (tt, tt);
-    run = refl;
-    same = both_change k (λ t. queues (lacks_room event t.reader.queue) event t) (line.calls answer_of after (link.Queue event)) l n h
-        (λ d t s is. subst (λ b. Sites l k d (queues b event t) (line.calls answer_of after (link.Queue event) s))
-        (ap (λ (r : ReaderState H). lacks_room event r.queue) is.reader)
-        (queued_so (lacks_room event s.reader.queue) event l k d t s is));
-    kinds = (refl, tt);
-    made = refl;
-    submitted = λ j own. queue_no_command answer_of after k j event n;
-    queued = λ j. one_queue answer_of after k j event n ∙ ap (λ xs. cond (k == j) xs []) (takes_same k event l n h);
-  }
+  queueing k event l n h =
+      by_own answer_of after (SubmitEvent k event) (Queue k event) l n (on_station k (λ t. queues (lacks_room event t.reader.queue) event t) l) refl refl tt
+      (both_change k (λ t. queues (lacks_room event t.reader.queue) event t) (line.calls answer_of after (link.Queue event)) l n h
+      (λ d t s is. subst (λ b. Sites l k d (queues b event t) (line.calls answer_of after (link.Queue event) s))
+      (ap (λ (r : ReaderState H). lacks_room event r.queue) is.reader)
+      (queued_so (lacks_room event s.reader.queue) event l k d t s is)))
 
   pub handling : (k : ℕ) (handler : H) (l : InUse H) (n : Net H) → IsNetOf l n
       → StepsTo answer_of after (calls.SetHandler k handler) l n (on_station k (λ t. record t { reader = after_set_handler handler t.reader }) l)
   handling k handler l n h =
       by_own answer_of after (calls.SetHandler k handler) (line.SetHandler k handler) l n
-      (on_station k (λ t. record t { reader = after_set_handler handler t.reader }) l) (λ j. refl) (λ j. refl) tt refl refl tt
+      (on_station k (λ t. record t { reader = after_set_handler handler t.reader }) l) refl refl tt
       (both_change k (λ t. record t { reader = after_set_handler handler t.reader }) (line.calls answer_of after (link.SetHandler handler)) l n h
-      (λ d t s is. read_so is (ap (after_set_handler handler) is.reader) is.account is.stored))
+      (λ d t s is. read_so is (ap (after_set_handler handler) is.reader) is.stored))
 
   -- the oldest event that was never offered is taken back
   pub withdrawing_event : (k : ℕ) (l : InUse H) (n : Net H) → IsNetOf l n
       → StepsTo answer_of after (calls.WithdrawEvent k) l n (on_station k withdraws_event l)
   withdrawing_event k l n h =
-      by_own answer_of after (calls.WithdrawEvent k) (line.WithdrawEvent k) l n (on_station k withdraws_event l) (λ j. refl) (λ j. refl) tt refl refl tt
+      by_own answer_of after (calls.WithdrawEvent k) (line.WithdrawEvent k) l n (on_station k withdraws_event l) refl refl tt
       (both_change k withdraws_event (line.calls answer_of after link.WithdrawEvent) l n h
-      (λ d t s is. read_so is (ap after_withdraw_event is.reader)
-      (λ i. link.event_withdrawn (is.reader i).queue (is.account i)) is.stored))
+      (λ d t s is. read_so is (ap after_withdraw_event is.reader) is.stored))
 
   -- the front lapses, where it was ever offered
   pub lapsing_event : (k : ℕ) (l : InUse H) (n : Net H) → IsNetOf l n
       → StepsTo answer_of after (calls.LapseEvent k) l n (on_station k lapses_event l)
   lapsing_event k l n h =
-      by_own answer_of after (calls.LapseEvent k) (line.LapseEvent k) l n (on_station k lapses_event l) (λ j. refl) (λ j. refl) tt refl refl tt
+      by_own answer_of after (calls.LapseEvent k) (line.LapseEvent k) l n (on_station k lapses_event l) refl refl tt
       (both_change k lapses_event (line.calls answer_of after link.LapseEvent) l n h
-      (λ d t s is. read_so is (ap after_lapse_event is.reader)
-      (λ i. link.event_lapsed (is.reader i).queue (is.account i)) is.stored))
+      (λ d t s is. read_so is (ap after_lapse_event is.reader) is.stored))
 
   -- what has come on a line is nothing to the net
   line_is : (k : ℕ) (change : Station H → Received) (l : InUse H) (n : Net H) → IsNetOf l n → IsNetOf (on_station k (λ t. record t { line = change t }) l) n
   line_is k change l n h =
-      station_changes k (λ t. record t { line = change t }) l n h (λ d t s is. read_so is is.reader is.account is.stored)
+      station_changes k (λ t. record t { line = change t }) l n h (λ d t s is. read_so is is.reader is.stored)
 
   pub lines_change : (k : ℕ) (change : Station H → Received) (l : InUse H) (n : Net H) → IsNetOf l n
       → Makes answer_of after (λ moves. moves ≡ []) n (on_station k (λ t. record t { line = change t }) l)
@@ -126,12 +103,12 @@ module _ {H : Type 0} (answer_of : H → Command → Answer) (after : H → Comm
           (each_of (λ i. (b : Burst) → site_at i l.said ≡ Some b → is_past_for_device k l.openings i b ≡ false) places quiet)
           (each_of (λ p. IfSome (hears answer_of after t.reader p).said ReplyFits) ps in_range) in
           let l1 = read_to answer_of after k o (last_of places t.place) t l in
-          let t1 : Station H = record (answers answer_of after o t) { reader = reader_with answer_of after o t.reader; place = last_of places t.place } in
+          let t1 : Station H = record t { reader = reader_with answer_of after o t.reader; place = last_of places t.place } in
           let with_line : Received → Station H = λ q. record t1 { line = q } in
           let held : Received = record t.line { held = told.held } in
           let second = makes_is answer_of after (IsNextOf k (Some t) n) l1 (on_station k (λ u. record u { line = held }) l1) n first (λ m h1. line_is k (λ u. held) l1 m h1) in
           subst (λ (r : _). Makes answer_of after (IsNextOf k (Some t) n) n (record l {
-            stations = changed k (record (answers answer_of after o t) { reader = r; line = held; place = last_of places t.place }) l.stations;
+            stations = changed k (record t { reader = r; line = held; place = last_of places t.place }) l.stations;
             said = l.said ++ by_device k (reply_to answer_of after o t.reader);
           })) (sym (told_first answer_of after parts t.reader t.line.held).1)
           (subst (λ ts. Makes answer_of after (IsNextOf k (Some t) n) n (record l { stations = ts; said = l.said ++ by_device k (reply_to answer_of after o t.reader) }))

@@ -2,7 +2,7 @@
 use Rattle.osdp_calls.proofs.Common.{◌≡◌, ℕ, zero, suc, Bool, true, false, cond, List, [], ◌∷◌, ◌++◌, map, Option, Some, None, refl, sym, subst, ap, ◌∙◌, ◌==◌, Command, Event, Packet, BusState, new_bus, bus_ticks, Entry, each_of, Each, passed, after_silence, after_take, after_tick, after_set_busy, after_set_handler, Answer, lacks_room, site_at, some_same, Call, NewDevice, NewPanel, Next, OfPanel, Pending, SetBusy, SetHandler, Silence, Step, SubmitEvent, Take, TickDevice, after_call, after_calls, after_next, all_forget, asked_at, begins_with, begun_of, change_at, changes_at, forgets, last_of, made_anew, nexts, noted, panel_says, queues, said_at, LapseEvent, WithdrawEvent, lapses_event, withdraws_event, BusIsReached, CanStand, GoByTheirOwn, IsThatOfABus, OneExchange, Held, KeepsPanel, device_after, device_after_all, held_by, is_of_device, one_panel_call, panel_calls, takes_event, InUse, Station, PanelTurnsByCalls, panel_turn_calls}
 use Rattle.osdp_bus_laws.specs.Calls as bus
 use Rattle.osdp_bus_laws.specs.Exchanges.{HasOneExchange}
-use Rattle.osdp_calls.proofs.Places.{Stays, as_before, panel_so, station_so}
+use Rattle.osdp_calls.proofs.Places.{Stays, panel_so, station_so}
 use Rattle.osdp_calls.proofs.Sayings.{adds_make_the_bus}
 
 pub more_calls : (xs ys : List bus.Call) (b : BusState) → bus.after_calls (xs ++ ys) b ≡ bus.after_calls ys (bus.after_calls xs b)
@@ -16,13 +16,8 @@ module _ {H : Type 0} where
   IsHeld k d ts = (u : Station H) × (site_at k ts ≡ Some u) × (held_by u ≡ d)
 
   -- whatever the panel does
-  stays_held : (d : Held H) → Stays {H = H} as_before (λ x t. held_by t ≡ d)
-  stays_held d = record {
-    begins_so = λ moment x t is. is;
-    issues_so = λ command x t is. is;
-    hears_so = λ said x t is. is;
-    opens_so = λ waiting x t is. is;
-  }
+  stays_held : (d : Held H) → Stays {H = H} (λ t. held_by t ≡ d)
+  stays_held d = record { begins_so = λ moment t is. is; opens_so = λ t is. is }
 
   forget_keeps : (k : ℕ) (d : Held H) (es : List Entry) (ts : List (Station H)) → IsHeld k d ts → IsHeld k d (all_forget es ts)
   forget_keeps k d es [] is = absurd (let e = is.1 in cc)
@@ -63,7 +58,7 @@ module _ {H : Type 0} where
 
     step_keeps : (k : ℕ) (call : Call H) (places : List ℕ) (d : Held H) (l : InUse H) → IsHeld k d l.stations
         → IsHeld k (cond (is_of_device k call) (device_after answer_of after call d) d) (after_call answer_of after call places l).stations
-    step_keeps k (OfPanel call) places d l is = panel_so {H = H} as_before (λ x t. held_by t ≡ d) (stays_held d) k call places tt l is
+    step_keeps k (OfPanel call) places d l is = panel_so {H = H} (λ t. held_by t ≡ d) (stays_held d) k call places l is
     step_keeps k (SubmitEvent i event) places d l is =
         device_keeps k i (λ t. queues (lacks_room event t.reader.queue) event t) (device_after answer_of after (SubmitEvent i event)) d
         l.stations (λ t. queue_held (lacks_room event t.reader.queue) event t) is

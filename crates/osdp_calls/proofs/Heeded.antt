@@ -1,5 +1,5 @@
 -- Programs that keep to the rule keep the premise on addresses, call after call.
-use Rattle.osdp_calls.proofs.Common.{◌≡◌, ◌≤◌, ℕ, max, Bool, true, false, cond, List, [], ◌∷◌, ◌++◌, length, Option, Some, None, refl, sym, subst, ap, ◌∙◌, inl, inr, ◌==◌, is_some, slice_get, Packet, Command, comset_of, BusState, device_of, seen, changed_unless, bus_ticks, ticks_at, ticks_with, Entry, told_by_ticking, told_in, ReadsWhatIsAsked, each_map, each_of, Each, Answer, IsSetUp, NobodyElseHears, Net, Submit, Retarget, site_at, KeepRule, Note, RuleSuffices, also_at, two_addresses, Call, NewDevice, NewPanel, OfPanel, after_call, all_hear, asked_at, begins_session, begins_with, begun_of, change_at, issues, last_of, panel_says, read_by, said_for, waiting_of, told_by_all, Burst, InUse, Opening, Station, ahead_of_panel, Addresses, InOrder, InRange, PanelAddresses, QuietOpening, KeepsRule, PanelKeepsRule, noted_of, notes_after}
+use Rattle.osdp_calls.proofs.Common.{◌≡◌, ◌≤◌, ℕ, max, Bool, true, false, cond, List, [], ◌∷◌, ◌++◌, length, Option, Some, None, refl, sym, subst, ap, ◌∙◌, inl, inr, ◌==◌, is_some, slice_get, Packet, Command, comset_of, BusState, device_of, seen, changed_unless, bus_ticks, ticks_at, ticks_with, Entry, told_by_ticking, told_in, ReadsWhatIsAsked, each_map, each_of, Each, Answer, IsSetUp, NobodyElseHears, Net, Submit, Retarget, site_at, KeepRule, Note, RuleSuffices, also_at, two_addresses, Call, NewDevice, NewPanel, OfPanel, after_call, asked_at, begins_session, begins_with, begun_of, change_at, last_of, panel_says, read_by, said_for, told_by_all, Burst, InUse, Opening, Station, ahead_of_panel, Addresses, InOrder, InRange, PanelAddresses, QuietOpening, KeepsRule, PanelKeepsRule, noted_of, notes_after}
 use Rattle.osdp_bus.specs.Entries as devices
 use Rattle.osdp_bus.specs.Machine as bus
 use Rattle.osdp_bus_laws.specs.Calls as panel
@@ -10,11 +10,10 @@ use Rattle.osdp_calls.proofs.Agreeing.{AllAgree, Ruled, all_read, reads_those, t
 use Rattle.osdp_calls.proofs.Along.{IsFree, Path, free_rule, notes_along, path_on, still_free}
 use Rattle.osdp_calls.proofs.Handing.{hands_over}
 use Rattle.osdp_calls.proofs.Heeding.{rests_agree, retarget_agrees, submit_agrees}
-use Rattle.osdp_calls.proofs.Lasting.{call_keeps}
 use Rattle.osdp_calls.proofs.Losing.{IsStill}
 use Rattle.osdp_calls.proofs.Matching.{IsOurs, Match}
 use Rattle.osdp_calls.proofs.Noticing.{Agrees}
-use Rattle.osdp_calls.proofs.Panel.{at_seen, told_then}
+use Rattle.osdp_calls.proofs.Panel.{at_seen}
 use Rattle.osdp_calls.proofs.Runs.{NotPast}
 use Rattle.osdp_calls.proofs.Same.{IsNetOf, IsRightly, IsSiteOf}
 use Rattle.osdp_calls.proofs.Steps.{StepsTo}
@@ -71,7 +70,7 @@ module _ {H : Type 0} where
       by_begun (Some moment) = (λ i. (
         (ds i).entries,
         g i,
-        change_at e (begins_session (waiting_of (slice_get (ds i).entries e))) ts,
+        change_at e begins_session ts,
         l.said ++ said_for e p (site_at e ts),
         place,
         record { entry = e; address = p.address; place = length l.said } ∷ l.openings,
@@ -156,7 +155,7 @@ module _ {H : Type 0} where
           let hands = (hands_over l.bus).bytes bytes now in
           let greatest = (moments_are_seen l.bus).brought (panel.OnBytes bytes now) now refl in
           reads_ruled (panel.OnBytes bytes now) now places (after_call answer_of after (OfPanel (panel.OnBytes bytes now)) places l) order quiet
-          (λ i. ((sym hands.0 i).entries, sym greatest i, all_hear (sym hands.1 i) l.stations, l.said, last_of places l.place, l.openings))
+          (λ i. ((sym hands.0 i).entries, sym greatest i, l.stations, l.said, last_of places l.place, l.openings))
           hands.1 (λ k d. refl)
 
       pub silence_ruled : (now : ℕ) (places : List ℕ) → InOrder (OfPanel (panel.OnSilence now)) places l → QuietOpening (OfPanel (panel.OnSilence now)) places l
@@ -165,7 +164,7 @@ module _ {H : Type 0} where
           let hands = (hands_over l.bus).silence now in
           let greatest = (moments_are_seen l.bus).brought (panel.OnSilence now) now refl in
           reads_ruled (panel.OnSilence now) now places (after_call answer_of after (OfPanel (panel.OnSilence now)) places l) order quiet
-          (λ i. ((sym hands.0 i).entries, sym greatest i, all_hear (sym hands.1 i) l.stations, l.said, last_of places l.place, l.openings))
+          (λ i. ((sym hands.0 i).entries, sym greatest i, l.stations, l.said, last_of places l.place, l.openings))
           hands.1 (λ k d. refl)
 
       -- ---- .. and a controller that ticks then
@@ -194,11 +193,10 @@ module _ {H : Type 0} where
           let greatest : (ticks_at o l1.bus).bus.greatest ≡ (bus_ticks now l.bus).bus.greatest =
           ticks_greatest o l1.bus ∙ sym ((moments_are_seen l.bus).brought (panel.Tick now) now refl) in
           let alike : of_line (ticks_to answer_of after o l1) ≡ of_line (after_call answer_of after (OfPanel (panel.Tick now)) places l) =
-          says_alike o (ticks_at o l1.bus).sent (ticks_at o l1.bus).bus (bus_ticks now l.bus).bus (all_hear (told_by_ticking o l1.bus) l1.stations) l1.place l
+          says_alike o (ticks_at o l1.bus).sent (ticks_at o l1.bus).bus (bus_ticks now l.bus).bus l.stations l1.place l
           (sym hands.0) greatest
           ∙ (λ i. of_line (panel_says o (sym hands.1 i) (record l {
             bus = (bus_ticks now l.bus).bus;
-            stations = (sym (told_then told (told_by_ticking o l1.bus) l.stations) ∙ ap (λ xs. all_hear xs l.stations) (sym hands.2)) i;
             place = last_of places l.place;
           }))) in
           ruled_as (ticks_to answer_of after o l1) (after_call answer_of after (OfPanel (panel.Tick now)) places l) (told_notes l.bus.devices told notes)
@@ -219,9 +217,9 @@ module _ {H : Type 0} where
             by_rest (OfPanel (panel.Submit k command)) (after_call answer_of after (OfPanel (panel.Submit k command)) places l) s
             (subst (Each IsStill) (sym are) tt)
             (ap (λ f. (changed_unless f l.bus (bus.after_submit_at k command l.bus)).devices.entries) is)
-            (λ j. ap (λ f. begun_of (site_at j (changed_unless f l.stations (change_at k (issues command) l.stations)))) is)
+            (λ j. refl)
             (λ j d. ap (λ f. cond (k == j) (changed_unless f (notes j) (also_at (two_addresses (devices.address_of d) (comset_of command)) (notes j))) (notes j)) is
-            ∙ either (k == j) (notes j)) (λ j. call_keeps j answer_of after (OfPanel (panel.Submit k command)) places l)
+            ∙ either (k == j) (notes j)) (λ j. refl)
         | inr (none, are) ↦
             by_steps (OfPanel (panel.Submit k command)) (after_call answer_of after (OfPanel (panel.Submit k command)) places l) s
             (subst (λ ms. KeepRule answer_of after ms n noted) (sym are) (range, submit_rule k command l n notes noted h agree rule none, tt))
@@ -229,7 +227,6 @@ module _ {H : Type 0} where
             (notes_along answer_of after ms n noted)) (sym are)
             (subst (λ f. AllAgree (record l {
               bus = changed_unless f l.bus (bus.after_submit_at k command l.bus);
-              stations = changed_unless f l.stations (change_at k (issues command) l.stations);
             }) (notes_after (OfPanel (panel.Submit k command)) l notes) (notes_along answer_of after (Submit k command ∷ []) n noted)) (sym none)
             (submit_agrees answer_of after k command l n notes noted h none agree)))
       ]

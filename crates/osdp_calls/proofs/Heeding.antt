@@ -1,11 +1,11 @@
 -- After each call what is noted of the entries agrees with what is noted along the moves that the call comes to.
 use Rattle.std.proofs.Common.{◌≡◌, ◌≢◌, ℕ, zero, suc, max, Bool, true, false, cond, List, [], ◌∷◌, ◌++◌, map, Option, Some, None, refl, sym, subst, ap, ◌∙◌, inl, inr, is_some}
-use Rattle.osdp_calls.proofs.Common.{eqb_tells, option_map_or, ◌==◌, ◌&&◌, slice_get, slice_set, Room, Command, comset_of, ControllerConfig, State, Closed, BusState, device_of, seen, changed_unless, changes_entry, new_device, BusConfig, Entry, BusFault, is_false, is_true, Each, Answer, Net, NetMove, RestartPanel, Retarget, Site, Submit, address_of, is_command_accepted, is_retarget_accepted, site_at, Note, also_at, noted_at, two_addresses, at_changed, some_same, Call, NewPanel, OfPanel, all_forget, begun_of, change_at, changes_at, is_to_begin, issues, panel_made_anew, InUse, Station, noted_of, notes_after}
+use Rattle.osdp_calls.proofs.Common.{eqb_tells, option_map_or, ◌==◌, ◌&&◌, slice_get, slice_set, Room, Command, comset_of, ControllerConfig, State, Closed, BusState, device_of, seen, changed_unless, changes_entry, new_device, BusConfig, Entry, BusFault, is_false, is_true, Each, Answer, Net, NetMove, RestartPanel, Retarget, Site, Submit, address_of, is_command_accepted, is_retarget_accepted, site_at, Note, also_at, noted_at, two_addresses, at_changed, some_same, Call, NewPanel, OfPanel, all_forget, begun_of, change_at, changes_at, is_to_begin, panel_made_anew, InUse, Station, noted_of, notes_after}
 use Rattle.osdp_bus.specs.Entries as devices
 use Rattle.osdp_bus.specs.Machine as bus
 use Rattle.osdp_bus_laws.specs.Calls as panel
 use Rattle.osdp_calls.proofs.Accepting.{command_accepted, retarget_accepted}
-use Rattle.osdp_calls.proofs.Agreeing.{AllAgree, address_same, at_entry, begun_change}
+use Rattle.osdp_calls.proofs.Agreeing.{AllAgree, address_same, at_entry}
 use Rattle.osdp_calls.proofs.Along.{notes_along, still_along}
 use Rattle.osdp_calls.proofs.Losing.{IsStill}
 use Rattle.osdp_calls.proofs.Noticing.{Agrees, got_new, got_other}
@@ -186,17 +186,16 @@ module _ {H : Type 0} where
 
     pub submit_agrees : (k : ℕ) (command : Command) (l : InUse H) (n : Net H) (notes noted : ℕ → Note) → IsNetOf l n
         → bus.submit_refusal_at k command l.bus ≡ None → AllAgree l notes noted
-        → AllAgree (record l { bus = bus.after_submit_at k command l.bus; stations = change_at k (issues command) l.stations })
+        → AllAgree (record l { bus = bus.after_submit_at k command l.bus })
         (notes_after (OfPanel (panel.Submit k command)) l notes) (notes_along answer_of after (Submit k command ∷ []) n noted)
     submit_agrees k command l n notes noted h none agree =
         let call : Call H = OfPanel (panel.Submit k command) in
-        let next : InUse H = record l { bus = bus.after_submit_at k command l.bus; stations = change_at k (issues command) l.stations } in
+        let next : InUse H = record l { bus = bus.after_submit_at k command l.bus } in
         let noted2 = notes_along answer_of after (Submit k command ∷ []) n noted in
-        let begun : (j : ℕ) → begun_of (site_at j next.stations) ≡ begun_of (site_at j l.stations) = λ j. begun_change j k (issues command) l.stations (λ t. refl) in
-        all_carried call l next notes noted noted2 agree (λ j. change_keeps j k (issues command) l.stations)
+        all_carried call l next notes noted noted2 agree (λ j. refl)
         (λ j e own at. elim (changed_at k (bus.entry_submits command) l.bus j e at) [
           | AsBefore other was ↦
-              as_it_was call l next notes noted noted2 j e e was refl (begun j)
+              as_it_was call l next notes noted noted2 j e e was refl refl
               (ap (λ b. cond b (changed_unless (bus.submit_refusal_at k command l.bus) (notes j)
               (also_at (two_addresses (devices.address_of e) (comset_of command)) (notes j))) (notes j)) (is_false k j (λ f. other (sym f))))
               (unnoted j (site_at j n.sites) (λ f. other (sym f)))
@@ -204,7 +203,7 @@ module _ {H : Type 0} where
               let it = at_entry k d l n h (subst (λ i. IsOurs i l.stations) same own) was in
               let more = two_addresses (devices.address_of d) (comset_of command) in
               also_noted call l next notes noted noted2 j d e more (subst (λ i. device_of i l.bus ≡ Some d) (sym same) was)
-              (ap (λ (f : Entry). f.controller.session.state) becomes) (begun j)
+              (ap (λ (f : Entry). f.controller.session.state) becomes) refl
               (ap (λ b. cond b (changed_unless (bus.submit_refusal_at k command l.bus) (notes j) (also_at more (notes j))) (notes j)) (is_true k j (sym same))
               ∙ ap (λ f. changed_unless f (notes j) (also_at more (notes j))) none)
               (subst (λ i. noted2 i ≡ also_at more (noted i)) (sym same)

@@ -1,5 +1,5 @@
 -- Stations stay, whatever is called.
-use Rattle.osdp_calls.proofs.Common.{◌≡◌, ℕ, zero, suc, List, [], ◌∷◌, Option, Some, None, refl, ◌∙◌, is_some, Packet, Command, Report, BusState, device_of, begin_refusal_at, changed_unless, submit_refusal_at, bus_ticks, Entry, BusFault, told_in, Answer, site_at, Call, NewDevice, NewPanel, Next, OfPanel, Pending, SetBusy, SetHandler, Silence, SubmitEvent, Take, TickDevice, LapseEvent, WithdrawEvent, after_call, after_next, all_forget, all_hear, asked_at, begins_session, begins_with, begun_of, change_at, changes_at, hears_of, last_of, nexts, noted, panel_says, said_at, waiting_of, Step, after_calls, InUse, Station}
+use Rattle.osdp_calls.proofs.Common.{◌≡◌, ℕ, zero, suc, List, [], ◌∷◌, Option, Some, None, refl, ◌∙◌, is_some, Packet, Command, BusState, begin_refusal_at, changed_unless, bus_ticks, Entry, BusFault, Answer, site_at, Call, NewDevice, NewPanel, Next, OfPanel, Pending, SetBusy, SetHandler, Silence, SubmitEvent, Take, TickDevice, LapseEvent, WithdrawEvent, after_call, after_next, all_forget, asked_at, begins_session, begins_with, begun_of, change_at, changes_at, last_of, nexts, noted, panel_says, said_at, Step, after_calls, InUse, Station}
 use Rattle.osdp_bus_laws.specs.Calls as bus
 use Rattle.osdp_calls.proofs.Matching.{changed_some}
 
@@ -14,22 +14,17 @@ module _ {H : Type 0} (k : ℕ) where
   pub change_keeps : (i : ℕ) (change : Station H → Station H) (ts : List (Station H)) → Same (change_at i change ts) ts
   change_keeps i change ts = changes_keep i change (site_at i ts) ts
 
-  pub heard_keeps : (told : List (ℕ × Report)) (ts : List (Station H)) → Same (all_hear told ts) ts
-  heard_keeps [] ts = refl
-  heard_keeps (x ∷ xs) ts = heard_keeps xs (change_at x.0 (hears_of x.1) ts) ∙ change_keeps x.0 (hears_of x.1) ts
-
   unless_keeps : (i : ℕ) (fault : Option BusFault) (change : Station H → Station H) (ts : List (Station H)) → Same (changed_unless fault ts (change_at i change ts)) ts
   unless_keeps i None change ts = change_keeps i change ts
   unless_keeps i (Some fault) change ts = refl
 
   pub noted_keeps : (call : bus.Call) (b : BusState) (ts : List (Station H)) → Same (noted call b ts) ts
   noted_keeps (bus.Begin entry now) b ts = unless_keeps entry (begin_refusal_at entry b) _ ts
-  noted_keeps (bus.Submit entry command) b ts = unless_keeps entry (submit_refusal_at entry command b) _ ts
-  noted_keeps call b ts = heard_keeps (told_in call b) ts
+  noted_keeps call b ts = refl
 
   begins_keep : (i : ℕ) (p : Packet) (o : Option ℕ) (l : InUse H) → Same (begins_with i p o l).stations l.stations
   begins_keep i p None l = refl
-  begins_keep i p (Some moment) l = change_keeps i (begins_session (waiting_of (device_of i l.bus))) l.stations
+  begins_keep i p (Some moment) l = change_keeps i begins_session l.stations
 
   pub says_keep : (o : Option ℕ) (p : Option Packet) (l : InUse H) → Same (panel_says o p l).stations l.stations
   says_keep None p l = refl

@@ -26,7 +26,6 @@ pub mod Handing
 pub mod Turning
 pub mod Places
 pub mod Ends
-pub mod Refusing
 pub mod Along
 pub mod Noticing
 pub mod Agreeing
@@ -37,5 +36,4 @@ pub mod Heeded
 pub mod Ruling
 pub mod Marking
 pub mod Marked
-pub mod MarkedDevices
 pub mod Takings

@@ -1,6 +1,6 @@
 -- What a device reads: what stands before it is lost to it, and what it reads stays in front of it and may be read again.
-use Rattle.osdp_calls.proofs.Common.{◌≡◌, ◌≤◌, ℕ, zero, suc, ◌+◌, not, Bool, true, false, cond, List, [], ◌∷◌, ◌++◌, length, Option, Some, None, IfSome, refl, sym, subst, ap, ◌∙◌, arith, append-nil, append_assoc, inl, inr, option_to_list, Packet, ReplyFits, Command, speaks, Repeated, each_append, Each, ReaderState, Answer, in_front, Net, NetMove, Site, ToReader, after_net, changed, left_by, link_of, run, site_at, tagged, at_changed, some_same, answers, by_device, first_answered, last_of, reply_to, Burst, InUse, Opening, Station, ahead_of_device, is_past_for_device, AreInOrder, at_length, net_more}
-use Rattle.osdp_link_laws.specs.Headline.{SaysWhatFitsIf}
+use Rattle.osdp_calls.proofs.Common.{◌≡◌, ◌≤◌, ℕ, zero, suc, ◌+◌, not, Bool, true, false, cond, List, [], ◌∷◌, ◌++◌, length, Option, Some, None, IfSome, refl, sym, subst, ap, ◌∙◌, arith, append-nil, append_assoc, inl, inr, option_to_list, Packet, ReplyFits, Command, speaks, Repeated, each_append, Each, ReaderState, Answer, in_front, Net, NetMove, Site, ToReader, after_net, changed, left_by, link_of, run, site_at, tagged, at_changed, some_same, by_device, first_answered, last_of, reply_to, Burst, InUse, Opening, Station, ahead_of_device, is_past_for_device, AreInOrder, at_length, net_more}
+use Rattle.osdp_link_laws.specs.Beginning.{SaysWhatFitsIf}
 use Rattle.osdp_link_laws.specs.Link as link
 use Rattle.osdp_reader.specs.Table.{hears, kind_of}
 use Rattle.osdp_shared_line.specs.Line as line
@@ -81,7 +81,7 @@ module _ {H : Type 0} where
     -- ---- a packet is read
 
     abbrev pub has_read : Packet → Station H → Station H
-    has_read p t = record (answers answer_of after (Some p) t) { reader = (hears answer_of after t.reader p).reader }
+    has_read p t = record t { reader = (hears answer_of after t.reader p).reader }
 
     -- the packet is in front for the reader, and may be read again
     pub record IsInFront (k : ℕ) (p : Packet) (r : ReaderState H) (n : Net H) (moves : List (NetMove H)) : Type 0 where
@@ -115,9 +115,7 @@ module _ {H : Type 0} where
             let n1 : Net H = record n { sites = changed k (left_by s (link.reader_gets answer_of after p (link_of s [] []))) n.sites } in
             let read : IsNetOf l1 n1 =
             sites_so h (set_station (Sites l) k d (has_read p t) (left_by s (link.reader_gets answer_of after p (link_of s [] [])))
-            l.bus.devices.entries l.stations n.sites h.sites a (read_so at (ap (λ (r : ReaderState H). (hears answer_of after r p).reader) at.reader)
-            (λ i. (link.taken (kind_of (at.reader i) p) (hears answer_of after (at.reader i) p).command
-            (hears answer_of after (at.reader i) p).said (link.front_of (at.reader i)) (at.account i))) replies.stored)) in
+            l.bus.devices.entries l.stations n.sites h.sites a (read_so at (ap (λ (r : ReaderState H). (hears answer_of after r p).reader) at.reader) replies.stored)) in
             let done : IsNetOf (device_says k (option_to_list o.reply) l1) (record n1 { to_panel = n1.to_panel ++ tagged k (option_to_list o.reply) }) =
             device_said k o.reply l1 n1 replies.said read in
             let there_too : line.hears_at answer_of after k p s n ≡ record n1 { to_panel = n1.to_panel ++ tagged k (option_to_list o.reply) } =
@@ -191,7 +189,7 @@ module _ {H : Type 0} where
     abbrev pub read_to : ℕ → Option Packet → ℕ → Station H → InUse H → InUse H
     read_to k o place t l =
         device_says k (reply_to answer_of after o t.reader)
-        (with_station k (record (answers answer_of after o t) { reader = reader_with answer_of after o t.reader; place = place }) l)
+        (with_station k (record t { reader = reader_with answer_of after o t.reader; place = place }) l)
 
     moved_first : (k : ℕ) (o : Option Packet) (i place : ℕ) (t : Station H) (l : InUse H)
         → read_to k o place (record t { place = i }) (with_station k (record t { place = i }) l) ≡ read_to k o place t l

@@ -1,6 +1,6 @@
 -- The calls of a panel's program that read nothing: sessions, commands and addresses.
-use Rattle.std.proofs.Common.{◌≡◌, ◌||◌, ◌&&◌, ◌-◌, ◌*◌, ℕ, zero, suc, ◌+◌, max, Bool, true, false, cond, List, [], ◌∷◌, ◌++◌, length, take, drop, Option, Some, None, refl, sym, subst, ap, ◌∙◌, arith, inl, inr}
-use Rattle.osdp_calls.proofs.Common.{option_map_or, is_some, nat_le, nat_lt, option_map, option_to_list, slice_get, slice_set, Packet, CommandFits, most_data, Command, Poll, Communication, has_comset, comset_of, Machine, begin_refusal, bytes_waiting, command_size, retarget_refusal, submit_refusal, Closed, BusState, seen, reserved_for, after_begin_at, after_submit_at, begin_refusal_at, bus_fault, changed_unless, changes_entry, entry_begins, submit_refusal_at, Entry, BusFault, Answer, HasNoOther, Sets, Somewhere, asked_in, Net, NetMove, Retarget, Site, Submit, Withdraw, after_net, changed, site_at, some_same, OfPanel, begun_of, change_at, changes_at, is_to_begin, issues, withdrawn, InUse, Station, IsAsked, IsNoOthers, IsSaid, IsThere, MayBeAt}
+use Rattle.std.proofs.Common.{◌≡◌, ◌||◌, ◌&&◌, ◌-◌, ◌*◌, ℕ, zero, suc, ◌+◌, max, Bool, true, false, cond, List, [], ◌++◌, length, take, drop, Option, Some, None, refl, sym, subst, ap, ◌∙◌, arith, inl, inr}
+use Rattle.osdp_calls.proofs.Common.{option_map_or, is_some, nat_le, nat_lt, option_map, option_to_list, slice_get, slice_set, Packet, CommandFits, most_data, Command, Poll, Communication, has_comset, comset_of, Machine, begin_refusal, bytes_waiting, command_size, retarget_refusal, submit_refusal, Closed, BusState, seen, reserved_for, after_begin_at, after_submit_at, begin_refusal_at, bus_fault, changed_unless, changes_entry, entry_begins, submit_refusal_at, Entry, BusFault, Answer, HasNoOther, Sets, Somewhere, outstanding_command, Net, NetMove, Retarget, Site, Submit, Withdraw, after_net, changed, site_at, some_same, OfPanel, begun_of, change_at, changes_at, is_to_begin, withdrawn, InUse, Station, IsAsked, IsNoOthers, IsSaid, IsThere, MayBeAt}
 use Rattle.osdp_controller.specs.Machine as controllers
 use Rattle.osdp_controller.specs.Held.{on_its_way}
 use Rattle.osdp_controller.specs.declared.fault.ControllerFault.{ControllerFault}
@@ -17,7 +17,7 @@ use Rattle.osdp_calls.proofs.Matching.{And, Done, FoundAt, Match, Nobody, Somebo
 use Rattle.osdp_calls.proofs.Panel.{at_seen}
 use Rattle.osdp_calls.proofs.Same.{Controls, IsNetOf, IsSame, IsToOpen, controlled_so, sites_so}
 use Rattle.osdp_calls.proofs.Stations.{Makes, Sites, make_move, make_none}
-use Rattle.osdp_calls.proofs.Steps.{Made, MadeByPanel, StepsTo, by_other, by_own, by_plain, by_refusal, by_submit}
+use Rattle.osdp_calls.proofs.Steps.{Made, MadeByPanel, StepsTo, by_other, by_own, by_plain, by_refusal}
 use Rattle.osdp_bus_laws.proofs.Calling.{map_none}
 
 -- no session of it was begun where its controller is closed
@@ -33,9 +33,9 @@ pub or_parts : (x y : Bool) → x || y ≡ false → (x ≡ false) × (y ≡ fal
 or_parts true y is = absurd (let e = is in cc)
 or_parts false y is = (refl, is)
 
-pub asked_same : (o : Option ℕ) (top : ℕ) (m c : Machine) → Controls o top m c → asked_in c.session.state ≡ asked_in m.session.state
-asked_same None top m c is = ap (λ (x : Machine). asked_in x.session.state) is.same
-asked_same (Some began) top m c is = ap (λ (x : Machine). asked_in x.session.state) is.same ∙ sym (ap asked_in is.quiet)
+pub asked_same : (o : Option ℕ) (top : ℕ) (m c : Machine) → Controls o top m c → option_to_list (outstanding_command c.session.state) ≡ option_to_list (outstanding_command m.session.state)
+asked_same None top m c is = ap (λ (x : Machine). option_to_list (outstanding_command x.session.state)) is.same
+asked_same (Some began) top m c is = ap (λ (x : Machine). option_to_list (outstanding_command x.session.state)) is.same ∙ sym (ap (λ st. option_to_list (outstanding_command st)) is.quiet)
 
 -- the same command is on its way
 sent_same : (o : Option ℕ) (top : ℕ) (m c : Machine) → Controls o top m c → on_its_way c.session.state ≡ on_its_way m.session.state
@@ -50,39 +50,20 @@ submit_alike command m c waiting places room sent =
     && nat_le (command_size command) (room i - (cond (nat_le (places i * (1 + most_data)) (room i)) 0 (option_map_or command_size (sent i) 0) + bytes_waiting (waiting i))))
     None (Some Full))
 
+-- a bus whose entry at this place changes, where this is that entry, if there is one
+abbrev changed_bus : ℕ → (Entry → Entry) → BusState → Option Entry → BusState
+changed_bus k change b o = option_map_or (λ (d : Entry). record b { devices = record b.devices { entries = slice_set b.devices.entries k (change d) } }) o b
+
 module _ {H : Type 0} where
-  -- the device of an entry and its station change
-  changes_one : (k : ℕ) (change : Entry → Entry) (tchange : Station H → Station H) (l : InUse H) (d : Entry) (t : Station H)
-      → slice_get l.bus.devices.entries k ≡ Some d → site_at k l.stations ≡ Some t
-      → record l { bus = changes_entry k change l.bus; stations = change_at k tchange l.stations }
-      ≡ record l {
-        bus = record l.bus { devices = record l.bus.devices { entries = slice_set l.bus.devices.entries k (change d) } };
-        stations = changed k (tchange t) l.stations;
-      }
-  changes_one k change tchange l d t a b =
-      (λ i. record l { bus = by_device (a i); stations = changes_at k tchange (b i) l.stations })
-    where
-      by_device : Option Entry → BusState
-      by_device o = Rattle.std.specs.Option.option_map_or (λ (e : Entry). record l.bus {
-        devices = record l.bus.devices { entries = slice_set l.bus.devices.entries k (change e) };
-      }) o l.bus
-
   -- an entry without a station changes
-  pub other_changes : (k : ℕ) (change : Entry → Entry) (tchange : Station H → Station H) (l : InUse H) (n : Net H) → IsNetOf l n → site_at k l.stations ≡ None
-      → IsNetOf (record l { bus = changes_entry k change l.bus; stations = change_at k tchange l.stations }) n
-  other_changes k change tchange l n h none = by_entry (slice_get l.bus.devices.entries k) refl
+  other_changes : (k : ℕ) (change : Entry → Entry) (l : InUse H) (n : Net H) → IsNetOf l n → site_at k l.stations ≡ None
+      → IsNetOf (record l { bus = changes_entry k change l.bus }) n
+  other_changes k change l n h none = by_entry (slice_get l.bus.devices.entries k) refl
     where
-      by_device : Option Entry → BusState
-      by_device o = Rattle.std.specs.Option.option_map_or (λ (e : Entry). record l.bus {
-        devices = record l.bus.devices { entries = slice_set l.bus.devices.entries k (change e) };
-      }) o l.bus
-
-      by_entry : (o : Option Entry) → slice_get l.bus.devices.entries k ≡ o
-          → IsNetOf (record l { bus = changes_entry k change l.bus; stations = change_at k tchange l.stations }) n
-      by_entry None is =
-          subst (λ m. IsNetOf m n) (λ i. record l { bus = by_device (sym is i); stations = changes_at k tchange (sym none i) l.stations }) h
+      by_entry : (o : Option Entry) → slice_get l.bus.devices.entries k ≡ o → IsNetOf (record l { bus = changes_entry k change l.bus }) n
+      by_entry None is = subst (λ q. IsNetOf (record l { bus = changed_bus k change l.bus q }) n) (sym is) h
       by_entry (Some d) is =
-          subst (λ m. IsNetOf m n) (λ i. record l { bus = by_device (sym is i); stations = changes_at k tchange (sym none i) l.stations })
+          subst (λ q. IsNetOf (record l { bus = changed_bus k change l.bus q }) n) (sym is)
           (sites_so h (set_other (Sites l) k (change d) l.bus.devices.entries l.stations n.sites none h.sites))
 
   -- ---- addresses that are taken
@@ -168,7 +149,8 @@ module _ {H : Type 0} where
             })
             by_found (Nobody o a b c) =
                 make_none answer_of after (λ moves. moves ≡ []) (record l { bus = after_begin_at entry now l.bus; stations = change_at entry (is_to_begin (max l.bus.greatest now)) l.stations }) n refl
-                (other_changes entry (entry_begins (max l.bus.greatest now)) (is_to_begin (max l.bus.greatest now)) (record l { bus = seen now l.bus }) n (at_seen now l n h) b)
+                (subst (λ q. IsNetOf (record l { bus = after_begin_at entry now l.bus; stations = changes_at entry (is_to_begin (max l.bus.greatest now)) q l.stations }) n) (sym b)
+                (other_changes entry (entry_begins (max l.bus.greatest now)) (record l { bus = seen now l.bus }) n (at_seen now l n h) b))
             by_found (Somebody d t s a b c has) =
                 let moment = max l.bus.greatest now in
                 let l1 = record l { bus = seen now l.bus } in
@@ -179,14 +161,17 @@ module _ {H : Type 0} where
                 let control : IsSame l.bus.greatest d.controller s.controller = subst (λ o. Controls o l.bus.greatest d.controller s.controller) begun has.controller in
                 let e : Entry = entry_begins moment d in
                 let u : Station H = is_to_begin moment t in
-                subst (Makes answer_of after (λ moves. moves ≡ []) n) (sym (changes_one entry (entry_begins moment) (is_to_begin moment) l1 d t a b))
+                subst (Makes answer_of after (λ moves. moves ≡ []) n) (λ i. record l1 {
+                  bus = changed_bus entry (entry_begins moment) l1.bus (sym a i);
+                  stations = changes_at entry (is_to_begin moment) (sym b i) l.stations;
+                })
                 (make_none answer_of after (λ moves. moves ≡ []) (record l1 {
                   bus = record l1.bus { devices = record l1.bus.devices { entries = slice_set l.bus.devices.entries entry e } };
                   stations = changed entry u l.stations;
                 }) n refl (sites_so h1
                 (subst (λ ss. Match (Sites l1) 0 (slice_set l.bus.devices.entries entry e) (changed entry u l.stations) ss) (changed_same entry s n.sites c)
                 (set (Sites l1) entry e u s l.bus.devices.entries l.stations n.sites h1.sites
-                (controlled_so has (is_to_open l.bus.greatest moment d.controller s.controller (omega arith) shut control) has.reserved has.account)))))
+                (controlled_so has (is_to_open l.bus.greatest moment d.controller s.controller (omega arith) shut control) has.reserved)))))
 
     -- ---- a command
 
@@ -216,25 +201,20 @@ module _ {H : Type 0} where
         → IsNoOthers k asked.address l)
         → StepsTo answer_of after (OfPanel (panel.Submit k command)) l n (record l {
           bus = changed_unless (submit_refusal_at k command l.bus) l.bus (after_submit_at k command l.bus);
-          stations = changed_unless (submit_refusal_at k command l.bus) l.stations (change_at k (issues command) l.stations);
         })
     submitting k command l n h fits addresses = by_fault (submit_refusal_at k command l.bus) refl
       where
         by_found : submit_refusal_at k command l.bus ≡ None → FoundAt (Sites l) k k l.bus.devices.entries l.stations n.sites
-            → StepsTo answer_of after (OfPanel (panel.Submit k command)) l n (record l { bus = after_submit_at k command l.bus; stations = change_at k (issues command) l.stations })
+            → StepsTo answer_of after (OfPanel (panel.Submit k command)) l n (record l { bus = after_submit_at k command l.bus })
         by_found is (Nobody o a b c) =
-            by_other answer_of after k command l n (record l { bus = after_submit_at k command l.bus; stations = change_at k (issues command) l.stations }) c b is fits
-            (other_changes k (bus.entry_submits command) (issues command) l n h b)
+            by_other answer_of after k command l n (record l { bus = after_submit_at k command l.bus }) c is fits
+            (other_changes k (bus.entry_submits command) l n h b)
         by_found is (Somebody d t s a b c has) =
             let taken = bus.is_comset_refused (comset_of command) k d l.bus in
             let accepted = unrefused taken (submit_refusal command d.controller) (sym (ap (λ o. bus.submit_refusal_of k command o l.bus) a) ∙ is) in
             let control = has.controller in
             let same : submit_refusal command s.controller ≡ None = refusal_same command t.begun l.bus.greatest d.controller s.controller control ∙ accepted.1 in
-            let s1 : Site H = record s {
-              controller = controllers.after_submit command s.controller;
-              reserved = line.asked_for (comset_of command) s.reserved;
-              account = record s.account { issued = s.account.issued ++ command ∷ [] };
-            } in
+            let s1 : Site H = record s { controller = controllers.after_submit command s.controller; reserved = line.asked_for (comset_of command) s.reserved } in
             let next : after_net answer_of after (Submit k command) n ≡ record n { sites = changed k s1 n.sites } =
             ap (λ o. line.change_unless (λ u. line.is_comset_refused k (comset_of command) u n.sites) k o (line.submits answer_of after command) n) c
             ∙ ap (λ x. cond x n (record n { sites = changed k (line.submits answer_of after command s) n.sites }))
@@ -244,24 +224,18 @@ module _ {H : Type 0} where
                   (line.left_by s (link.submits f command (line.link_of s [] [])))) n.sites;
             }) same in
             let e : Entry = bus.entry_submits command d in
-            let u : Station H = issues command t in
-            subst (StepsTo answer_of after (OfPanel (panel.Submit k command)) l n) (sym (changes_one k (bus.entry_submits command) (issues command) l d t a b))
-            (by_submit answer_of after k command s l n (record l {
-              bus = record l.bus { devices = record l.bus.devices { entries = slice_set l.bus.devices.entries k e } };
-              stations = changed k u l.stations;
-            }) c (refused_free (comset_of command) k d t s l n h has accepted.0) same is
+            let l1 : InUse H = record l { bus = record l.bus { devices = record l.bus.devices { entries = slice_set l.bus.devices.entries k e } } } in
+            subst (λ q. StepsTo answer_of after (OfPanel (panel.Submit k command)) l n (record l { bus = changed_bus k (bus.entry_submits command) l.bus q })) (sym a)
+            (by_own answer_of after (OfPanel (panel.Submit k command)) (Submit k command) l n l1 refl (inr (is, refl))
             (fits, λ s2 asked at2 ok moves. no_other k asked.address l n h (addresses t b is asked moves))
-            (subst (IsNetOf (record l {
-              bus = record l.bus { devices = record l.bus.devices { entries = slice_set l.bus.devices.entries k e } };
-              stations = changed k u l.stations;
-            })) (sym next) (sites_so h (set (Sites l) k e u s1 l.bus.devices.entries l.stations n.sites h.sites
+            (subst (IsNetOf l1) (sym next) (sites_so h
+            (subst (λ ts. Match (Sites l1) 0 (slice_set l.bus.devices.entries k e) ts (changed k s1 n.sites)) (changed_same k t l.stations b)
+            (set (Sites l) k e t s1 l.bus.devices.entries l.stations n.sites h.sites
             (controlled_so has (submitted_same t.begun l.bus.greatest command d.controller s.controller control)
-            (ap (line.asked_for (comset_of command)) has.reserved ∙ reserves_same (comset_of command) d.reserved)
-            (ap (λ (x : link.Account). record x { issued = x.issued ++ command ∷ [] }) has.account))))))
+            (ap (line.asked_for (comset_of command)) has.reserved ∙ reserves_same (comset_of command) d.reserved)))))))
 
         by_fault : (f : Option BusFault) → submit_refusal_at k command l.bus ≡ f → StepsTo answer_of after (OfPanel (panel.Submit k command)) l n (record l {
           bus = changed_unless f l.bus (after_submit_at k command l.bus);
-          stations = changed_unless f l.stations (change_at k (issues command) l.stations);
         })
         by_fault (Some fault) is = by_refusal answer_of after k command fault l n is h
         by_fault None is = by_found is (found (Sites l) k l.bus.devices.entries l.stations n.sites h.sites)
@@ -286,14 +260,13 @@ module _ {H : Type 0} where
             ap (λ (x : Machine). controllers.withdrawn_in x.session.state x.waiting) control.same in
             let next : InUse H = record l { bus = record l.bus { devices = record l.bus.devices { entries = slice_set l.bus.devices.entries k e } } } in
             let s1 : Site H = line.withdraws answer_of after s in
-            by_own answer_of after (OfPanel (panel.Withdraw k)) (Withdraw k) l n next (λ j. refl) (λ j. refl) tt refl (inr (refl, ap begun_of b ∙ begun)) tt
+            by_own answer_of after (OfPanel (panel.Withdraw k)) (Withdraw k) l n next refl (inr (refl, ap begun_of b ∙ begun)) tt
             (subst (IsNetOf next) (sym (ap (λ o. line.change_at k o (line.withdraws answer_of after) n) c)) (sites_so h
             (subst (λ ts. Match (Sites next) 0 (slice_set l.bus.devices.entries k e) ts (changed k s1 n.sites)) (changed_same k t l.stations b)
             (set (Sites l) k e t s1 l.bus.devices.entries l.stations n.sites h.sites (controlled_so has
             (subst (λ o. Controls o l.bus.greatest e.controller s1.controller) (sym begun)
             (withdrawn_same l.bus.greatest d.controller s.controller control))
-            ((λ i. line.freed_without (same i) (has.reserved i)) ∙ frees_same (bus.withdrawn_of d) d.reserved)
-            has.account)))))
+            ((λ i. line.freed_without (same i) (has.reserved i)) ∙ frees_same (bus.withdrawn_of d) d.reserved))))))
         by_begun d t s a b c has (Some began) begun =
             let control : IsToOpen began l.bus.greatest d.controller s.controller = subst (λ o. Controls o l.bus.greatest d.controller s.controller) begun has.controller in
             let nothing : bus.withdrawn_of d ≡ None = ap (λ st. controllers.withdrawn_in st d.controller.waiting) control.quiet in
@@ -305,23 +278,18 @@ module _ {H : Type 0} where
             subst (λ x. StepsTo answer_of after (OfPanel (panel.Withdraw k)) l n (record l {
               bus = record l.bus { devices = record l.bus.devices { entries = x } };
             })) (sym (ap (slice_set l.bus.devices.entries k) kept ∙ set_same k d l.bus.devices.entries a))
-            (by_plain answer_of after (OfPanel (panel.Withdraw k)) l n l (λ j. refl) (λ j. refl) (make_none answer_of after (λ moves. Made (OfPanel (panel.Withdraw k)) l moves) l n
+            (by_plain answer_of after (OfPanel (panel.Withdraw k)) l n l (make_none answer_of after (λ moves. Made (OfPanel (panel.Withdraw k)) l moves) l n
             (inl (refl, ap (λ o. withdrawn (bus.withdrawal_of o)) a ∙ ap option_to_list nothing)) h))
 
         by_found : FoundAt (Sites l) k k l.bus.devices.entries l.stations n.sites
             → StepsTo answer_of after (OfPanel (panel.Withdraw k)) l n (record l { bus = bus.after_withdraw_at k l.bus })
         by_found (Nobody o a b c) =
             let next : InUse H = record l { bus = bus.after_withdraw_at k l.bus } in
-            by_own answer_of after (OfPanel (panel.Withdraw k)) (Withdraw k) l n next (λ j. refl) (λ j. refl) tt refl (inr (refl, ap begun_of b)) tt
+            by_own answer_of after (OfPanel (panel.Withdraw k)) (Withdraw k) l n next refl (inr (refl, ap begun_of b)) tt
             (subst (IsNetOf next) (sym (ap (λ q. line.change_at k q (line.withdraws answer_of after) n) c))
-            (subst (λ ts. IsNetOf (record l { bus = bus.after_withdraw_at k l.bus; stations = ts }) n) (ap (λ q. changes_at k (λ (t : Station H). t) q l.stations) b)
-            (other_changes k bus.entry_withdraws (λ (t : Station H). t) l n h b)))
+            (other_changes k bus.entry_withdraws l n h b))
         by_found (Somebody d t s a b c has) =
-            subst (λ (o : Option Entry). StepsTo answer_of after (OfPanel (panel.Withdraw k)) l n (record l {
-              bus = Rattle.std.specs.Option.option_map_or (λ (f : Entry). record l.bus {
-                devices = record l.bus.devices { entries = slice_set l.bus.devices.entries k (bus.entry_withdraws f) };
-              }) o l.bus;
-            })) (sym a) (by_begun d t s a b c has t.begun refl)
+            subst (λ q. StepsTo answer_of after (OfPanel (panel.Withdraw k)) l n (record l { bus = changed_bus k bus.entry_withdraws l.bus q })) (sym a) (by_begun d t s a b c has t.begun refl)
 
     -- ---- another address
 
@@ -349,8 +317,7 @@ module _ {H : Type 0} where
             make_move answer_of after (Retargeted k address l) (Retarget k address) next n (inr (is, refl)) tt
             (λ s2 at2 ok. absurd (let e = sym c ∙ at2 in cc))
             (subst (IsNetOf next) (sym (ap (λ q. line.change_unless (λ u. line.is_retarget_refused k address u n.sites) k q (line.retargets answer_of after address) n) c))
-            (subst (λ ts. IsNetOf (record l { bus = bus.after_retarget_at k address l.bus; stations = ts }) n) (ap (λ q. changes_at k (λ (t : Station H). t) q l.stations) b)
-            (other_changes k (bus.entry_retargets address) (λ (t : Station H). t) l n h b)))
+            (other_changes k (bus.entry_retargets address) l n h b))
         by_found is (Somebody d t s a b c has) =
             let taken = devices.is_taken_beside k address l.bus.devices.entries || has_comset d.controller.waiting in
             let accepted = or_taken_none (retarget_refusal address d.controller) taken (sym (ap (λ o. bus.retarget_refusal_of k address o l.bus) a) ∙ is) in
@@ -371,17 +338,13 @@ module _ {H : Type 0} where
             }) same in
             let e : Entry = bus.entry_retargets address d in
             let l1 : InUse H = record l { bus = record l.bus { devices = record l.bus.devices { entries = slice_set l.bus.devices.entries k e } } } in
-            subst (λ (o : Option Entry). Makes answer_of after (Retargeted k address l) n (record l {
-              bus = Rattle.std.specs.Option.option_map_or (λ (f : Entry). record l.bus {
-                devices = record l.bus.devices { entries = slice_set l.bus.devices.entries k (bus.entry_retargets address f) };
-              }) o l.bus;
-            })) (sym a)
+            subst (λ q. Makes answer_of after (Retargeted k address l) n (record l { bus = changed_bus k (bus.entry_retargets address) l.bus q })) (sym a)
             (make_move answer_of after (Retargeted k address l) (Retarget k address) l1 n (inr (is, refl)) tt (λ s2 at2 ok. no_other k address l n h (free t b is))
             (subst (IsNetOf l1) (sym next) (sites_so h
             (subst (λ ts. Match (Sites l1) 0 (slice_set l.bus.devices.entries k e) ts (changed k s1 n.sites)) (changed_same k t l.stations b)
             (set (Sites l) k e t s1 l.bus.devices.entries l.stations n.sites h.sites (controlled_so has
             (subst (λ o. Controls o l.bus.greatest e.controller s1.controller) (sym begun) (retargeted_same l.bus.greatest address d.controller s.controller control))
-            refl has.account))))))
+            refl))))))
 
         by_fault : (f : Option BusFault) → bus.retarget_refusal_at k address l.bus ≡ f
             → Makes answer_of after (Retargeted k address l) n (record l { bus = changed_unless f l.bus (bus.after_retarget_at k address l.bus) })

@@ -1,5 +1,5 @@
 -- What the panel reads: what stands before it is lost to it, and what it reads stays in front of it and may be read again.
-use Rattle.osdp_calls.proofs.Common.{◌≡◌, ◌≤◌, ℕ, zero, suc, ◌+◌, max, not, Bool, true, false, cond, List, [], ◌∷◌, ◌++◌, length, Option, Some, None, refl, sym, subst, ap, ◌∙◌, inl, inr, arith, eqb_tells, slice_get, slice_set, Packet, PacketItem, Command, Heard, hears, ignores, Report, Devices, seen, waiting_after, first_from, is_at, reserved_after, hears_at, hears_packet, hears_with, Entry, told_at, told_by_entry, told_by_item, told_with, Repeated, after_report, Answer, Net, NetMove, Site, ToPanel, address_of, after_net, changed, first_gets, freed_by, gets, site_at, all_hear, change_at, changes_at, hears_of, Burst, InUse, Station, ahead_of_panel, is_past_for_panel}
+use Rattle.osdp_calls.proofs.Common.{◌≡◌, ◌≤◌, ℕ, zero, suc, ◌+◌, max, not, Bool, true, false, cond, List, [], ◌∷◌, length, Option, Some, None, refl, sym, subst, ap, ◌∙◌, inl, inr, arith, eqb_tells, slice_get, slice_set, Packet, PacketItem, Command, Heard, hears, ignores, Report, Devices, seen, waiting_after, first_from, is_at, reserved_after, hears_at, hears_packet, hears_with, Entry, told_at, told_by_entry, told_by_item, told_with, Repeated, Answer, Net, NetMove, Site, ToPanel, address_of, after_net, changed, first_gets, freed_by, gets, site_at, Burst, InUse, Station, ahead_of_panel, is_past_for_panel}
 use Rattle.osdp_controller.specs.Sessions as clocks
 use Rattle.osdp_controller.specs.declared.report.Report.TheVariants as report
 use Rattle.osdp_bus.specs.Entries as devices
@@ -28,7 +28,7 @@ module _ {H : Type 0} where
   at_seen now l n h =
       sites_so h (matched (Sites l) (IsSiteOf l.openings l.said (max l.bus.greatest now)) 0 l.bus.devices.entries l.stations n.sites
       (λ j d t s is. controlled_so is (controls_later t.begun l.bus.greatest (max l.bus.greatest now) d.controller s.controller (omega arith) is.controller)
-      is.reserved is.account) h.sites)
+      is.reserved) h.sites)
 
   -- .. by the controller of an entry alone
   pub one_seen : (k : ℕ) (d : Entry) (t : Station H) (s : Site H) (l : InUse H) (n : Net H) → IsNetOf l n → site_at k l.stations ≡ Some t
@@ -39,7 +39,7 @@ module _ {H : Type 0} where
       subst (λ ts. Match (Sites l) 0 (slice_set l.bus.devices.entries k e) ts n.sites) (changed_same k t l.stations b)
       (subst (λ ss. Match (Sites l) 0 (slice_set l.bus.devices.entries k e) (changed k t l.stations) ss) (changed_same k s n.sites c)
       (set (Sites l) k e t s l.bus.devices.entries l.stations n.sites h.sites
-      (controlled_so is (saw t.begun l.bus.greatest d.controller s.controller is.controller) is.reserved is.account)))
+      (controlled_so is (saw t.begun l.bus.greatest d.controller s.controller is.controller) is.reserved)))
 
   -- ---- who is at a packet's address
 
@@ -83,17 +83,6 @@ module _ {H : Type 0} where
       further d t s ds ts ss on gets_on (OneThere k j at d1 t1 s1 some a b c is got) =
           OneThere (suc k) j (omega (arith, at)) d1 t1 s1 (on ∙ some) a b c is (gets_on ∙ ap (λ us. s ∷ us) got)
 
-  -- ---- what is told of a packet
-
-  pub one_told : (k : ℕ) (r : Option Report) (t : Station H) (ts : List (Station H)) → site_at k ts ≡ Some t
-      → all_hear (told_at k r) ts ≡ changed k (record t { account = after_report r t.account }) ts
-  one_told k None t ts is = sym (changed_same k t ts is)
-  one_told k (Some r) t ts is = ap (λ o. changes_at k (hears_of r) o ts) is
-
-  pub told_then : (xs ys : List (ℕ × Report)) (ts : List (Station H)) → all_hear (xs ++ ys) ts ≡ all_hear ys (all_hear xs ts)
-  told_then [] ys ts = refl
-  told_then (x ∷ xs) ys ts = told_then xs ys (change_at x.0 (hears_of x.1) ts)
-
   module _ (answer_of : H → Command → Answer) (after : H → Command → H) where
     pub panel_on : (i : ℕ) (l : InUse H) (n : Net H) → IsNetOf l n → l.place ≤ i → i ≤ length l.said → LosesTo answer_of after n (record l { place = i })
     panel_on i l n h le within =
@@ -111,10 +100,7 @@ module _ {H : Type 0} where
 
     -- the packet is heard at the greatest moment seen
     abbrev pub hears_one : Packet → InUse H → InUse H
-    hears_one p l = record l {
-      bus = record l.bus { devices = hears_packet p l.bus.greatest l.bus.devices };
-      stations = all_hear (told_by_item l.bus.greatest (PacketItem p) l.bus.devices) l.stations;
-    }
+    hears_one p l = record l { bus = record l.bus { devices = hears_packet p l.bus.greatest l.bus.devices } }
 
     pub reads_here : (p : Packet) (b : Burst) (l : InUse H) (n : Net H) → IsNetOf l n → site_at l.place l.said ≡ Some b → b.packet ≡ p
         → is_past_for_panel l.openings l.place b ≡ false
@@ -128,10 +114,10 @@ module _ {H : Type 0} where
         ds = l.bus.devices
 
         by_entry : Option ℕ → InUse H
-        by_entry o = record l { bus = record l.bus { devices = hears_at p l.bus.greatest o l.bus.devices }; stations = all_hear (told_by_entry p l.bus.greatest o l.bus.devices) l.stations }
+        by_entry o = record l { bus = record l.bus { devices = hears_at p l.bus.greatest o l.bus.devices } }
 
         by_device : ℕ → Option Entry → InUse H
-        by_device k o = record l { bus = record l.bus { devices = hears_with p l.bus.greatest k o l.bus.devices }; stations = all_hear (told_with p l.bus.greatest k o) l.stations }
+        by_device k o = record l { bus = record l.bus { devices = hears_with p l.bus.greatest k o l.bus.devices } }
 
         -- what the controller makes of it
         by_heard : ℕ → Entry → Heard → InUse H
@@ -142,7 +128,6 @@ module _ {H : Type 0} where
               report = waiting_after k heard.report l.bus.devices.report;
             };
           };
-          stations = all_hear (told_at k heard.report) l.stations;
         }
 
         ignored : (k : ℕ) (d : Entry) (t : Station H) (s : Site H) → site_at k l.stations ≡ Some t → site_at k n.sites ≡ Some s → Sites l k d t s
@@ -167,15 +152,13 @@ module _ {H : Type 0} where
             let heard = hears p top d.controller.session in
             let same_heard : hears p top s.controller.session ≡ heard = hears_same p top d.controller s.controller control in
             let e : Entry = record { controller = record d.controller { session = heard.session }; reserved = reserved_after heard.report d.reserved } in
-            let u : Station H = record t { account = after_report heard.report t.account } in
             make_move answer_of after (IsRead b l n (told_at k heard.report)) (ToPanel Repeated top) (by_heard k d heard) n
             (IsHeard front.0 (h.to_panel ∙ front.1) refl) tt tt
             (subst (IsNetOf (by_heard k d heard)) (sym next) (sites_so h
-            (subst (λ ts. Match (Sites l) 0 (slice_set l.bus.devices.entries k e) ts (changed k (gets p top s) n.sites)) (sym (one_told k heard.report t l.stations there))
-            (set (Sites l) k e u (gets p top s) l.bus.devices.entries l.stations n.sites h.sites (controlled_so is
+            (subst (λ ts. Match (Sites l) 0 (slice_set l.bus.devices.entries k e) ts (changed k (gets p top s) n.sites)) (changed_same k t l.stations there)
+            (set (Sites l) k e t (gets p top s) l.bus.devices.entries l.stations n.sites h.sites (controlled_so is
             (subst (λ o. Controls o top e.controller (gets p top s).controller) (sym begun) (heard_same p top d.controller s.controller control))
-            (ap (λ (x : Heard). freed_by x.report s.reserved) same_heard ∙ ap (freed_by heard.report) is.reserved ∙ sym (freed_same heard.report d.reserved))
-            (ap (λ (x : Heard). after_report x.report s.account) same_heard ∙ ap (after_report heard.report) is.account))))))
+            (ap (λ (x : Heard). freed_by x.report s.reserved) same_heard ∙ ap (freed_by heard.report) is.reserved ∙ sym (freed_same heard.report d.reserved)))))))
           where
             not_panel : (x : Bool) → not x ≡ true → x ≡ false
             not_panel true e = absurd cc
@@ -196,8 +179,7 @@ module _ {H : Type 0} where
         by_place (NoneThere none) =
             let x = hears_other p l.bus.greatest (first_from 0 (is_at p.address) l.bus.devices.entries) l (λ j is. none j is j (omega arith)) in
             make_none answer_of after (IsRead b l n (told_by_item l.bus.greatest (PacketItem p) l.bus.devices)) (hears_one p l) n (IsIgnored x.told refl)
-            (subst (λ ts. IsNetOf (record l { bus = record l.bus { devices = hears_packet p l.bus.greatest l.bus.devices }; stations = ts }) n) (sym x.stations)
-            (sites_so h (x.keeps n.sites h.sites)))
+            (sites_so h (x.keeps n.sites h.sites))
         by_place (OneThere k j at d t s some a there c is got) =
             let here : j ≡ k = omega (arith, at) in
             subst (λ o. Makes answer_of after (IsRead b l n (told_by_entry p l.bus.greatest o l.bus.devices)) n (by_entry o)) (sym (some ∙ ap Some here))

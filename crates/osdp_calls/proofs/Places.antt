@@ -1,5 +1,5 @@
 -- What holds of the station at a place, where a station changes and where the panel calls.
-use Rattle.osdp_calls.proofs.Common.{◌≡◌, ◌≢◌, ℕ, max, Bool, true, false, cond, List, [], ◌∷◌, Option, Some, None, refl, sym, subst, ap, ◌∙◌, inl, inr, eqb_tells, ◌==◌, Packet, Command, Report, BusState, device_of, begin_refusal_at, changed_unless, submit_refusal_at, bus_ticks, BusFault, told_in, site_at, at_changed, at_other, after_panel, all_hear, asked_at, begins_session, begins_with, begun_of, change_at, changes_at, hears_of, is_to_begin, issues, last_of, noted, panel_says, said_at, waiting_of, InUse, Station}
+use Rattle.osdp_calls.proofs.Common.{◌≡◌, ◌≢◌, ℕ, max, Bool, true, false, List, Option, Some, None, refl, sym, subst, ap, ◌∙◌, inl, inr, eqb_tells, ◌==◌, Packet, BusState, begin_refusal_at, changed_unless, bus_ticks, BusFault, site_at, at_changed, at_other, after_panel, asked_at, begins_session, begins_with, begun_of, change_at, changes_at, is_to_begin, last_of, noted, panel_says, said_at, InUse, Station}
 use Rattle.osdp_bus_laws.specs.Calls as bus
 
 module _ {A : Type 0} (get : ℕ → List A → Option A) where
@@ -41,68 +41,40 @@ module _ {H : Type 0} where
 
 -- ---- the panel calls
 
--- of these reports those of an entry
-abbrev pub those : {X : Type 0} → (Report → X → X) → ℕ → List (ℕ × Report) → X → X
-those next k [] x = x
-those next k (said ∷ more) x = those next k more (cond (said.0 == k) (next said.1 x) x)
-
--- nothing goes by the reports
-abbrev pub as_before : Report → Unit {0} → Unit {0}
-as_before said x = x
-
-module _ {H : Type 0} {X : Type 0} (next : Report → X → X) (R : X → Station H → Type 0) where
-  -- what holds of a station, by what is told of it, stays whatever the panel does
+module _ {H : Type 0} (R : Station H → Type 0) where
+  -- what holds of a station stays whatever the panel does
   pub record Stays : Type 0 where
-    pub begins_so : (moment : ℕ) (x : X) (t : Station H) → R x t → R x (is_to_begin moment t)
-    pub issues_so : (command : Command) (x : X) (t : Station H) → R x t → R x (issues command t)
-    pub hears_so : (said : Report) (x : X) (t : Station H) → R x t → R (next said x) (hears_of said t)
-    pub opens_so : (waiting : List Command) (x : X) (t : Station H) → R x t → R x (begins_session waiting t)
+    pub begins_so : (moment : ℕ) (t : Station H) → R t → R (is_to_begin moment t)
+    pub opens_so : (t : Station H) → R t → R (begins_session t)
 
-  kept_so : (k i : ℕ) (change : Station H → Station H) (x : X) (ts : List (Station H)) → ((t : Station H) → R x t → R x (change t))
-      → IsAt site_at (R x) k ts → IsAt site_at (R x) k (change_at i change ts)
-  kept_so k i change x ts keeps is = station_so (λ b. R x) k i change ts (λ t at holds. keeps t holds) is
-
-  unless_so : (k i : ℕ) (fault : Option BusFault) (change : Station H → Station H) (x : X) (ts : List (Station H))
-      → ((t : Station H) → R x t → R x (change t)) → IsAt site_at (R x) k ts → IsAt site_at (R x) k (changed_unless fault ts (change_at i change ts))
-  unless_so k i None change x ts keeps is = kept_so k i change x ts keeps is
-  unless_so k i (Some fault) change x ts keeps is = is
+  kept_so : (k i : ℕ) (change : Station H → Station H) (ts : List (Station H)) → ((t : Station H) → R t → R (change t))
+      → IsAt site_at R k ts → IsAt site_at R k (change_at i change ts)
+  kept_so k i change ts keeps is = station_so (λ b. R) k i change ts (λ t at holds. keeps t holds) is
 
   module _ (s : Stays) where
-    heard_so : (k : ℕ) (told : List (ℕ × Report)) (x : X) (ts : List (Station H)) → IsAt site_at (R x) k ts
-        → IsAt site_at (R (those next k told x)) k (all_hear told ts)
-    heard_so k [] x ts is = is
-    heard_so k (said ∷ more) x ts is =
-        heard_so k more (cond (said.0 == k) (next said.1 x) x) (change_at said.0 (hears_of said.1) ts)
-        (station_so (λ b. R (cond b (next said.1 x) x)) k said.0 (hears_of said.1) ts (λ t at holds. s.hears_so said.1 x t holds) is)
+    begin_so : (k entry moment : ℕ) (fault : Option BusFault) (ts : List (Station H)) → IsAt site_at R k ts
+        → IsAt site_at R k (changed_unless fault ts (change_at entry (is_to_begin moment) ts))
+    begin_so k entry moment None ts is = kept_so k entry (is_to_begin moment) ts (s.begins_so moment) is
+    begin_so k entry moment (Some fault) ts is = is
 
-    noted_so : (k : ℕ) (call : bus.Call) (b : BusState) (x : X) (ts : List (Station H)) → IsAt site_at (R x) k ts
-        → IsAt site_at (R (those next k (told_in call b) x)) k (noted call b ts)
-    noted_so k (bus.Begin entry now) b x ts is =
-        unless_so k entry (begin_refusal_at entry b) (is_to_begin (max b.greatest now)) x ts (s.begins_so (max b.greatest now) x) is
-    noted_so k (bus.Submit entry command) b x ts is =
-        unless_so k entry (submit_refusal_at entry command b) (issues command) x ts (s.issues_so command x) is
-    noted_so k call b x ts is = heard_so k (told_in call b) x ts is
+    noted_so : (k : ℕ) (call : bus.Call) (b : BusState) (ts : List (Station H)) → IsAt site_at R k ts → IsAt site_at R k (noted call b ts)
+    noted_so k (bus.Begin entry now) b ts is = begin_so k entry (max b.greatest now) (begin_refusal_at entry b) ts is
+    noted_so k _ b ts is = is
 
-    opened_so : (k entry : ℕ) (p : Packet) (o : Option ℕ) (x : X) (l : InUse H) → IsAt site_at (R x) k l.stations
-        → IsAt site_at (R x) k (begins_with entry p o l).stations
-    opened_so k entry p None x l is = is
-    opened_so k entry p (Some moment) x l is =
-        let waiting = waiting_of (device_of entry l.bus) in kept_so k entry (begins_session waiting) x l.stations (s.opens_so waiting x) is
+    opened_so : (k entry : ℕ) (p : Packet) (o : Option ℕ) (l : InUse H) → IsAt site_at R k l.stations → IsAt site_at R k (begins_with entry p o l).stations
+    opened_so k entry p None l is = is
+    opened_so k entry p (Some moment) l is = kept_so k entry begins_session l.stations s.opens_so is
 
-    says_so : (k : ℕ) (o : Option ℕ) (p : Option Packet) (x : X) (l : InUse H) → IsAt site_at (R x) k l.stations
-        → IsAt site_at (R x) k (panel_says o p l).stations
-    says_so k None p x l is = is
-    says_so k (Some entry) None x l is = is
-    says_so k (Some entry) (Some p) x l is = opened_so k entry p (begun_of (site_at entry l.stations)) x l is
+    says_so : (k : ℕ) (o : Option ℕ) (p : Option Packet) (l : InUse H) → IsAt site_at R k l.stations → IsAt site_at R k (panel_says o p l).stations
+    says_so k None p l is = is
+    says_so k (Some entry) None l is = is
+    says_so k (Some entry) (Some p) l is = opened_so k entry p (begun_of (site_at entry l.stations)) l is
 
-    said_so : (k : ℕ) (call : bus.Call) (b : BusState) (x : X) (l : InUse H) → IsAt site_at (R x) k l.stations
-        → IsAt site_at (R x) k (said_at call b l).stations
-    said_so k (bus.Tick now) b x l is = says_so k (asked_at now b) (bus_ticks now b).sent x l is
-    said_so k _ b x l is = is
+    said_so : (k : ℕ) (call : bus.Call) (b : BusState) (l : InUse H) → IsAt site_at R k l.stations → IsAt site_at R k (said_at call b l).stations
+    said_so k (bus.Tick now) b l is = says_so k (asked_at now b) (bus_ticks now b).sent l is
+    said_so k _ b l is = is
 
-    pub panel_so : (k : ℕ) (call : bus.Call) (places : List ℕ) (x : X) (l : InUse H) → IsAt site_at (R x) k l.stations
-        → IsAt site_at (R (those next k (told_in call l.bus) x)) k (after_panel call places l).stations
-    panel_so k call places x l is =
-        said_so k call l.bus (those next k (told_in call l.bus) x)
-        (record l { bus = bus.after_call call l.bus; stations = noted call l.bus l.stations; place = last_of places l.place })
-        (noted_so k call l.bus x l.stations is)
+    pub panel_so : (k : ℕ) (call : bus.Call) (places : List ℕ) (l : InUse H) → IsAt site_at R k l.stations → IsAt site_at R k (after_panel call places l).stations
+    panel_so k call places l is =
+        said_so k call l.bus (record l { bus = bus.after_call call l.bus; stations = noted call l.bus l.stations; place = last_of places l.place })
+        (noted_so k call l.bus l.stations is)

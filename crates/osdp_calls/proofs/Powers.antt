@@ -63,8 +63,7 @@ module _ {H : Type 0} where
         → IsNetOf (on_station k (made_anew config handler room gap) l) (after_net answer_of after (RestartReader k config handler room) n)
     new_device_is k config handler room gap l n h =
         both_change k (made_anew config handler room gap) (line.calls answer_of after (link.RestartReader config handler room)) l n h (λ d t s is.
-        read_so is refl
-        (ap link.reader_restarted is.account) tt)
+        read_so is refl tt)
 
     pub new_device_fits : (k : ℕ) (config : ReaderConfig) (handler : H) (room : Room) (l : InUse H) (n : Net H) → IsNetOf l n
         → ((t : Station H) → site_at k l.stations ≡ Some t → (t.reader.config.address ≡ config.address) ⊎ IsFreeFor k config.address t l)
@@ -98,7 +97,7 @@ module _ {H : Type 0} where
         → (config.address < 127) × AreRoom room.messages room.bytes → StepsTo answer_of after (NewDevice k config handler room gap) l n (on_station k (made_anew config handler room gap) l)
     device_anew k config handler room gap l n h free fits =
         by_own answer_of after (NewDevice k config handler room gap) (RestartReader k config handler room) l n (on_station k (made_anew config handler room gap) l)
-        (λ j. refl) (λ j. refl) tt (gap, refl) refl (new_device_fits k config handler room l n h free fits) (new_device_is k config handler room gap l n h)
+        (gap, refl) refl (new_device_fits k config handler room l n h free fits) (new_device_is k config handler room gap l n h)
 
     -- ---- the panel
 
@@ -115,7 +114,7 @@ module _ {H : Type 0} where
         And i (new_device a config) (forgets t) (restarts answer_of after (settings i) s)
         (map (λ b. new_device b config) xs) (all_forget ds ts) (all_restart answer_of after (suc i) settings ss)
         (controlled_so is (equal_same 0 (new_machine (controller_config a config) config.room.messages config.room.bytes) (new_machine (settings i).0 (settings i).1.messages (settings i).1.bytes)
-        (λ x. new_machine (here x).0 (here x).1.messages (here x).1.bytes)) refl is.account)
+        (λ x. new_machine (here x).0 (here x).1.messages (here x).1.bytes)) refl)
         (each_made config settings l (suc i) xs ds ts ss (omega (arith, same))
         (λ k b is2. ap settings (let e : suc i + k ≡ i + suc k = omega arith in e) ∙ set_so (suc k) b is2) rest)
 
@@ -128,7 +127,7 @@ module _ {H : Type 0} where
         → IsBusConfig config × All (λ a. a < 127) xs × (length l.stations ≤ length xs) → StepsTo answer_of after (NewPanel config xs) l n (panel_made_anew config xs l)
     panel_anew config xs l n h apart fits =
         by_own answer_of after (NewPanel config xs) (RestartPanel (settings_of config xs)) l n (panel_made_anew config xs l)
-        (λ j. refl) (λ j. refl) tt (config, xs, refl)
+        (config, xs, refl)
         (settings_of config xs, refl, λ k a is. some_same (address_at k xs) a (sym (there_is k xs (at_length k a xs is)) ∙ is))
         (λ k s at. (
           are_settings config (address_at k xs) fits.0 (each_at (λ a. a < 127) k (address_at k xs) xs (each_of (λ a. a < 127) xs fits.1) (there_is k xs (count k s at))),

@@ -1,6 +1,6 @@
 -- So programs that keep to the rule keep the premise on addresses, over every list of calls.
 use Rattle.std.proofs.Common.{◌≡◌, ℕ, zero, suc, Bool, true, false, List, [], ◌∷◌, length, map, Option, Some, None, refl, sym, subst, ap, ◌∙◌, inl, inr, ◌++◌, is_some, ◌≤◌}
-use Rattle.osdp_calls.proofs.Common.{Packet, Command, Event, Room, State, Closed, device_of, BusConfig, Entry, passed, Received, after_silence, after_take, after_tick, items_of, ReadsWhatIsAsked, Each, ReaderState, after_set_busy, after_set_handler, ReaderConfig, Answer, lacks_room, IsSetUp, NetMovesFit, NobodyElseHears, Net, NetMove, RestartPanel, RestartReader, after_net, site_at, KeepRule, Note, RuleSuffices, no_notes, noted_at, Call, Next, NewDevice, NewPanel, OfPanel, Pending, SetBusy, SetHandler, Silence, Step, SubmitEvent, Take, TickDevice, after_call, after_next, answers, begun_of, first_answered, made_anew, nexts, on_station, queues, read_up_to, LapseEvent, WithdrawEvent, lapses_event, withdraws_event, InUse, Station, InOrder, InRange, QuietOpening, AllKeepRule, CallsRuleSuffices, KeepsRule, first_note, first_notes, noted_of, notes_after, some_same, each_map}
+use Rattle.osdp_calls.proofs.Common.{Command, Event, Room, State, Closed, device_of, BusConfig, Entry, passed, Received, after_silence, after_take, after_tick, ReadsWhatIsAsked, Each, ReaderState, after_set_busy, after_set_handler, ReaderConfig, Answer, lacks_room, IsSetUp, NetMovesFit, NobodyElseHears, Net, NetMove, RestartPanel, RestartReader, after_net, site_at, KeepRule, Note, RuleSuffices, no_notes, noted_at, Call, Next, NewDevice, NewPanel, OfPanel, Pending, SetBusy, SetHandler, Silence, Step, SubmitEvent, Take, TickDevice, after_call, after_next, begun_of, made_anew, nexts, on_station, queues, LapseEvent, WithdrawEvent, lapses_event, withdraws_event, InUse, Station, InOrder, InRange, QuietOpening, AllKeepRule, CallsRuleSuffices, KeepsRule, first_note, first_notes, noted_of, notes_after, some_same, each_map}
 use Rattle.osdp_bus.specs.Entries as devices
 use Rattle.osdp_bus_laws.specs.Calls as panel
 use Rattle.osdp_shared_line.specs.Line as line
@@ -33,16 +33,11 @@ module _ {H : Type 0} where
   queues_begun false event t = refl
 
   module _ (answer_of : H → Command → Answer) (after : H → Command → H) where
-    pub answers_begun : (o : Option Packet) (t : Station H) → (answers answer_of after o t).begun ≡ t.begun
-    answers_begun None t = refl
-    answers_begun (Some p) t = refl
-
     next_begun : (j k : ℕ) (places : List ℕ) (o : Option (Station H)) (l : InUse H) → site_at k l.stations ≡ o
         → begun_of (site_at j (after_next answer_of after k places o l).stations) ≡ begun_of (site_at j l.stations)
     next_begun j k places None l is = refl
     next_begun j k places (Some t) l is =
-        begun_changed j k (nexts answer_of after places t) t l.stations is
-        (answers_begun (first_answered t.reader (read_up_to t.reader (items_of t.line.held))) t)
+        begun_changed j k (nexts answer_of after places t) t l.stations is refl
 
     next_entries : (k : ℕ) (places : List ℕ) (o : Option (Station H)) (l : InUse H)
         → (after_next answer_of after k places o l).bus.devices.entries ≡ l.bus.devices.entries

@@ -1,7 +1,7 @@
 -- Bytes, silences and the ends of runs: what a call of the panel reads, packet after packet.
-use Rattle.osdp_calls.proofs.Common.{◌≡◌, ℕ, Bool, true, false, cond, List, [], ◌∷◌, ◌++◌, length, Some, refl, sym, subst, ap, ◌∙◌, arith, inl, inr, items, left_over, whole_packets, Packet, RunItem, PacketItem, SkippedItem, RefusedItem, Command, is_silent, seen, after_bytes, ends_run, ends_silent, hears_bytes, hears_item, hears_items, hears_packet, told_by_bytes, told_by_end, told_by_item, told_by_items, told_by_silence, Each, Answer, Net, site_at, all_hear, last_of, read_at_end, read_at_silence, read_of_bytes, Burst, InUse, is_past_for_panel, AreInOrder, at_length}
+use Rattle.osdp_calls.proofs.Common.{◌≡◌, ℕ, Bool, true, false, cond, List, [], ◌∷◌, ◌++◌, length, Some, refl, sym, subst, ap, ◌∙◌, arith, inl, inr, items, left_over, whole_packets, Packet, RunItem, PacketItem, SkippedItem, RefusedItem, Command, is_silent, seen, after_bytes, ends_run, ends_silent, hears_bytes, hears_items, Each, Answer, Net, site_at, last_of, read_at_end, read_at_silence, read_of_bytes, Burst, InUse, is_past_for_panel, AreInOrder, at_length}
 use Rattle.osdp_calls.proofs.Nexts.{then_refines}
-use Rattle.osdp_calls.proofs.Panel.{at_seen, hears_one, panel_on, reads_here, told_then}
+use Rattle.osdp_calls.proofs.Panel.{at_seen, hears_one, panel_on, reads_here}
 use Rattle.osdp_calls.proofs.Same.{IsNetOf, sites_so}
 use Rattle.osdp_calls.proofs.Stations.{Refines, by_none}
 use Rattle.osdp_calls.proofs.Strangers.{IsElsewhere, Ordered, ordered_heard, ordered_silent, others_hear}
@@ -72,7 +72,6 @@ module _ {H : Type 0} where
   abbrev pub reads_items : List RunItem → List ℕ → InUse H → InUse H
   reads_items parts places l = record l {
     bus = record l.bus { devices = hears_items l.bus.greatest parts l.bus.devices };
-    stations = all_hear (told_by_items l.bus.greatest parts l.bus.devices) l.stations;
     place = last_of places l.place;
   }
 
@@ -81,20 +80,7 @@ module _ {H : Type 0} where
     pub unheard : (p : Packet) (l : InUse H) (n : Net H) → IsNetOf l n → IsElsewhere (length l.stations) l.bus.devices.entries p
         → IsNetOf (hears_one answer_of after p l) n
     unheard p l n h off =
-        let x = others_hear p l.bus.greatest l off in
-        subst (λ ts. IsNetOf (record l { bus = record l.bus { devices = hears_packet p l.bus.greatest l.bus.devices }; stations = ts }) n) (sym x.stations)
-        (sites_so h (x.keeps n.sites h.sites))
-
-    passed_by : (p : Packet) (parts : List RunItem) (places : List ℕ) (l : InUse H) (n : Net H)
-        → Refines answer_of after n (reads_items parts places (hears_one answer_of after p l)) → Refines answer_of after n (reads_items (PacketItem p ∷ parts) places l)
-    passed_by p parts places l n rest =
-        let g = l.bus.greatest in
-        let ds = l.bus.devices in
-        subst (λ ts. Refines answer_of after n (record l {
-          bus = record l.bus { devices = hears_items g parts (hears_item g (PacketItem p) ds) };
-          stations = ts;
-          place = last_of places l.place;
-        })) (sym (told_then (told_by_item g (PacketItem p) ds) (told_by_items g parts (hears_item g (PacketItem p) ds)) l.stations)) rest
+        sites_so h ((others_hear p l.bus.greatest l off).keeps n.sites h.sites)
 
     pub panel_reads : (parts : List RunItem) (places : List ℕ) (l : InUse H) (n : Net H) → IsNetOf l n → Ordered l (whole_packets parts) places
         → Each (NotPast l) places → Refines answer_of after n (reads_items parts places l)
@@ -103,25 +89,17 @@ module _ {H : Type 0} where
     panel_reads (SkippedItem byte ∷ parts) places l n h all past = panel_reads parts places l n h all past
     panel_reads (RefusedItem fault ∷ parts) places l n h all past = panel_reads parts places l n h all past
     panel_reads (PacketItem p ∷ parts) [] l n h all past =
-        passed_by p parts [] l n (panel_reads parts [] (hears_one answer_of after p l) n (unheard p l n h all.0)
-        (ordered_heard (told_by_item l.bus.greatest (PacketItem p) l.bus.devices) p l (whole_packets parts) [] l.place all.1) past)
+        panel_reads parts [] (hears_one answer_of after p l) n (unheard p l n h all.0) (ordered_heard p l (whole_packets parts) [] l.place all.1) past
     panel_reads (PacketItem p ∷ parts) (i ∷ places) l n h (inr others) past =
-        passed_by p parts (i ∷ places) l n (panel_reads parts (i ∷ places) (hears_one answer_of after p l) n (unheard p l n h others.0)
-        (ordered_heard (told_by_item l.bus.greatest (PacketItem p) l.bus.devices) p l (whole_packets parts) (i ∷ places) l.place others.1) past)
+        panel_reads parts (i ∷ places) (hears_one answer_of after p l) n (unheard p l n h others.0)
+        (ordered_heard p l (whole_packets parts) (i ∷ places) l.place others.1) past
     panel_reads (PacketItem p ∷ parts) (i ∷ places) l n h (inl all) past =
         let inside = at_length i all.0 l.said all.1 in
         let l1 = record l { place = i } in
         let l2 = hears_one answer_of after p l1 in
-        let g = l.bus.greatest in
-        let ds = l.bus.devices in
         let first = (panel_on answer_of after i l n h all.3 (omega (arith, inside))).refines in
         let second = then_refines answer_of after n l1 l2 first (λ m h1. (reads_here answer_of after p all.0 l1 m h1 all.1 all.2 (past.0 all.0 all.1)).refines) in
-        subst (λ ts. Refines answer_of after n (record l {
-          bus = record l.bus { devices = hears_items g parts (hears_item g (PacketItem p) ds) };
-          stations = ts;
-          place = last_of places i;
-        })) (sym (told_then (told_by_item g (PacketItem p) ds) (told_by_items g parts (hears_item g (PacketItem p) ds)) l.stations))
-        (then_refines answer_of after n l2 (reads_items parts places l2) second (λ m h2. panel_reads parts places l2 m h2 (ordered_heard (told_by_item g (PacketItem p) ds) p l (whole_packets parts) places i all.4) past.1))
+        then_refines answer_of after n l2 (reads_items parts places l2) second (λ m h2. panel_reads parts places l2 m h2 (ordered_heard p l (whole_packets parts) places i all.4) past.1)
 
     -- what is held is nothing to the net
     pub then_is : (l m : InUse H) (n : Net H) → Refines answer_of after n l → ((k : Net H) → IsNetOf l k → IsNetOf m k) → Refines answer_of after n m
@@ -133,7 +111,7 @@ module _ {H : Type 0} where
     -- ---- the end of a run
 
     abbrev pub at_end : List ℕ → InUse H → InUse H
-    at_end places l = record l { bus = ends_run l.bus; stations = all_hear (told_by_end l.bus) l.stations; place = last_of places l.place }
+    at_end places l = record l { bus = ends_run l.bus; place = last_of places l.place }
 
     pub reads_end : (places : List ℕ) (l : InUse H) (n : Net H) → IsNetOf l n → Ordered l (read_at_end l.bus) places → Each (NotPast l) places
         → Refines answer_of after n (at_end places l)
@@ -142,18 +120,14 @@ module _ {H : Type 0} where
         (λ k h1. holds_else [] l.bus.last (reads_items (items true l.bus.held) places l) k h1)
 
     abbrev pub at_silence : List ℕ → InUse H → InUse H
-    at_silence places l = record l { bus = ends_silent l.bus; stations = all_hear (told_by_silence l.bus) l.stations; place = last_of places l.place }
+    at_silence places l = record l { bus = ends_silent l.bus; place = last_of places l.place }
 
     pub reads_silence : (places : List ℕ) (l : InUse H) (n : Net H) → IsNetOf l n → Ordered l (read_at_silence l.bus) places → Each (NotPast l) places
         → Refines answer_of after n (at_silence places l)
     reads_silence places l n h all past = by_test (is_silent l.bus) all
       where
         by_test : (x : Bool) → Ordered l (cond x (read_at_end l.bus) []) places
-            → Refines answer_of after n (record l {
-              bus = cond x (ends_run l.bus) l.bus;
-              stations = all_hear (cond x (told_by_end l.bus) []) l.stations;
-              place = last_of places l.place;
-            })
+            → Refines answer_of after n (record l { bus = cond x (ends_run l.bus) l.bus; place = last_of places l.place })
         by_test true all = reads_end places l n h all past
         by_test false all = nothing places all
           where
@@ -164,11 +138,7 @@ module _ {H : Type 0} where
     -- ---- bytes
 
     abbrev pub at_bytes : List ℕ → ℕ → List ℕ → InUse H → InUse H
-    at_bytes bytes now places l = record l {
-      bus = after_bytes bytes now l.bus;
-      stations = all_hear (told_by_bytes bytes (seen now l.bus)) l.stations;
-      place = last_of places l.place;
-    }
+    at_bytes bytes now places l = record l { bus = after_bytes bytes now l.bus; place = last_of places l.place }
 
     pub reads_bytes : (bytes : List ℕ) (now : ℕ) (places : List ℕ) (l : InUse H) (n : Net H) → IsNetOf l n
         → Ordered l (read_of_bytes bytes (seen now l.bus)) places → Each (NotPast l) places → Refines answer_of after n (at_bytes bytes now places l)
@@ -185,16 +155,8 @@ module _ {H : Type 0} where
         let first = reads_silence s.front l1 n (at_seen now l n h) s.first (each_first (NotPast l) s.front s.back past_parts) in
         let l3 = reads_items parts s.back l2 in
         let second = then_refines answer_of after n l2 l3 first (λ m h2. panel_reads parts s.back l2 m h2
-        (ordered_silent (told_by_silence l1.bus) l1 (whole_packets parts) s.back (last_of s.front l.place) s.second) (each_second (NotPast l) s.front s.back past_parts)) in
-        subst (λ i. Refines answer_of after n (record l {
-          bus = hears_bytes given quiet;
-          stations = all_hear (told_by_bytes given (seen now l.bus)) l.stations;
-          place = i;
-        })) (sym (last_then s.front s.back l.place) ∙ sym (ap (λ ps. last_of ps l.place) s.parts))
-        (subst (λ ts. Refines answer_of after n (record l {
-          bus = hears_bytes given quiet;
-          stations = ts;
-          place = last_of s.back (last_of s.front l.place);
-        })) (sym (told_then (told_by_silence l1.bus) (told_by_items quiet.greatest parts quiet.devices) l.stations))
+        (ordered_silent l1 (whole_packets parts) s.back (last_of s.front l.place) s.second) (each_second (NotPast l) s.front s.back past_parts)) in
+        subst (λ i. Refines answer_of after n (record l { bus = hears_bytes given quiet; place = i }))
+        (sym (last_then s.front s.back l.place) ∙ sym (ap (λ ps. last_of ps l.place) s.parts))
         (then_is l3 (record l3 { bus = record l3.bus { held = left_over (quiet.held ++ given); last = quiet.greatest } }) n second
-        (λ k h3. holds_else (left_over (quiet.held ++ given)) quiet.greatest l3 k h3)))
+        (λ k h3. holds_else (left_over (quiet.held ++ given)) quiet.greatest l3 k h3))

@@ -1,5 +1,5 @@
 -- A line in use as a net: the bus's controllers are those of the sites, what was said and may still be read is on its way.
-use Rattle.osdp_calls.proofs.Common.{◌≡◌, ◌≤◌, ℕ, max, not, true, List, length, Option, Some, None, IfSome, Packet, Machine, Closed, Quiet, BusState, Entry, Received, Account, Each, ReaderState, Net, Site, Burst, InUse, Opening, Station, ahead_of_device, ahead_of_panel}
+use Rattle.osdp_calls.proofs.Common.{◌≡◌, ◌≤◌, ℕ, max, not, true, List, length, Option, Some, None, IfSome, Packet, Machine, Closed, Quiet, BusState, Entry, Received, Each, ReaderState, Net, Site, Burst, InUse, Opening, Station, ahead_of_device, ahead_of_panel}
 use Rattle.osdp_controller.specs.Sessions.{later, seen}
 use Rattle.osdp_calls.proofs.Matching.{Match}
 
@@ -38,32 +38,29 @@ module _ {H : Type 0} where
     pub reserved : s.reserved ≡ d.reserved
     pub reader : s.reader ≡ t.reader
     pub coming : s.coming ≡ ahead_of_device i t.place openings said
-    pub account : s.account ≡ t.account
-    pub earlier : s.earlier ≡ t.earlier
     pub place : t.place ≤ length said
     pub stored : IfSome t.reader.stored (λ p. p.reply ≡ true)
 
-  -- the controller changes, what is kept for it and what is told of it: the device and what was said stay
+  -- the controller changes, and what is kept for it: the device and what was said stay
   pub controlled_so : {openings : List Opening} {said : List Burst} {old top i : ℕ} {d : Entry} {t : Station H} {s : Site H} {begun : Option ℕ}
-      {m c : Machine} {kept reserved : Option ℕ} {a b : Account} → IsSiteOf openings said old i d t s → Controls begun top m c → reserved ≡ kept → b ≡ a
-      → IsSiteOf openings said top i (record { controller = m; reserved = kept }) (record t { begun = begun; account = a })
-      (record s { controller = c; reserved = reserved; account = b })
-  controlled_so is controller reserved account =
-      record { controller = controller; reserved = reserved; reader = is.reader; coming = is.coming; account = account; earlier = is.earlier; place = is.place; stored = is.stored }
+      {m c : Machine} {kept reserved : Option ℕ} → IsSiteOf openings said old i d t s → Controls begun top m c → reserved ≡ kept
+      → IsSiteOf openings said top i (record { controller = m; reserved = kept }) (record t { begun = begun }) (record s { controller = c; reserved = reserved })
+  controlled_so is controller reserved =
+      record { controller = controller; reserved = reserved; reader = is.reader; coming = is.coming; place = is.place; stored = is.stored }
 
-  -- the device changes, and what is told of it
+  -- the device changes
   pub read_so : {openings : List Opening} {said : List Burst} {top i : ℕ} {d : Entry} {t : Station H} {s : Site H} {r q : ReaderState H} {line : Received}
-      {a b : Account} → IsSiteOf openings said top i d t s → q ≡ r → b ≡ a → IfSome r.stored (λ p. p.reply ≡ true)
-      → IsSiteOf openings said top i d (record t { reader = r; line = line; account = a }) (record s { reader = q; account = b })
-  read_so is reader account stored =
-      record { controller = is.controller; reserved = is.reserved; reader = reader; coming = is.coming; account = account; earlier = is.earlier; place = is.place; stored = stored }
+      → IsSiteOf openings said top i d t s → q ≡ r → IfSome r.stored (λ p. p.reply ≡ true)
+      → IsSiteOf openings said top i d (record t { reader = r; line = line }) (record s { reader = q })
+  read_so is reader stored =
+      record { controller = is.controller; reserved = is.reserved; reader = reader; coming = is.coming; place = is.place; stored = stored }
 
   -- what was said changes, or how far the device has read
   pub placed_so : {openings more : List Opening} {said told : List Burst} {top i : ℕ} {d : Entry} {t : Station H} {s : Site H} {place : ℕ}
       {coming : List (ℕ × Packet)} → IsSiteOf openings said top i d t s → coming ≡ ahead_of_device i place more told → place ≤ length told
       → IsSiteOf more told top i d (record t { place = place }) (record s { coming = coming })
   placed_so is coming place =
-      record { controller = is.controller; reserved = is.reserved; reader = is.reader; coming = coming; account = is.account; earlier = is.earlier; place = place; stored = is.stored }
+      record { controller = is.controller; reserved = is.reserved; reader = is.reader; coming = coming; place = place; stored = is.stored }
 
   pub record IsNetOf (l : InUse H) (n : Net H) : Type 0 where
     pub sites : Match (IsSiteOf l.openings l.said l.bus.greatest) 0 l.bus.devices.entries l.stations n.sites

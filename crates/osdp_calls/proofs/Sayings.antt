@@ -1,13 +1,11 @@
 -- What goes out at a call is what is said.
 use Rattle.std.proofs.Common.{◌≡◌, ℕ, Bool, true, false, cond, List, [], ◌∷◌, ◌++◌, map, Option, Some, None, refl, sym, subst, ap, ◌∙◌, append-nil, append_assoc, is_some}
-use Rattle.std.specs.Option.{option_map}
-use Rattle.osdp_calls.proofs.Common.{option_to_list, whole_packets, Packet, RunItem, PacketItem, SkippedItem, RefusedItem, Command, Poll, Event, Reply, new_bus, after_add, changed_unless, new_device, BusTicked, bus_ticks, BusConfig, but_poll, said_to, speaks, taken_by, items_of, Account, front_of, taken, taken_command, each_all, each_of, both, Each, ReaderState, Answer, Kind, after_next, answers, asked_at, by_device, first_answered, panel_says, read_up_to, reply_to, said_for, Burst, InUse, Station, bus_with, site_at}
+use Rattle.osdp_calls.proofs.Common.{option_to_list, whole_packets, Packet, RunItem, PacketItem, SkippedItem, RefusedItem, Command, new_bus, after_add, changed_unless, new_device, BusTicked, bus_ticks, BusConfig, speaks, items_of, each_all, each_of, both, Each, ReaderState, Answer, Kind, after_next, asked_at, by_device, first_answered, panel_says, read_up_to, reply_to, said_for, Burst, InUse, Station, bus_with, site_at}
 use Rattle.osdp_bus_laws.specs.Calls as bus
 use Rattle.osdp_reader.specs.Table.{hears, kind_of, outcome}
 use Rattle.osdp_reader.specs.declared.kind.Kind.TheVariants as kind
-use Rattle.osdp_calls.specs.Sayings.{AddsMakeTheBus, ByDevice, IsSaid, NoneRefused, ReadsToFirst, SaysWhatGoesOut, acted_on, after_hearing, for_ours}
+use Rattle.osdp_calls.specs.Sayings.{AddsMakeTheBus, ByDevice, IsSaid, NoneRefused, ReadsToFirst, SaysWhatGoesOut, after_hearing, for_ours}
 use Rattle.osdp_calls.proofs.Replying.{told_first, reader_with}
-use Rattle.osdp_calls.proofs.Lasting.{noted_keeps}
 
 -- ---- who is asked says what goes out
 
@@ -61,10 +59,9 @@ module _ {H : Type 0} (answer_of : H → Command → Answer) (after : H → Comm
           both (λ ps. IsSaid (SaidBy who) ps old l.said) (is_some (site_at entry l.stations)) [] [] (nothing_more who old l.said is) (nothing_more who old l.said is)
       by_sent (Some p) = by_station p (site_at entry l.stations)
 
-  ours_same : (o : Option ℕ) (p : Option Packet) (l m : InUse H) → ((k : ℕ) → is_some (site_at k m.stations) ≡ is_some (site_at k l.stations))
-      → for_ours o p m ≡ for_ours o p l
+  ours_same : (o : Option ℕ) (p : Option Packet) (l m : InUse H) → m.stations ≡ l.stations → for_ours o p m ≡ for_ours o p l
   ours_same None p l m same = refl
-  ours_same (Some k) p l m same = ap (λ b. cond b (option_to_list p) []) (same k)
+  ours_same (Some k) p l m same = ap (λ ts. cond (is_some (site_at k ts)) (option_to_list p) []) same
 
   -- ---- a device
 
@@ -118,26 +115,6 @@ module _ {H : Type 0} (answer_of : H → Command → Answer) (after : H → Comm
       by_test true is rest = refl
       by_test false is rest = ap (after_hearing answer_of after (read_up_to r parts)) (silent_stays r p (kind_of r p) is) ∙ rest
 
-  -- ---- what is taken
-
-  command_so : (c : Command) (said : Option Reply) (front : List Event) (a : Account)
-      → (taken_command c said front a).taken ≡ a.taken ++ option_to_list (but_poll (Some c))
-  command_so Poll said front a = sym (append-nil a.taken)
-  command_so _ said front a = refl
-
-  taken_so : (k : Kind) (c : Option Command) (said : Option Reply) (front : List Event) (a : Account)
-      → (taken k c said front a).taken ≡ a.taken ++ option_to_list (taken_by k c)
-  taken_so kind.Taken None said front a = sym (append-nil a.taken)
-  taken_so kind.Taken (Some c) said front a = command_so c said front a
-  taken_so _ c said front a = sym (append-nil a.taken)
-
-  acts_so : (o : Option Packet) (t : Station H)
-      → (answers answer_of after o t).account.taken ≡ t.account.taken ++ acted_on (option_map (said_to answer_of after t.reader) o)
-  acts_so None t = sym (append-nil t.account.taken)
-  acts_so (Some p) t =
-      let outcome = hears answer_of after t.reader p in
-      taken_so (kind_of t.reader p) outcome.command outcome.said (front_of t.reader) t.account
-
   device_bursts : (k : ℕ) (ps : List Packet) (old : List Burst) → IsSaid (ByDevice k) ps old (old ++ by_device k ps)
   device_bursts k ps old = record {
     bursts = by_device k ps;
@@ -159,19 +136,16 @@ module _ {H : Type 0} (answer_of : H → Command → Answer) (after : H → Comm
     panel = λ now places.
         let m : InUse H = record l {
           bus = (bus_ticks now l.bus).bus;
-          stations = Rattle.osdp_calls.specs.Calls.noted (bus.Tick now) l.bus l.stations;
           place = Rattle.osdp_calls.specs.Calls.last_of places l.place;
         } in
         subst (λ ps. IsSaid (SaidBy (asked_at now l.bus)) ps l.said (panel_says (asked_at now l.bus) (bus_ticks now l.bus).sent m).said)
-        (ours_same (asked_at now l.bus) (bus_ticks now l.bus).sent l m (λ k. noted_keeps k (bus.Tick now) l.bus l.stations))
+        (ours_same (asked_at now l.bus) (bus_ticks now l.bus).sent l m refl)
         (says (asked_at now l.bus) (asked_at now l.bus) (bus_ticks now l.bus) m l.said refl refl);
     device = λ k places t is. record {
       answered = first_answered t.reader (read_up_to t.reader (items_of t.line.held));
       read = reads_to_first (items_of t.line.held) t.reader;
       reader = (told_first answer_of after (items_of t.line.held) t.reader t.line.held).1 ∙ sym (hears_each (items_of t.line.held) t.reader);
       response = (told_first answer_of after (items_of t.line.held) t.reader t.line.held).0;
-      acts = acts_so (first_answered t.reader (read_up_to t.reader (items_of t.line.held))) t
-          ∙ ap (λ o. t.account.taken ++ acted_on o) (sym ((told_first answer_of after (items_of t.line.held) t.reader t.line.held).0));
       said = subst (λ o. IsSaid (ByDevice k) (reply_to answer_of after (first_answered t.reader (read_up_to t.reader (items_of t.line.held))) t.reader) l.said
           (after_next answer_of after k places o l).said) (sym is)
           (device_bursts k (reply_to answer_of after (first_answered t.reader (read_up_to t.reader (items_of t.line.held))) t.reader) l.said);

@@ -1,5 +1,5 @@
 -- A line as it is set up is a net whose panel has just been made anew.
-use Rattle.osdp_calls.proofs.Common.{◌≡◌, ◌≢◌, ◌⊎◌, ◌≤◌, ◌<◌, ℕ, zero, suc, true, ◌+◌, List, [], ◌∷◌, ◌++◌, length, map, All, Option, Some, None, IfSome, refl, sym, subst, ap, ◌∙◌, arith, inl, inr, Room, Packet, Command, new_machine, new_session, ControllerConfig, Quiet, new_device, controller_config, BusConfig, new_account, Answer, IsNameOf, Net, RestartPanel, Site, after_net, all_restart, restarts, site_at, some_same, InUse, Opening, Burst, Station, ahead_of_device, ahead_of_panel}
+use Rattle.osdp_calls.proofs.Common.{◌≡◌, ◌≢◌, ◌⊎◌, ◌≤◌, ◌<◌, ℕ, zero, suc, true, ◌+◌, List, [], ◌∷◌, ◌++◌, length, map, All, Option, Some, None, IfSome, refl, sym, subst, ap, ◌∙◌, arith, inl, inr, Room, Packet, Command, new_machine, new_session, ControllerConfig, Quiet, new_device, controller_config, BusConfig, Answer, IsNameOf, Net, RestartPanel, Site, after_net, all_restart, restarts, site_at, some_same, InUse, Opening, Burst, Station, ahead_of_device, ahead_of_panel}
 use Rattle.osdp_reader_laws.specs.Storing.{StoresItsOwn}
 use Rattle.osdp_shared_line.specs.Addresses as addresses
 use Rattle.osdp_calls.specs.Premises.{IsSetUp}
@@ -30,8 +30,6 @@ module _ {H : Type 0} where
     reserved = None;
     reader = t.reader;
     coming = [];
-    account = new_account [] t.reader.queue.events;
-    earlier = [];
   }
 
   abbrev pub first_net : BusConfig → List (Station H) → Net H
@@ -59,8 +57,6 @@ module _ {H : Type 0} where
     pub stored : IfSome t.reader.stored (λ (p : Packet). p.reply ≡ true)
     pub place : t.place ≡ 0
     pub begun : t.begun ≡ None
-    pub account : t.account ≡ new_account [] t.reader.queue.events
-    pub earlier : t.earlier ≡ []
 
   module _ (answer_of : H → Command → Answer) (after : H → Command → H) where
     made_first : (config : BusConfig) (others : List ℕ) (settings : ℕ → ControllerConfig × Room) (os : List Opening) (said : List Burst) (i : ℕ) (ts : List (Station H)) → said ≡ []
@@ -81,8 +77,6 @@ module _ {H : Type 0} where
           reserved = refl;
           reader = refl;
           coming = ap (ahead_of_device i t.place os) (sym none);
-          account = sym f.account;
-          earlier = sym f.earlier;
           place = subst (λ p. p ≤ length said) (sym f.place) (omega arith);
           stored = f.stored;
         })
@@ -104,14 +98,12 @@ module _ {H : Type 0} where
         coming = λ k s is. let t = first_from up.config k s l.stations is in ap (λ (u : Site H). u.coming) t.2;
         to_panel = refl;
         begins = λ k s is. let t = first_from up.config k s l.stations is in
-            subst (λ (u : Site H). Rattle.osdp_link_laws.specs.Headline.Begins (Rattle.osdp_shared_line.specs.Views.view k u (first_net up.config l.stations))) (sym t.2) (record {
+            subst (λ (u : Site H). Rattle.osdp_link_laws.specs.Beginning.Begins (Rattle.osdp_shared_line.specs.Views.view k u (first_net up.config l.stations))) (sym t.2) (record {
               quiet = (0, refl);
               address = up.devices k t.0 t.1;
-              waiting = Rattle.osdp_link_laws.proofs.Lines.each_all Rattle.osdp_link_laws.specs.Headline.MaySubmit [] tt;
+              waiting = Rattle.osdp_link_laws.proofs.Lines.each_all Rattle.osdp_link_laws.specs.Beginning.MaySubmit [] tt;
               to_reader = refl;
               to_controller = refl;
-              account = refl;
-              earlier = refl;
             });
         together = λ k s is. let t = first_from up.config k s l.stations is in
             ap (λ (u : Site H). u.reader.config.address) t.2 ∙ sym (ap (λ (u : Site H). u.controller.session.config.address) t.2);
@@ -137,8 +129,6 @@ module _ {H : Type 0} where
               stored = as_reply t.reader.stored t.reader.config.address (up.stored k t is);
               place = (up.place k t is).0;
               begun = (up.place k t is).1;
-              account = (up.account k t is).0;
-              earlier = (up.account k t is).1;
             });
         to_panel = ap (ahead_of_panel l.place l.openings) (sym up.said);
         place = subst (λ p. p ≤ length l.said) (sym up.read) (omega arith);

@@ -119,4 +119,4 @@ module _ {H : Type 0} where
     busying k busy l n h =
         make_move (λ moves. moves ≡ SetBusy k busy ∷ []) (SetBusy k busy) (on_station k (λ t. record t { reader = after_set_busy busy t.reader }) l) n refl tt tt
         (both_change k (λ t. record t { reader = after_set_busy busy t.reader }) (line.calls answer_of after (link.SetBusy busy)) l n h
-        (λ d t s is. read_so is (ap (after_set_busy busy) is.reader) is.account is.stored))
+        (λ d t s is. read_so is (ap (after_set_busy busy) is.reader) is.stored))

@@ -1,5 +1,5 @@
 -- Packets of others: no controller is at their address, whatever the panel has read before in the same call, and no device answers them.
-use Rattle.osdp_calls.proofs.Common.{◌≡◌, ◌≢◌, ◌≤◌, ◌+◌, ℕ, zero, suc, Bool, true, false, cond, not, ◌||◌, List, [], ◌∷◌, length, Option, Some, None, refl, sym, subst, ap, ◌∙◌, arith, inl, inr, ◌==◌, slice_get, slice_set, items, Packet, RunItem, PacketItem, SkippedItem, RefusedItem, Command, hears, Report, Session, BusState, Devices, is_silent, ends_run, ends_silent, hears_at, hears_items, hears_packet, hears_with, Entry, told_at, told_by_entry, told_with, speaks, both, each_all, is_false, Each, ReaderState, kind_by_number, kind_of, outcome, Answer, Kind, Sets, Somewhere, asked_in, Site, changed, site_at, hears_well, some_same, all_hear, change_at, changes_at, first_answered, hears_of, Burst, InUse, Station, AreInOrder, IsAsked, IsOfOthers, IsThere}
+use Rattle.osdp_calls.proofs.Common.{◌≡◌, ◌≢◌, ◌≤◌, ◌+◌, ℕ, zero, suc, Bool, true, false, cond, not, ◌||◌, List, [], ◌∷◌, length, Option, Some, None, refl, sym, subst, ap, ◌∙◌, arith, inl, inr, ◌==◌, slice_get, slice_set, items, Packet, RunItem, PacketItem, SkippedItem, RefusedItem, Command, hears, Report, Session, BusState, Devices, is_silent, ends_run, ends_silent, hears_at, hears_items, hears_packet, hears_with, Entry, told_at, told_by_entry, told_with, speaks, both, each_all, is_false, Each, ReaderState, kind_by_number, kind_of, outcome, Answer, Kind, Sets, Somewhere, option_to_list, outstanding_command, Site, site_at, hears_well, some_same, first_answered, Burst, InUse, Station, AreInOrder, IsAsked, IsOfOthers, IsThere}
 use Rattle.osdp_bus.specs.Entries.{address_of, entry_hears, first_from, is_at, told_of}
 use Rattle.osdp_reader.specs.declared.kind.Kind.TheVariants as kind
 use Rattle.osdp_shared_line.proofs.Lists.{somewhere_front, somewhere_rest}
@@ -23,16 +23,16 @@ order_of O Q said f (p ∷ ps) (i ∷ places) before (inr others) =
 -- ---- no controller is at an address, nor may a COMSET that is outstanding take one there
 
 abbrev pub IsOff : ℕ → Session → Type 0
-IsOff a s = (s.config.address ≢ a) × (Somewhere (Sets a) (asked_in s.state) → ⊥)
+IsOff a s = (s.config.address ≢ a) × (Somewhere (Sets a) (option_to_list (outstanding_command s.state)) → ⊥)
 
 heard_off : (a : ℕ) (p : Packet) (now : ℕ) (s : Session) → IsOff a s → IsOff a (hears p now s).session
 heard_off a p now s off =
     let well = hears_well p now s in (
       λ e. elim well.goes [
         | inl stays ↦ off.0 (sym stays ∙ e)
-        | inr goes ↦ off.1 (subst (λ b. Somewhere (Sets b) (asked_in s.state)) e goes.2)
+        | inr goes ↦ off.1 (subst (λ b. Somewhere (Sets b) (option_to_list (outstanding_command s.state))) e goes.2)
       ],
-      λ asked. off.1 (subst (Somewhere (Sets a)) (sym well.left.1) (somewhere_rest (Sets a) well.left.0 (asked_in (hears p now s).session.state) asked)),
+      λ asked. off.1 (subst (Somewhere (Sets a)) (sym well.left.1) (somewhere_rest (Sets a) well.left.0 (option_to_list (outstanding_command (hears p now s).session.state)) asked)),
     )
 
 -- of so many devices none is at the packet's address
@@ -90,56 +90,28 @@ heard_past p (suc m) at j (d ∷ ds) off is =
     let further = sym (ap (λ b. cond b (Some at) (first_from (at + 1) (is_at p.address) ds)) (is_false (address_of d) p.address off.0.0)) ∙ is in
     let rest = heard_past p m (at + 1) j ds off.1 further in omega (arith, rest)
 
--- ---- what the panel reads is in order, but what is for none of its controllers
-
--- .. as it stays when another packet has been heard, or a run is over
-order_heard : (m : ℕ) (q : Packet) (now : ℕ) (ds : Devices) (said : List Burst) (ps : List Packet) (places : List ℕ) (before : ℕ)
-    → AreInOrder (IsElsewhere m ds.entries) said ps places before → AreInOrder (IsElsewhere m (hears_packet q now ds).entries) said ps places before
-order_heard m q now ds said ps places before order =
-    order_of (IsElsewhere m ds.entries) (IsElsewhere m (hears_packet q now ds).entries) said (λ p off. heard_elsewhere p q now m ds off) ps places before order
-
-order_silent : (m : ℕ) (b : BusState) (said : List Burst) (ps : List Packet) (places : List ℕ) (before : ℕ)
-    → AreInOrder (IsElsewhere m b.devices.entries) said ps places before → AreInOrder (IsElsewhere m (ends_silent b).devices.entries) said ps places before
-order_silent m b said ps places before order =
-    order_of (IsElsewhere m b.devices.entries) (IsElsewhere m (ends_silent b).devices.entries) said (λ p off. silent_elsewhere p m b off) ps places before order
-
 module _ {H : Type 0} where
-  -- no station goes or comes where something is told
-  changes_many : (k : ℕ) (change : Station H → Station H) (o : Option (Station H)) (ts : List (Station H)) → length (changes_at k change o ts) ≡ length ts
-  changes_many k change None ts = refl
-  changes_many k change (Some t) ts = many_changed k (change t) ts
-    where
-      many_changed : (i : ℕ) (u : Station H) (us : List (Station H)) → length (changed i u us) ≡ length us
-      many_changed i u [] = refl
-      many_changed zero u (x ∷ us) = refl
-      many_changed (suc i) u (x ∷ us) = ap suc (many_changed i u us)
-
-  pub heard_many : (told : List (ℕ × Report)) (ts : List (Station H)) → length (all_hear told ts) ≡ length ts
-  heard_many [] ts = refl
-  heard_many (x ∷ xs) ts = heard_many xs (change_at x.0 (hears_of x.1) ts) ∙ changes_many x.0 (hears_of x.1) (site_at x.0 ts) ts
-
-  -- .. to an entry without one nothing is
-  pub heard_by_none : (j : ℕ) (r : Option Report) (ts : List (Station H)) → site_at j ts ≡ None → all_hear (told_at j r) ts ≡ ts
-  heard_by_none j None ts none = refl
-  heard_by_none j (Some r) ts none = ap (λ o. changes_at j (hears_of r) o ts) none
+  -- ---- what the panel reads is in order, but what is for none of its controllers
 
   abbrev pub Ordered : InUse H → List Packet → List ℕ → Type 0
   Ordered l ps places = AreInOrder (IsElsewhere (length l.stations) l.bus.devices.entries) l.said ps places l.place
 
   -- the order that is left when a packet has been heard, or a run is over
-  pub ordered_heard : (told : List (ℕ × Report)) (q : Packet) (l : InUse H) (ps : List Packet) (places : List ℕ) (before : ℕ)
+  pub ordered_heard : (q : Packet) (l : InUse H) (ps : List Packet) (places : List ℕ) (before : ℕ)
       → AreInOrder (IsElsewhere (length l.stations) l.bus.devices.entries) l.said ps places before
-      → AreInOrder (IsElsewhere (length (all_hear told l.stations)) (hears_packet q l.bus.greatest l.bus.devices).entries) l.said ps places before
-  ordered_heard told q l ps places before order =
-      subst (λ m. AreInOrder (IsElsewhere m (hears_packet q l.bus.greatest l.bus.devices).entries) l.said ps places before) (sym (heard_many told l.stations))
-      (order_heard (length l.stations) q l.bus.greatest l.bus.devices l.said ps places before order)
+      → AreInOrder (IsElsewhere (length l.stations) (hears_packet q l.bus.greatest l.bus.devices).entries) l.said ps places before
+  ordered_heard q l ps places before order =
+      let m = length l.stations in
+      order_of (IsElsewhere m l.bus.devices.entries) (IsElsewhere m (hears_packet q l.bus.greatest l.bus.devices).entries) l.said
+      (λ p off. heard_elsewhere p q l.bus.greatest m l.bus.devices off) ps places before order
 
-  pub ordered_silent : (told : List (ℕ × Report)) (l : InUse H) (ps : List Packet) (places : List ℕ) (before : ℕ)
+  pub ordered_silent : (l : InUse H) (ps : List Packet) (places : List ℕ) (before : ℕ)
       → AreInOrder (IsElsewhere (length l.stations) l.bus.devices.entries) l.said ps places before
-      → AreInOrder (IsElsewhere (length (all_hear told l.stations)) (ends_silent l.bus).devices.entries) l.said ps places before
-  ordered_silent told l ps places before order =
-      subst (λ m. AreInOrder (IsElsewhere m (ends_silent l.bus).devices.entries) l.said ps places before) (sym (heard_many told l.stations))
-      (order_silent (length l.stations) l.bus l.said ps places before order)
+      → AreInOrder (IsElsewhere (length l.stations) (ends_silent l.bus).devices.entries) l.said ps places before
+  ordered_silent l ps places before order =
+      let m = length l.stations in
+      order_of (IsElsewhere m l.bus.devices.entries) (IsElsewhere m (ends_silent l.bus).devices.entries) l.said (λ p off. silent_elsewhere p m l.bus off)
+      ps places before order
 
   elsewhere_from : (p : Packet) (ts : List (Station H)) (ds : List Entry)
       → ((k : ℕ) (t : Station H) (d : Entry) → site_at k ts ≡ Some t → slice_get ds k ≡ Some d → IsOff p.address d.controller.session)
@@ -152,7 +124,7 @@ module _ {H : Type 0} where
   elsewhere l p others =
       elsewhere_from p l.stations l.bus.devices.entries (λ k t d there at. (
         others.entries k t d there at,
-        λ asked. others.devices k (IsAsked t d there at (somewhere_front (Sets p.address) (asked_in d.controller.session.state) d.controller.waiting asked)),
+        λ asked. others.devices k (IsAsked t d there at (somewhere_front (Sets p.address) (option_to_list (outstanding_command d.controller.session.state)) d.controller.waiting asked)),
       ))
 
   pub ordered : (l : InUse H) (ps : List Packet) (places : List ℕ) → AreInOrder (IsOfOthers l) l.said ps places l.place → Ordered l ps places
@@ -187,7 +159,7 @@ module _ {H : Type 0} where
   order_for_device k t l is ps places order =
       order_of (IsOfOthers l) (IsUnanswered t.reader) l.said (λ p others. ap speaks (silent_to_others k t l is p others)) ps places t.place order
 
-  -- ---- no station hears of a packet of others
+  -- ---- no entry with a station hears a packet of others
 
   -- what is told is told of entries without a station
   abbrev pub AreOfOthers : List (ℕ × Report) → List (Station H) → Type 0
@@ -199,7 +171,6 @@ module _ {H : Type 0} where
 
   -- the entry that hears it, if any
   pub record HearsOther (p : Packet) (now : ℕ) (o : Option ℕ) (l : InUse H) : Type 0 where
-    pub stations : all_hear (told_by_entry p now o l.bus.devices) l.stations ≡ l.stations
     pub told : AreOfOthers (told_by_entry p now o l.bus.devices) l.stations
     pub entries : (k : ℕ) (t : Station H) → site_at k l.stations ≡ Some t
         → slice_get (hears_at p now o l.bus.devices).entries k ≡ slice_get l.bus.devices.entries k
@@ -207,18 +178,16 @@ module _ {H : Type 0} where
         → Match (IsSiteOf l.openings l.said l.bus.greatest) 0 (hears_at p now o l.bus.devices).entries l.stations ss
 
   pub hears_other : (p : Packet) (now : ℕ) (o : Option ℕ) (l : InUse H) → ((j : ℕ) → o ≡ Some j → site_at j l.stations ≡ None) → HearsOther p now o l
-  hears_other p now None l none = record { stations = refl; told = tt; entries = λ k t is. refl; keeps = λ ss m. m }
+  hears_other p now None l none = record { told = tt; entries = λ k t is. refl; keeps = λ ss m. m }
   hears_other p now (Some j) l none = by_entry (slice_get l.bus.devices.entries j) refl
     where
       by_entry : (q : Option Entry) → slice_get l.bus.devices.entries j ≡ q → HearsOther p now (Some j) l
       by_entry None is = record {
-        stations = ap (λ q. all_hear (told_with p now j q) l.stations) is;
         told = subst (λ q. AreOfOthers (told_with p now j q) l.stations) (sym is) tt;
         entries = λ k t there. ap (λ q. slice_get (hears_with p now j q l.bus.devices).entries k) is;
         keeps = λ ss m. subst (λ q. Match (IsSiteOf l.openings l.said l.bus.greatest) 0 (hears_with p now j q l.bus.devices).entries l.stations ss) (sym is) m;
       }
       by_entry (Some d) is = record {
-        stations = ap (λ q. all_hear (told_with p now j q) l.stations) is ∙ heard_by_none j (told_of p now d) l.stations (none j refl);
         told = subst (λ q. AreOfOthers (told_with p now j q) l.stations) (sym is) (told_of_others j (told_of p now d) l.stations (none j refl));
         entries = λ k t there. ap (λ q. slice_get (hears_with p now j q l.bus.devices).entries k) is
             ∙ got_other k j (entry_hears p now d) l.bus.devices.entries

@@ -1,42 +1,43 @@
--- What a panel's program takes of an entry's events, each with its mark, is what was told of the entry, and that is what its sessions have reported.
-use Rattle.osdp_calls.proofs.Common.{◌≡◌, ◌≢◌, ℕ, suc, Bool, true, false, cond, List, [], ◌∷◌, ◌++◌, length, map, Option, Some, None, refl, sym, subst, ap, ◌∙◌, inl, inr, arith, append_assoc, eqb_tells, ◌==◌, option_to_list, Command, Event, Report, BusState, device_of, is_told_maybe_again, new_bus, bytes_eq, event_bytes, Remembered, may_be_again, memory_at, nothing_yet, remembers, IsBusConfig, BusConfig, Entry, TellsEachOnce, taken_along, told_along, told_in, Account, each_of, is_false, is_true, Each, Answer, site_at, some_same, Call, NewDevice, NewPanel, Next, OfPanel, Pending, SetBusy, SetHandler, Silence, Step, SubmitEvent, Take, TickDevice, LapseEvent, WithdrawEvent, after_call, after_calls, KeepsPanel, one_panel_call, panel_calls, InUse, Station, bus_with, CallsMarkRepeats, MarksWhatIsToldAgain, all_reported, all_taken, event_of, event_waiting, is_equal_to, last_event, marked, marked_in, taken_in, unmarked, NoneRefused}
-use Rattle.std.proofs.lemmas.List.{append-nil}
+-- What a panel's program takes of an entry's events, each with its mark, is what was told of the entry, and that is marked where it is told again.
+use Rattle.osdp_calls.proofs.Common.{◌≡◌, ◌≢◌, ◌⊎◌, ℕ, Bool, true, false, cond, List, [], ◌∷◌, ◌++◌, map, not, ◌&&◌, Option, Some, None, refl, sym, subst, ap, ◌∙◌, inl, inr, append-nil, append_assoc, eqb_tells, ◌==◌, option_to_list, Command, Event, Report, BusState, device_of, is_told_maybe_again, new_bus, bytes_eq, event_bytes, Remembered, may_be_again, memory_at, nothing_yet, remembers, IsBusConfig, BusConfig, Entry, TellsEachOnce, taken_along, told_along, told_in, each_of, is_false, is_true, Each, Answer, site_at, Call, NewDevice, NewPanel, Next, OfPanel, Pending, SetBusy, SetHandler, Silence, Step, SubmitEvent, Take, TickDevice, LapseEvent, WithdrawEvent, after_call, after_calls, KeepsPanel, one_panel_call, panel_calls, InUse, Station, bus_with, CallsMarkRepeats, MarksWhatIsToldAgain, all_handed, event_of, event_waiting, events_of, events_told, handed_in, is_told_again, marked, sessions_of, NoneRefused}
 use Rattle.osdp_controller.specs.declared.report.Report.TheVariants as report
 use Rattle.std.proofs.lemmas.Slice.Eq.{bytes_eq-Decides}
 use Rattle.osdp_bus_laws.specs.Calls as bus
 use Rattle.osdp_bus_laws.specs.Repeating.{of_entry}
 use Rattle.osdp_bus_laws.specs.Reports as reports
 use Rattle.osdp_bus_laws.proofs.Repeating.{IsRemembered, along, none_at, recalls}
+use Rattle.osdp_calls.specs.Told.{reports_of, told_by}
 use Rattle.osdp_calls.proofs.Ends.{more_calls, one_bus}
 use Rattle.osdp_calls.proofs.Heeding.{new_at}
-use Rattle.osdp_calls.proofs.Marked.{Tells, reported_in, those_then}
-use Rattle.osdp_calls.proofs.MarkedDevices.{step_tells, told_by}
-use Rattle.osdp_calls.proofs.Marking.{Agrees, Told, all_of, marks_of, next}
-use Rattle.osdp_calls.proofs.Places.{those}
+use Rattle.osdp_calls.proofs.Marked.{Line, step_tells}
+use Rattle.osdp_calls.proofs.Marking.{Agrees, Told, all_also, next, those, those_then}
 use Rattle.osdp_calls.proofs.Sayings.{adds_make_the_bus}
 
 -- ---- which marks these are
 
-same_bytes : (e : Event) → is_equal_to (Some e) e ≡ true
+same_bytes : (e : Event) → bytes_eq (event_bytes e) (event_bytes e) ≡ true
 same_bytes e = (bytes_eq-Decides (event_bytes e) (event_bytes e)).1 refl
 
-other_bytes : (o : Option Event) (e : Event) → ((other : Event) → o ≡ Some other → event_bytes e ≢ event_bytes other) → is_equal_to o e ≡ false
-other_bytes None e differs = refl
-other_bytes (Some other) e differs = by_test (bytes_eq (event_bytes e) (event_bytes other)) refl
+not_again : (last : Option (ℕ × Event)) (session : ℕ) (e : Event)
+    → ((before : ℕ) (other : Event) → last ≡ Some (before, other) → (before ≡ session) ⊎ (event_bytes e ≢ event_bytes other)) → is_told_again last session e ≡ false
+not_again None session e differs = refl
+not_again (Some (before, other)) session e differs = by_either (differs before other refl)
   where
-    by_test : (b : Bool) → bytes_eq (event_bytes e) (event_bytes other) ≡ b → b ≡ false
-    by_test false is = refl
-    by_test true is = absurd (differs other refl ((bytes_eq-Decides (event_bytes e) (event_bytes other)).0 is))
+    by_test : (b c : Bool) → bytes_eq (event_bytes e) (event_bytes other) ≡ c → event_bytes e ≢ event_bytes other → (not b && c) ≡ false
+    by_test true c is other_bytes = refl
+    by_test false false is other_bytes = refl
+    by_test false true is other_bytes = absurd (other_bytes ((bytes_eq-Decides (event_bytes e) (event_bytes other)).0 is))
+
+    by_either : (before ≡ session) ⊎ (event_bytes e ≢ event_bytes other) → is_told_again (Some (before, other)) session e ≡ false
+    by_either (inl same) = ap (λ b. not b && bytes_eq (event_bytes e) (event_bytes other)) (is_true before session same)
+    by_either (inr other_bytes) = by_test (before == session) (bytes_eq (event_bytes e) (event_bytes other)) refl other_bytes
 
 pub marks_what_is_told_again : MarksWhatIsToldAgain
 marks_what_is_told_again = record {
-  again = λ t earlier event events is last.
-      ap (λ es. marked earlier ++ marked_in (last_event (all_reported earlier)) es) is
-      ∙ ap (λ o. marked earlier ++ (event, is_equal_to o event) ∷ unmarked events) last
-      ∙ ap (λ b. marked earlier ++ (event, b) ∷ unmarked events) (same_bytes event);
-  others = λ t earlier event events is differs.
-      ap (λ es. marked earlier ++ marked_in (last_event (all_reported earlier)) es) is
-      ∙ ap (λ b. marked earlier ++ (event, b) ∷ unmarked events) (other_bytes (last_event (all_reported earlier)) event differs);
+  again = λ before session event more differs.
+      ap (λ b. (event, not b && bytes_eq (event_bytes event) (event_bytes event)) ∷ marked (Some (session, event)) more) (is_false before session differs)
+      ∙ ap (λ b. (event, b) ∷ marked (Some (session, event)) more) (same_bytes event);
+  others = λ last session event more differs. ap (λ b. (event, b) ∷ marked (Some (session, event)) more) (not_again last session event differs);
 }
 
 -- nothing was told yet
@@ -107,79 +108,41 @@ adds_take : (addresses : List ℕ) (b : BusState) → taken_along (map bus.Add a
 adds_take [] b = refl
 adds_take (a ∷ as_left) b = adds_take as_left (bus.after_call (bus.Add a) b)
 
--- ---- accounts, and what they have reported
-
-all_same : (ts : List Account) → all_of (map (λ (a : Account). a.reported) ts) ≡ all_reported ts
-all_same [] = refl
-all_same (t ∷ ts) = ap (λ es. es ++ t.reported) (all_same ts)
-
-marks_same : (ts : List Account) → marks_of (map (λ (a : Account). a.reported) ts) ≡ marked ts
-marks_same [] = refl
-marks_same (t ∷ ts) = (λ i. marks_same ts i ++ marked_in (last_event (all_same ts i)) t.reported)
-
--- lists of reports are those of the first sessions, and of the others
-record Parts (ts : List Account) (xs ys : List (List Event)) : Type 0 where
-  first : List Account
-  others : List Account
-  all : ts ≡ first ++ others
-  are : map (λ (a : Account). a.reported) first ≡ xs
-  as_many : length others ≡ length ys
-
-same_length : {A B : Type 0} (f : A → B) (xs : List A) → length (map f xs) ≡ length xs
-same_length {A} {B} f [] = refl
-same_length {A} {B} f (x ∷ xs) = ap suc (same_length f xs)
-
-in_parts : (ts : List Account) (xs ys : List (List Event)) → map (λ (a : Account). a.reported) ts ≡ xs ++ ys → Parts ts xs ys
-in_parts ts [] ys is = record {
-  first = [];
-  others = ts;
-  all = refl;
-  are = refl;
-  as_many = sym (same_length (λ (a : Account). a.reported) ts) ∙ ap length is;
-}
-in_parts [] (x ∷ xs) ys is = absurd (let e = is in cc)
-in_parts (t ∷ ts) (x ∷ xs) ys is =
-    let head : t.reported ≡ x = cc in
-    let tail : map (λ (a : Account). a.reported) ts ≡ xs ++ ys = cc in
-    let rest = in_parts ts xs ys tail in
-    record {
-      first = t ∷ rest.first;
-      others = rest.others;
-      all = ap (λ us. t ∷ us) rest.all;
-      are = (λ i. head i ∷ rest.are i);
-      as_many = rest.as_many;
-    }
-
 module _ {H : Type 0} (answer_of : H → Command → Answer) (after : H → Command → H) (k : ℕ) where
   -- ---- what is told along
 
-  one_told : (call : Call H) (l : InUse H) → told_along (one_panel_call call) l.bus ≡ told_by {H = H} 0 0 answer_of after call l
+  one_told : (call : Call H) (l : InUse H) → told_along (one_panel_call call) l.bus ≡ told_by call l
   one_told (OfPanel call) l = append-nil (told_in call l.bus)
   one_told _ l = refl
 
-  steps_tell : (n : ℕ) (steps : List (Step H)) (l : InUse H) (x : Told) → Each (λ (step : Step H). KeepsPanel step.call) steps
-      → Tells n k l.bus.devices.entries l.stations x
-      → Tells n k (after_calls answer_of after steps l).bus.devices.entries (after_calls answer_of after steps l).stations
-      (those next k (told_along (panel_calls steps) l.bus) x)
-  steps_tell n [] l x keeps is = is
-  steps_tell n (step ∷ steps) l x keeps is =
+  steps_tell : (steps : List (Step H)) (l : InUse H) (all : List (ℕ × Event)) (x : Told) → Each (λ (step : Step H). KeepsPanel step.call) steps
+      → Line k l.bus.devices.entries l all x
+      → Line k (after_calls answer_of after steps l).bus.devices.entries (after_calls answer_of after steps l)
+      (all ++ events_told answer_of after k steps l) (those next k (told_along (panel_calls steps) l.bus) x)
+  steps_tell [] l all x keeps is = subst (λ events. Line k l.bus.devices.entries l events x) (sym (append-nil all)) is
+  steps_tell (step ∷ steps) l all x keeps is =
       let m = after_call answer_of after step.call step.places l in
-      let here = told_along (one_panel_call step.call) l.bus in
-      let y = those next k here x in
-      let stepped : Tells n k m.bus.devices.entries m.stations y =
-      subst (λ told. Tells n k m.bus.devices.entries m.stations (those next k told x)) (sym (one_told step.call l))
-      (step_tells n k answer_of after step.call step.places l x keeps.0 is) in
-      let on = steps_tell n steps m y keeps.1 stepped in
       let last = after_calls answer_of after steps m in
-      subst (Tells n k last.bus.devices.entries last.stations)
-      (ap (λ b. those next k (told_along (panel_calls steps) b) y) (one_bus answer_of after step.call step.places l keeps.0)
-      ∙ sym (those_then k here (told_along (panel_calls steps) (bus.after_calls (one_panel_call step.call) l.bus)) x)
-      ∙ ap (λ told. those next k told x) (sym (told_more (one_panel_call step.call) (panel_calls steps) l.bus))) on
+      let session = sessions_of k l.openings in
+      let told = told_by step.call l in
+      let here = events_of session (reports_of k told) in
+      let more = told_along (panel_calls steps) m.bus in
+      let y = those next k told x in
+      let stepped : Line k m.bus.devices.entries m (all ++ here) y =
+      subst (λ events. Line k m.bus.devices.entries m events y) (all_also session k told all) (step_tells k answer_of after step.call step.places l all x keeps.0 is) in
+      subst (λ (q : List (ℕ × Event) × Told). Line k last.bus.devices.entries last q.0 q.1)
+      (λ i. (
+        append_assoc all here (events_told answer_of after k steps m) i,
+        (sym (those_then next k told more x)
+            ∙ ap (λ rs. those next k rs x) (sym (λ j. one_told step.call l j ++ told_along (panel_calls steps) (sym (one_bus answer_of after step.call step.places l keeps.0) j))
+            ∙ sym (told_more (one_panel_call step.call) (panel_calls steps) l.bus))) i,
+      ))
+      (steps_tell steps m (all ++ here) y keeps.1 stepped)
 
   -- ---- what is taken along
 
   one_taken : (call : Call H) (l : InUse H) (x : Told) → x.memory ≡ memory_at k l.bus.remembered
-      → (those next k (taken_along (one_panel_call call) l.bus) x).marks ≡ x.marks ++ taken_in k call l
+      → (those next k (taken_along (one_panel_call call) l.bus) x).marks ≡ x.marks ++ handed_in k call l
   one_taken (OfPanel bus.NextReport) l x same =
       ap (λ told. (those next k told x).marks) (append-nil (option_to_list l.bus.devices.report))
       ∙ waits_with k l.bus.devices.report l.bus.remembered x same
@@ -209,7 +172,7 @@ module _ {H : Type 0} (answer_of : H → Command → Answer) (after : H → Comm
       → IsRemembered l.bus taken
       → (those next k (taken_along (panel_calls steps) l.bus ++ option_to_list (bus.after_calls (panel_calls steps) l.bus).devices.report)
       (those next k taken untold)).marks
-      ≡ (those next k taken untold).marks ++ (all_taken answer_of after k steps l ++ event_waiting k (after_calls answer_of after steps l).bus)
+      ≡ (those next k taken untold).marks ++ (all_handed answer_of after k steps l ++ event_waiting k (after_calls answer_of after steps l).bus)
   steps_take [] l taken keeps is =
       waits_with k l.bus.devices.report l.bus.remembered (those next k taken untold) (told_memory k taken untold ∙ sym (is.all k))
   steps_take (step ∷ steps) l taken keeps is =
@@ -222,34 +185,36 @@ module _ {H : Type 0} (answer_of : H → Command → Answer) (after : H → Comm
       let y = those next k (taken ++ here) untold in
       let more = taken_along (panel_calls steps) b ++ option_to_list (bus.after_calls (panel_calls steps) b).devices.report in
       let on = steps_take steps m (taken ++ here) keeps.1 (subst (λ c. IsRemembered c (taken ++ here)) (sym same) (along calls l.bus taken is)) in
-      let rest = all_taken answer_of after k steps m ++ event_waiting k (after_calls answer_of after steps m).bus in
+      let rest = all_handed answer_of after k steps m ++ event_waiting k (after_calls answer_of after steps m).bus in
       let ran : bus.after_calls (panel_calls (step ∷ steps)) l.bus ≡ bus.after_calls (panel_calls steps) b = more_calls calls (panel_calls steps) l.bus in
       let all : taken_along (panel_calls (step ∷ steps)) l.bus ++ option_to_list (bus.after_calls (panel_calls (step ∷ steps)) l.bus).devices.report ≡ here ++ more =
       (λ i. taken_more calls (panel_calls steps) l.bus i ++ option_to_list (ran i).devices.report)
       ∙ append_assoc here (taken_along (panel_calls steps) b) (option_to_list (bus.after_calls (panel_calls steps) b).devices.report) in
       ap (λ told. (those next k told x).marks) all
-      ∙ ap (λ (z : Told). z.marks) (those_then k here more x ∙ ap (those next k more) (sym (those_then k taken here untold)))
+      ∙ ap (λ (z : Told). z.marks) (those_then next k here more x ∙ ap (those next k more) (sym (those_then next k taken here untold)))
       ∙ ap (λ c. (those next k (taken_along (panel_calls steps) c ++ option_to_list (bus.after_calls (panel_calls steps) c).devices.report) y).marks) (sym same)
       ∙ on
-      ∙ ap (λ ms. ms ++ rest) (ap (λ (z : Told). z.marks) (those_then k taken here untold)
+      ∙ ap (λ ms. ms ++ rest) (ap (λ (z : Told). z.marks) (those_then next k taken here untold)
       ∙ one_taken step.call l x (told_memory k taken untold ∙ sym (is.all k)))
-      ∙ append_assoc x.marks (taken_in k step.call l) rest
-      ∙ ap (λ ms. x.marks ++ ms) (sym (append_assoc (taken_in k step.call l) (all_taken answer_of after k steps m)
+      ∙ append_assoc x.marks (handed_in k step.call l) rest
+      ∙ ap (λ ms. x.marks ++ ms) (sym (append_assoc (handed_in k step.call l) (all_handed answer_of after k steps m)
       (event_waiting k (after_calls answer_of after steps m).bus)))
 
   -- ---- from where the panel is made
 
   starts : (config : BusConfig) (addresses : List ℕ) (d : Entry) (first : Station H) (l : InUse H) → l.bus ≡ bus_with config addresses
-      → device_of k l.bus ≡ Some d → site_at k l.stations ≡ Some first → Tells (length (reported_in first)) k l.bus.devices.entries l.stations untold
+      → device_of k l.bus ≡ Some d → site_at k l.stations ≡ Some first → Line k l.bus.devices.entries l [] untold
   starts config addresses d first l is there at =
       let made = new_at config k d addresses (sym (ap (device_of k) is) ∙ there) in
       record {
-        device = d;
-        there = there;
         station = first;
         at = at;
-        agrees = subst (λ (e : Entry). Agrees (length (reported_in first)) e.controller.session.state first.begun (reported_in first) untold) (sym made.2)
-            (record { sessions = []; before = reported_in first; split = refl; as_many = refl; marks = refl; bytes = refl; stands = tt });
+        tells = (
+          d,
+          there,
+          subst (λ (e : Entry). Agrees (sessions_of k l.openings) e.controller.session.state first.begun [] untold) (sym made.2)
+              (record { last = None; marks = λ more. refl; bytes = refl; up_to = tt }, tt),
+        );
       }
 
   remembered : (config : BusConfig) (addresses : List ℕ) → IsRemembered (bus_with config addresses) []
@@ -272,27 +237,15 @@ module _ {H : Type 0} (answer_of : H → Command → Answer) (after : H → Comm
 
 module _ {H : Type 0} (answer_of : H → Command → Answer) (after : H → Command → H) where
   pub calls_mark_repeats : TellsEachOnce → CallsMarkRepeats answer_of after
-  calls_mark_repeats tells config addresses l steps settings none is keeps k d first last there at at_last =
+  calls_mark_repeats tells config addresses l steps settings none is keeps k d first there at =
       let each = each_of (λ (step : Step H). KeepsPanel step.call) steps keeps in
-      let line = after_calls answer_of after steps l in
       let calls = panel_calls steps in
-      let n = length (reported_in first) in
-      let end = steps_tell answer_of after k n steps l untold each (starts answer_of after k config addresses d first l is there at) in
-      let same : end.station ≡ last = some_same end.station last (sym end.at ∙ at_last) in
-      let parts = in_parts (last.account ∷ last.earlier) end.agrees.sessions end.agrees.before
-      (sym (ap (λ (t : Station H). reported_in t) same) ∙ end.agrees.split) in
+      let x = those next k (told_along calls l.bus) untold in
+      let events = events_told answer_of after k steps l in
+      let end = steps_tell answer_of after k steps l [] untold each (starts answer_of after k config addresses d first l is there at) in
       let took = steps_take answer_of after k steps l [] each (subst (λ b. IsRemembered b []) (sym is) (remembered answer_of after k config addresses)) in
       let told : taken_along calls l.bus ++ option_to_list (bus.after_calls calls l.bus).devices.report ≡ told_along calls l.bus =
       subst (λ b. taken_along calls b ++ option_to_list (bus.after_calls calls b).devices.report ≡ told_along calls b) (sym is)
-      (told_is_taken answer_of after k tells config addresses calls settings none) in (
-        parts.first,
-        record {
-          before = parts.others;
-          all = parts.all;
-          as_many =
-              let count : length (map (λ (a : Account). a.reported) first.earlier) ≡ length first.earlier = same_length (λ (a : Account). a.reported) first.earlier in
-              omega (arith, parts.as_many, end.agrees.as_many, count);
-        },
-        sym took ∙ ap (λ rs. (those next k rs untold).marks) told ∙ end.agrees.marks
-            ∙ ap marks_of (sym parts.are) ∙ marks_same parts.first,
-      )
+      (told_is_taken answer_of after k tells config addresses calls settings none) in
+      sym took ∙ ap (λ rs. (those next k rs untold).marks) told
+      ∙ sym (append-nil x.marks) ∙ sym (end.tells.2.0.marks []) ∙ ap (marked None) (append-nil events)

@@ -1,5 +1,5 @@
 -- A tick of one of the bus's controllers: what it says goes to every device. Where a session was to begin, it begins with that.
-use Rattle.osdp_calls.proofs.Common.{◌≡◌, ◌≢◌, ℕ, ◌+◌, Bool, true, false, cond, List, [], ◌∷◌, ◌++◌, length, Option, Some, None, IfSome, refl, sym, subst, ap, ◌∙◌, arith, append-nil, Packet, next_sequence, Command, Machine, after_begin, begin_refusal, frame_of, is_closed, Ticked, ticks, ticks_in, OpeningExchange, Polling, Session, State, Closed, Quiet, Idle, Waiting, Pausing, waiting_after, reserved_after, ticks_at, ticks_with, Entry, told_at, told_by_device, told_by_ticking, after_report, both, each_all, each_append, tick_so, Each, Answer, Net, NetMove, Reopen, Site, Tick, address_of, after_net, changed, is_told, run, site_at, tagged, IsQuiet, at_changed, some_same, all_hear, begins_session, begins_with, begun_of, change_at, changes_at, panel_says, said_for, waiting_of, InUse, Opening, Station}
+use Rattle.osdp_calls.proofs.Common.{◌≡◌, ◌≢◌, ℕ, ◌+◌, Bool, true, false, cond, List, [], ◌∷◌, ◌++◌, length, Option, Some, None, IfSome, refl, sym, subst, ap, ◌∙◌, arith, append-nil, Packet, next_sequence, Command, Machine, after_begin, begin_refusal, frame_of, is_closed, Ticked, ticks, ticks_in, OpeningExchange, Polling, Session, State, Closed, Quiet, Idle, Waiting, Pausing, waiting_after, reserved_after, ticks_at, ticks_with, Entry, told_at, told_by_device, told_by_ticking, both, each_all, each_append, tick_so, Each, Answer, Net, NetMove, Reopen, Site, Tick, address_of, after_net, changed, is_told, run, site_at, tagged, IsQuiet, at_changed, some_same, begins_session, begins_with, begun_of, changes_at, panel_says, said_for, InUse, Opening, Station}
 use Rattle.std.specs.Prelude.{map, nat_le, nat_lt, option_to_list, slice_get, slice_set}
 use Rattle.osdp_controller.specs.Sessions as clocks
 use Rattle.osdp_controller.specs.Ticking as ticking
@@ -8,14 +8,12 @@ use Rattle.osdp_shared_line.specs.Line as line
 use Rattle.osdp_calls.proofs.Ahead.{device_quiet, from_panel, panel_quiet, panel_told_device, panel_told_panel}
 use Rattle.osdp_calls.proofs.Controllers.{equal_same, opened_ticks, ticked_same, ticks_same}
 use Rattle.osdp_calls.proofs.Losing.{IsLoss, changed_twice, joins}
-use Rattle.osdp_calls.proofs.Matching.{FoundAt, Match, Nobody, Somebody, found, matched_map, set, set_other}
+use Rattle.osdp_calls.proofs.Matching.{FoundAt, Match, Nobody, Somebody, changed_same, found, matched_map, set, set_other}
 use Rattle.osdp_calls.proofs.Nexts.{within_more, length_more}
 use Rattle.osdp_calls.proofs.Opens.{opens}
-use Rattle.osdp_calls.proofs.Panel.{one_seen, one_told}
+use Rattle.osdp_calls.proofs.Panel.{one_seen}
 use Rattle.osdp_calls.proofs.Same.{Controls, IsNetOf, IsRightly, IsSiteOf, IsToOpen, controlled_so, placed_so, sites_so}
 use Rattle.osdp_calls.proofs.Stations.{Makes, Sites, make_move, make_none}
-use Rattle.osdp_calls.proofs.Strangers.{heard_by_none}
-use Rattle.osdp_calls.proofs.Noticing.{got_new}
 
 -- ---- what a controller sends are commands
 
@@ -53,7 +51,7 @@ module _ {H : Type 0} where
       sites_so h (matched_map (Sites l) (Sites l) 0 (is_told []) l.bus.devices.entries l.stations n.sites
       (λ j d t s at. placed_so at (append-nil s.coming ∙ at.coming) at.place) h.sites)
 
-  -- the bus, and what is told, after its controller of an entry has come to this
+  -- the bus after its controller of an entry has come to this
   abbrev pub ticked_bus : ℕ → Entry → Ticked → InUse H → InUse H
   ticked_bus k d t l = record l {
     bus = record l.bus {
@@ -66,7 +64,6 @@ module _ {H : Type 0} where
       };
       first = k + 1;
     };
-    stations = all_hear (told_at k t.step.report) l.stations;
   }
 
   abbrev pub ticked_line : ℕ → Entry → Ticked → InUse H → InUse H
@@ -109,20 +106,18 @@ module _ {H : Type 0} where
         first =
             let y = ticks l.bus.greatest d.controller.session d.controller.waiting in
             let e : Entry = record { controller = record d.controller { session = y.session; waiting = y.waiting }; reserved = reserved_after y.step.report d.reserved } in
-            let u : Station H = record t { account = after_report y.step.report t.account } in
             let ctl = subst (λ o. Controls o l.bus.greatest d.controller s.controller) begun is.controller in
             let room : s.controller.capacity ≡ d.controller.capacity = ap (λ (m : Machine). m.capacity) ctl.same in
             let bytes : s.controller.room ≡ d.controller.room = ap (λ (m : Machine). m.room) ctl.same in
             let eq = ticks_same l.bus.greatest d.controller s.controller ctl in
             sites_so h
             (subst (λ ts. Match (Sites l) 0 (slice_set l.bus.devices.entries k e) ts (changed k (line.ticks answer_of after l.bus.greatest s) n.sites))
-            (sym (one_told k y.step.report t l.stations b))
-            (set (Sites l) k e u (line.ticks answer_of after l.bus.greatest s) l.bus.devices.entries l.stations n.sites h.sites (controlled_so is
+            (changed_same k t l.stations b)
+            (set (Sites l) k e t (line.ticks answer_of after l.bus.greatest s) l.bus.devices.entries l.stations n.sites h.sites (controlled_so is
             (subst (λ o. Controls o l.bus.greatest e.controller (line.ticks answer_of after l.bus.greatest s).controller) (sym begun)
             (ticked_same l.bus.greatest d.controller s.controller y room bytes eq))
             (is.reserved ∙ sym (tick_so (λ r. reserved_after r d.reserved ≡ d.reserved) refl (λ o. refl) d.controller.session.state
-            (clocks.seen l.bus.greatest d.controller.session) d.controller.waiting))
-            (ap (λ (z : Ticked). after_report z.step.report s.account) eq ∙ ap (after_report y.step.report) is.account))))
+            (clocks.seen l.bus.greatest d.controller.session) d.controller.waiting)))))
 
         next : after_net answer_of after (Tick k l.bus.greatest) n
             ≡ record n {
@@ -137,12 +132,6 @@ module _ {H : Type 0} where
         still : IsTicked (Some k) l n (Tick k l.bus.greatest ∷ [])
         still = GoesOn k refl (ap begun_of b ∙ begun) refl
 
-        still_there : site_at k (ticked_bus k d (ticks l.bus.greatest d.controller.session d.controller.waiting) l).stations
-            ≡ Some (record t { account = after_report (ticks l.bus.greatest d.controller.session d.controller.waiting).step.report t.account })
-        still_there =
-            let y = ticks l.bus.greatest d.controller.session d.controller.waiting in
-            ap (site_at k) (one_told k y.step.report t l.stations b) ∙ at_changed k (record t { account = after_report y.step.report t.account }) t l.stations b
-
         by_frame : (o : Option Packet) → (ticks l.bus.greatest d.controller.session d.controller.waiting).step.frame ≡ o
             → IfSome (ticks l.bus.greatest d.controller.session d.controller.waiting).step.frame (λ p. p.reply ≡ false)
             → Makes answer_of after (IsTicked (Some k) l n) n (ticked_line k d (ticks l.bus.greatest d.controller.session d.controller.waiting) l)
@@ -156,7 +145,7 @@ module _ {H : Type 0} where
             let l1 = ticked_bus k d (ticks l.bus.greatest d.controller.session d.controller.waiting) l in
             let command : p.reply ≡ false = subst (λ o. IfSome o (λ q. q.reply ≡ false)) some so in
             subst (λ o. Makes answer_of after (IsTicked (Some k) l n) n (panel_says (Some k) o l1)) (sym some)
-            (subst (λ q. Makes answer_of after (IsTicked (Some k) l n) n (record (begins_with k p (begun_of q) l1) { said = l1.said ++ said_for k p q })) (sym still_there)
+            (subst (λ q. Makes answer_of after (IsTicked (Some k) l n) n (record (begins_with k p (begun_of q) l1) { said = l1.said ++ said_for k p q })) (sym b)
             (subst (λ o. Makes answer_of after (IsTicked (Some k) l n) n (record (begins_with k p o l1) { said = l1.said ++ from_panel k p ∷ [] })) (sym begun)
             (make_move answer_of after (IsTicked (Some k) l n) (Tick k l.bus.greatest) (record l1 { said = l1.said ++ from_panel k p ∷ [] }) n still tt tt
             (subst (IsNetOf (record l1 { said = l1.said ++ from_panel k p ∷ [] }))
@@ -178,7 +167,7 @@ module _ {H : Type 0} where
     -- the line after it
     abbrev pub with_opening : ℕ → Entry → Station H → InUse H → InUse H
     with_opening k d t l = record (ticked_bus k d (opened d.controller l.bus.greatest) l) {
-      stations = changed k (begins_session d.controller.waiting t) l.stations;
+      stations = changed k (begins_session t) l.stations;
       openings = opening_of k d l ∷ l.openings;
       said = l.said ++ from_panel k (opening_packet d.controller) ∷ [];
     }
@@ -212,11 +201,7 @@ module _ {H : Type 0} where
               (subst (Rattle.osdp_link_laws.proofs.Stages.Each (λ (q : ℕ × Packet). (q.0 ≢ k) × (q.1.address ≢ d.controller.session.config.address))) (sym h.to_panel)
               (panel_quiet l.place (opening_of k d l) l.openings l.said refl)));
         }) in
-        let s1 : Site H = record s {
-          controller = after_begin began s.controller;
-          account = link.new_account s.controller.waiting s.reader.queue.events;
-          earlier = s.account ∷ s.earlier;
-        } in
+        let s1 : Site H = record s { controller = after_begin began s.controller } in
         let m1 : Net H = record m { sites = changed k s1 m.sites } in
         let reopened : after_net answer_of after (Reopen k began) m ≡ m1 =
         ap (λ o. line.change_at k o (line.calls answer_of after (link.Reopen began)) m) c
@@ -229,12 +214,11 @@ module _ {H : Type 0} where
         ap (λ o. line.tick_at answer_of after k g o m1) there
         ∙ ap (λ (z : Ticked). record m1 { sites = map (is_told (tagged k (option_to_list z.step.frame))) (changed k s2 (changed k s1 m.sites)) }) eq
         ∙ ap (λ ss. record m { sites = map (is_told ((k, opening_packet d.controller) ∷ [])) ss }) (changed_twice k s2 s1 m.sites) in
-        let waiting : s.controller.waiting ≡ d.controller.waiting = ap (λ (x : Machine). x.waiting) control.same in
         let room : s.controller.capacity ≡ d.controller.capacity = ap (λ (x : Machine). x.capacity) control.same in
         let bytes : s.controller.room ≡ d.controller.room = ap (λ (x : Machine). x.room) control.same in
         let y : Ticked = opened d.controller g in
         let e : Entry = record { controller = record d.controller { session = y.session; waiting = y.waiting }; reserved = d.reserved } in
-        let u : Station H = begins_session d.controller.waiting t in
+        let u : Station H = begins_session t in
         let lb : InUse H = record (ticked_bus k d y lo) { stations = changed k u l.stations } in
         let before : IsNetOf lb (record m { sites = changed k s2 m.sites }) =
         sites_so h (set (Sites lo) k e u s2 l.bus.devices.entries l.stations m.sites h.sites (record {
@@ -242,8 +226,6 @@ module _ {H : Type 0} where
           reserved = is.reserved;
           reader = is.reader;
           coming = is.coming;
-          account = ap (λ (z : Ticked). after_report z.step.report s1.account) eq ∙ (λ i. link.new_account (waiting i) (is.reader i).queue.events);
-          earlier = (λ i. is.account i ∷ is.earlier i);
           place = is.place;
           stored = is.stored;
         })) in
@@ -331,54 +313,41 @@ module _ {H : Type 0} where
             let y = opened d.controller l.bus.greatest in
             let lb = ticked_bus k d y l in
             let p = opening_packet d.controller in
-            let e : Entry = record { controller = record d.controller { session = y.session; waiting = y.waiting }; reserved = d.reserved } in
             subst (λ z. Makes answer_of after (IsTicked (Some k) l n) n (ticked_line k d z l)) (sym eq)
             (subst (λ q. Makes answer_of after (IsTicked (Some k) l n) n (record (begins_with k p (begun_of q) lb) { said = l.said ++ said_for k p q })) (sym b)
             (subst (λ o. Makes answer_of after (IsTicked (Some k) l n) n (record (begins_with k p o lb) { said = l.said ++ from_panel k p ∷ [] })) (sym begun)
-            (subst (λ (o : Option Entry). Makes answer_of after (IsTicked (Some k) l n) n (record lb {
-              stations = change_at k (begins_session (waiting_of o)) l.stations;
-              openings = opening_of k d l ∷ l.openings;
-              said = l.said ++ from_panel k p ∷ [];
-            })) (sym (got_new k e d l.bus.devices.entries a))
             (subst (λ o. Makes answer_of after (IsTicked (Some k) l n) n (record lb {
-              stations = changes_at k (begins_session d.controller.waiting) o l.stations;
+              stations = changes_at k begins_session o l.stations;
               openings = opening_of k d l ∷ l.openings;
               said = l.said ++ from_panel k p ∷ [];
-            })) (sym b) (opens_then k began d t s l n h a b c is begun eq)))))
+            })) (sym b) (opens_then k began d t s l n h a b c is begun eq))))
 
     -- ---- a controller of an entry without a station
 
     ticks_other : (k : ℕ) (d : Entry) (x : Ticked) (l : InUse H) (n : Net H) → IsNetOf l n → site_at k l.stations ≡ None → IsNetOf (ticked_line k d x l) n
     ticks_other k d x l n h none = by_frame x.step.frame
       where
-        stays : all_hear (told_at k x.step.report) l.stations ≡ l.stations
-        stays = heard_by_none k x.step.report l.stations none
-
         first : IsNetOf (ticked_bus k d x l) n
         first =
             let e : Entry = record { controller = record d.controller { session = x.session; waiting = x.waiting }; reserved = reserved_after x.step.report d.reserved } in
-            subst (λ ts. IsNetOf (record (ticked_bus k d x l) { stations = ts }) n) (sym (heard_by_none k x.step.report l.stations none))
-            (sites_so h (set_other (Sites l) k e l.bus.devices.entries l.stations n.sites none h.sites))
+            sites_so h (set_other (Sites l) k e l.bus.devices.entries l.stations n.sites none h.sites)
 
         by_frame : (o : Option Packet) → IsNetOf (panel_says (Some k) o (ticked_bus k d x l)) n
         by_frame None = first
         by_frame (Some p) =
             let lb = ticked_bus k d x l in
-            subst (λ q. IsNetOf (record (begins_with k p (begun_of q) lb) { said = lb.said ++ said_for k p q }) n) (sym (ap (site_at k) stays ∙ none))
+            subst (λ q. IsNetOf (record (begins_with k p (begun_of q) lb) { said = lb.said ++ said_for k p q }) n) (sym none)
             (subst (λ bs. IsNetOf (record lb { said = bs }) n) (sym (append-nil lb.said)) first)
 
     -- ---- a tick of the controller of an entry, or of none
 
     pub ticks_entry : (o : Option ℕ) (l : InUse H) (n : Net H) → IsNetOf l n
-        → Makes answer_of after (IsTicked o l n) n (panel_says o (ticks_at o l.bus).sent (record l { bus = (ticks_at o l.bus).bus; stations = all_hear (told_by_ticking o l.bus) l.stations }))
+        → Makes answer_of after (IsTicked o l n) n (panel_says o (ticks_at o l.bus).sent (record l { bus = (ticks_at o l.bus).bus }))
     ticks_entry None l n h = make_none answer_of after (IsTicked None l n) l n (Rests refl refl refl) h
     ticks_entry (Some k) l n h = by_found (found (Sites l) k l.bus.devices.entries l.stations n.sites h.sites)
       where
         Goal : Option Entry → Type 0
-        Goal o = Makes answer_of after (IsTicked (Some k) l n) n (panel_says (Some k) (ticks_with k o l.bus).sent (record l {
-          bus = (ticks_with k o l.bus).bus;
-          stations = all_hear (told_by_device k o l.bus) l.stations;
-        }))
+        Goal o = Makes answer_of after (IsTicked (Some k) l n) n (panel_says (Some k) (ticks_with k o l.bus).sent (record l { bus = (ticks_with k o l.bus).bus }))
 
         by_begun : (d : Entry) (t : Station H) (s : Site H) → slice_get l.bus.devices.entries k ≡ Some d → site_at k l.stations ≡ Some t
             → site_at k n.sites ≡ Some s → Sites l k d t s → (o : Option ℕ) → t.begun ≡ o
@@ -387,10 +356,7 @@ module _ {H : Type 0} where
         by_begun d t s a b c is (Some began) begun = ticks_to_open k began d t s l n h a b c is begun
 
         by_found : FoundAt (Sites l) k k l.bus.devices.entries l.stations n.sites
-            → Makes answer_of after (IsTicked (Some k) l n) n (panel_says (Some k) (ticks_at (Some k) l.bus).sent (record l {
-              bus = (ticks_at (Some k) l.bus).bus;
-              stations = all_hear (told_by_ticking (Some k) l.bus) l.stations;
-            }))
+            → Makes answer_of after (IsTicked (Some k) l n) n (panel_says (Some k) (ticks_at (Some k) l.bus).sent (record l { bus = (ticks_at (Some k) l.bus).bus }))
         by_found (Nobody None a b c) =
             let nobody : IsTicked (Some k) l n [] = Rests refl (ap (λ o. told_by_device k o l.bus) a) (ap (λ o. (ticks_with k o l.bus).sent) a) in
             subst Goal (sym a) (make_none answer_of after (IsTicked (Some k) l n) l n nobody h)

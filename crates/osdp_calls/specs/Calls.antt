@@ -1,5 +1,5 @@
 -- What the calls of a bus and its devices do to a line in use. What a call makes of the bus, of a reader and of what has come on its line is the
--- definition that the call's own contract cites; what it reads, who speaks and the accounts are said here.
+-- definition that the call's own contract cites; what it reads, and who speaks, is said here.
 use Rattle.std.specs.Prelude.{ℕ, ◌++◌, max, Bool, true, false, if◌then◌else◌, List, [], ◌∷◌, length, Option, Some, None, Result, Ok, Err, option_to_list}
 use Rattle.osdp_frame.specs.Items.{items, whole_packets}
 use Rattle.osdp_frame.specs.Packet.{Packet}
@@ -7,22 +7,19 @@ use Rattle.osdp_frame.specs.Reading.{RunItem, PacketItem, SkippedItem, RefusedIt
 use Rattle.osdp_msg.specs.declared.command.Command.{Command}
 use Rattle.osdp_msg.specs.declared.event.Event.{Event}
 use Rattle.osdp_msg.specs.declared.limits.Room.{Room}
-use Rattle.osdp_controller.specs.declared.report.Report.{Report}
-use Rattle.osdp_bus.specs.Buses.{BusState, device_of, has_report, holder, is_silent, seen}
+use Rattle.osdp_bus.specs.Buses.{BusState, has_report, holder, is_silent, seen}
 use Rattle.osdp_bus.specs.Hearing.{ends_run, ends_silent}
-use Rattle.osdp_bus.specs.Machine.{begin_refusal_at, changed_unless, submit_refusal_at}
+use Rattle.osdp_bus.specs.Machine.{begin_refusal_at, changed_unless}
 use Rattle.osdp_bus.specs.Ticking.{asks_free, asks_holder, bus_ticks, is_due_at}
 use Rattle.osdp_bus.specs.declared.config.BusConfig.{BusConfig}
 use Rattle.osdp_bus.specs.declared.entry.Entry.{Entry}
 use Rattle.osdp_bus.specs.declared.fault.BusFault.{BusFault}
 use Rattle.osdp_bus_laws.specs.Calls as bus
-use Rattle.osdp_bus_laws.specs.Reports.{told_in}
 use Rattle.osdp_bus_laws.specs.Turns.{judged}
 use Rattle.osdp_device.specs.Deciding.{passed}
 use Rattle.osdp_frame.specs.Receiving.{after_silence, after_take, after_tick, new_line}
 use Rattle.osdp_device.specs.Saying.{speaks}
 use Rattle.osdp_device.specs.Telling.{items_of, next_told}
-use Rattle.osdp_link_laws.specs.Link.{event_lapsed, event_withdrawn, front_of, new_account, reader_restarted, taken, after_report}
 use Rattle.osdp_reader.specs.State.{ReaderState, after_lapse_event, after_set_busy, after_set_handler, after_submit, after_withdraw_event, new_reader}
 use Rattle.osdp_reader.specs.Table.{hears, kind_of}
 use Rattle.osdp_reader.specs.declared.config.ReaderConfig.{ReaderConfig}
@@ -92,14 +89,10 @@ asked_by_holder (Some entry) b = if is_due_at entry b then asks_holder None (λ 
 abbrev pub asked_at : ℕ → BusState → Option ℕ
 asked_at now b = if has_report b then None else asked_by_holder (holder (judged now b)) (judged now b)
 
--- what `withdraw` takes back, and the commands that wait for a device
+-- what `withdraw` takes back
 abbrev pub withdrawn : Result (Option Command) BusFault → List Command
 withdrawn (Ok command) = option_to_list command
 withdrawn (Err fault) = []
-
-abbrev pub waiting_of : Option Entry → List Command
-waiting_of None = []
-waiting_of (Some d) = d.controller.waiting
 
 -- bursts of the device of an entry
 abbrev pub by_device : ℕ → List Packet → List Burst
@@ -120,11 +113,7 @@ module _ {H : Type 0} where
   first_answered r [] = None
   first_answered r (p ∷ ps) = if speaks (kind_of r p) then Some p else first_answered r ps
 
-  -- ---- accounts
-
-  -- what controllers tell
-  abbrev pub hears_of : Report → Station H → Station H
-  hears_of report t = record t { account = after_report (Some report) t.account }
+  -- ---- sessions
 
   abbrev pub changes_at : ℕ → (Station H → Station H) → Option (Station H) → List (Station H) → List (Station H)
   changes_at k change None ts = ts
@@ -133,30 +122,17 @@ module _ {H : Type 0} where
   abbrev pub change_at : ℕ → (Station H → Station H) → List (Station H) → List (Station H)
   change_at k change ts = changes_at k change (site_at k ts) ts
 
-  abbrev pub all_hear : List (ℕ × Report) → List (Station H) → List (Station H)
-  all_hear [] ts = ts
-  all_hear (said ∷ more) ts = all_hear more (change_at said.0 (hears_of said.1) ts)
-
-  -- a command is accepted
-  abbrev pub issues : Command → Station H → Station H
-  issues command t = record t { account = record t.account { issued = t.account.issued ++ command ∷ [] } }
-
   -- a session is to begin: it does so where its opening ID goes out
   abbrev pub is_to_begin : ℕ → Station H → Station H
   is_to_begin moment t = record t { begun = Some moment }
 
-  abbrev pub begins_session : List Command → Station H → Station H
-  begins_session waiting t = record t {
-    begun = None;
-    account = new_account waiting t.reader.queue.events;
-    earlier = t.account ∷ t.earlier;
-  }
+  abbrev pub begins_session : Station H → Station H
+  begins_session t = record t { begun = None }
 
   -- what a call of the panel notes
   abbrev pub noted : bus.Call → BusState → List (Station H) → List (Station H)
   noted (bus.Begin entry now) b ts = changed_unless (begin_refusal_at entry b) ts (change_at entry (is_to_begin (max b.greatest now)) ts)
-  noted (bus.Submit entry command) b ts = changed_unless (submit_refusal_at entry command b) ts (change_at entry (issues command) ts)
-  noted call b ts = all_hear (told_in call b) ts
+  noted call b ts = ts
 
   -- ---- what the panel says
 
@@ -164,7 +140,7 @@ module _ {H : Type 0} where
   abbrev pub begins_with : ℕ → Packet → Option ℕ → InUse H → InUse H
   begins_with entry p None l = l
   begins_with entry p (Some moment) l = record l {
-    stations = change_at entry (begins_session (waiting_of (device_of entry l.bus))) l.stations;
+    stations = change_at entry begins_session l.stations;
     openings = record { entry = entry; address = p.address; place = length l.said } ∷ l.openings;
   }
 
@@ -202,26 +178,19 @@ module _ {H : Type 0} where
 
   abbrev pub queues : Bool → Event → Station H → Station H
   queues true event t = t
-  queues false event t = record t {
-    reader = after_submit event t.reader;
-    account = record t.account { queued = t.account.queued ++ event ∷ []; kept = t.account.kept ++ event ∷ [] };
-  }
+  queues false event t = record t { reader = after_submit event t.reader }
 
   -- the oldest event that was never offered is taken back, where there is one
   abbrev pub withdraws_event : Station H → Station H
-  withdraws_event t = record t { reader = after_withdraw_event t.reader; account = event_withdrawn t.reader.queue t.account }
+  withdraws_event t = record t { reader = after_withdraw_event t.reader }
 
   -- the front goes, where it was ever offered
   abbrev pub lapses_event : Station H → Station H
-  lapses_event t = record t { reader = after_lapse_event t.reader; account = event_lapsed t.reader.queue t.account }
+  lapses_event t = record t { reader = after_lapse_event t.reader }
 
   -- a device with nothing taken, nothing stored and no event, the same or another
   abbrev pub made_anew : ReaderConfig → H → Room → ℕ → Station H → Station H
-  made_anew config handler room gap t = record t {
-    reader = new_reader config handler room;
-    line = new_line gap;
-    account = reader_restarted t.account;
-  }
+  made_anew config handler room gap t = record t { reader = new_reader config handler room; line = new_line gap }
 
   -- the panel is made anew: the session ends untold, and none is to begin
   abbrev pub forgets : Station H → Station H
@@ -241,13 +210,7 @@ module _ {H : Type 0} where
   module _ (answer_of : H → Command → Answer) (after : H → Command → H) where
     -- ---- what a device says
 
-    -- the account after the packet that is answered, and what is said to it
-    abbrev pub answers : Option Packet → Station H → Station H
-    answers None t = t
-    answers (Some p) t =
-        let outcome = hears answer_of after t.reader p in
-        record t { account = taken (kind_of t.reader p) outcome.command outcome.said (front_of t.reader) t.account }
-
+    -- what is said to the packet that is answered
     abbrev pub reply_to : Option Packet → ReaderState H → List Packet
     reply_to None r = []
     reply_to (Some p) r = option_to_list (hears answer_of after r p).reply
@@ -255,8 +218,7 @@ module _ {H : Type 0} where
     abbrev pub nexts : List ℕ → Station H → Station H
     nexts places t =
         let said = next_told answer_of after t.reader t.line.held in
-        let t_read = answers (first_answered t.reader (read_up_to t.reader (items_of t.line.held))) t in
-        record t_read {
+        record t {
           reader = said.reader;
           line = record t.line { held = said.held };
           place = last_of places t.place;

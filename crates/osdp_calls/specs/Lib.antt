@@ -4,6 +4,7 @@ pub mod Premises
 pub mod Strangers
 pub mod Promises
 pub mod Sayings
+pub mod Told
 pub mod Accepted
 pub mod Restarts
 pub mod Handing

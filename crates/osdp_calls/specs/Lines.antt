@@ -6,7 +6,6 @@ use Rattle.osdp_bus.specs.Buses.{BusState, new_bus}
 use Rattle.osdp_bus.specs.Machine.{new_device}
 use Rattle.osdp_bus.specs.declared.config.BusConfig.{BusConfig}
 use Rattle.osdp_frame.specs.Receiving.{Received}
-use Rattle.osdp_link_laws.specs.Link.{Account}
 use Rattle.osdp_reader.specs.State.{ReaderState}
 
 -- what was said: by the panel, for the entry whose controller sent it, or by the device of an entry
@@ -16,15 +15,12 @@ pub record Burst : Type 0 where
   pub packet : Packet
 
 -- the device of an entry: its reader, what has come on its line, and the place in what was said of what it read last, 0 at first. With it, of its
--- entry: the moment of a `begin` whose opening ID has not gone out yet, the account of its session, and those of the sessions before it,
--- the last of them first
+-- entry: the moment of a `begin` whose opening ID has not gone out yet
 pub record Station (H : Type 0) : Type 0 where
   pub reader : ReaderState H
   pub line : Received
   pub place : ℕ
   pub begun : Option ℕ
-  pub account : Account
-  pub earlier : List Account
 
 -- that a session of an entry began: the address of its opening ID, and how much had been said before that went out
 pub record Opening : Type 0 where

@@ -1,5 +1,5 @@
 -- Events that are told again from one session of an entry to the next, and which of the reports that a panel's program takes are marked.
-use Rattle.std.specs.Prelude.{◌≡◌, ◌≢◌, true, ◌+◌, ℕ, Bool, false, ◌==◌, if◌then◌else◌, All, List, [], ◌∷◌, ◌++◌, length, map, Option, Some, None}
+use Rattle.std.specs.Prelude.{◌≡◌, ◌≢◌, ◌⊎◌, true, ◌+◌, ◌&&◌, ℕ, Bool, false, not, ◌==◌, if◌then◌else◌, All, List, [], ◌∷◌, ◌++◌, Option, Some, None}
 use Rattle.std.specs.Str.{bytes_eq}
 use Rattle.osdp_msg.specs.declared.command.Command.{Command}
 use Rattle.osdp_msg.specs.declared.event.Event.{Event}
@@ -11,53 +11,46 @@ use Rattle.osdp_bus.specs.Settings.{IsBusConfig}
 use Rattle.osdp_bus.specs.declared.config.BusConfig.{BusConfig}
 use Rattle.osdp_bus.specs.declared.entry.Entry.{Entry}
 use Rattle.osdp_bus_laws.specs.Calls as bus
-use Rattle.osdp_link_laws.specs.Link.{Account}
 use Rattle.osdp_reader.specs.declared.handler.Answer.{Answer}
 use Rattle.osdp_shared_line.specs.Line.{site_at}
 use Rattle.osdp_calls.specs.Calls.{Call, OfPanel, Step, after_call, after_calls}
 use Rattle.osdp_calls.specs.Ends.{KeepsPanel}
-use Rattle.osdp_calls.specs.Lines.{InUse, Station, bus_with}
+use Rattle.osdp_calls.specs.Lines.{InUse, Opening, Station, bus_with}
 use Rattle.osdp_calls.specs.Sayings.{NoneRefused}
+use Rattle.osdp_calls.specs.Told.{reports_of, told_by}
 
--- ---- what is to be marked, by the accounts
+-- ---- what is to be marked
 
--- the events that these sessions have reported, in order; the last session stands first
-abbrev pub all_reported : List Account → List Event
-all_reported [] = []
-all_reported (t ∷ earlier) = all_reported earlier ++ t.reported
+-- an event equals another, and was told in another session: what was told last, with the number of its session
+abbrev pub is_told_again : Option (ℕ × Event) → ℕ → Event → Bool
+is_told_again None session event = false
+is_told_again (Some (before, other)) session event = not (before == session) && bytes_eq (event_bytes event) (event_bytes other)
 
--- the last of some events
-abbrev pub last_event : List Event → Option Event
-last_event [] = None
-last_event (e ∷ []) = Some e
-last_event (e ∷ f ∷ events) = last_event (f ∷ events)
+-- events that are told, each with the number of its session: one is marked where it is told again
+abbrev pub marked : Option (ℕ × Event) → List (ℕ × Event) → List (Event × Bool)
+marked last [] = []
+marked last ((session, event) ∷ more) = (event, is_told_again last session event) ∷ marked (Some (session, event)) more
 
--- an event has the same bytes as another
-abbrev pub is_equal_to : Option Event → Event → Bool
-is_equal_to None event = false
-is_equal_to (Some other) event = bytes_eq (event_bytes event) (event_bytes other)
-
--- no event of these is marked
-abbrev pub unmarked : List Event → List (Event × Bool)
-unmarked events = map (λ (e : Event). (e, false)) events
-
--- of the events of a session the first is marked where it equals the last one that was reported before, and no other is
-abbrev pub marked_in : Option Event → List Event → List (Event × Bool)
-marked_in before [] = []
-marked_in before (event ∷ events) = (event, is_equal_to before event) ∷ unmarked events
-
--- the events of these sessions, in order, each with its mark
-abbrev pub marked : List Account → List (Event × Bool)
-marked [] = []
-marked (t ∷ earlier) = marked earlier ++ marked_in (last_event (all_reported earlier)) t.reported
-
--- what is marked so: the first event of a session where it is the last one that was reported before, and else none but one with the bytes of that
+-- what is marked so: the first event of a session where it is the last one that was told before, and else none but one with the bytes of that
 pub record MarksWhatIsToldAgain : Type 0 where
-  pub again : (t : Account) (earlier : List Account) (event : Event) (events : List Event) → t.reported ≡ event ∷ events
-      → last_event (all_reported earlier) ≡ Some event → marked (t ∷ earlier) ≡ marked earlier ++ (event, true) ∷ unmarked events
-  pub others : (t : Account) (earlier : List Account) (event : Event) (events : List Event) → t.reported ≡ event ∷ events
-      → ((other : Event) → last_event (all_reported earlier) ≡ Some other → event_bytes event ≢ event_bytes other)
-      → marked (t ∷ earlier) ≡ marked earlier ++ unmarked (event ∷ events)
+  pub again : (before session : ℕ) (event : Event) (more : List (ℕ × Event)) → before ≢ session
+      → marked (Some (before, event)) ((session, event) ∷ more) ≡ (event, true) ∷ marked (Some (session, event)) more
+  pub others : (last : Option (ℕ × Event)) (session : ℕ) (event : Event) (more : List (ℕ × Event))
+      → ((before : ℕ) (other : Event) → last ≡ Some (before, other) → (before ≡ session) ⊎ (event_bytes event ≢ event_bytes other))
+      → marked last ((session, event) ∷ more) ≡ (event, false) ∷ marked (Some (session, event)) more
+
+-- ---- what calls tell
+
+-- how many sessions of an entry have begun
+abbrev pub sessions_of : ℕ → List Opening → ℕ
+sessions_of k [] = 0
+sessions_of k (o ∷ os) = (if o.entry == k then 1 else 0) + sessions_of k os
+
+-- the events of reports, each with this session
+abbrev pub events_of : ℕ → List Report → List (ℕ × Event)
+events_of session [] = []
+events_of session (report.Event event ∷ more) = (session, event) ∷ events_of session more
+events_of session (said ∷ more) = events_of session more
 
 -- ---- what the panel's program takes
 
@@ -71,34 +64,31 @@ abbrev pub event_waiting : ℕ → BusState → List (Event × Bool)
 event_waiting k b = event_of k b.devices.report (is_maybe_again b)
 
 -- a call of the panel hands it over
-abbrev pub taken_by_panel : ℕ → bus.Call → BusState → List (Event × Bool)
-taken_by_panel k bus.NextReport b = event_waiting k b
-taken_by_panel k _ b = []
+abbrev pub handed_by_panel : ℕ → bus.Call → BusState → List (Event × Bool)
+handed_by_panel k bus.NextReport b = event_waiting k b
+handed_by_panel k _ b = []
 
 module _ {H : Type 0} where
-  abbrev pub taken_in : ℕ → Call H → InUse H → List (Event × Bool)
-  taken_in k (OfPanel call) l = taken_by_panel k call l.bus
-  taken_in k _ l = []
-
-  -- the sessions of an entry that have begun since it was as this one: the last of its sessions
-  pub record SessionsSince (first last : Station H) (sessions : List Account) : Type 0 where
-    pub before : List Account
-    pub all : last.account ∷ last.earlier ≡ sessions ++ before
-    pub as_many : length before ≡ length first.earlier + 1
+  abbrev pub handed_in : ℕ → Call H → InUse H → List (Event × Bool)
+  handed_in k (OfPanel call) l = handed_by_panel k call l.bus
+  handed_in k _ l = []
 
   module _ (answer_of : H → Command → Answer) (after : H → Command → H) where
-    abbrev pub all_taken : ℕ → List (Step H) → InUse H → List (Event × Bool)
-    all_taken k [] l = []
-    all_taken k (step ∷ steps) l = taken_in k step.call l ++ all_taken k steps (after_call answer_of after step.call step.places l)
+    abbrev pub all_handed : ℕ → List (Step H) → InUse H → List (Event × Bool)
+    all_handed k [] l = []
+    all_handed k (step ∷ steps) l = handed_in k step.call l ++ all_handed k steps (after_call answer_of after step.call step.places l)
+
+    -- the events that calls tell of an entry
+    abbrev pub events_told : ℕ → List (Step H) → InUse H → List (ℕ × Event)
+    events_told k [] l = []
+    events_told k (step ∷ steps) l =
+        events_of (sessions_of k l.openings) (reports_of k (told_by step.call l)) ++ events_told k steps (after_call answer_of after step.call step.places l)
 
     -- In one life of the panel, from where it is made, at set-up or anew, until it is made anew: what its program takes of an entry's events, and the one
-    -- that waits, are the events that the sessions of this life have reported, in order, and of these those are marked that come as the first of
-    -- their session and equal the last one that was reported before. Whatever the calls are: nothing is asked of the line.
+    -- that waits, are the events that were told of the entry in this life, in order, and of these those are marked that come as the first of
+    -- their session and equal the last one that was told before. Whatever the calls are: nothing is asked of the line.
     abbrev pub CallsMarkRepeats : Type 0
     CallsMarkRepeats = (config : BusConfig) (addresses : List ℕ) (l : InUse H) (steps : List (Step H)) → IsBusConfig config
         → NoneRefused addresses (new_bus config) → l.bus ≡ bus_with config addresses → All (λ (step : Step H). KeepsPanel step.call) steps
-        → (k : ℕ) (d : Entry) (first last : Station H) → device_of k l.bus ≡ Some d → site_at k l.stations ≡ Some first
-        → let line = after_calls answer_of after steps l in
-        site_at k line.stations ≡ Some last
-        → (sessions : List Account) × SessionsSince first last sessions
-        × (all_taken k steps l ++ event_waiting k line.bus ≡ marked sessions)
+        → (k : ℕ) (d : Entry) (first : Station H) → device_of k l.bus ≡ Some d → site_at k l.stations ≡ Some first
+        → all_handed k steps l ++ event_waiting k (after_calls answer_of after steps l).bus ≡ marked None (events_told k steps l)

@@ -14,11 +14,11 @@ use Rattle.osdp_bus.specs.declared.config.BusConfig.{BusConfig}
 use Rattle.osdp_bus.specs.declared.entry.Entry.{Entry}
 use Rattle.osdp_bus_laws.specs.Calls as bus
 use Rattle.osdp_device.specs.Telling.{items_of}
-use Rattle.osdp_link_laws.specs.Link.{new_account}
 use Rattle.osdp_reader.specs.Table.{hears}
 use Rattle.osdp_reader.specs.declared.handler.Answer.{Answer}
 use Rattle.osdp_reader_laws.specs.Storing.{StoresItsOwn}
-use Rattle.osdp_shared_line.specs.Addresses.{Sets, SetsReader, Somewhere, asked_in}
+use Rattle.osdp_link_laws.specs.Ahead.{ahead}
+use Rattle.osdp_shared_line.specs.Addresses.{Sets, SetsReader, Somewhere}
 use Rattle.osdp_shared_line.specs.Line.{site_at}
 use Rattle.osdp_calls.specs.Calls.{Call, Next, NewDevice, NewPanel, OfPanel, Step, after_call, read_by, read_up_to}
 use Rattle.osdp_calls.specs.Lines.{Burst, InUse, Station, ahead_of_device, bus_with, is_past_for_device, is_past_for_panel}
@@ -42,7 +42,7 @@ AreNotPast is_past said places = All (λ i. (b : Burst) → site_at i said ≡ S
 
 -- the commands of an entry that have not ended: the one that is outstanding, and those that wait
 abbrev pub unended_of : Entry → List Command
-unended_of d = asked_in d.controller.session.state ++ d.controller.waiting
+unended_of d = ahead d.controller
 
 module _ {H : Type 0} where
   -- where the device of an entry is, or where a COMSET that it has not read may take it: one that was submitted and has not ended, or one
@@ -134,8 +134,6 @@ module _ {H : Type 0} where
         → s.reader.config.address ≢ t.reader.config.address
     pub stored : (k : ℕ) (t : Station H) → site_at k l.stations ≡ Some t → StoresItsOwn t.reader
     pub place : (k : ℕ) (t : Station H) → site_at k l.stations ≡ Some t → (t.place ≡ 0) × (t.begun ≡ None)
-    pub account : (k : ℕ) (t : Station H) → site_at k l.stations ≡ Some t
-        → (t.account ≡ new_account [] t.reader.queue.events) × (t.earlier ≡ [])
     pub said : l.said ≡ []
     pub read : l.place ≡ 0
     pub openings : l.openings ≡ []

@@ -12,14 +12,7 @@ use Rattle.osdp_calls.specs.Premises.{AllKeep, IsSetUp}
 module _ {H : Type 0} where
   -- an entry as a link, with nothing on the line
   abbrev pub link_of_entry : Entry → Station H → Link H
-  link_of_entry d t = record {
-    controller = d.controller;
-    reader = t.reader;
-    to_reader = [];
-    to_controller = [];
-    account = t.account;
-    earlier = t.earlier;
-  }
+  link_of_entry d t = record { controller = d.controller; reader = t.reader; to_reader = []; to_controller = [] }
 
   module _ (answer_of : H → Command → Answer) (after : H → Command → H) where
     -- no two devices are ever at one address

@@ -15,7 +15,7 @@ use Rattle.osdp_reader.specs.State.{ReaderState}
 use Rattle.osdp_reader.specs.Table.{hears, kind_of}
 use Rattle.osdp_reader.specs.declared.handler.Answer.{Answer}
 use Rattle.osdp_shared_line.specs.Line.{site_at}
-use Rattle.osdp_calls.specs.Calls.{Next, OfPanel, after_call, asked_at, nexts, read_up_to, reply_to}
+use Rattle.osdp_calls.specs.Calls.{Next, OfPanel, after_call, asked_at, read_up_to, reply_to}
 use Rattle.osdp_calls.specs.Lines.{Burst, InUse, Station, bus_with}
 
 -- these packets were said after all others, each by such an end and for such an entry
@@ -68,16 +68,13 @@ acted_on (Some said) = option_to_list (taken_by said.kind said.command)
 
 module _ {H : Type 0} (answer_of : H → Command → Answer) (after : H → Command → H) where
   -- Of the packets that the bytes held decide a `next` hands those that are read to the reader, up to and including the first that it answers. Its
-  -- response is that answer, and its bytes are the packet that is said. The command that a program acts on by the response is the one that
-  -- counts as taken: a program acts once for each of these.
+  -- response is that answer, and its bytes are the packet that is said.
   pub record NextSays (k : ℕ) (places : List ℕ) (t : Station H) (l : InUse H) : Type 0 where
     pub answered : Option Packet
     pub read : ReadsToFirst t.reader (whole_packets (items_of t.line.held)) (read_up_to t.reader (items_of t.line.held)) answered
     pub reader : (next_told answer_of after t.reader t.line.held).reader
         ≡ after_hearing answer_of after (read_up_to t.reader (items_of t.line.held)) t.reader
     pub response : (next_told answer_of after t.reader t.line.held).said ≡ option_map (said_to answer_of after t.reader) answered
-    pub acts : (nexts answer_of after places t).account.taken
-        ≡ t.account.taken ++ acted_on (next_told answer_of after t.reader t.line.held).said
     pub said : IsSaid (ByDevice k) (reply_to answer_of after answered t.reader) l.said (after_call answer_of after (Next k) places l).said
 
   pub record SaysWhatGoesOut (l : InUse H) : Type 0 where

@@ -85,8 +85,8 @@ pub fn ends_go_by_their_own_calls<H: Handler>()
 /// is marked but an event equal in bytes to the last one that was reported before, as the first of its session. A life is from where it is made, at
 /// set-up or anew, until it is made anew, whatever is called meanwhile: devices may be made anew, sessions begin again and events be withdrawn or lapse.
 ///
-/// What the panel's program takes of an entry's events, and then the one that waits, are the events that the sessions of this life have reported,
-/// in their order, each with its mark. Nothing is asked of what the ends read.
+/// What the panel's program takes of an entry's events, and then the one that waits, are the events that were told of the entry in this life, in
+/// their order, each with its mark. A session of the entry is counted where its opening ID goes out. Nothing is asked of what the ends read.
 pub fn repeats_are_marked<H: Handler>()
     ensures calls { CallsMarkRepeats H.answer_of H.after }
     ensures again { MarksWhatIsToldAgain }

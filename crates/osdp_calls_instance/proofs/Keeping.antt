@@ -1,5 +1,5 @@
 -- The premises hold, call by call.
-use Rattle.osdp_calls_instance.proofs.Common.{◌≡◌, ℕ, zero, suc, Bool, true, false, List, [], ◌∷◌, All, Some, None, refl, arith, ap, sym, subst, ◌<◌, ◌∙◌, inl, Command, Answer, each_all, StoresItsOwn, Burst, InUse, Station, is_past_for_device, is_past_for_panel, new_device, new_reader, hears, ReplyFits, AreNotPast, IsAsked, IsNoOthers, IsSaid, IsSetUp, IsThere, PanelIsApart, IsBusConfig, Entry, bus_in_range, PdIdFits, Packet, new_account, some_same, slice_get, slice_index, IfSome, packed, Sum, site_at}
+use Rattle.osdp_calls_instance.proofs.Common.{◌≡◌, ℕ, zero, suc, Bool, true, false, List, [], ◌∷◌, All, Some, None, refl, arith, ap, sym, subst, ◌<◌, ◌∙◌, inl, Command, Answer, each_all, StoresItsOwn, Burst, InUse, Station, is_past_for_device, is_past_for_panel, new_device, new_reader, hears, ReplyFits, AreNotPast, IsAsked, IsNoOthers, IsSaid, IsSetUp, IsThere, PanelIsApart, IsBusConfig, Entry, bus_in_range, PdIdFits, Packet, some_same, slice_get, slice_index, IfSome, packed, Sum, site_at}
 use Rattle.osdp_frame.specs.Items.{items, left_over}
 use Rattle.osdp_frame.specs.Held.{decided}
 use Rattle.osdp_msg.specs.ReplyTable.{reply_of, reply_fault, reply_at}
@@ -77,7 +77,6 @@ module _ {H : Type 0} where
     apart = λ j k s t other at there e. other ((only (station handler) j s at).0 ∙ sym (only (station handler) k t there).0);
     stored = one_station handler (λ t. StoresItsOwn t.reader) tt;
     place = one_station handler (λ t. (t.place ≡ 0) × (t.begun ≡ None)) (refl, refl);
-    account = one_station handler (λ t. (t.account ≡ new_account [] t.reader.queue.events) × (t.earlier ≡ [])) (refl, refl);
     said = refl;
     read = refl;
     openings = refl;

@@ -9,7 +9,6 @@ pub mod SimulatedLists
 pub mod SimulatedEnds
 pub mod SimulatedBus
 pub mod SimSetUp
-mod Lapsing
 mod SimulatedReports
 mod SimulatedAccounts
 mod SimulatedTakes

@@ -1,5 +1,5 @@
 -- A run begins on a line that is set up.
-use Rattle.osdp_calls_instance.proofs.Common.{append-nil, ◌≡◌, ◌≢◌, ℕ, zero, suc, ◌<◌, Bool, true, false, List, [], ◌∷◌, length, map, Some, None, refl, sym, subst, ap, ◌∙◌, arith, inl, inr, leb-true, eqb_tells, not, ◌==◌, ◌&&◌, ◌||◌, nat_le, list_all, list_any, most_entries, new_account, site_at, some_same, are_apart, is_at, is_reader_in_range, StoresItsOwn, Station, bus_with, RunsFromASetUp, new_station}
+use Rattle.osdp_calls_instance.proofs.Common.{append-nil, ◌≡◌, ◌≢◌, ℕ, zero, suc, ◌<◌, Bool, true, false, List, [], ◌∷◌, length, map, Some, None, refl, sym, subst, ap, ◌∙◌, arith, inl, inr, leb-true, eqb_tells, not, ◌==◌, ◌&&◌, ◌||◌, nat_le, list_all, list_any, most_entries, site_at, some_same, are_apart, is_at, is_reader_in_range, StoresItsOwn, Station, bus_with, RunsFromASetUp, new_station}
 use Rattle.osdp_sim_bus.specs.State.{Given, address_of}
 
 pub both : (a b : Bool) → (a && b) ≡ true → (a ≡ true) × (b ≡ true)
@@ -82,9 +82,6 @@ module _ {H : Type 0} where
         stored = λ k t at. let from = station_from gap k t readers at in subst (λ (x : Station H). StoresItsOwn x.reader) from.2 tt;
         place = λ k t at.
             let from = station_from gap k t readers at in subst (λ (x : Station H). (x.place ≡ 0) × (x.begun ≡ None)) from.2 (refl, refl);
-        account = λ k t at.
-            let from = station_from gap k t readers at in
-            subst (λ (x : Station H). (x.account ≡ new_account [] x.reader.queue.events) × (x.earlier ≡ [])) from.2 (refl, refl);
         said = refl;
         read = refl;
         openings = refl;

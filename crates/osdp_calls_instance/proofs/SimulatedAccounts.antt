@@ -1,16 +1,14 @@
 -- What the account of each reader of a run tells is what the calls tell that the run is.
-use Rattle.osdp_calls_instance.proofs.Common.{◌≡◌, ◌≢◌, ℕ, zero, suc, ◌<◌, Bool, true, false, cond, List, [], ◌∷◌, ◌++◌, length, map, Option, Some, None, refl, sym, subst, ap, ◌∙◌, arith, append_assoc, append-nil, option_map_or, Command, Event, packets_in, Packet, Report, BusState, new_bus, after_next_report, submit_refusal_at, bus_ticks, BusFault, TellsEachOnce, taken_along, told_along, each_of, Each, Answer, lacks_room, site_at, some_same, handed, left, HoldsAlong, moment_after, SimStep, Busy, Issue, Queue, Reopen, ToController, ToReader, Wait, HasAnAccountEach, TellsAtOnce, is_well, run, after_step, all_hear_each, changed_site, changes_site, fault_of, hears_run, is_there, issued, reopened, report_told, site_begins, site_hears, site_is_busy, site_is_told, site_issues, site_queues, site_queues_unless, takes_report, waited, Call, NewPanel, OfPanel, Step, after_call, GoByTheirOwn, KeepsPanel, one_panel_call, panel_calls, InUse, AddsMakeTheBus, more_calls, one_bus, IsAt, one_so, AtDevice, AtPanel, IsOfDevice, all_calls, calls_at, Begins, DeviceStep, HandsBytes, HearsRun, IsBusy, Queues, SimCall, Submits, Waits, all_hear, begin_calls, line_at_first, new_station, panel_step_calls, programs_at_first, schedule_calls, sim_device, sim_panel, step_calls, RunTellsTheSame, Told, told_in_run, told_to, taken_more, told_more}
+use Rattle.osdp_calls_instance.proofs.Common.{◌≡◌, ◌≢◌, ℕ, zero, suc, ◌<◌, Bool, true, false, cond, List, [], ◌∷◌, ◌++◌, length, map, Option, Some, None, refl, sym, subst, ap, ◌∙◌, arith, append_assoc, append-nil, option_map_or, Command, Event, packets_in, Packet, Report, BusState, new_bus, after_next_report, submit_refusal_at, bus_ticks, BusFault, TellsEachOnce, taken_along, told_along, each_of, Each, Answer, lacks_room, site_at, some_same, handed, left, HoldsAlong, moment_after, SimStep, Busy, Issue, Queue, Reopen, ToController, ToReader, Wait, HasAnAccountEach, TellsAtOnce, is_well, run, after_step, all_hear_each, changed_site, changes_site, fault_of, hears_run, is_there, issued, reopened, report_told, site_begins, site_hears, site_is_busy, site_is_told, site_issues, site_queues, site_queues_unless, takes_report, waited, Call, NewPanel, OfPanel, Step, KeepsPanel, one_panel_call, panel_calls, AddsMakeTheBus, more_calls, IsAt, one_so, AtDevice, AtPanel, IsOfDevice, all_calls, calls_at, Begins, DeviceStep, HandsBytes, HearsRun, IsBusy, Queues, SimCall, Submits, Waits, all_hear, begin_calls, line_at_first, panel_step_calls, programs_at_first, schedule_calls, sim_device, sim_panel, step_calls, RunTellsTheSame, told_in_run, taken_more, told_more}
 use Rattle.std.specs.Prelude.{◌==◌, ◌-◌, is_some, option_to_list, slice_get, slice_set}
 use Rattle.osdp_controller.specs.declared.report.Report.TheVariants as report
 use Rattle.osdp_bus_laws.specs.Calls as bus
 use Rattle.osdp_sim_bus.specs.State.{Given, LineState, ReaderSite, address_of, new_site, set_up}
+use Rattle.osdp_link_laws.specs.Reports.{Told, nothing_told, with_report, with_reports}
+use Rattle.osdp_calls.specs.Told.{all_told, reports_of}
 use Rattle.osdp_calls_instance.proofs.SimulatedBus.{Follows, Here, all_follow, begins_so, goes, joined, step_follows, well_first}
 use Rattle.osdp_calls_instance.proofs.SimulatedEnds.{sim_devices_are}
-use Rattle.osdp_calls_instance.proofs.SimulatedReports.{IsTold, all_told, both_same, more_reports, with_one, with_those}
-
--- nothing is told
-abbrev nothing : Told
-nothing = record { settled = []; unsettled = []; reported = [] }
+use Rattle.osdp_calls_instance.proofs.SimulatedReports.{both_same, calls_tell, more_reports, those_reports, with_those}
 
 adds_take : (addresses : List ℕ) (b : BusState) → taken_along (map bus.Add addresses) b ≡ []
 adds_take [] b = refl
@@ -78,14 +76,14 @@ module _ {H : Type 0} where
   map_site zero change y (u ∷ us) keeps is = (change u, refl, keeps u ∙ ap told_in_run (some_same u is.0 is.1) ∙ is.2)
   map_site (suc k) change y (u ∷ us) keeps is = map_site k change y us keeps is
 
-  one_told : (said : Report) (u : ReaderSite H) → told_in_run (site_is_told said u) ≡ with_one said (told_in_run u)
+  one_told : (said : Report) (u : ReaderSite H) → told_in_run (site_is_told said u) ≡ with_report said (told_in_run u)
   one_told (report.Opened id) u = refl
   one_told _ u = refl
 
   report_site : (k : ℕ) (o : Option (ℕ × Report)) (y : Told) (s : LineState H) → IsSite k y s.sites
       → IsSite k (with_those k (option_to_list o) y) (report_told o s).sites
   report_site k None y s is = is
-  report_site k (Some (entry, said)) y s is = change_site k entry (site_is_told said) (with_one said) y s.sites (one_told said) is
+  report_site k (Some (entry, said)) y s is = change_site k entry (site_is_told said) (with_report said) y s.sites (one_told said) is
 
   queue_site : (full : Bool) (event : Event) (u : ReaderSite H) → told_in_run (site_queues_unless full event u) ≡ told_in_run u
   queue_site true event u = refl
@@ -105,15 +103,10 @@ module _ {H : Type 0} where
   account_count [] = refl
   account_count (u ∷ us) = ap suc (account_count us)
 
-  new_sites : (k : ℕ) (readers : List (Given H)) → k < length readers → IsSite k nothing (map new_site readers)
+  new_sites : (k : ℕ) (readers : List (Given H)) → k < length readers → IsSite k nothing_told (map new_site readers)
   new_sites k [] lt = absurd (omega (arith, lt))
   new_sites zero (given ∷ readers) lt = (new_site given, refl, refl)
   new_sites (suc k) (given ∷ readers) lt = new_sites k readers (omega (arith, lt))
-
-  new_stations : (k gap : ℕ) (readers : List (Given H)) → k < length readers → IsTold k nothing (map (new_station gap) readers)
-  new_stations k gap [] lt = absurd (omega (arith, lt))
-  new_stations zero gap (given ∷ readers) lt = (new_station gap given, refl, refl)
-  new_stations (suc k) gap (given ∷ readers) lt = new_stations k gap readers (omega (arith, lt))
 
   -- ---- the panel's calls among these
 
@@ -138,7 +131,7 @@ module _ {H : Type 0} where
   bus_of_device k (call ∷ calls) rest are =
       ap (λ l. l ++ bus_of (calls ++ rest)) (no_bus k call are.0) ∙ bus_of_device k calls rest are.1
 
-  abbrev pub Keeps : Call H → Type 0
+  abbrev Keeps : Call H → Type 0
   Keeps call = KeepsPanel call
 
   keeps_own : (k : ℕ) (call : Call H) → IsOfDevice k call → KeepsPanel call
@@ -153,7 +146,7 @@ module _ {H : Type 0} where
   keep_devices k [] rest are keep = keep
   keep_devices k (call ∷ calls) rest are keep = (keeps_own k call are.0, keep_devices k calls rest are.1 keep)
 
-  pub keep_steps : (steps : List (Step H)) → Each Keeps (map (λ (step : Step H). step.call) steps) → Each (λ (step : Step H). KeepsPanel step.call) steps
+  keep_steps : (steps : List (Step H)) → Each Keeps (map (λ (step : Step H). step.call) steps) → Each (λ (step : Step H). KeepsPanel step.call) steps
   keep_steps [] keep = tt
   keep_steps (step ∷ steps) keep = (keep.0, keep_steps steps keep.1)
 
@@ -188,7 +181,7 @@ module _ {H : Type 0} where
         bus_of_device k (calls_at sim_panel (sim_device answer_of after) k own (site_at k w.devices)) (all_calls sim_panel (sim_device answer_of after) more next)
         (device_calls k own w) ∙ all_bus_part more next
 
-    pub all_keep_panel : (own : List (SimCall answer_of after)) (w : Here answer_of after) → Each Keeps (all_calls sim_panel (sim_device answer_of after) own w)
+    all_keep_panel : (own : List (SimCall answer_of after)) (w : Here answer_of after) → Each Keeps (all_calls sim_panel (sim_device answer_of after) own w)
     all_keep_panel [] w = tt
     all_keep_panel (AtPanel step ∷ more) w =
         let next = goes answer_of after (AtPanel step ∷ []) w in
@@ -294,9 +287,8 @@ module _ {H : Type 0} where
 
     -- ---- all of it
 
-    pub run_tells : ((l : InUse H) → GoByTheirOwn answer_of after l) → AddsMakeTheBus → TellsEachOnce → TellsAtOnce answer_of after
-        → HasAnAccountEach answer_of after → RunTellsTheSame answer_of after
-    run_tells own adds once at_once each config readers steps gap calls settings none well fits are k u t at there =
+    pub run_tells : AddsMakeTheBus → TellsEachOnce → TellsAtOnce answer_of after → HasAnAccountEach answer_of after → RunTellsTheSame answer_of after
+    run_tells adds once at_once each config readers steps gap calls settings none well fits are k u at =
         let begin = begin_calls answer_of after 0 readers in
         let first = set_up config readers in
         let taken = schedule_calls answer_of after steps first in
@@ -307,17 +299,14 @@ module _ {H : Type 0} where
         let w1 = goes answer_of after begin w in
         let lt : k < length readers =
         omega (arith, first_within k u last.sites at, account_count last.sites, each config readers steps) in
-        let in_run = all_tell k steps nothing first w1 well fits starts.follows (new_sites k readers lt) in
-        let u_is : told_in_run u ≡ with_those k (taken_of taken w1) nothing = ap told_in_run (some_same u in_run.0 (sym at ∙ in_run.1)) ∙ in_run.2 in
+        let in_run = all_tell k steps nothing_told first w1 well fits starts.follows (new_sites k readers lt) in
+        let u_is : told_in_run u ≡ with_those k (taken_of taken w1) nothing_told = ap told_in_run (some_same u in_run.0 (sym at ∙ in_run.1)) ∙ in_run.2 in
         let part = bus_part (begin ++ taken) in
         let part_is : panel_calls calls ≡ part = steps_bus calls ∙ ap bus_of are ∙ all_bus_part (begin ++ taken) w in
         let keep = keep_steps calls (subst (Each Keeps) (sym are) (all_keep_panel (begin ++ taken) w)) in
-        let goes_bus : (call : Call H) (places : List ℕ) (m : InUse H) → KeepsPanel call
-        → (after_call answer_of after call places m).bus ≡ bus.after_calls (one_panel_call call) m.bus =
-        λ call places m keeps. one_bus answer_of after call places m keeps in
-        let in_use = all_told answer_of after goes_bus k calls nothing l keep (new_stations k gap readers lt) in
-        let t_is : told_to t ≡ with_those k (told_along part l.bus) nothing =
-        ap told_to (some_same t in_use.0 (sym there ∙ in_use.1)) ∙ in_use.2 ∙ ap (λ cs. with_those k (told_along cs l.bus) nothing) part_is in
+        let told : with_reports (reports_of k (all_told answer_of after calls l)) nothing_told ≡ with_those k (told_along part l.bus) nothing_told =
+        those_reports k (all_told answer_of after calls l) nothing_told
+        ∙ ap (λ said. with_those k said nothing_told) (calls_tell answer_of after calls l keep ∙ ap (λ cs. told_along cs l.bus) part_is) in
         let addresses = map address_of readers in
         let added = map bus.Add addresses in
         let bus_is : bus.after_calls added (new_bus config) ≡ l.bus = adds config addresses none in
@@ -337,4 +326,4 @@ module _ {H : Type 0} where
         let all_once : taken_of taken w1 ≡ told_along part l.bus =
         sym (append-nil (taken_of taken w1)) ∙ ap (λ x. x ++ []) (sym taken_all)
         ∙ ap (λ x. taken_along (added ++ part) (new_bus config) ++ x) (sym waits) ∙ once config (added ++ part) settings ∙ told_all in
-        t_is ∙ ap (λ said. with_those k said nothing) (sym all_once) ∙ sym u_is
+        told ∙ ap (λ said. with_those k said nothing_told) (sym all_once) ∙ sym u_is

@@ -1,11 +1,11 @@
 -- What calls of the panel in a run read, and what they leave of the places: a burst, or nothing.
-use Rattle.osdp_calls_instance.proofs.Common.{◌≡◌, ◌⊎◌, ℕ, Bool, true, false, cond, List, [], ◌∷◌, ◌++◌, map, Option, Some, None, is_some, refl, sym, subst, ap, ◌∙◌, inl, inr, Command, AreBytes, items, left_over, packets_in, whole_packets, Packet, RunItem, PacketItem, SkippedItem, RefusedItem, items_nothing, reading_split, Report, changed_unless, submit_refusal_at, asks_free, asks_holder, is_due_at, BusFault, told_in, due_by, who_ticks, each_front, each_rest, Each, Answer, site_at, changed_from, InUse, Station, is_past_for_panel, run_calls, AllOrdered}
+use Rattle.osdp_calls_instance.proofs.Common.{◌≡◌, ◌⊎◌, ℕ, Bool, true, false, cond, List, [], ◌∷◌, ◌++◌, map, Option, Some, None, is_some, refl, sym, subst, ap, ◌∙◌, inl, Command, AreBytes, items, left_over, packets_in, whole_packets, Packet, RunItem, PacketItem, SkippedItem, RefusedItem, items_nothing, reading_split, Report, asks_free, asks_holder, is_due_at, due_by, who_ticks, each_front, each_rest, Each, Answer, site_at, InUse, is_past_for_panel, run_calls, AllOrdered}
 use Rattle.osdp_bus.proofs.Waiting.{nothing_ends, nothing_silent}
 use Rattle.osdp_bus.specs.Buses.{BusState, has_report, holder, is_silent, seen}
 use Rattle.osdp_bus.specs.Hearing.{ends_silent}
 use Rattle.osdp_bus_laws.specs.Calls as bus
 use Rattle.osdp_bus_laws.specs.Turns.{judged}
-use Rattle.osdp_calls.specs.Calls.{OfPanel, after_calls, after_panel, all_hear, asked_at, asked_by_holder, change_at, changes_at, hears_of, issues, read_at_end, read_at_silence, read_at_tick, read_by, read_by_holder, read_of_bytes}
+use Rattle.osdp_calls.specs.Calls.{OfPanel, after_calls, after_panel, asked_at, asked_by_holder, read_at_end, read_at_silence, read_at_tick, read_by, read_by_holder, read_of_bytes}
 use Rattle.osdp_calls_instance.proofs.SimulatedLists.{place_then}
 use Rattle.osdp_calls_instance.proofs.SimulatedPlaces.{IsOneOf, Since, Source, at_place, last_place, panel_ordered, placed_all, since_next}
 
@@ -65,85 +65,31 @@ IsQuiet _ = ⊥
 -- ---- places
 
 module _ {H : Type 0} where
-  -- each of these stations has its place, and the moment of a session that is to begin, as it had them
-  abbrev pub KeepEnds : List (Station H) → List (Station H) → Type 0
-  KeepEnds ts us = (j : ℕ) (u : Station H) → site_at j us ≡ Some u
-      → (t : Station H) × (site_at j ts ≡ Some t) × (u.place ≡ t.place) × (u.begun ≡ t.begun)
-
-  pub keep_same : (ts : List (Station H)) → KeepEnds ts ts
-  keep_same ts j u at = (u, at, refl, refl)
-
-  pub keep_then : (ts us vs : List (Station H)) → KeepEnds ts us → KeepEnds us vs → KeepEnds ts vs
-  keep_then ts us vs one two j v at =
-      let u = two j v at in
-      let t = one j u.0 u.1 in
-      (t.0, t.1, u.2 ∙ t.2, u.3 ∙ t.3)
-
-  pub change_keeps : (k : ℕ) (change : Station H → Station H) (ts : List (Station H)) → ((t : Station H) → (change t).place ≡ t.place)
-      → ((t : Station H) → (change t).begun ≡ t.begun) → KeepEnds ts (change_at k change ts)
-  change_keeps k change ts place begun = by_station (site_at k ts) refl
-    where
-      by_station : (o : Option (Station H)) → site_at k ts ≡ o → KeepEnds ts (changes_at k change o ts)
-      by_station None at = keep_same ts
-      by_station (Some t) at = λ j u there. elim (changed_from j k (change t) t u ts at there) [
-        | inl here ↦ (
-          t,
-          ap (λ m. site_at m ts) here.0 ∙ at,
-          ap (λ (x : Station H). x.place) here.1 ∙ place t,
-          ap (λ (x : Station H). x.begun) here.1 ∙ begun t,
-        )
-        | inr other ↦ (u, other.1, refl, refl)
-      ]
-
-  pub all_hear_keeps : (told : List (ℕ × Report)) (ts : List (Station H)) → KeepEnds ts (all_hear told ts)
-  all_hear_keeps [] ts = keep_same ts
-  all_hear_keeps (x ∷ told) ts =
-      keep_then ts (change_at x.0 (hears_of x.1) ts) (all_hear told (change_at x.0 (hears_of x.1) ts))
-      (change_keeps x.0 (hears_of x.1) ts (λ t. refl) (λ t. refl)) (all_hear_keeps told (change_at x.0 (hears_of x.1) ts))
-
-  unless_keeps : (fault : Option BusFault) (ts us : List (Station H)) → KeepEnds ts us → KeepEnds ts (changed_unless fault ts us)
-  unless_keeps None ts us keeps = keeps
-  unless_keeps (Some fault) ts us keeps = keep_same ts
-
   -- what calls of the panel by which nothing is said leave of the places
   pub record HeardBy (i : ℕ) (l next : InUse H) : Type 0 where
     pub said : next.said ≡ l.said
     pub openings : next.openings ≡ l.openings
     pub place : (next.place ≡ l.place) ⊎ (next.place ≡ i)
-    pub stations : KeepEnds l.stations next.stations
+    pub stations : next.stations ≡ l.stations
 
   pub heard_nothing : (i : ℕ) (l : InUse H) → HeardBy i l l
-  heard_nothing i l = record { said = refl; openings = refl; place = inl refl; stations = keep_same l.stations }
+  heard_nothing i l = record { said = refl; openings = refl; place = inl refl; stations = refl }
 
   pub heard_then : (i : ℕ) (l m n : InUse H) → HeardBy i l m → HeardBy i m n → HeardBy i l n
   heard_then i l m n one two = record {
     said = two.said ∙ one.said;
     openings = two.openings ∙ one.openings;
     place = place_then i l.place m.place n.place two.place one.place;
-    stations = keep_then l.stations m.stations n.stations one.stations two.stations;
+    stations = two.stations ∙ one.stations;
   }
 
   pub one_heard : (i : ℕ) (call : bus.Call) (l : InUse H) → IsQuiet call → HeardBy i l (after_panel call (at_place i (read_by call l.bus)) l)
-  one_heard i (bus.Submit k command) l quiet = record {
-    said = refl;
-    openings = refl;
-    place = inl refl;
-    stations = unless_keeps (submit_refusal_at k command l.bus) l.stations (change_at k (issues command) l.stations)
-        (change_keeps k (issues command) l.stations (λ t. refl) (λ t. refl));
-  }
-  one_heard i (bus.OnBytes bytes now) l quiet = record {
-    said = refl;
-    openings = refl;
-    place = last_place i l.place (read_by (bus.OnBytes bytes now) l.bus);
-    stations = all_hear_keeps (told_in (bus.OnBytes bytes now) l.bus) l.stations;
-  }
-  one_heard i (bus.OnSilence now) l quiet = record {
-    said = refl;
-    openings = refl;
-    place = last_place i l.place (read_by (bus.OnSilence now) l.bus);
-    stations = all_hear_keeps (told_in (bus.OnSilence now) l.bus) l.stations;
-  }
-  one_heard i bus.NextReport l quiet = record { said = refl; openings = refl; place = inl refl; stations = keep_same l.stations }
+  one_heard i (bus.Submit k command) l quiet = record { said = refl; openings = refl; place = inl refl; stations = refl }
+  one_heard i (bus.OnBytes bytes now) l quiet =
+      record { said = refl; openings = refl; place = last_place i l.place (read_by (bus.OnBytes bytes now) l.bus); stations = refl }
+  one_heard i (bus.OnSilence now) l quiet =
+      record { said = refl; openings = refl; place = last_place i l.place (read_by (bus.OnSilence now) l.bus); stations = refl }
+  one_heard i bus.NextReport l quiet = record { said = refl; openings = refl; place = inl refl; stations = refl }
   one_heard i _ l quiet = absurd quiet
 
   source_stays : (packets : List Packet) (i : ℕ) (l next : InUse H) → next.said ≡ l.said → next.openings ≡ l.openings → Source packets i l

@@ -2,7 +2,7 @@
 use Rattle.std.proofs.Common.{◌≡◌, ◌⊎◌, ◌<◌, ◌≤◌, ◌+◌, ℕ, suc, true, false, List, [], ◌∷◌, ◌++◌, length, map, Option, Some, None, IfSome, refl, sym, subst, ap, ◌∙◌, arith, append-nil, inl, inr}
 use Rattle.osdp_calls_instance.proofs.Common.{eqb_tells, option_to_list, AreBytes, packets_in, reading, IsPacket, Packet, largest, Command, packets_on, Delivered, Delivery, Lost, Repeated, each_append, Each, ReaderState, hears, outcome, Answer, Apart, IsAway, IsKept, IsToDevice, reader_address, map_from, handed, SaysFit, damage_fault, Deliver, Drop, Repeat, Damage, LineState, ReaderSite, DamageIsBytes, FollowsSites, OneBus, SitesOf, each_reads, same_count, asked_at, GoByTheirOwn, InUse, Station, AtPanel, IsLineOf, HearsRun, SimCall, all_hear, sim_device, sim_panel}
 use Rattle.osdp_frame.specs.Spelling.{spelling}
-use Rattle.osdp_link_laws.specs.Headline.{SaysWhatFitsIf}
+use Rattle.osdp_link_laws.specs.Beginning.{SaysWhatFitsIf}
 use Rattle.osdp_shared_line.specs.Line as line
 use Rattle.osdp_shared_line.specs.Line.{Net, Site, address_of, after_net, first_gets, run, site_at, tagged}
 use Rattle.osdp_shared_line.proofs.Hearing.{for_reader}

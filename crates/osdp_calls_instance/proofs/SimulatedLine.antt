@@ -1,6 +1,5 @@
 -- What is on a simulated line has places in what was said of a line in use.
 use Rattle.osdp_calls_instance.proofs.Common.{◌≡◌, ◌≢◌, ◌⊎◌, ◌≤◌, ◌+◌, ℕ, suc, Bool, true, false, List, [], ◌∷◌, ◌++◌, length, map, Some, refl, sym, subst, ap, ◌∙◌, arith, append_assoc, le-ltb, inl, inr, length-append, map-append, ◌==◌, ◌&&◌, ◌||◌, nat_lt, Packet, Each, Net, Site, address_of, site_at, tagged, by_device, Burst, InUse, Opening, Station, concerns, is_past_for_panel}
-use Rattle.osdp_calls_instance.proofs.SimulatedHeard.{KeepEnds}
 use Rattle.osdp_calls_instance.proofs.SimulatedLists.{at_first, longer, other_number}
 use Rattle.osdp_calls_instance.proofs.SimulatedNet.{NetKeeps}
 use Rattle.osdp_calls_instance.proofs.SimulatedPlaces.{site_more}
@@ -175,7 +174,7 @@ module _ {H : Type 0} where
 
   -- nothing is said or read, and no session is begun
   pub stands_still : (n m : Net H) (l next : InUse H) → NetKeeps n m → next.said ≡ l.said → next.openings ≡ l.openings → next.place ≡ l.place
-      → KeepEnds l.stations next.stations → Stands n l → Stands m next
+      → next.stations ≡ l.stations → Stands n l → Stands m next
   stands_still n m l next keeps said openings place stations st = record {
     pending = st.pending;
     coming = λ k u at. let s = keeps.sites k u at in s.2 ∙ st.coming k s.0 s.1;
@@ -184,15 +183,12 @@ module _ {H : Type 0} where
     asked = moved true st.asked_at st.pending st.asked;
     answered = moved false st.answered_at m.to_panel (subst (Placed false l.said l.openings st.answered_at) (sym keeps.to_panel) st.answered);
     devices = λ k u at.
-        let t = stations k u at in
-        subst (λ i. Ahead i st.asked_at (length next.said)) (sym t.2)
-        (subst (λ bs. Ahead t.0.place st.asked_at (length bs)) (sym said) (st.devices k t.0 t.1));
+        subst (λ bs. Ahead u.place st.asked_at (length bs)) (sym said) (st.devices k u (sym (ap (site_at k) stations) ∙ at));
     panel = subst (λ i. Ahead i st.answered_at (length next.said)) (sym place) (subst (λ bs. Ahead l.place st.answered_at (length bs)) (sym said) st.panel);
     opened = subst (λ bs. Each (IsOpen (length bs)) next.openings) (sym said) (subst (Each (IsOpen (length l.said))) (sym openings) st.opened);
     begun = λ k moment u v at is there.
-        let t = stations k u at in
         let s = keeps.sites k v there in
-        let away = st.begun k moment t.0 s.0 t.1 (sym t.3 ∙ is) s.1 in (
+        let away = st.begun k moment u s.0 (sym (ap (site_at k) stations) ∙ at) is s.1 in (
           subst (λ a. Each (IsAwayFrom k a) st.pending) (sym s.3) away.0,
           subst (λ a. Each (IsAwayFrom k a) m.to_panel) (sym s.3) (subst (Each (IsAwayFrom k (address_of s.0))) (sym keeps.to_panel) away.1),
         );

@@ -1,5 +1,5 @@
 -- What the moves of a schedule leave of what is on the line, and of the addresses of sites.
-use Rattle.osdp_calls_instance.proofs.Common.{◌≡◌, ◌≢◌, ℕ, zero, suc, Bool, true, false, cond, List, [], ◌∷◌, ◌++◌, Option, Some, None, refl, sym, ap, ◌∙◌, inl, inr, ◌==◌, option_to_list, Packet, Command, Event, comset_of, begin_refusal, submit_refusal, ReadsWhatIsAsked, each_map, Each, Answer, lacks_room, Net, Site, address_of, change_unless, changed, first_gets, gets, is_told, left_by, link_of, site_at, tagged, Apart, changed_from, map_from, some_same, asked_in}
+use Rattle.osdp_calls_instance.proofs.Common.{◌≡◌, ◌≢◌, ℕ, zero, suc, Bool, true, false, cond, List, [], ◌∷◌, ◌++◌, Option, Some, None, refl, sym, ap, ◌∙◌, inl, inr, ◌==◌, option_to_list, Packet, Command, Event, comset_of, begin_refusal, submit_refusal, ReadsWhatIsAsked, each_map, Each, Answer, lacks_room, Net, Site, address_of, change_unless, changed, first_gets, gets, is_told, left_by, link_of, site_at, tagged, Apart, changed_from, map_from, some_same, outstanding_command, ahead}
 use Rattle.osdp_controller.specs.Sessions as clocks
 use Rattle.osdp_controller.specs.Ticking as controller
 use Rattle.osdp_controller.specs.declared.fault.ControllerFault.{ControllerFault}
@@ -123,7 +123,7 @@ module _ {H : Type 0} where
     tick_says reads e now s n at apart =
         let t = line.ticks answer_of after now s in
         let frames = option_to_list (frame_at now s) in
-        let well : TicksWell (address_of s) (asked_in s.controller.session.state ++ s.controller.waiting) (controller.ticks now s.controller.session s.controller.waiting) =
+        let well : TicksWell (address_of s) (ahead s.controller) (controller.ticks now s.controller.session s.controller.waiting) =
         ticks_well reads s.controller.session.state (clocks.seen now s.controller.session) s.controller.waiting refl (apart.kept e s at).fits in
         record {
           to_panel = refl;
@@ -139,6 +139,6 @@ module _ {H : Type 0} where
                 | inr other ↦ (old.0, other.1, ap (λ (x : Site H). x.coming) old.2, ap address_of old.2)
               ];
           address = each_map (λ p. IsSent (address_of s)
-              (asked_in (controller.ticks now s.controller.session s.controller.waiting).session.state
+              (option_to_list (outstanding_command (controller.ticks now s.controller.session s.controller.waiting).session.state)
               ++ (controller.ticks now s.controller.session s.controller.waiting).waiting) p) (λ p. p.address ≡ address_of s) (λ p sends. sends.0) frames well.sent;
         }

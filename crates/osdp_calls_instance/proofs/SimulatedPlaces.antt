@@ -2,12 +2,12 @@
 -- order and quiet openings with that place.
 use Rattle.osdp_calls_instance.proofs.Common.{◌≡◌, ◌≢◌, ◌⊎◌, ◌≤◌, ℕ, zero, suc, Bool, true, false, List, [], ◌∷◌, ◌++◌, map, Option, Some, None, refl, sym, subst, ap, ◌∙◌, arith, append_assoc, append-nil, inl, inr, ◌==◌, ◌&&◌, ◌||◌, Command, Event, Packet, items_of, each_all, Each, ReaderState, Answer, lacks_room, site_at, at_changed, at_other, some_same, GoByTheirOwn, Held, device_after, held_by, Burst, InUse, Opening, Station, is_before, is_past_for_device, is_past_for_panel, AreInOrder, AreNotPast, InOrder, IsOfOthers, NextInOrder, QuietOpening, IsOfDevice, AllOrdered, IsOrdered}
 use Rattle.osdp_bus_laws.specs.Calls as bus
-use Rattle.osdp_calls.specs.Calls.{Call, Next, OfPanel, Pending, SetBusy, SetHandler, Silence, Step, SubmitEvent, Take, TickDevice, after_call, after_calls, after_next, by_device, changes_at, first_answered, last_of, nexts, on_station, queues, read_by, read_up_to, LapseEvent, WithdrawEvent}
+use Rattle.osdp_calls.specs.Calls.{Call, Next, OfPanel, Pending, SetBusy, SetHandler, Silence, Step, SubmitEvent, Take, TickDevice, after_call, after_calls, after_next, by_device, changes_at, last_of, nexts, on_station, queues, read_by, read_up_to, LapseEvent, WithdrawEvent}
 use Rattle.osdp_calls_instance.proofs.OwnCalls.{of_device}
 use Rattle.osdp_calls_instance.proofs.SimulatedLists.{place_then, same_number}
 use Rattle.osdp_calls_instance.proofs.SimulatedReads.{CallGood, CallsGood, reads_good}
 use Rattle.osdp_calls_instance.proofs.SimulatedReplies.{replies_by, replies_each}
-use Rattle.osdp_calls.proofs.Ruling.{answers_begun, queues_begun}
+use Rattle.osdp_calls.proofs.Ruling.{queues_begun}
 
 -- ---- places
 
@@ -213,7 +213,7 @@ module _ {H : Type 0} where
               let same : t ≡ u = some_same t u (sym at ∙ there) in (
                 nexts answer_of after (at_place i reads) t,
                 at_changed k (nexts answer_of after (at_place i reads) t) t l.stations at,
-                answers_begun answer_of after (first_answered t.reader reads) t ∙ ap (λ (x : Station H). x.begun) same,
+                ap (λ (x : Station H). x.begun) same,
                 subst (λ (x : Station H). (last_of (at_place i reads) t.place ≡ x.place) ⊎ (last_of (at_place i reads) t.place ≡ i)) same (last_place i t.place reads),
               );
         })

@@ -1,14 +1,13 @@
 -- What each step of a schedule does to what is on the line: its calls keep order and quiet openings.
-use Rattle.osdp_calls_instance.proofs.Common.{◌≡◌, ◌≢◌, ◌⊎◌, ◌≤◌, ◌+◌, ℕ, max, Bool, true, false, List, [], ◌∷◌, ◌++◌, length, map, Option, Some, None, refl, sym, subst, ap, ◌∙◌, arith, append-nil, inl, inr, is_some, slice_get, AreBytes, packets_in, Packet, Command, begin_refusal_at, changed_unless, BusFault, bus_ticks, ticks_at, ticks_with, told_in, IsBusOf, one_ticks, tick_moves, who_ticks, ReadsWhatIsAsked, each_append, Each, Answer, Apart, changed_from, OfPanel, Step, after_calls, after_panel, asked_at, begins_session, begins_with, begun_of, change_at, changes_at, is_to_begin, last_of, noted, panel_says, panel_reads, waiting_of, said_for, GoByTheirOwn, Held, HandsOver, hears_all, Burst, InUse, Opening, Station, is_past_for_panel, IsOurs, AtDevice, AtPanel, IsLineOf, all_calls, calls_at, Begins, DeviceStep, HearsBurst, HearsRun, IsBusy, PanelStep, Queues, SimCall, Submits, Waits, device_step_calls, panel_step_calls, sim_device, sim_panel, AllOrdered}
+use Rattle.osdp_calls_instance.proofs.Common.{◌≡◌, ◌≢◌, ◌⊎◌, ◌≤◌, ◌+◌, ℕ, max, Bool, true, false, List, [], ◌∷◌, ◌++◌, length, map, Option, Some, None, refl, sym, subst, ap, ◌∙◌, arith, append-nil, inl, inr, is_some, slice_get, AreBytes, packets_in, Packet, Command, begin_refusal_at, changed_unless, BusFault, bus_ticks, ticks_at, ticks_with, IsBusOf, one_ticks, tick_moves, who_ticks, ReadsWhatIsAsked, each_append, Each, Answer, Apart, changed_from, OfPanel, Step, after_calls, after_panel, asked_at, begins_session, begins_with, begun_of, change_at, changes_at, is_to_begin, last_of, panel_says, panel_reads, said_for, GoByTheirOwn, Held, HandsOver, hears_all, Burst, InUse, Opening, Station, is_past_for_panel, IsOurs, AtDevice, AtPanel, IsLineOf, all_calls, calls_at, Begins, DeviceStep, HearsBurst, HearsRun, IsBusy, PanelStep, Queues, SimCall, Submits, Waits, device_step_calls, panel_step_calls, sim_device, sim_panel, AllOrdered}
 use Rattle.osdp_bus.specs.Buses.{BusState, seen}
 use Rattle.osdp_bus.specs.Buses as buses
 use Rattle.osdp_bus_laws.specs.Calls as bus
 use Rattle.osdp_bus_links.proofs.Devices.{get_device, get_none}
 use Rattle.osdp_shared_line.specs.Line as line
-use Rattle.osdp_shared_line.specs.Line.{Net, NetMove, Site, address_of, after_net, changed, first_gets, run, site_at, tagged}
-use Rattle.osdp_calls.proofs.Lasting.{noted_keeps}
+use Rattle.osdp_shared_line.specs.Line.{Net, Site, address_of, after_net, changed, run, site_at, tagged}
 use Rattle.osdp_calls_instance.proofs.SimulatedBus.{Here}
-use Rattle.osdp_calls_instance.proofs.SimulatedHeard.{HeardBy, PanelChunk, all_hear_keeps, asked_is, keep_same, quiet_chunk, run_chunk, tick_reads}
+use Rattle.osdp_calls_instance.proofs.SimulatedHeard.{HeardBy, PanelChunk, asked_is, quiet_chunk, run_chunk, tick_reads}
 use Rattle.osdp_calls_instance.proofs.SimulatedLine.{Ahead, IsAwayFrom, IsOpen, Placed, Stands, ahead_bound, ahead_later, ahead_said, burst_of, bursts_length, bursts_of, from, open_more, placed_more, placed_opening, placed_said, stands_quiet, stands_still}
 use Rattle.osdp_calls_instance.proofs.SimulatedLists.{one_place}
 use Rattle.osdp_calls_instance.proofs.SimulatedNet.{NetKeeps, Said, frame_at, net_same, submit_keeps, tick_says}
@@ -168,7 +167,7 @@ module _ {H : Type 0} (answer_of : H → Command → Answer) (after : H → Comm
     device_taken k step w l n m called is keeps st = by_device (site_at k w.devices) refl
       where
         still : Stands m l
-        still = stands_still n m l l keeps refl refl refl (keep_same l.stations) st
+        still = stands_still n m l l keeps refl refl refl refl st
 
         by_device : (o : Option (Held H)) → site_at k w.devices ≡ o → Taken (AtDevice k step ∷ []) w l m
         by_device None none = record {
@@ -221,15 +220,12 @@ module _ {H : Type 0} (answer_of : H → Command → Answer) (after : H → Comm
           asked = moved next heard true st.asked_at st.pending st.asked;
           answered = moved next heard false answered_at m.to_panel answered;
           devices = λ k u at.
-              let t = heard.stations k u at in
-              subst (λ p. Ahead p st.asked_at (length next.said)) (sym t.2)
-              (subst (λ bs. Ahead t.0.place st.asked_at (length bs)) (sym heard.said) (st.devices k t.0 t.1));
+              subst (λ bs. Ahead u.place st.asked_at (length bs)) (sym heard.said) (st.devices k u (sym (ap (site_at k) heard.stations) ∙ at));
           panel = subst (λ bs. Ahead next.place answered_at (length bs)) (sym heard.said) (ahead next.place heard.place);
           opened = subst (λ bs. Each (IsOpen (length bs)) next.openings) (sym heard.said) (subst (Each (IsOpen (length l.said))) (sym heard.openings) st.opened);
           begun = λ k moment u v at is there.
-              let t = heard.stations k u at in
               let s = sites k v there in
-              let old = st.begun k moment t.0 s.0 t.1 (sym t.3 ∙ is) s.1 in
+              let old = st.begun k moment u s.0 (sym (ap (site_at k) heard.stations) ∙ at) is s.1 in
               let same = s.3 old.1 in (
                 subst (λ a. Each (IsAwayFrom k a) st.pending) (sym same) old.0,
                 subst (λ a. Each (IsAwayFrom k a) m.to_panel) (sym same) (less k (address_of s.0) old.1),
@@ -299,7 +295,7 @@ module _ {H : Type 0} (answer_of : H → Command → Answer) (after : H → Comm
       stands_still n m l l (record {
         to_panel = said.to_panel;
         sites = λ k u there. let t = said.sites k u there in (t.0, t.1, t.2 ∙ append-nil t.0.coming, t.3);
-      }) refl refl refl (keep_same l.stations) st
+      }) refl refl refl refl st
   panel_speaks e (Some p) s n m l at own apart said st =
       subst (λ bs. Stands m (record (begins_with e p (begun_of (site_at e l.stations)) l) { said = l.said ++ bs })) (sym (said_ours e p (site_at e l.stations) own))
       (by_begun (begun_of (site_at e l.stations)) refl)
@@ -327,12 +323,9 @@ module _ {H : Type 0} (answer_of : H → Command → Answer) (after : H → Comm
           opening : Opening
           opening = record { entry = e; address = p.address; place = length l.said }
 
-          change : Station H → Station H
-          change t = begins_session (waiting_of (buses.device_of e l.bus)) t
-
           by_station : (o : Option (Station H)) → site_at e l.stations ≡ o → begun_of o ≡ Some moment
               → Stands m (record l {
-                stations = change_at e change l.stations;
+                stations = change_at e begins_session l.stations;
                 openings = opening ∷ l.openings;
                 said = l.said ++ new;
               })
@@ -340,13 +333,13 @@ module _ {H : Type 0} (answer_of : H → Command → Answer) (after : H → Comm
           by_station (Some t) there is =
               let here : p.address ≡ address_of s = said.address.0 in
               let away = st.begun e moment t s there is at in
-              let stations : change_at e change l.stations ≡ changed e (change t) l.stations = ap (λ o. changes_at e change o l.stations) there in
-              speaks_so e p s n m l (record l { stations = change_at e change l.stations; openings = opening ∷ l.openings; said = l.said ++ new }) (opening ∷ l.openings) at apart
+              let stations : change_at e begins_session l.stations ≡ changed e (begins_session t) l.stations = ap (λ o. changes_at e begins_session o l.stations) there in
+              speaks_so e p s n m l (record l { stations = change_at e begins_session l.stations; openings = opening ∷ l.openings; said = l.said ++ new }) (opening ∷ l.openings) at apart
               said st refl refl refl
               (placed_opening true l.said l.openings opening st.asked_at st.pending (subst (λ a. Each (IsAwayFrom e a) st.pending) (sym here) away.0) st.asked)
               (placed_opening false l.said l.openings opening st.answered_at n.to_panel (subst (λ a. Each (IsAwayFrom e a) n.to_panel) (sym here) away.1) st.answered)
               (omega arith, st.opened)
-              (λ k u found. elim (changed_from k e (change t) t u l.stations there (ap (site_at k) (sym stations) ∙ found)) [
+              (λ k u found. elim (changed_from k e (begins_session t) t u l.stations there (ap (site_at k) (sym stations) ∙ found)) [
                 | inl mine ↦ (
                   t,
                   ap (λ j. site_at j l.stations) mine.0 ∙ there,
@@ -362,12 +355,12 @@ module _ {H : Type 0} (answer_of : H → Command → Answer) (after : H → Comm
       let b = l.bus in
       let nothing = tick_reads now b is.held in
       let reads = panel_reads (bus.Tick now) b in
-      let first : InUse H = record l { bus = bus.after_call (bus.Tick now) b; stations = noted (bus.Tick now) b l.stations; place = last_of (at_place l.place reads) l.place } in
+      let first : InUse H = record l { bus = bus.after_call (bus.Tick now) b; place = last_of (at_place l.place reads) l.place } in
       let next = after_panel (bus.Tick now) (at_place l.place reads) l in
       let last = quiet_chunk answer_of after next.place bus.NextReport next tt tt in
       let end = after_calls answer_of after (placed_all answer_of after next.place (map OfPanel (bus.NextReport ∷ [])) next) next in
       let stood : Stands n first =
-      stands_still n n l first (net_same n) refl refl (one_place l.place first.place (last_place l.place l.place reads)) (all_hear_keeps (told_in (bus.Tick now) b) l.stations) st in
+      stands_still n n l first (net_same n) refl refl (one_place l.place first.place (last_place l.place l.place reads)) refl st in
       let sent : (bus_ticks now b).sent ≡ (ticks_at (who_ticks now b) (seen now b)).sent =
       ((hands b).tick now).1
       ∙ ap (λ ps. (ticks_at (asked_at now b) (record (seen now b) { devices = hears_all (max b.greatest now) ps b.devices })).sent) nothing
@@ -375,7 +368,7 @@ module _ {H : Type 0} (answer_of : H → Command → Answer) (after : H → Comm
       let goal : Stands (run answer_of after (tick_moves now b) n) next =
       subst (λ o. Stands (run answer_of after (tick_moves now b) n) (panel_says o (bus_ticks now b).sent first)) (sym (asked_is now b is.held is.report))
       (subst (λ p. Stands (run answer_of after (tick_moves now b) n) (panel_says (who_ticks now b) p first)) (sym sent)
-      (by_who (who_ticks now b) first (λ k s at. noted_keeps k (bus.Tick now) b l.stations ∙ ours k s at) stood)) in
+      (by_who (who_ticks now b) first ours stood)) in
       record {
         steps = placed l.place (OfPanel (bus.Tick now)) l ∷ placed next.place (OfPanel bus.NextReport) next ∷ [];
         are = refl;

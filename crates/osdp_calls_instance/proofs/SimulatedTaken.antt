@@ -1,14 +1,15 @@
 -- The commands that the account of each reader of a run has as taken are those that its device takes.
-use Rattle.osdp_calls_instance.proofs.Common.{◌≡◌, ◌≢◌, ◌⊎◌, ℕ, zero, suc, ◌+◌, ◌<◌, ◌≤◌, Bool, true, false, cond, List, [], ◌∷◌, ◌++◌, length, map, Option, Some, None, refl, sym, subst, ap, ◌∙◌, arith, append_assoc, append-nil, inl, inr, eqb_tells, ◌==◌, ◌-◌, slice_get, Command, Event, packets_in, whole_packets, Packet, items_nothing, Report, after_next_report, submit_refusal_at, BusFault, each_of, Each, hears, kind_of, Answer, lacks_room, changed, site_at, at_changed, at_other, some_same, handed, left, HoldsAlong, moment_after, SimStep, Busy, Issue, Queue, Reopen, ToController, ToReader, Wait, HasAnAccountEach, is_well, run, Given, LineState, ReaderSite, new_site, set_up, after_step, all_hear_each, changed_site, changes_site, fault_of, hears_run, is_there, issued, reopened, report_told, site_begins, site_hears, site_is_busy, site_is_told, site_issues, site_queues, site_queues_unless, waited, Call, OfPanel, Held, is_of_device, InUse, SaysWhatGoesOut, AtDevice, AtPanel, IsOfDevice, all_calls, calls_at, devices_after, Begins, BurstFits, DeviceStep, HandsBytes, HearsBurst, IsBusy, PanelStep, Queues, SimCall, Submits, after_device_step, all_hear, begin_calls, device_step_calls, line_at_first, new_held, new_station, panel_step_calls, programs_at_first, schedule_calls, sim_device, sim_panel, step_calls, RunTakesTheSame}
+use Rattle.osdp_calls_instance.proofs.Common.{◌≡◌, ◌≢◌, ◌⊎◌, ℕ, zero, suc, ◌+◌, ◌<◌, ◌≤◌, Bool, true, false, cond, List, [], ◌∷◌, ◌++◌, length, map, Option, Some, None, refl, sym, subst, ap, ◌∙◌, arith, append_assoc, append-nil, inl, inr, eqb_tells, ◌==◌, ◌-◌, slice_get, Command, Event, packets_in, whole_packets, Packet, items_nothing, Report, after_next_report, submit_refusal_at, BusFault, each_of, Each, hears, kind_of, Answer, lacks_room, changed, site_at, at_changed, at_other, some_same, handed, left, HoldsAlong, moment_after, SimStep, Busy, Issue, Queue, Reopen, ToController, ToReader, Wait, HasAnAccountEach, is_well, run, Given, LineState, ReaderSite, new_site, set_up, after_step, all_hear_each, changed_site, changes_site, fault_of, hears_run, is_there, issued, reopened, report_told, site_begins, site_hears, site_is_busy, site_is_told, site_issues, site_queues, site_queues_unless, waited, Call, OfPanel, Held, GoByTheirOwn, held_by, is_of_device, InUse, Station, AtDevice, AtPanel, IsOfDevice, all_calls, calls_at, devices_after, Begins, BurstFits, DeviceStep, HandsBytes, HearsBurst, IsBusy, PanelStep, Queues, SimCall, Submits, after_device_step, all_hear, begin_calls, device_step_calls, line_at_first, new_held, new_station, panel_step_calls, programs_at_first, schedule_calls, sim_device, sim_panel, step_calls, RunTakesTheSame}
 use Rattle.osdp_controller.specs.declared.report.Report.TheVariants as report
 use Rattle.osdp_bus_laws.specs.Calls as bus
 use Rattle.osdp_sim.specs.Account as sim
+use Rattle.osdp_calls.specs.Told.{all_taken}
 use Rattle.osdp_calls_instance.proofs.LinePrograms.{own_device}
 use Rattle.osdp_calls_instance.proofs.OwnCalls.{others}
-use Rattle.osdp_calls_instance.proofs.SimulatedAccounts.{account_count, all_keep_panel, first_within, keep_steps, site_so, Keeps}
+use Rattle.osdp_calls_instance.proofs.SimulatedAccounts.{account_count, first_within, site_so}
 use Rattle.osdp_calls_instance.proofs.SimulatedBus.{Follows, Here, all_follow, at_both, begins_so, fits_all, goes, more_fit, step_follows, well_first}
 use Rattle.osdp_calls_instance.proofs.SimulatedEnds.{IsSound, sim_devices_are}
-use Rattle.osdp_calls_instance.proofs.SimulatedTakes.{IsTaking, all_take, other_chunk, own_chunk, taken_after, taken_to, takes_each}
+use Rattle.osdp_calls_instance.proofs.SimulatedTakes.{all_take, other_chunk, own_chunk, taken_after, takes_each}
 use Rattle.osdp_calls_instance.proofs.SimulatedTaking.{burst_takes, packets_taken}
 
 no_device : (H : Type 0) (k : ℕ) (calls : List bus.Call) → Each (λ (call : Call H). is_of_device k call ≡ false) (map OfPanel calls)
@@ -279,7 +280,7 @@ module _ {H : Type 0} where
       device : site_at k (map (new_held gap) readers) ≡ Some d
       sound : 1 ≤ gap → IsSound answer_of after d
       site : IsTakenSite k [] (map new_site readers)
-      station : IsTaking k d [] (map (new_station gap) readers)
+      station : (t : Station H) × (site_at k (map (new_station gap) readers) ≡ Some t) × (held_by t ≡ d)
 
     starts : (k gap : ℕ) (readers : List (Given H)) → k < length readers → Starts k gap readers
     starts k gap [] lt = absurd (omega (arith, lt))
@@ -288,7 +289,7 @@ module _ {H : Type 0} where
       device = refl;
       sound = λ some. (refl, Rattle.osdp_frame.proofs.Receipt.received_new gap some);
       site = (new_site given, refl, refl);
-      station = (new_station gap given, refl, (refl, refl));
+      station = (new_station gap given, refl, refl);
     }
     starts (suc k) gap (given ∷ readers) lt =
         let s = starts k gap readers (omega (arith, lt)) in
@@ -296,8 +297,8 @@ module _ {H : Type 0} where
 
     -- ---- all of it
 
-    pub run_takes : ((l : InUse H) → SaysWhatGoesOut answer_of after l) → HasAnAccountEach answer_of after → RunTakesTheSame answer_of after
-    run_takes says each config readers steps gap calls some well fits are k u t at there =
+    pub run_takes : ((l : InUse H) → GoByTheirOwn answer_of after l) → HasAnAccountEach answer_of after → RunTakesTheSame answer_of after
+    run_takes by_own each config readers steps gap calls some well fits are k u at =
         let begin = begin_calls answer_of after 0 readers in
         let first = set_up config readers in
         let taken = schedule_calls answer_of after steps first in
@@ -315,11 +316,9 @@ module _ {H : Type 0} where
         let in_run = all_take_in k steps s.d [] first w1 well fits opens.follows at_1 s.site in
         let u_is : u.account.taken ≡ own_takes k taken s.d [] =
         ap (λ (x : ReaderSite H). x.account.taken) (some_same u in_run.0 (sym at ∙ in_run.1)) ∙ in_run.2 in
-        let keep = keep_steps calls (subst (Each Keeps) (sym are) (all_keep_panel answer_of after own w)) in
-        let in_use = all_take answer_of after says k calls s.d [] l keep s.station in
-        let t_is : taken_to t ≡ taken_after answer_of after k (all_calls sim_panel (sim_device answer_of after) own w) s.d [] =
-        ap taken_to (some_same t in_use.0 (sym there ∙ in_use.1)) ∙ in_use.2.1 ∙ ap (λ cs. taken_after answer_of after k cs s.d []) are in
         let own_is : own_takes k own s.d [] ≡ own_takes k taken s.d [] =
         more_takes_own k begin taken s.d []
         ∙ (λ i. own_takes k taken (begins_hold k 0 readers s.d i) (begins_take_none k 0 readers s.d [] i)) in
+        let t_is : all_taken answer_of after k calls l ≡ taken_after answer_of after k (all_calls sim_panel (sim_device answer_of after) own w) s.d [] =
+        all_take answer_of after by_own k calls s.d [] l s.station.0 s.station.1 s.station.2 ∙ ap (λ cs. taken_after answer_of after k cs s.d []) are in
         t_is ∙ all_own_takes k own w s.d [] s.device (s.sound some) fit ∙ own_is ∙ sym u_is

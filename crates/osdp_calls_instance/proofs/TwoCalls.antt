@@ -1,6 +1,6 @@
 -- The premises hold of the list with two entries, call by call.
 use Rattle.std.proofs.Common.{◌≡◌, ◌≢◌, ◌<◌, ℕ, zero, suc, true, false, IfSome, List, [], ◌∷◌, Some, None, refl, sym, subst, ap, ◌∙◌, arith, inl, inr}
-use Rattle.osdp_calls_instance.proofs.Common.{slice_get, packed, Packet, Sum, CapabilityFits, Command, Communication, new_device, IsBusConfig, Entry, bus_in_range, new_account, each_all, Each, hears, Answer, Sets, SetsReader, Somewhere, site_at, some_same, StoresItsOwn, InUse, Station, ahead_of_device, is_past_for_device, is_past_for_panel, IsAsked, IsNoOthers, IsSaid, IsSetUp, IsThere, unended_of, four, settings, station_at, TwoCallsKeep, once, two_after, two_set_up}
+use Rattle.osdp_calls_instance.proofs.Common.{slice_get, packed, Packet, Sum, CapabilityFits, Command, Communication, new_device, IsBusConfig, Entry, bus_in_range, each_all, Each, hears, Answer, Sets, SetsReader, Somewhere, site_at, some_same, StoresItsOwn, InUse, Station, ahead_of_device, is_past_for_device, is_past_for_panel, IsAsked, IsNoOthers, IsSaid, IsSetUp, IsThere, unended_of, four, settings, station_at, TwoCallsKeep, once, two_after, two_set_up}
 use Rattle.osdp_frame.specs.Held.{decided}
 use Rattle.osdp_frame.specs.Items.{items, left_over}
 use Rattle.osdp_msg.specs.CommandTable.{command_at, command_fault, command_of}
@@ -89,7 +89,6 @@ module _ {H : Type 0} where
     apart = two_apart handler;
     stored = two_stations handler (λ t. StoresItsOwn t.reader) tt tt;
     place = two_stations handler (λ t. (t.place ≡ 0) × (t.begun ≡ None)) (refl, refl) (refl, refl);
-    account = two_stations handler (λ t. (t.account ≡ new_account [] t.reader.queue.events) × (t.earlier ≡ [])) (refl, refl) (refl, refl);
     said = refl;
     read = refl;
     openings = refl;
@@ -195,5 +194,6 @@ module _ {H : Type 0} (answer_of : H → Command → Answer) (after : H → Comm
       ),
     );
     openings = refl;
-    unsettled = refl;
+    told = refl;
+    no_more = refl;
   }

@@ -8,7 +8,6 @@ use Rattle.osdp_bus.specs.Settings.{default_config}
 use Rattle.osdp_bus.specs.declared.config.BusConfig.{BusConfig}
 use Rattle.osdp_bus_laws.specs.Calls as bus
 use Rattle.osdp_frame.specs.Receiving.{new_line}
-use Rattle.osdp_link_laws.specs.Link.{new_account}
 use Rattle.osdp_reader.specs.State.{new_reader}
 use Rattle.osdp_reader.specs.declared.config.ReaderConfig.{ReaderConfig}
 use Rattle.osdp_reader.specs.declared.handler.Answer.{Answer}
@@ -46,8 +45,6 @@ module _ {H : Type 0} where
     line = new_line 20;
     place = 0;
     begun = None;
-    account = new_account [] [];
-    earlier = [];
   }
 
   abbrev pub station : H → Station H

@@ -10,7 +10,6 @@ use Rattle.osdp_bus.specs.declared.config.BusConfig.{BusConfig}
 use Rattle.osdp_bus_laws.specs.Calls as bus
 use Rattle.osdp_device.specs.Hearing.{hears_bytes, turns_left}
 use Rattle.osdp_frame.specs.Receiving.{IsReceived, Received, after_silence, new_line}
-use Rattle.osdp_link_laws.specs.Link.{new_account}
 use Rattle.osdp_reader.specs.State.{after_set_busy, new_reader}
 use Rattle.osdp_reader.specs.declared.handler.Answer.{Answer}
 use Rattle.osdp_reader.specs.Queue.{lacks_room}
@@ -91,8 +90,6 @@ module _ {H : Type 0} where
     line = new_line gap;
     place = 0;
     begun = None;
-    account = new_account [] [];
-    earlier = [];
   }
 
   abbrev pub line_at_first : BusConfig → ℕ → List (Given H) → InUse H

@@ -1,15 +1,17 @@
 -- A list of calls with two entries that keeps the premises: a packet that is for another device, an order that is settled, a COMSET that is lost and
--- told unsettled, two retargets, and a second opening while that COMSET is unread.
+-- told in doubt, two retargets, and a second opening while that COMSET is unread.
 use Rattle.std.specs.Prelude.{◌≡◌, ℕ, List, [], ◌∷◌, map, take}
 use Rattle.osdp_msg.specs.declared.command.Command.{Command}
 use Rattle.osdp_msg.specs.declared.command.Command.TheVariants.{Cap}
+use Rattle.osdp_msg.specs.declared.reply.Reply.TheVariants.{PdCap}
 use Rattle.osdp_bus.specs.declared.config.BusConfig.{BusConfig}
 use Rattle.osdp_bus_laws.specs.Calls as bus
-use Rattle.osdp_link_laws.specs.Link.{Account}
+use Rattle.osdp_link_laws.specs.Reports.{Told, nothing_told, with_reports}
 use Rattle.osdp_reader.specs.declared.handler.Answer.{Answer}
 use Rattle.osdp_calls.specs.Calls.{Next, OfPanel, Step, Take, after_calls}
-use Rattle.osdp_calls.specs.Lines.{InUse, Opening, Station, bus_with}
+use Rattle.osdp_calls.specs.Lines.{InUse, Opening, bus_with}
 use Rattle.osdp_calls.specs.Premises.{AllKeep, IsSetUp}
+use Rattle.osdp_calls.specs.Told.{all_told, reports_of}
 use Rattle.osdp_calls_instance.specs.Instance.{away, calls, settings, station_at}
 
 -- a bus with two entries, at addresses 0 and 1, whose controllers send each packet once
@@ -17,11 +19,6 @@ abbrev pub once : BusConfig
 once = record settings { sends = 1 }
 
 module _ {H : Type 0} where
-  -- the sessions of the first entry but one before all, the last of them first
-  abbrev pub first_of : List (Station H) → List Account
-  first_of [] = []
-  first_of (t ∷ ts) = t.account ∷ take 1 t.earlier
-
   abbrev pub two_set_up : H → InUse H
   two_set_up handler = record {
     bus = bus_with once (0 ∷ 1 ∷ []);
@@ -32,7 +29,7 @@ module _ {H : Type 0} where
   }
 
   -- A session of entry 0 opens. Both devices read its opening ID, and the one at address 1 passes it over. CAP is settled. COMSET goes out, nobody
-  -- reads it, and it is told unsettled. The panel asks at the new address and goes back, and a second session opens, and then one of entry 1.
+  -- reads it, and it is told in doubt. The panel asks at the new address and goes back, and a second session opens, and then one of entry 1.
   abbrev pub two_calls : List (Step H)
   two_calls =
       calls (OfPanel (bus.Begin 0 0)) []
@@ -73,10 +70,15 @@ module _ {H : Type 0} where
     abbrev pub two_after : ℕ → H → InUse H
     two_after count handler = after_calls answer_of after (take count two_calls) (two_set_up handler)
 
-    -- They keep the premises, whatever the devices' handlers answer. Three sessions have opened, the second while the COMSET could still come; CAP was
-    -- settled, and the COMSET told unsettled, in the first.
+    -- what the panel was told of entry 0 in so many of them
+    abbrev pub two_told : ℕ → H → Told
+    two_told count handler = with_reports (reports_of 0 (all_told answer_of after (take count two_calls) (two_set_up handler))) nothing_told
+
+    -- They keep the premises, whatever the devices' handlers answer. Three sessions have opened, the second while the COMSET could still come. CAP was
+    -- settled, and the COMSET told in doubt, before that; and nothing later.
     pub record TwoCallsKeep (handler : H) : Type 0 where
       pub up : IsSetUp (two_set_up handler)
       pub keep : AllKeep answer_of after two_calls (two_set_up handler)
       pub openings : map (λ (o : Opening). o.place) (two_after 31 handler).openings ≡ 7 ∷ 5 ∷ 0 ∷ []
-      pub unsettled : map (λ (a : Account). a.unsettled) (first_of (two_after 31 handler).stations) ≡ [] ∷ (away ∷ []) ∷ []
+      pub told : two_told 20 handler ≡ record { settled = (Cap 0, PdCap (record { capabilities = record { items = [] } })) ∷ []; in_doubt = away ∷ []; reported = [] }
+      pub no_more : two_told 31 handler ≡ two_told 20 handler

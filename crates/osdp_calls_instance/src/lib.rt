@@ -108,15 +108,13 @@ pub fn run_is_calls<H: Handler>()
     osdp_calls::ends_go_by_their_own_calls::<H>();
 }
 
-/// After such a run the account of each reader and the sessions of its entry say the same. Over a bus to which the entries can be added both have the same
-/// reports: the commands that are settled, each with its answer, those that are told unsettled, and the events that are reported. And the same commands
-/// are taken.
+/// After such a run the account of each reader says what the calls do. Over a bus to which the entries can be added both have the same reports: the commands
+/// that are settled, each with its answer, those that are told in doubt, and the events that are reported. And the same commands are taken.
 pub fn run_tells_the_same<H: Handler>()
     ensures reports { RunTellsTheSame H.answer_of H.after }
     ensures takes { RunTakesTheSame H.answer_of H.after }
 {
     stands_on_calls::<H>();
-    osdp_calls::says_what_goes_out::<H>();
     osdp_bus_laws::reports_are_told_once();
     osdp_sim_bus::laws::tells_at_once::<H>();
     osdp_sim_bus::laws::has_an_account_each::<H>();

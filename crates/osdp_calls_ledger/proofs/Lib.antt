@@ -14,6 +14,7 @@ pub mod Exits
 pub mod Keeping
 pub mod Promising
 pub mod Histories
+pub mod Refusing
 pub mod Unbroken
 pub mod OneDevice
 pub mod Reporting

@@ -12,8 +12,8 @@ module _ {H : Type 0} (answer_of : H → Command → Answer) (after : H → Comm
       let left = (runs (steps_from answer_of after k first steps l) new_history).left in (
         kept.allowed,
         record {
-          accepted = sym kept.accounts.orders;
-          queued = sym kept.accounts.cards;
+          accepted = sym kept.tells.orders;
+          queued = sym kept.tells.cards;
           ahead = kept.ledger.ahead;
           waiting = kept.ledger.cards;
           orders = kept.orders;

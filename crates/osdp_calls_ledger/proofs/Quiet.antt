@@ -1,8 +1,11 @@
--- Moves that show the programs nothing: losses, settings, and a session that is to begin.
-use Rattle.osdp_calls_ledger.proofs.Common.{◌≡◌, ℕ, List, [], ◌∷◌, ◌++◌, Option, Some, None, refl, ap, ◌∙◌, ◌==◌, option_map, option_to_list, Command, Answer, Ledger, Link, Move, after_move, both, Each, after_steps, all_steps, LoseToPanel, LoseToReader, Net, NetMove, Reopen, Retarget, SetBusy, Site, after_net, is_retarget_refused, site_at, move_of, one_if, own_place, view, IsLoss}
+-- Moves that show the programs nothing: losses, settings, and a session that is to begin; and moves in which no device takes a command.
+use Rattle.osdp_calls_ledger.proofs.Common.{◌≡◌, ℕ, List, [], ◌∷◌, ◌++◌, Option, Some, None, refl, ap, ◌∙◌, Command, Answer, Ledger, Link, Move, after_move, Each, after_steps, all_steps, LoseToPanel, LoseToReader, Net, NetMove, Reopen, Retarget, SetBusy, Site, ToPanel, ToReader, after_net, site_at, move_of, view, IsLoss}
 use Rattle.osdp_link_laws.specs.Link as link
 use Rattle.osdp_link_ledger.specs.Steps as links
 use Rattle.osdp_shared_line.specs.Line as line
+use Rattle.osdp_link_laws.specs.Reports.{taken_in}
+use Rattle.osdp_shared_line.proofs.Restarting.{HoldsOf, move_holds}
+use Rattle.osdp_calls.proofs.Counting.{at_site, counted, in_net}
 use Rattle.osdp_calls_ledger.proofs.Seen.{seen, seen_at}
 
 module _ {H : Type 0} where
@@ -30,24 +33,35 @@ module _ {H : Type 0} where
   LinkShowsNothing (link.Reopen now) = Unit {0}
   LinkShowsNothing _ = ⊥
 
-  one_shows : (i k : ℕ) (move : Move H) → LinkShowsNothing move → Each LinkShowsNothing (one_if i k move)
-  one_shows i k move none = both (Each LinkShowsNothing) (i == k) (move ∷ []) [] (none, tt) tt
+  shows_holds : (k : ℕ) (move : NetMove H) → ShowsNothing move → HoldsOf LinkShowsNothing k move
+  shows_holds k (SetBusy i busy) none = λ here. tt
+  shows_holds k (line.SetHandler i handler) none = λ here. tt
+  shows_holds k (Retarget i address) none = λ here. tt
+  shows_holds k (LoseToReader i place) none = λ q. tt
+  shows_holds k (LoseToPanel place) none = λ q. tt
+  shows_holds k (Reopen i now) none = λ here. tt
+  shows_holds k _ none = absurd none
 
-  loss_none : (f : ℕ → Move H) (o : Option ℕ) → ((place : ℕ) → LinkShowsNothing (f place)) → Each LinkShowsNothing (option_to_list (option_map f o))
-  loss_none f None none = tt
-  loss_none f (Some place) none = (none place, tt)
+  -- nobody reads but the panel
+  abbrev pub TakesNone : NetMove H → Type 0
+  TakesNone (ToReader k how) = ⊥
+  TakesNone _ = Unit {0}
 
-  each_shows : (k : ℕ) (s : Site H) (move : NetMove H) (n : Net H) → ShowsNothing move → Each LinkShowsNothing (move_of k s move n)
-  each_shows k s (SetBusy i busy) n none = one_shows i k (link.SetBusy busy) tt
-  each_shows k s (line.SetHandler i handler) n none = one_shows i k (link.SetHandler handler) tt
-  each_shows k s (Retarget i address) n none =
-      both (Each LinkShowsNothing) (is_retarget_refused i address s n.sites) [] (one_if i k (link.Retarget address)) tt (one_shows i k (link.Retarget address) tt)
-  each_shows k s (LoseToReader i place) n none =
-      both (Each LinkShowsNothing) (i == k) (option_to_list (option_map link.LoseToReader (own_place k place s.coming))) []
-      (loss_none link.LoseToReader (own_place k place s.coming) (λ place. tt)) tt
-  each_shows k s (LoseToPanel place) n none = loss_none link.LoseToController (own_place k place n.to_panel) (λ place. tt)
-  each_shows k s (Reopen i now) n none = one_shows i k (link.Reopen now) tt
-  each_shows k s _ n none = absurd none
+  pub loss_takes : (move : NetMove H) → IsLoss move → TakesNone move
+  loss_takes (ToReader k how) loss = absurd loss
+  loss_takes _ loss = tt
+
+  abbrev LinkTakesNone : Move H → Type 0
+  LinkTakesNone (link.ToReader how) = ⊥
+  LinkTakesNone _ = Unit {0}
+
+  takes_holds : (k : ℕ) (move : NetMove H) → TakesNone move → HoldsOf LinkTakesNone k move
+  takes_holds k (ToReader i how) none = absurd none
+  takes_holds k (ToPanel how now) none = (λ by. tt, tt)
+  takes_holds k (LoseToReader i place) none = λ q. tt
+  takes_holds k (LoseToPanel place) none = λ q. tt
+  takes_holds k (line.RestartPanel settings) none = tt
+  takes_holds k _ none = λ here. tt
 
   module _ (answer_of : H → Command → Answer) (after : H → Command → H) where
     link_none : (m : Move H) (l : Link H) (g : Ledger) → LinkShowsNothing m → links.steps_of answer_of after m l g ≡ []
@@ -67,7 +81,7 @@ module _ {H : Type 0} where
 
     at_none : (k : ℕ) (o : Option (Site H)) (m : NetMove H) (n : Net H) (g : Ledger) → ShowsNothing m → seen_at answer_of after k o m n g ≡ []
     at_none k None m n g none = refl
-    at_none k (Some s) m n g none = links_none (move_of k s m n) (view k s n) g (each_shows k s m n none)
+    at_none k (Some s) m n g none = links_none (move_of k s m n) (view k s n) g (move_holds LinkShowsNothing k m s n (shows_holds k m none))
 
     pub seen_none : (k : ℕ) (ms : List (NetMove H)) (n : Net H) (g : Ledger) → Each ShowsNothing ms → seen answer_of after k ms n g ≡ []
     seen_none k [] n g none = refl
@@ -83,3 +97,25 @@ module _ {H : Type 0} where
         Rattle.osdp_calls_ledger.proofs.Seen.seen_more answer_of after k ms more n g
         ∙ ap (λ steps. steps ++ seen answer_of after k more (line.run answer_of after ms n) (after_steps steps g)) (seen_none k ms n g none)
         ∙ ap (λ q. seen answer_of after k more q g) is
+
+    -- ---- .. and take nothing
+
+    link_takes : (m : Move H) (l : Link H) → LinkTakesNone m → taken_in answer_of after m l ≡ []
+    link_takes (link.ToReader how) l none = absurd none
+    link_takes _ l none = refl
+
+    links_take : (ms : List (Move H)) (l : Link H) → Each LinkTakesNone ms → counted answer_of after (taken_in answer_of after) ms l ≡ []
+    links_take [] l none = refl
+    links_take (m ∷ ms) l none =
+        let next = after_move answer_of after m l in
+        ap (λ cs. cs ++ counted answer_of after (taken_in answer_of after) ms next) (link_takes m l none.0) ∙ links_take ms next none.1
+
+    at_takes : (k : ℕ) (o : Option (Site H)) (m : NetMove H) (n : Net H) → TakesNone m → at_site answer_of after (taken_in answer_of after) k o m n ≡ []
+    at_takes k None m n none = refl
+    at_takes k (Some s) m n none = links_take (move_of k s m n) (view k s n) (move_holds LinkTakesNone k m s n (takes_holds k m none))
+
+    pub none_takes : (k : ℕ) (ms : List (NetMove H)) (n : Net H) → Each TakesNone ms → in_net answer_of after (taken_in answer_of after) k ms n ≡ []
+    none_takes k [] n none = refl
+    none_takes k (m ∷ ms) n none =
+        let next = after_net answer_of after m n in
+        ap (λ cs. cs ++ in_net answer_of after (taken_in answer_of after) k ms next) (at_takes k (site_at k n.sites) m n none.0) ∙ none_takes k ms next none.1

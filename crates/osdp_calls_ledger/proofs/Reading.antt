@@ -1,12 +1,13 @@
 -- What the panel reads: of each packet the controller at its address tells, and nobody else.
-use Rattle.osdp_calls_ledger.proofs.Common.{◌≡◌, ◌≢◌, ◌+◌, ℕ, Bool, true, false, cond, List, [], ◌∷◌, ◌++◌, Option, Some, None, All, refl, sym, subst, ap, ◌∙◌, inl, inr, arith, append-nil, is_some, length, eqb_tells, ◌==◌, slice_get, Packet, Command, Heard, hears, Machine, Ticked, ticks, ticks_in, Report, State, Closed, first_from, is_at, told_of, hears_packet, Entry, told_at, told_by_entry, told_by_item, told_with, Answer, Ledger, Repeated, each_of, is_false, is_true, Each, after_steps, all_steps, opens, ticked, told, Net, NetMove, Site, ToPanel, address_of, link_of, site_at, HeardByOwn, front_to_panel, other_reply, own, own_reply, closed_hears, last_of, told_by_all, Burst, InUse, Station, address_same, at_entry, reads_those, hears_same, ignored_quiet, AllHeard, FoundAt, Nobody, Somebody, found, IsOurs, ours_below, FirstAt, NoneAt, OneAt, first_at, first_before, IsHeard, IsIgnored, IsRead, hears_one, panel_on, reads_here, told_then, NotPast, unheard, Controls, IsNetOf, IsToOpen, Sites, AreOfOthers, IsElsewhere, Ordered, ordered_heard, others_hear, reported, heard_keeps, at_length}
+use Rattle.osdp_calls_ledger.proofs.Common.{◌≡◌, ◌≢◌, ◌+◌, ℕ, Bool, true, false, cond, List, [], ◌∷◌, ◌++◌, Option, Some, None, All, refl, sym, subst, ap, ◌∙◌, inl, inr, arith, append-nil, is_some, length, eqb_tells, ◌==◌, slice_get, Packet, Command, Heard, hears, Machine, Ticked, ticks, ticks_in, Report, State, Closed, first_from, is_at, told_of, hears_packet, Entry, told_at, told_by_entry, told_by_item, told_with, Answer, Ledger, Repeated, each_of, is_false, is_true, Each, after_steps, all_steps, opens, ticked, told, Net, NetMove, Site, ToPanel, address_of, link_of, site_at, HeardByOwn, front_to_panel, other_reply, own, own_reply, closed_hears, told_by_all, Burst, InUse, Station, address_same, at_entry, reads_those, hears_same, ignored_quiet, AllHeard, FoundAt, Nobody, Somebody, found, IsOurs, ours_below, FirstAt, NoneAt, OneAt, first_at, first_before, IsHeard, IsIgnored, IsRead, hears_one, panel_on, reads_here, NotPast, unheard, Controls, IsNetOf, IsToOpen, Sites, AreOfOthers, IsElsewhere, Ordered, ordered_heard, others_hear, reported, at_length}
 use Rattle.osdp_frame.specs.Reading.{PacketItem}
 use Rattle.osdp_controller.specs.Sessions as clocks
 use Rattle.osdp_bus.specs.Entries as devices
 use Rattle.osdp_link_laws.specs.Link as link
 use Rattle.osdp_calls_ledger.proofs.Own.{seen_one}
+use Rattle.osdp_calls_ledger.proofs.Quiet.{TakesNone}
 use Rattle.osdp_calls_ledger.proofs.Seen.{in_turn, seen, seen_at}
-use Rattle.osdp_calls_ledger.proofs.Shows.{Shown, Shows, both_shown, by_losses, by_made, none_shown, shows_as, then_shows}
+use Rattle.osdp_calls_ledger.proofs.Shows.{PanelShows, Shown, both_shown, by_losses, by_made, none_shown, shows_as, then_shows}
 
 -- ---- what is told of one entry
 
@@ -174,39 +175,36 @@ module _ {H : Type 0} where
     abbrev pub reads_shown : List Packet → InUse H → Shown
     reads_shown ps l k = reported k (told_by_all l.bus.greatest ps l.bus.devices)
 
-    -- what the panel reads leaves each station there
-    pub reads_keep : (ps : List Packet) (places : List ℕ) (l : InUse H) (k : ℕ)
-        → is_some (site_at k (reads_those answer_of after ps places l).stations) ≡ is_some (site_at k l.stations)
-    reads_keep ps places l k = heard_keeps k (told_by_all l.bus.greatest ps l.bus.devices) l.stations
+    read_takes : (moves : List (NetMove H)) (b : Burst) (l : InUse H) (n : Net H) (told : List (ℕ × Report)) → IsRead answer_of after b l n told moves
+        → Each TakesNone moves
+    read_takes moves b l n told (IsIgnored none are) = subst (Each TakesNone) (sym are) tt
+    read_takes moves b l n told (IsHeard rest front are) = subst (Each TakesNone) (sym are) (tt, tt)
 
     -- a packet that none of our controllers hears shows nothing
     unread_shows : (p : Packet) (ps : List Packet) (places : List ℕ) (l : InUse H) (n : Net H) → IsElsewhere (length l.stations) l.bus.devices.entries p
-        → Shows answer_of after (reads_shown ps (hears_one answer_of after p l)) n (reads_those answer_of after ps places (hears_one answer_of after p l))
-        → Shows answer_of after (reads_shown (p ∷ ps) l) n (reads_those answer_of after (p ∷ ps) places l)
+        → PanelShows answer_of after (reads_shown ps (hears_one answer_of after p l)) n (reads_those answer_of after ps places (hears_one answer_of after p l))
+        → PanelShows answer_of after (reads_shown (p ∷ ps) l) n (reads_those answer_of after (p ∷ ps) places l)
     unread_shows p ps places l n off rest =
         let g = l.bus.greatest in
         let told_here = told_by_item g (PacketItem p) l.bus.devices in
         let more = told_by_all g ps (hears_packet p g l.bus.devices) in
         shows_as answer_of after (λ k. reported k more) (reads_shown (p ∷ ps) l) n (reads_those answer_of after (p ∷ ps) places l)
         (λ k q own.
-        let nothing = of_others k l.stations (sym (reads_keep (p ∷ ps) places l k) ∙ own) told_here (others_hear p g l off).told q in
+        let nothing = of_others k l.stations own told_here (others_hear p g l off).told q in
         sym (λ i. nothing i ++ reported k more (after_steps (nothing i) q)) ∙ sym (reported_more k told_here more q))
-        (subst (λ ts. Shows answer_of after (λ k. reported k more) n (record l {
-          bus = record l.bus { devices = Rattle.osdp_calls.specs.Handing.hears_all g ps (hears_packet p g l.bus.devices) };
-          stations = ts;
-          place = last_of places l.place;
-        })) (sym (told_then told_here more l.stations)) rest)
+        rest
 
     pub reads_show : (ps : List Packet) (places : List ℕ) (l : InUse H) (n : Net H) → IsNetOf l n → Ordered l ps places → Each (NotPast l) places
-        → Shows answer_of after (reads_shown ps l) n (reads_those answer_of after ps places l)
-    reads_show [] [] l n h all past = record { net = n; moves = []; fit = tt; run = refl; same = h; shows = λ heard k g own. refl }
+        → PanelShows answer_of after (reads_shown ps l) n (reads_those answer_of after ps places l)
+    reads_show [] [] l n h all past =
+        record { net = n; moves = []; fit = tt; run = refl; same = h; kinds = tt; shows = λ heard k g own. refl; takes = λ heard k own. refl }
     reads_show [] (i ∷ places) l n h all past = absurd all
     reads_show (p ∷ ps) [] l n h all past =
         unread_shows p ps [] l n all.0 (reads_show ps [] (hears_one answer_of after p l) n (unheard answer_of after p l n h all.0)
-        (ordered_heard (told_by_item l.bus.greatest (PacketItem p) l.bus.devices) p l ps [] l.place all.1) past)
+        (ordered_heard p l ps [] l.place all.1) past)
     reads_show (p ∷ ps) (i ∷ places) l n h (inr others) past =
         unread_shows p ps (i ∷ places) l n others.0 (reads_show ps (i ∷ places) (hears_one answer_of after p l) n (unheard answer_of after p l n h others.0)
-        (ordered_heard (told_by_item l.bus.greatest (PacketItem p) l.bus.devices) p l ps (i ∷ places) l.place others.1) past)
+        (ordered_heard p l ps (i ∷ places) l.place others.1) past)
     reads_show (p ∷ ps) (i ∷ places) l n h (inl all) past =
         let inside = at_length i all.0 l.said all.1 in
         let l1 = record l { place = i } in
@@ -217,17 +215,12 @@ module _ {H : Type 0} where
         let here : Shown = λ k. reported k told_here in
         let rest : Shown = λ k. reported k more in
         let first = by_losses answer_of after n l1 (panel_on answer_of after i l n h all.3 (omega (arith, inside))) in
-        let second = then_shows answer_of after none_shown here n l1 l2 (λ k. heard_keeps k told_here l.stations) first (λ m h1.
-        by_made answer_of after here (IsRead answer_of after all.0 l1 m told_here) m l2 (λ moves read heard k q own.
-        let mine = sym (heard_keeps k told_here l.stations) ∙ own in
-        whole_of moves all.0 l1 m told_here read k q mine heard (λ whole. shown_read p all.0 l1 m h1 all.2 whole moves read k q mine))
+        let second = then_shows answer_of after none_shown here n l1 l2 (λ k. refl) first (λ m h1.
+        by_made answer_of after here (IsRead answer_of after all.0 l1 m told_here) m l2 (λ moves read. read_takes moves all.0 l1 m told_here read)
+        (λ moves read heard k q own.
+        whole_of moves all.0 l1 m told_here read k q own heard (λ whole. shown_read p all.0 l1 m h1 all.2 whole moves read k q own))
         (reads_here answer_of after p all.0 l1 m h1 all.1 all.2 (past.0 all.0 all.1))) in
-        let third = then_shows answer_of after (both_shown none_shown here) rest n l2 (reads_those answer_of after ps places l2) (reads_keep ps places l2) second
-        (λ m h2. reads_show ps places l2 m h2 (ordered_heard told_here p l ps places i all.4) past.1) in
+        let third = then_shows answer_of after (both_shown none_shown here) rest n l2 (reads_those answer_of after ps places l2) (λ k. refl) second
+        (λ m h2. reads_show ps places l2 m h2 (ordered_heard p l ps places i all.4) past.1) in
         shows_as answer_of after (both_shown (both_shown none_shown here) rest) (reads_shown (p ∷ ps) l) n (reads_those answer_of after (p ∷ ps) (i ∷ places) l)
-        (λ k q own. sym (reported_more k told_here more q))
-        (subst (λ ts. Shows answer_of after (both_shown (both_shown none_shown here) rest) n (record l {
-          bus = record l.bus { devices = Rattle.osdp_calls.specs.Handing.hears_all g ps (hears_packet p g l.bus.devices) };
-          stations = ts;
-          place = last_of places i;
-        })) (sym (told_then told_here more l.stations)) third)
+        (λ k q own. sym (reported_more k told_here more q)) third

@@ -1,86 +1,13 @@
 -- Each report is a step of the ledger, and no other step tells anything.
-use Rattle.std.proofs.Common.{◌≡◌, ◌+◌, ℕ, Bool, true, false, cond, List, [], ◌∷◌, ◌++◌, flat_map, map, Option, Some, None, refl, sym, ap, ◌∙◌}
-use Rattle.std.proofs.lemmas.Grind.{flat_map-append}
-use Rattle.std.proofs.lemmas.List.{append-nil, map-append}
-use Rattle.osdp_calls_ledger.proofs.Common.{◌==◌, Packet, Command, Event, Reply, Report, BusState, device_of, changed_unless, submit_refusal_at, withdrawal_at, bus_ticks, Entry, BusFault, told_in, items_of, lacks_room, in_doubt, never_offered, ReaderState, Answer, End, Forgotten, GivenBack, History, InDoubt, Settled, ends_at_restart, new_history, runs, steps_on, Card, Doubt, Ledger, Order, RestartPanel, Settle, new_ledger, both, Each, doubted_as, settled_as, after_steps, queued_before, queues, submits, told, withdraws, withdraws_event, site_at, Call, NewDevice, NewPanel, Next, OfPanel, Step, SubmitEvent, LapseEvent, WithdrawEvent, after_call, asked_at, first_answered, read_up_to, is_of_device, heard, InUse, Station, answered, device_steps, given_back, opening, panel_restarts, panel_steps, reported, steps_along, steps_at, steps_of, gets_each}
-use Rattle.osdp_msg.specs.declared.reply.Reply.TheVariants as reply
-use Rattle.osdp_controller.specs.declared.report.Report.TheVariants as report
+use Rattle.std.proofs.Common.{◌≡◌, ◌+◌, ℕ, Bool, true, false, cond, List, [], ◌∷◌, ◌++◌, Option, Some, None, refl, sym, ap, ◌∙◌}
+use Rattle.osdp_calls_ledger.proofs.Common.{append_assoc, ◌==◌, Packet, Command, Event, Report, BusState, device_of, changed_unless, submit_refusal_at, withdrawal_at, bus_ticks, Entry, BusFault, told_in, items_of, lacks_room, in_doubt, never_offered, ReaderState, Answer, new_history, Doubt, Ledger, Settle, new_ledger, both, Each, after_steps, queued_before, queues, submits, told, withdraws, withdraws_event, site_at, Call, NewDevice, NewPanel, Next, OfPanel, Step, SubmitEvent, LapseEvent, WithdrawEvent, after_call, asked_at, first_answered, read_up_to, is_of_device, heard, InUse, Station, answered, device_steps, given_back, opening, panel_restarts, panel_steps, reported, steps_along, steps_at, steps_of, gets_each}
 use Rattle.osdp_bus_laws.specs.Calls as bus
 use Rattle.osdp_ledger.specs.Ledger as ledger
-use Rattle.osdp_calls_ledger.specs.Reports.{Told, TellsReports, all_told, nothing_told, told_by, told_in_history, with_report, with_reports}
+use Rattle.osdp_link_laws.specs.Reports.{Told, nothing_told, with_reports}
+use Rattle.osdp_link_ledger.proofs.Told.{report_tells, reports_more, runs_tell, steps_more, with_steps}
+use Rattle.osdp_calls.specs.Told.{all_told, reports_of, told_by}
+use Rattle.osdp_calls_ledger.specs.Reports.{TellsReports}
 use Rattle.osdp_calls_ledger.proofs.Allowing.{lapses_each, opening_open}
-use Rattle.osdp_link_ledger.proofs.Tallies.{command_at, offered_event}
-
--- ---- what a step tells
-
-abbrev with_step : ledger.Step → Told → Told
-with_step (Settle order answer) y = record y { settled = y.settled ++ (order.command, answer) ∷ [] }
-with_step (Doubt order) y = record y { in_doubt = y.in_doubt ++ order.command ∷ [] }
-with_step (ledger.Report card) y = record y { reported = y.reported ++ card.event ∷ [] }
-with_step _ y = y
-
-abbrev with_steps : List ledger.Step → Told → Told
-with_steps [] y = y
-with_steps (step ∷ steps) y = with_steps steps (with_step step y)
-
-steps_more : (xs ys : List ledger.Step) (y : Told) → with_steps (xs ++ ys) y ≡ with_steps ys (with_steps xs y)
-steps_more [] ys y = refl
-steps_more (x ∷ xs) ys y = steps_more xs ys (with_step x y)
-
-abbrev by_settled : Order × End → List (Command × Reply)
-by_settled e = settled_as e.0 e.1
-
-abbrev by_doubt : Order × End → List Command
-by_doubt e = doubted_as e.0 e.1
-
-abbrev event_of : ℕ × Card → Event
-event_of r = r.1.event
-
-ends_more : (more : List (Order × End)) (h : History) → told_in_history (record h { ended = h.ended ++ more })
-    ≡ record (told_in_history h) {
-      settled = (told_in_history h).settled ++ flat_map by_settled more;
-      in_doubt = (told_in_history h).in_doubt ++ flat_map by_doubt more;
-    }
-ends_more more h =
-    (λ i. record (told_in_history h) {
-      settled = flat_map-append by_settled h.ended more i;
-      in_doubt = flat_map-append by_doubt h.ended more i;
-    })
-
-ends_none : (more : List (Order × End)) (h : History) → (flat_map by_settled more ≡ []) × (flat_map by_doubt more ≡ [])
-    → told_in_history (record h { ended = h.ended ++ more }) ≡ told_in_history h
-ends_none more h none =
-    ends_more more h
-    ∙ (λ i. record (told_in_history h) { settled = (told_in_history h).settled ++ none.0 i; in_doubt = (told_in_history h).in_doubt ++ none.1 i })
-    ∙ (λ i. record (told_in_history h) { settled = append-nil (told_in_history h).settled i; in_doubt = append-nil (told_in_history h).in_doubt i })
-
--- a panel that loses power tells nothing of what it had
-forgets : (os : List Order) → (flat_map by_settled (map (λ o. (o, Forgotten)) os) ≡ []) × (flat_map by_doubt (map (λ o. (o, Forgotten)) os) ≡ [])
-forgets [] = (refl, refl)
-forgets (o ∷ os) = forgets os
-
-restarts : (going wire : Bool) (os : List Order) → (flat_map by_settled (ends_at_restart going wire os) ≡ []) × (flat_map by_doubt (ends_at_restart going wire os) ≡ [])
-restarts true true [] = (refl, refl)
-restarts true true (o ∷ os) = forgets os
-restarts true false os = forgets os
-restarts false true os = forgets os
-restarts false false os = forgets os
-
-step_tells : (step : ledger.Step) (h : History) → told_in_history (steps_on step h) ≡ with_step step (told_in_history h)
-step_tells (ledger.Withdraw order) h = ends_none ((order, GivenBack) ∷ []) h (refl, refl)
-step_tells (Settle order answer) h =
-    ends_more ((order, Settled answer) ∷ []) h
-    ∙ (λ i. record (with_step (Settle order answer) (told_in_history h)) { in_doubt = append-nil (told_in_history h).in_doubt i })
-step_tells (Doubt order) h =
-    ends_more ((order, InDoubt) ∷ []) h ∙ (λ i. record (with_step (Doubt order) (told_in_history h)) { settled = append-nil (told_in_history h).settled i })
-step_tells (ledger.Report card) h = (λ i. record (told_in_history h) { reported = map-append event_of h.reports ((h.sessions, card) ∷ []) i })
-step_tells (RestartPanel on_wire) h =
-    ends_none (ends_at_restart h.ledger.is_open on_wire h.ledger.ahead) h (restarts h.ledger.is_open on_wire h.ledger.ahead)
-step_tells _ h = refl
-
-runs_tell : (steps : List ledger.Step) (h : History) → told_in_history (runs steps h) ≡ with_steps steps (told_in_history h)
-runs_tell [] h = refl
-runs_tell (step ∷ steps) h = runs_tell steps (steps_on step h) ∙ ap (with_steps steps) (step_tells step h)
 
 -- ---- steps that tell nothing
 
@@ -121,32 +48,25 @@ restarts_silent : (q : Option Entry) → Each IsSilent (panel_restarts q)
 restarts_silent None = tt
 restarts_silent (Some d) = (tt, tt)
 
--- ---- a report
-
-report_tells : (r : Report) (g : Ledger) (y : Told) → with_steps (told (Some r) g) y ≡ with_report r y
-report_tells (report.Settled c answer) g y = (λ i. record y { settled = y.settled ++ (command_at g.ahead c i, answer) ∷ [] })
-report_tells (report.Moved c answered) g y = (λ i. record y { settled = y.settled ++ (command_at g.ahead c i, reply.Com answered) ∷ [] })
-report_tells (report.Event e) g y = (λ i. record y { reported = y.reported ++ offered_event g.offer e i ∷ [] })
-report_tells (report.Lost cause (Some c)) g y = (λ i. record y { in_doubt = y.in_doubt ++ command_at g.ahead c i ∷ [] })
-report_tells (report.Lost cause None) g y = (λ i. record y { in_doubt = sym (append-nil y.in_doubt) i })
-report_tells (report.Opened id) g y = refl
-report_tells (report.PollAnswered answer) g y = refl
-report_tells (report.Unread c code) g y = refl
+-- ---- reports
 
 module _ (k : ℕ) where
-  reports_more : (xs ys : List (ℕ × Report)) (y : Told) → with_reports k (xs ++ ys) y ≡ with_reports k ys (with_reports k xs y)
-  reports_more [] ys y = refl
-  reports_more (x ∷ xs) ys y = reports_more xs ys (cond (x.0 == k) (with_report x.1 y) y)
+  own_more : (xs ys : List (ℕ × Report)) → reports_of k (xs ++ ys) ≡ reports_of k xs ++ reports_of k ys
+  own_more [] ys = refl
+  own_more (x ∷ xs) ys =
+      let here = cond (x.0 == k) (x.1 ∷ []) [] in
+      ap (λ rs. here ++ rs) (own_more xs ys) ∙ sym (append_assoc here (reports_of k xs) (reports_of k ys))
 
-  reports_tell : (all : List (ℕ × Report)) (g : Ledger) (y : Told) → with_steps (reported k all g) y ≡ with_reports k all y
+  reports_tell : (all : List (ℕ × Report)) (g : Ledger) (y : Told) → with_steps (reported k all g) y ≡ with_reports (reports_of k all) y
   reports_tell [] g y = refl
   reports_tell (said ∷ more) g y =
       let here = cond (said.0 == k) (told (Some said.1) g) [] in
       steps_more here (reported k more (after_steps here g)) y
       ∙ reports_tell more (after_steps here g) (with_steps here y)
-      ∙ ap (with_reports k more) (own (said.0 == k))
+      ∙ ap (with_reports (reports_of k more)) (own (said.0 == k))
+      ∙ sym (reports_more (cond (said.0 == k) (said.1 ∷ []) []) (reports_of k more) y)
     where
-      own : (b : Bool) → with_steps (cond b (told (Some said.1) g) []) y ≡ cond b (with_report said.1 y) y
+      own : (b : Bool) → with_steps (cond b (told (Some said.1) g) []) y ≡ with_reports (cond b (said.1 ∷ []) []) y
       own true = report_tells said.1 g y
       own false = refl
 
@@ -154,7 +74,7 @@ module _ (k : ℕ) where
   if_own : (i : ℕ) (steps : List ledger.Step) → Each IsSilent steps → Each IsSilent (cond (i == k) steps [])
   if_own i steps all = both (Each IsSilent) (i == k) steps [] all tt
 
-  panel_tells : (call : bus.Call) (b : BusState) (g : Ledger) (y : Told) → with_steps (panel_steps k call b g) y ≡ with_reports k (told_in call b) y
+  panel_tells : (call : bus.Call) (b : BusState) (g : Ledger) (y : Told) → with_steps (panel_steps k call b g) y ≡ with_reports (reports_of k (told_in call b)) y
   panel_tells (bus.Submit i c) b g y =
       let steps = changed_unless (submit_refusal_at i c b) [] (submits None c g) in
       silent (cond (i == k) steps []) y (if_own i steps (submits_silent (submit_refusal_at i c b) c g))
@@ -193,21 +113,22 @@ module _ (k : ℕ) where
         let steps = steps_at answer_of after call (site_at k l.stations) g in
         silent (cond (is_of_device k call) steps []) y (both (Each IsSilent) (is_of_device k call) steps [] (at_silent call (site_at k l.stations) g) tt)
 
-    call_tells : (call : Call H) (l : InUse H) (g : Ledger) (y : Told) → with_steps (steps_of answer_of after k call l g) y ≡ with_reports k (told_by call l) y
+    call_tells : (call : Call H) (l : InUse H) (g : Ledger) (y : Told) → with_steps (steps_of answer_of after k call l g) y ≡ with_reports (reports_of k (told_by call l)) y
     call_tells (OfPanel call) l g y = panel_tells call l.bus g y
     call_tells (NewPanel config addresses) l g y = silent (panel_restarts (device_of k l.bus)) y (restarts_silent (device_of k l.bus))
     call_tells call l g y = of_device call l g y
 
     along_tells : (steps : List (Step H)) (l : InUse H) (g : Ledger) (y : Told)
-        → with_steps (steps_along answer_of after k steps l g) y ≡ with_reports k (all_told answer_of after steps l) y
+        → with_steps (steps_along answer_of after k steps l g) y ≡ with_reports (reports_of k (all_told answer_of after steps l)) y
     along_tells [] l g y = refl
     along_tells (step ∷ steps) l g y =
         let now = steps_of answer_of after k step.call l g in
         let next = after_call answer_of after step.call step.places l in
         steps_more now (steps_along answer_of after k steps next (after_steps now g)) y
         ∙ along_tells steps next (after_steps now g) (with_steps now y)
-        ∙ ap (with_reports k (all_told answer_of after steps next)) (call_tells step.call l g y)
-        ∙ sym (reports_more (told_by step.call l) (all_told answer_of after steps next) y)
+        ∙ ap (with_reports (reports_of k (all_told answer_of after steps next))) (call_tells step.call l g y)
+        ∙ sym (reports_more (reports_of k (told_by step.call l)) (reports_of k (all_told answer_of after steps next)) y)
+        ∙ sym (ap (λ rs. with_reports rs y) (own_more (told_by step.call l) (all_told answer_of after steps next)))
 
 module _ {H : Type 0} (answer_of : H → Command → Answer) (after : H → Command → H) where
   pub tells_reports : TellsReports answer_of after

@@ -1,5 +1,5 @@
 -- A tick of the bus: what is read before it, and the controller that ticks, with its opening ID.
-use Rattle.osdp_calls_ledger.proofs.Common.{◌≡◌, ◌≢◌, ℕ, Bool, true, false, cond, List, [], ◌∷◌, ◌++◌, Option, Some, None, refl, sym, subst, ap, ◌∙◌, inl, inr, append-nil, is_some, eqb_tells, ◌==◌, nat_le, Packet, Command, Machine, after_begin, Ticked, ticks, ticks_in, State, Closed, Quiet, device_of, step_of, ticks_at, ticks_with, Entry, told_by_device, told_by_ticking, Answer, Ledger, Open, both, each_map, is_false, is_true, opens, ticked, told, Net, NetMove, Reopen, Site, Tick, after_net, changed, site_at, view, at_changed, begun_of, all_hear, InUse, ticks_to, ticks_same, IsLoss, FoundAt, Nobody, Somebody, found, IsOurs, Controls, IsNetOf, IsSame, IsToOpen, Sites, opening, reported, heard_keeps, says_keep}
+use Rattle.osdp_calls_ledger.proofs.Common.{◌≡◌, ◌≢◌, ℕ, Bool, true, false, cond, List, [], ◌∷◌, ◌++◌, Option, Some, None, refl, sym, subst, ap, ◌∙◌, inl, inr, append-nil, is_some, eqb_tells, ◌==◌, nat_le, Packet, Command, Machine, after_begin, Ticked, ticks, ticks_in, State, Closed, Quiet, device_of, step_of, ticks_at, ticks_with, Entry, told_by_device, told_by_ticking, Answer, Ledger, Open, both, each_append, each_map, Each, is_false, is_true, opens, ticked, told, Net, NetMove, Reopen, Site, Tick, after_net, changed, site_at, view, at_changed, begun_of, InUse, ticks_to, ticks_same, IsLoss, FoundAt, Nobody, Somebody, found, IsOurs, Controls, IsNetOf, IsSame, IsToOpen, Sites, opening, reported, says_keep}
 use Rattle.osdp_controller.specs.Sessions as clocks
 use Rattle.osdp_controller.specs.States.{is_closed}
 use Rattle.osdp_controller.specs.Ticking as ticking
@@ -10,10 +10,10 @@ use Rattle.osdp_link_ledger.specs.Steps as links
 use Rattle.osdp_shared_line.specs.Line as line
 use Rattle.osdp_calls.proofs.Ticking.{GoesOn, IsOpeningOf, IsTicked, Opens, Rests, ticks_entry, IsOfOther}
 use Rattle.osdp_calls_ledger.proofs.Own.{one_shown, seen_one}
-use Rattle.osdp_calls_ledger.proofs.Quiet.{ShowsNothing, loss_shows, seen_after_none}
+use Rattle.osdp_calls_ledger.proofs.Quiet.{ShowsNothing, TakesNone, loss_shows, loss_takes, seen_after_none}
 use Rattle.osdp_calls_ledger.proofs.Reading.{reported_other, reported_own}
 use Rattle.osdp_calls_ledger.proofs.Seen.{seen, seen_at}
-use Rattle.osdp_calls_ledger.proofs.Shows.{Shown, Shows, by_made}
+use Rattle.osdp_calls_ledger.proofs.Shows.{PanelShows, Shown, by_made}
 
 -- ---- what a controller sends and tells at a tick: never both
 
@@ -116,11 +116,7 @@ module _ {H : Type 0} (answer_of : H → Command → Answer) (after : H → Comm
         mid1 = after_net answer_of after (Reopen e began) mid
 
         s1 : Site H
-        s1 = record s {
-          controller = after_begin began s.controller;
-          account = link.new_account s.controller.waiting s.reader.queue.events;
-          earlier = s.account ∷ s.earlier;
-        }
+        s1 = record s { controller = after_begin began s.controller }
 
         closed_refuses : (st : State) → is_closed st ≡ true → Rattle.osdp_controller.specs.Machine.refused_unless_closed st ≡ None
         closed_refuses Closed is = refl
@@ -145,9 +141,15 @@ module _ {H : Type 0} (answer_of : H → Command → Answer) (after : H → Comm
             ∙ ap (λ st. opens st (Some p)) control.quiet
 
   pub ticks_keep : (o : Option ℕ) (l : InUse H) (k : ℕ) → is_some (site_at k (ticks_to answer_of after o l).stations) ≡ is_some (site_at k l.stations)
-  ticks_keep o l k =
-      says_keep k o (ticks_at o l.bus).sent (record l { bus = (ticks_at o l.bus).bus; stations = all_hear (told_by_ticking o l.bus) l.stations })
-      ∙ heard_keeps k (told_by_ticking o l.bus) l.stations
+  ticks_keep o l k = says_keep k o (ticks_at o l.bus).sent (record l { bus = (ticks_at o l.bus).bus })
+
+  tick_takes : (o : Option ℕ) (l : InUse H) (n : Net H) (moves : List (NetMove H)) → IsTicked answer_of after o l n moves → Each TakesNone moves
+  tick_takes o l n moves (IsOfOther e is none are) = subst (Each TakesNone) (sym are) tt
+  tick_takes o l n moves (Rests are none sent) = subst (Each TakesNone) (sym are) tt
+  tick_takes o l n moves (GoesOn e is begun are) = subst (Each TakesNone) (sym are) (tt, tt)
+  tick_takes o l n moves (Opens e began p s mid lost is begun sent none losses runs there shut opening_is are) =
+      subst (Each TakesNone) (sym are)
+      (each_append TakesNone lost (Reopen e began ∷ Tick e l.bus.greatest ∷ []) (each_map IsLoss TakesNone loss_takes lost losses) (tt, (tt, tt)))
 
   tick_shows : (o : Option ℕ) (l : InUse H) (n : Net H) → IsNetOf l n → (moves : List (NetMove H)) → IsTicked answer_of after o l n moves → (k : ℕ) (g : Ledger) → IsOurs k l.stations
       → seen answer_of after k moves n g ≡ tick_shown o l k g
@@ -179,7 +181,7 @@ module _ {H : Type 0} (answer_of : H → Command → Answer) (after : H → Comm
       ]
       ∙ sym (ap (λ q. tick_shown q l k g) is)
 
-  pub ticks_show : (o : Option ℕ) (l : InUse H) (n : Net H) → IsNetOf l n → Shows answer_of after (tick_shown o l) n (ticks_to answer_of after o l)
+  pub ticks_show : (o : Option ℕ) (l : InUse H) (n : Net H) → IsNetOf l n → PanelShows answer_of after (tick_shown o l) n (ticks_to answer_of after o l)
   ticks_show o l n h =
-      by_made answer_of after (tick_shown o l) (IsTicked answer_of after o l n) n (ticks_to answer_of after o l)
+      by_made answer_of after (tick_shown o l) (IsTicked answer_of after o l n) n (ticks_to answer_of after o l) (λ moves ticked_so. tick_takes o l n moves ticked_so)
       (λ moves ticked_so heard k g own. tick_shows o l n h moves ticked_so k g (sym (ticks_keep o l k) ∙ own)) (ticks_entry answer_of after o l n h)

@@ -6,14 +6,16 @@ use Rattle.osdp_bus.specs.declared.entry.Entry.{Entry}
 use Rattle.osdp_reader.specs.declared.handler.Answer.{Answer}
 use Rattle.osdp_ledger.specs.History.{AreAllowed, new_history, runs}
 use Rattle.osdp_ledger.specs.Laws.{EventsHold, OrdersHold}
-use Rattle.osdp_link_ledger.specs.Accounts.{TellsAccounts}
+use Rattle.osdp_link_laws.specs.Reports.{nothing_told, with_reports}
 use Rattle.osdp_link_ledger.specs.Laws.{IsLedgerOf}
+use Rattle.osdp_link_ledger.specs.Telling.{TellsAll}
 use Rattle.osdp_shared_line.specs.Line.{site_at}
 use Rattle.osdp_calls.specs.Accepted.{all_accepted, all_queued}
 use Rattle.osdp_calls.specs.Calls.{Step, after_calls}
 use Rattle.osdp_calls.specs.Lines.{InUse, Station}
 use Rattle.osdp_calls.specs.Premises.{AllKeep, IsSetUp}
 use Rattle.osdp_calls.specs.Promises.{link_of_entry}
+use Rattle.osdp_calls.specs.Told.{all_taken, all_told, reports_of}
 use Rattle.osdp_calls_ledger.specs.Steps.{steps_from}
 
 module _ {H : Type 0} (answer_of : H → Command → Answer) (after : H → Command → H) where
@@ -21,9 +23,11 @@ module _ {H : Type 0} (answer_of : H → Command → Answer) (after : H → Comm
   pub record KeepsLedger (k : ℕ) (first last : Station H) (d : Entry) (steps : List (Step H)) (l : InUse H) : Type 0 where
     pub allowed : AreAllowed (steps_from answer_of after k first steps l) new_history
     pub ledger : IsLedgerOf (link_of_entry d last) (runs (steps_from answer_of after k first steps l) new_history).ledger
-    -- none is forgotten and none is made up: the commands and events that the calls have accepted, and what the accounts of the sessions say of them
-    pub accounts : TellsAccounts (all_accepted answer_of after k steps l) (first.reader.queue.events ++ all_queued answer_of after k steps l)
-        (link_of_entry d last) (runs (steps_from answer_of after k first steps l) new_history)
+    -- none is forgotten and none is made up: the commands and events that the calls have accepted, those of them that the device has taken, and what the
+    -- panel was told
+    pub tells : TellsAll (all_accepted answer_of after k steps l) (all_taken answer_of after k steps l)
+        (first.reader.queue.events ++ all_queued answer_of after k steps l) (with_reports (reports_of k (all_told answer_of after steps l)) nothing_told)
+        (runs (steps_from answer_of after k first steps l) new_history)
     -- so what the ledger promises holds
     pub orders : OrdersHold (runs (steps_from answer_of after k first steps l) new_history)
     pub events : EventsHold (runs (steps_from answer_of after k first steps l) new_history)

@@ -15,7 +15,7 @@ use osdp_reader::Handler;
 /// For every list of calls of a panel's program and of its devices' programs, restarts of either among them, that keep the premises, and each entry:
 /// each step that its programs see, read off what the calls answer and report, is one that the ledger allows where it happens. The ledger at the
 /// end is the line's: ahead are the outstanding command and those that wait in the bus, and the events are those of the device's queue. What the
-/// steps come to is what the calls have accepted and what the accounts of the entry's sessions say: so no step is forgotten, and none is made up.
+/// steps come to is what the calls have accepted, what the device has taken and what the panel was told: so no step is forgotten, and none is made up.
 pub fn each_keeps_ledger<H: Handler>()
     ensures { EachKeepsLedger H.answer_of H.after }
 {
@@ -72,9 +72,8 @@ pub fn restarts_cost<H: Handler>()
 pub fn one_device_holds_once<H: Handler>()
     ensures { OneDeviceHoldsOnce H.answer_of H.after }
 {
-    each_keeps_ledger::<H>();
-    osdp_shared_line::each_is_a_link::<H>();
-    osdp_link_ledger::ledger_tells_accounts::<H>();
+    osdp_shared_line::each_move_is_its_own::<H>();
+    osdp_shared_line::nobody_else_hears::<H>();
     osdp_line_ledger::each_acts_by_one_handler::<H>();
     osdp_ledger::throws_none_away();
 }
@@ -91,8 +90,9 @@ pub fn ordinary_is_undisturbed<H: Handler>()
 pub fn refuses_no_number<H: Handler>()
     ensures { CallsRefuseNoNumber H.answer_of H.after }
 {
+    osdp_link_laws::read_each_other::<H>();
+    osdp_shared_line::each_move_is_its_own::<H>();
     osdp_shared_line::nobody_else_hears::<H>();
-    osdp_shared_line::promises::each_refuses_no_number::<H>();
 }
 
 /// What the panel is told of an entry is what its ledger says: the commands settled, each with its answer, those told in doubt, and the events reported, in

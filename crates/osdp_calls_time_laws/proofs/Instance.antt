@@ -5,7 +5,6 @@ use Rattle.osdp_frame.specs.Items.{items, left_over}
 use Rattle.osdp_msg.specs.CommandTable.{command_at, command_fault, command_of}
 use Rattle.osdp_msg.specs.ReplyTable.{reply_at, reply_fault, reply_of}
 use Rattle.osdp_bus_laws.specs.Calls as bus
-use Rattle.osdp_link_laws.specs.Link.{new_account}
 use Rattle.osdp_reader_laws.specs.Storing.{StoresItsOwn}
 use Rattle.osdp_premises.specs.Exactly.{AllInRange}
 use Rattle.osdp_premises.specs.Ruling.{keeps_rule}
@@ -54,7 +53,6 @@ module _ {H : Type 0} where
     apart = λ j k s t other at there e. none_beside handler j k s t other at there;
     stored = one handler (λ t. StoresItsOwn t.reader) tt;
     place = one handler (λ t. (t.place ≡ 0) × (t.begun ≡ None)) (refl, refl);
-    account = one handler (λ t. (t.account ≡ new_account [] t.reader.queue.events) × (t.earlier ≡ [])) (refl, refl);
     said = refl;
     read = refl;
     openings = refl;

@@ -1,5 +1,5 @@
 -- What a device says to what it reads in time: its answer concerns what its question does.
-use Rattle.osdp_calls_time_laws.proofs.Common.{◌≡◌, ◌||◌, ◌+◌, ◌<◌, ◌≤◌, ℕ, zero, suc, not, Bool, true, false, cond, List, [], ◌∷◌, Option, Some, None, refl, sym, subst, ap, ◌∙◌, inl, inr, arith, eqb-true, le-leb, eqb_tells, Packet, Command, address_of, Entry, is_false, Each, ReaderState, Answer, Net, changed, site_at, Apart, IsAway, IsToDevice, reader_address, some_same, Burst, InUse, Station, concerns, is_ahead_of_device, is_past_for_device, those, AreInOrder, NextInOrder, address_same, begun_changed, each_at, IsNetOf, IsRightly, of_station, IsUnanswered, order_for_device, unanswered_first, Clock, Timed, clock_after, at_length, answers_begun}
+use Rattle.osdp_calls_time_laws.proofs.Common.{◌≡◌, ◌||◌, ◌+◌, ◌<◌, ◌≤◌, ℕ, zero, suc, not, Bool, true, false, cond, List, [], ◌∷◌, Option, Some, None, refl, sym, subst, ap, ◌∙◌, inl, inr, arith, eqb-true, le-leb, eqb_tells, Packet, Command, address_of, Entry, is_false, Each, ReaderState, Answer, Net, changed, site_at, Apart, IsAway, IsToDevice, reader_address, some_same, Burst, InUse, Station, concerns, is_ahead_of_device, is_past_for_device, those, AreInOrder, NextInOrder, address_same, begun_changed, each_at, IsNetOf, IsRightly, of_station, IsUnanswered, order_for_device, unanswered_first, Clock, Timed, clock_after, at_length}
 use Rattle.std.specs.Prelude.{◌==◌, ◌&&◌, IfSome, nat_le, option_to_list, slice_get}
 use Rattle.osdp_device.specs.Saying.{speaks}
 use Rattle.osdp_device.specs.Telling.{items_of}
@@ -213,7 +213,7 @@ module _ {H : Type 0} where
         let o = first_answered u.reader ps in
         let new = by_device k (reply_to answer_of after o u.reader) in
         let begun : (j : ℕ) → begun_of (site_at j (changed k (nexts answer_of after places u) l.stations)) ≡ begun_of (site_at j l.stations) =
-        λ j. begun_changed j k (nexts answer_of after places u) u l.stations at (answers_begun answer_of after o u) in
+        λ j. begun_changed j k (nexts answer_of after places u) u l.stations at refl in
         runs_on w t c l (after_next answer_of after k places (Some u) l) r later kept
         (λ e d began entry is.
         let was : begun_of (site_at e l.stations) ≡ Some began = sym (begun e) ∙ is in

@@ -1,10 +1,9 @@
 -- The panel's calls, on a line whose packets are read in time.
-use Rattle.osdp_calls_time_laws.proofs.Common.{◌≡◌, ◌+◌, ◌≤◌, ℕ, max, Bool, true, false, ◌<◌, List, Option, Some, None, refl, sym, subst, ap, ◌∙◌, inl, inr, arith, eqb_tells, Packet, Command, ControllerConfig, Quiet, BusState, Devices, device_of, seen, address_of, is_taken_beside, bus_fault, changed_unless, or_taken, retarget_refusal_of, bus_ticks, ticks_at, Entry, BusFault, told_by_ticking, told_in, moments_are_seen, ReadsWhatIsAsked, each_of, Each, Answer, Net, site_at, Apart, apart_all, at_changed, some_same, OfPanel, after_call, all_hear, asked_at, begun_of, change_at, changes_at, is_to_begin, issues, last_of, noted, panel_says, read_by, hears_all, told_by_all, InUse, Station, InOrder, InRange, QuietOpening, ticks_to, begun_change, begun_heard, reads_those, AsBefore, IsChanged, changed_at, at_seen, told_then, NotPast, Controls, IsNetOf, IsToOpen, of_station, ordered, Clock, Timed, clock_after, stamped, station_other}
+use Rattle.osdp_calls_time_laws.proofs.Common.{◌≡◌, ◌+◌, ◌≤◌, ℕ, max, Bool, true, false, ◌<◌, List, Option, Some, None, refl, sym, subst, ap, ◌∙◌, inl, inr, arith, eqb_tells, Packet, Command, ControllerConfig, Quiet, BusState, Devices, device_of, seen, address_of, is_taken_beside, bus_fault, changed_unless, or_taken, retarget_refusal_of, bus_ticks, ticks_at, Entry, BusFault, moments_are_seen, ReadsWhatIsAsked, each_of, Each, Answer, Net, site_at, Apart, apart_all, at_changed, some_same, OfPanel, after_call, asked_at, begun_of, change_at, changes_at, is_to_begin, last_of, noted, panel_says, read_by, hears_all, InUse, Station, InOrder, InRange, QuietOpening, ticks_to, reads_those, AsBefore, IsChanged, changed_at, at_seen, NotPast, Controls, IsNetOf, IsToOpen, of_station, ordered, Clock, Timed, clock_after, stamped, station_other}
 use Rattle.std.specs.Prelude.{◌^◌, ◌||◌, option_map, slice_get}
 use Rattle.osdp_controller.specs.Comsets.{has_comset}
 use Rattle.osdp_controller.specs.Machine.{or_no_device, refused_unless_closed}
 use Rattle.osdp_controller.specs.Sessions as clocks
-use Rattle.osdp_controller.specs.declared.report.Report.{Report}
 use Rattle.osdp_bus.specs.Machine as machine
 use Rattle.osdp_bus_laws.specs.Calls as bus
 use Rattle.osdp_calls.proofs.Ends.{said_bus}
@@ -84,15 +83,15 @@ module _ {H : Type 0} where
         subst (λ a. Waits w l.said c.said k a (t.start + began)) x.3 (old_waits k x.0 began x.1 x.2))
 
     -- one entry changes, and its session stays
-    one_changes : (i : ℕ) (change : Entry → Entry) (ts : List (Station H)) (k : ℕ) (e : Entry) (began : ℕ) → ((d : Entry) → (change d).controller.session ≡ d.controller.session)
-        → device_of k (machine.changes_entry i change l.bus) ≡ Some e → begun_of (site_at k ts) ≡ Some began → begun_of (site_at k ts) ≡ begun_of (site_at k l.stations)
+    one_changes : (i : ℕ) (change : Entry → Entry) (k : ℕ) (e : Entry) (began : ℕ) → ((d : Entry) → (change d).controller.session ≡ d.controller.session)
+        → device_of k (machine.changes_entry i change l.bus) ≡ Some e → begun_of (site_at k l.stations) ≡ Some began
         → (d : Entry) × (slice_get l.bus.devices.entries k ≡ Some d) × (begun_of (site_at k l.stations) ≡ Some began) × (address_of d ≡ address_of e)
-    one_changes i change ts k e began session entry begun same = elim (changed_at i change l.bus k e entry) [
-      | AsBefore other was ↦ (e, was, sym same ∙ begun, refl)
+    one_changes i change k e began session entry begun = elim (changed_at i change l.bus k e entry) [
+      | AsBefore other was ↦ (e, was, begun, refl)
       | IsChanged here d was becomes ↦ (
         d,
         subst (λ j. device_of j l.bus ≡ Some d) (sym here) was,
-        sym same ∙ begun,
+        begun,
         sym (ap (λ (s : _). s.config.address) (session d)) ∙ ap address_of becomes,
       )
     ]
@@ -146,31 +145,19 @@ module _ {H : Type 0} where
     runs_submit i command places = by_fault (machine.submit_refusal_at i command l.bus) (kept_after (bus.Submit i command) tt)
       where
         by_fault : (f : Option BusFault) → IsKept w t.start t.at (changed_unless f l.bus (machine.after_submit_at i command l.bus))
-            → Runs w (clock_after t c (record l {
-              bus = changed_unless f l.bus (machine.after_submit_at i command l.bus);
-              stations = changed_unless f l.stations (change_at i (issues command) l.stations);
-              place = last_of places l.place;
-            })) (record l {
-              bus = changed_unless f l.bus (machine.after_submit_at i command l.bus);
-              stations = changed_unless f l.stations (change_at i (issues command) l.stations);
-              place = last_of places l.place;
-            })
+            → Runs w (clock_after t c (record l { bus = changed_unless f l.bus (machine.after_submit_at i command l.bus); place = last_of places l.place }))
+            (record l { bus = changed_unless f l.bus (machine.after_submit_at i command l.bus); place = last_of places l.place })
         by_fault (Some fault) kept =
             runs_silent w t c l (record l { place = last_of places l.place }) r later kept refl refl old_waits
         by_fault None kept =
-            silent (record l {
-              bus = machine.after_submit_at i command l.bus;
-              stations = change_at i (issues command) l.stations;
-              place = last_of places l.place;
-            }) kept refl refl
-            (λ k e began entry begun. one_changes i (machine.entry_submits command) (change_at i (issues command) l.stations) k e began (λ d. refl) entry begun
-            (begun_change k i (issues command) l.stations (λ u. refl)))
+            silent (record l { bus = machine.after_submit_at i command l.bus; place = last_of places l.place }) kept refl refl
+            (λ k e began entry begun. one_changes i (machine.entry_submits command) k e began (λ d. refl) entry begun)
 
     runs_withdraw : (i : ℕ) (places : List ℕ)
         → Runs w (clock_after t c (after_call answer_of after (OfPanel (bus.Withdraw i)) places l)) (after_call answer_of after (OfPanel (bus.Withdraw i)) places l)
     runs_withdraw i places =
         silent (after_call answer_of after (OfPanel (bus.Withdraw i)) places l) (kept_after (bus.Withdraw i) tt) refl refl
-        (λ k e began entry begun. one_changes i machine.entry_withdraws l.stations k e began (λ d. refl) entry begun refl)
+        (λ k e began entry begun. one_changes i machine.entry_withdraws k e began (λ d. refl) entry begun)
 
     -- an entry whose session is to begin is given no other address
     runs_retarget : (i address : ℕ) (places : List ℕ)
@@ -204,12 +191,11 @@ module _ {H : Type 0} where
     -- ---- calls that read
 
     -- an entry that waits, once the controllers have heard this
-    heard_waits : (g : ℕ) (ps : List Packet) (told : List (ℕ × Report)) → l.bus.greatest ≤ g → (k : ℕ) (e : Entry) (began : ℕ)
-        → slice_get (hears_all g ps l.bus.devices).entries k ≡ Some e → begun_of (site_at k (all_hear told l.stations)) ≡ Some began
+    heard_waits : (g : ℕ) (ps : List Packet) → l.bus.greatest ≤ g → (k : ℕ) (e : Entry) (began : ℕ)
+        → slice_get (hears_all g ps l.bus.devices).entries k ≡ Some e → begun_of (site_at k l.stations) ≡ Some began
         → IsWaiting w l.bus.config.quiet_wait t.start l.said c.said k began g e
-    heard_waits g ps told near k e began entry begun =
-        let was : begun_of (site_at k l.stations) ≡ Some began = sym (begun_heard k told l.stations) ∙ begun in
-        let q = is_quiet k began l n h was in
+    heard_waits g ps near k e began entry begun =
+        let q = is_quiet k began l n h begun in
         let own = r.bus.kept k q.device q.there in
         let seen = own.seen in
         let x = quiet_heard k q.until g q.device.controller.session.config ps l.bus.devices
@@ -218,29 +204,29 @@ module _ {H : Type 0} where
         subst (λ f. IsWaiting w l.bus.config.quiet_wait t.start l.said c.said k began g f) same (record {
           seen = x.seen;
           quiet = ap (λ (s : ControllerConfig). s.quiet_wait) x.same ∙ own.waits;
-          waits = subst (λ a. Waits w l.said c.said k a (t.start + began)) (sym (ap (λ (s : ControllerConfig). s.address) x.same)) (old_waits k q.device began q.there was);
+          waits = subst (λ a. Waits w l.said c.said k a (t.start + began)) (sym (ap (λ (s : ControllerConfig). s.address) x.same)) (old_waits k q.device began q.there begun);
         })
 
     -- it reads, and no more
-    reads_on : (next : InUse H) (g : ℕ) (ps : List Packet) (told : List (ℕ × Report)) → l.bus.greatest ≤ g → IsKept w t.start t.at next.bus
-        → next.bus.devices ≡ hears_all g ps l.bus.devices → next.stations ≡ all_hear told l.stations → next.said ≡ l.said → next.openings ≡ l.openings
+    reads_on : (next : InUse H) (g : ℕ) (ps : List Packet) → l.bus.greatest ≤ g → IsKept w t.start t.at next.bus
+        → next.bus.devices ≡ hears_all g ps l.bus.devices → next.stations ≡ l.stations → next.said ≡ l.said → next.openings ≡ l.openings
         → Runs w (clock_after t c next) next
-    reads_on next g ps told near kept devices stations said openings =
+    reads_on next g ps near kept devices stations said openings =
         runs_silent w t c l next r later kept said openings
         (subst (λ (p : Devices × List (Station H)). AllWait w t.start c.said p.0.entries p.1 l.said) (λ i. (sym devices i, sym stations i))
-        (λ k e began entry begun. (heard_waits g ps told near k e began entry begun).waits))
+        (λ k e began entry begun. (heard_waits g ps near k e began entry begun).waits))
 
     runs_bytes : (bytes : List ℕ) (now : ℕ) (places : List ℕ) → InTime t.start t.at (bus.OnBytes bytes now) l.bus
         → Runs w (clock_after t c (after_call answer_of after (OfPanel (bus.OnBytes bytes now)) places l)) (after_call answer_of after (OfPanel (bus.OnBytes bytes now)) places l)
     runs_bytes bytes now places in_time =
         reads_on (after_call answer_of after (OfPanel (bus.OnBytes bytes now)) places l) (max l.bus.greatest now) (read_by (bus.OnBytes bytes now) l.bus)
-        (told_in (bus.OnBytes bytes now) l.bus) (omega arith) (kept_after (bus.OnBytes bytes now) in_time) ((hands_over l.bus).bytes bytes now).0 refl refl refl
+        (omega arith) (kept_after (bus.OnBytes bytes now) in_time) ((hands_over l.bus).bytes bytes now).0 refl refl refl
 
     runs_silence : (now : ℕ) (places : List ℕ) → InTime t.start t.at (bus.OnSilence now) l.bus
         → Runs w (clock_after t c (after_call answer_of after (OfPanel (bus.OnSilence now)) places l)) (after_call answer_of after (OfPanel (bus.OnSilence now)) places l)
     runs_silence now places in_time =
         reads_on (after_call answer_of after (OfPanel (bus.OnSilence now)) places l) (max l.bus.greatest now) (read_by (bus.OnSilence now) l.bus)
-        (told_in (bus.OnSilence now) l.bus) (omega arith) (kept_after (bus.OnSilence now) in_time) ((hands_over l.bus).silence now).0 refl refl refl
+        (omega arith) (kept_after (bus.OnSilence now) in_time) ((hands_over l.bus).silence now).0 refl refl refl
 
     runs_tick : (now : ℕ) (places : List ℕ) → InOrder (OfPanel (bus.Tick now)) places l → QuietOpening (OfPanel (bus.Tick now)) places l
         → InTime t.start t.at (bus.Tick now) l.bus
@@ -251,7 +237,6 @@ module _ {H : Type 0} where
         let l0 : InUse H = record l { bus = seen now l.bus } in
         let ps = read_by call l.bus in
         let o = asked_at now l.bus in
-        let told = told_by_all (max l.bus.greatest now) ps l.bus.devices in
         let l1 = reads_those answer_of after ps places l0 in
         let read = reads_net answer_of after ps places l0 n (at_seen now l n h) (ordered l ps places order) (each_of (NotPast l) places quiet) in
         let apart1 : Apart read.net = subst Apart read.reached.run (apart_all answer_of after reads read.reached.moves n read.reached.fit apart) in
@@ -259,19 +244,14 @@ module _ {H : Type 0} where
         let greatest : (ticks_at o l1.bus).bus.greatest ≡ (bus_ticks now l.bus).bus.greatest =
         ticks_greatest o l1.bus ∙ sym ((moments_are_seen l.bus).brought (bus.Tick now) now refl) in
         let alike : of_line (ticks_to answer_of after o l1) ≡ of_line next =
-        says_alike o (ticks_at o l1.bus).sent (ticks_at o l1.bus).bus (bus_ticks now l.bus).bus (all_hear (told_by_ticking o l1.bus) l1.stations) l1.place l
-        (sym hands.0) greatest
-        ∙ (λ i. of_line (panel_says o (sym hands.1 i) (record l {
-          bus = (bus_ticks now l.bus).bus;
-          stations = (sym (told_then told (told_by_ticking o l1.bus) l.stations) ∙ ap (λ xs. all_hear xs l.stations) (sym hands.2)) i;
-          place = last_of places l.place;
-        }))) in
+        says_alike o (ticks_at o l1.bus).sent (ticks_at o l1.bus).bus (bus_ticks now l.bus).bus l.stations l1.place l (sym hands.0) greatest
+        ∙ (λ i. of_line (panel_says o (sym hands.1 i) (record l { bus = (bus_ticks now l.bus).bus; place = last_of places l.place }))) in
         let clock = r.bus.clock in
         let s = start in
         let then = in_time.0 in
         let ticked = has_ticked answer_of after w l.bus.config.quiet_wait t.start t.at c.now c.said l1 read.net read.same apart1 r.stamps r.bus.patient
         (omega (arith, clock, s, then, later)) (less_most l.bus.greatest now l.bus.config.quiet_wait r.bus.far in_time.1) later r.opened
-        (λ k d began entry begun. heard_waits (max l.bus.greatest now) ps told (omega arith) k d began entry begun) o in
+        (λ k d began entry begun. heard_waits (max l.bus.greatest now) ps (omega arith) k d began entry begun) o in
         let both = after_alike w t.start t.at c.said (ticks_to answer_of after o l1) next alike ticked in
         runs_on w t c l next r later
         (subst (IsKept w t.start t.at) (sym (said_bus call l.bus (record l {

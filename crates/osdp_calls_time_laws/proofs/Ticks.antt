@@ -1,8 +1,7 @@
 -- A tick of a controller of the bus, on a line whose packets are read in time: where it opens a session, what was said before is read by now.
-use Rattle.osdp_calls_time_laws.proofs.Common.{◌≡◌, ◌≢◌, ◌||◌, ◌+◌, ◌*◌, ◌<◌, ◌≤◌, ℕ, zero, suc, max, Bool, true, false, List, [], ◌∷◌, ◌++◌, length, Option, Some, None, refl, sym, subst, ap, ◌∙◌, inl, inr, arith, append-nil, is_some, eqb_tells, ◌==◌, ◌^◌, ◌-◌, IfSome, slice_get, slice_set, Packet, Command, device_of, waiting_after, address_of, entry_ticks, step_of, ticks_with, Entry, told_by_device, is_false, Each, Answer, Net, site_at, Apart, at_changed, some_same, all_hear, begins_session, begins_with, begun_of, change_at, changes_at, panel_says, waiting_of, said_for, Burst, InUse, Station, concerns, ticks_to, address_same, at_entry, begun_heard, from_panel, got_new, got_other, Controls, IsNetOf, IsToOpen, stamped, station_other}
+use Rattle.osdp_calls_time_laws.proofs.Common.{◌≡◌, ◌≢◌, ◌||◌, ◌+◌, ◌*◌, ◌<◌, ◌≤◌, ℕ, zero, suc, max, Bool, true, false, List, [], ◌∷◌, ◌++◌, length, Option, Some, None, refl, sym, subst, ap, ◌∙◌, inl, inr, arith, append-nil, is_some, eqb_tells, ◌==◌, ◌^◌, ◌-◌, IfSome, slice_get, slice_set, Packet, Command, device_of, waiting_after, address_of, entry_ticks, step_of, ticks_with, Entry, is_false, Each, Answer, Net, site_at, Apart, at_changed, some_same, begins_session, begins_with, begun_of, change_at, changes_at, panel_says, said_for, Burst, InUse, Station, concerns, ticks_to, address_same, at_entry, from_panel, got_new, got_other, Controls, IsNetOf, IsToOpen, stamped, station_other}
 use Rattle.osdp_controller.specs.Sessions as clocks
 use Rattle.osdp_calls.proofs.Matching.{IsOurs}
-use Rattle.osdp_calls.proofs.Lasting.{heard_keeps}
 use Rattle.osdp_calls_time_laws.proofs.Devices.{frame_due, frames_to, ticks_config, whole_wait}
 use Rattle.osdp_calls_time_laws.proofs.Stamps.{IsStamped, SaidNow, WasSaid, is_stamped, stamped_same}
 use Rattle.osdp_calls_time_laws.proofs.Waits.{AllWait, IsPast, Waits, latest, of_entry, past_later, still_past, still_waits}
@@ -26,12 +25,12 @@ module _ {H : Type 0} where
       by_station None begun = let e = begun in cc
       by_station (Some t) begun = refl
 
-  has_begun : (e : ℕ) (ws : List Command) (ts : List (Station H)) → begun_of (site_at e (change_at e (begins_session ws) ts)) ≡ None
-  has_begun e ws ts = by_station (site_at e ts) refl
+  has_begun : (e : ℕ) (ts : List (Station H)) → begun_of (site_at e (change_at e begins_session ts)) ≡ None
+  has_begun e ts = by_station (site_at e ts) refl
     where
-      by_station : (o : Option (Station H)) → site_at e ts ≡ o → begun_of (site_at e (changes_at e (begins_session ws) o ts)) ≡ None
+      by_station : (o : Option (Station H)) → site_at e ts ≡ o → begun_of (site_at e (changes_at e begins_session o ts)) ≡ None
       by_station None is = ap begun_of is
-      by_station (Some t) is = ap begun_of (at_changed e (begins_session ws t) t ts is)
+      by_station (Some t) is = ap begun_of (at_changed e (begins_session t) t ts is)
 
   -- what is so after it
   pub record HasTicked (w start at : ℕ) (stamps : List ℕ) (l : InUse H) : Type 0 where
@@ -45,12 +44,12 @@ module _ {H : Type 0} where
       → IsWaiting w q start l.said stamps k began l.bus.greatest d) where
     -- ---- nothing is said
 
-    silent : (es : List Entry) (ts : List (Station H)) → ((k : ℕ) (d : Entry) (began : ℕ) → slice_get es k ≡ Some d → begun_of (site_at k ts) ≡ Some began
+    silent : (es : List Entry) → ((k : ℕ) (d : Entry) (began : ℕ) → slice_get es k ≡ Some d → begun_of (site_at k l.stations) ≡ Some began
         → Waits w l.said stamps k (address_of d) (start + began))
-        → AllWait w start (stamped at l.said stamps) es ts l.said × Each (IsPast w l.said (stamped at l.said stamps) at) l.openings
-    silent es ts waits =
+        → AllWait w start (stamped at l.said stamps) es l.stations l.said × Each (IsPast w l.said (stamped at l.said stamps) at) l.openings
+    silent es waits =
         let stays : stamped at l.said stamps ≡ stamps = stamped_same at l.said stamps same in (
-          subst (λ ms. AllWait w start ms es ts l.said) (sym stays) waits,
+          subst (λ ms. AllWait w start ms es l.stations l.said) (sym stays) waits,
           subst (λ ms. Each (IsPast w l.said ms at) l.openings) (sym stays) (past_later w at now l.said stamps l.openings later opened),
         )
 
@@ -164,20 +163,15 @@ module _ {H : Type 0} where
           };
           first = e + 1;
         };
-        stations = all_hear (told_by_device e (Some d) l.bus) l.stations;
       })
-
-      heard_same : (k : ℕ) → begun_of (site_at k (all_hear (told_by_device e (Some d) l.bus) l.stations)) ≡ begun_of (site_at k l.stations)
-      heard_same k = begun_heard k (told_by_device e (Some d) l.bus) l.stations
 
       silent_here : HasTicked w start at stamps (line_with None)
       silent_here =
-          let both = silent (slice_set l.bus.devices.entries e (entry_ticks l.bus.greatest d)) (all_hear (told_by_device e (Some d) l.bus) l.stations)
-          (λ k f began at_k begun. waits_on k began f at_k (sym (heard_same k) ∙ begun)) in
+          let both = silent (slice_set l.bus.devices.entries e (entry_ticks l.bus.greatest d)) (λ k f began at_k begun. waits_on k began f at_k begun) in
           record { waits = both.0; opened = both.1 }
 
       says : (p : Packet) → (step_of l.bus.greatest d).frame ≡ Some p → HasTicked w start at stamps (line_with (Some p))
-      says p sent = by_station (site_at e (all_hear (told_by_device e (Some d) l.bus) l.stations)) refl
+      says p sent = by_station (site_at e l.stations) refl
         where
           old_past : Each (IsPast w (l.said ++ from_panel e p ∷ []) (stamped at (l.said ++ from_panel e p ∷ []) stamps) at) l.openings
           old_past = still_past w at now l.said (from_panel e p ∷ []) stamps l.openings same h.openings later opened
@@ -186,48 +180,38 @@ module _ {H : Type 0} where
           not_it k began ts none begun mine =
               let e0 = sym none ∙ subst (λ i. begun_of (site_at i ts) ≡ Some began) mine begun in cc
 
-          by_begun : IsOurs e l.stations → (o : Option ℕ) → begun_of (site_at e (all_hear (told_by_device e (Some d) l.bus) l.stations)) ≡ o
+          by_begun : IsOurs e l.stations → (o : Option ℕ) → begun_of (site_at e l.stations) ≡ o
               → HasTicked w start at stamps (record (begins_with e p o (line_with None)) { said = l.said ++ from_panel e p ∷ [] })
           by_begun own None none = record {
-            waits = λ k f began at_k begun.
-                others_wait p sent k began f own (not_it k began (all_hear (told_by_device e (Some d) l.bus) l.stations) none begun) at_k (sym (heard_same k) ∙ begun);
+            waits = λ k f began at_k begun. others_wait p sent k began f own (not_it k began l.stations none begun) at_k begun;
             opened = old_past;
           }
-          by_begun own (Some began) begun =
-              let ws = waiting_of (slice_get (slice_set l.bus.devices.entries e (entry_ticks l.bus.greatest d)) e) in
-              let ts = all_hear (told_by_device e (Some d) l.bus) l.stations in
-              record {
-                waits = λ k f began2 at_k begun2.
-                    let other : k ≢ e = not_it k began2 (change_at e (begins_session ws) ts) (has_begun e ws ts) begun2 in
-                    others_wait p sent k began2 f own other at_k (sym (heard_same k) ∙ sym (ap begun_of (station_other k e (begins_session ws) ts other)) ∙ begun2);
-                opened = (opens p sent began (sym (heard_same e) ∙ begun), old_past);
-              }
+          by_begun own (Some began) begun = record {
+            waits = λ k f began2 at_k begun2.
+                let other : k ≢ e = not_it k began2 (change_at e begins_session l.stations) (has_begun e l.stations) begun2 in
+                others_wait p sent k began2 f own other at_k (sym (ap begun_of (station_other k e begins_session l.stations other)) ∙ begun2);
+            opened = (opens p sent began begun, old_past);
+          }
 
           -- what is said for an entry of another make is not ours
-          by_station : (o : Option (Station H)) → site_at e (all_hear (told_by_device e (Some d) l.bus) l.stations) ≡ o
+          by_station : (o : Option (Station H)) → site_at e l.stations ≡ o
               → HasTicked w start at stamps (record (begins_with e p (begun_of o) (line_with None)) { said = l.said ++ said_for e p o })
           by_station None none =
               subst (λ bs. HasTicked w start at stamps (record (line_with None) { said = bs })) (sym (append-nil l.said)) silent_here
-          by_station (Some t) there =
-              by_begun (sym (heard_keeps e (told_by_device e (Some d) l.bus) l.stations) ∙ ap is_some there) (begun_of (Some t)) (ap begun_of there)
+          by_station (Some t) there = by_begun (ap is_some there) (begun_of (Some t)) (ap begun_of there)
 
       with_frame : (o : Option Packet) → (step_of l.bus.greatest d).frame ≡ o → HasTicked w start at stamps (line_with o)
       with_frame None none = silent_here
       with_frame (Some p) sent = says p sent
 
     -- nobody ticks
-    rests : (ts : List (Station H)) → ((k : ℕ) → begun_of (site_at k ts) ≡ begun_of (site_at k l.stations)) → HasTicked w start at stamps (record l { stations = ts })
-    rests ts begun =
-        let both = silent l.bus.devices.entries ts (λ k d began at_k is. (waiting k d began at_k (sym (begun k) ∙ is)).waits) in
-        record { waits = both.0; opened = both.1 }
+    rests : HasTicked w start at stamps l
+    rests = let both = silent l.bus.devices.entries (λ k d began at_k is. (waiting k d began at_k is).waits) in record { waits = both.0; opened = both.1 }
 
     pub has_ticked : (o : Option ℕ) → HasTicked w start at stamps (ticks_to answer_of after o l)
-    has_ticked None = rests l.stations (λ k. refl)
+    has_ticked None = rests
     has_ticked (Some e) = by_device (device_of e l.bus) refl
       where
-        by_device : (o : Option Entry) → device_of e l.bus ≡ o → HasTicked w start at stamps (panel_says (Some e) (ticks_with e o l.bus).sent (record l {
-          bus = (ticks_with e o l.bus).bus;
-          stations = all_hear (told_by_device e o l.bus) l.stations;
-        }))
-        by_device None none = rests l.stations (λ k. refl)
+        by_device : (o : Option Entry) → device_of e l.bus ≡ o → HasTicked w start at stamps (panel_says (Some e) (ticks_with e o l.bus).sent (record l { bus = (ticks_with e o l.bus).bus }))
+        by_device None none = rests
         by_device (Some d) is = with_frame e d is (step_of l.bus.greatest d).frame refl

@@ -14,9 +14,6 @@ pub record Alike (b c : BusState) : Type 0 where
 pub alike_itself : (b : BusState) → IsReached b.greatest b.devices → Alike b b
 alike_itself b reached = record { same = refl; here = reached; there = reached }
 
-pub turned_back : (b c : BusState) → Alike b c → Alike c b
-turned_back b c a = record { same = sym a.same; here = a.there; there = a.here }
-
 pub one_after : (b c d : BusState) → Alike b c → Alike c d → Alike b d
 one_after b c d a e = record { same = a.same ∙ e.same; here = a.here; there = e.there }
 
@@ -167,9 +164,6 @@ bytes_alike given b c a =
 pub record AlikeTicked (t u : BusTicked) : Type 0 where
   pub buses : Alike t.bus u.bus
   pub sent : t.sent ≡ u.sent
-
-reached_seen : (b : BusState) → IsReached b.greatest b.devices → IsReached b.greatest (record b.devices { report = b.devices.report })
-reached_seen b reached = reached
 
 ticked_reached : (m : ℕ) (d : Entry) → d.controller.session.greatest ≤ m → (entry_ticks m d).controller.session.greatest ≤ m
 ticked_reached m d le = let is = tick_at_moment m d.controller in omega (arith, is, le)

@@ -102,9 +102,6 @@ beside_taken k address m ds =
     (λ i. is_taken address (take_raised m k ds i) || is_taken address (drop_raised m (k + 1) ds i))
     ∙ (λ i. any_taken address m (take k ds) i || any_taken address m (drop (k + 1) ds) i)
 
-taken_same : (k address : ℕ) (b c : BusState) → Alike b c → is_taken_beside k address b.devices.entries ≡ is_taken_beside k address c.devices.entries
-taken_same k address = observe (λ x. is_taken_beside k address x.devices.entries) (λ x reached. beside_taken k address x.greatest x.devices.entries)
-
 -- of an entry, with what is seen of the bus beside it
 with_entry : {A : Type 0} (k : ℕ) (f : BusState → Option Entry → A)
     → ((x : BusState) (o : Option Entry) → IsReached x.greatest x.devices → f (caught_up x) o ≡ f x o)
@@ -152,9 +149,6 @@ withdrawal_same k = at_entry k (λ m o. withdrawal_of o) (λ m d le. refl)
 length_raised : (m : ℕ) (ds : List Entry) → length (map (as_seen m) ds) ≡ length ds
 length_raised m [] = refl
 length_raised m (d ∷ ds) = ap suc (length_raised m ds)
-
-pub length_same : (b c : BusState) → Alike b c → length b.devices.entries ≡ length c.devices.entries
-length_same = observe (λ x. length x.devices.entries) (λ x reached. length_raised x.greatest x.devices.entries)
 
 add_refusal_same : (address : ℕ) (b c : BusState) → Alike b c → add_refusal address b ≡ add_refusal address c
 add_refusal_same address = observe (add_refusal address) (λ x reached.

@@ -16,13 +16,13 @@ pub use Rattle.osdp_bus_laws.specs.Reports.{told_at, told_by_bytes, told_by_devi
 pub use Rattle.osdp_bus_laws.specs.Turns.{IsBefore, IsDueEntry, judged}
 pub use Rattle.osdp_bus_laws.proofs.Sound.{held_there, sound_item, sound_seen, sound_silent, SoundBus}
 pub use Rattle.osdp_bus_laws.proofs.Turning.{due_is_next, next_is_due, none_is_due, set_here, set_other, strictly}
-pub use Rattle.osdp_calls.specs.Calls.{after_call, after_next, after_panel, all_hear, asked_at, asked_by_holder, begins_with, begun_of, Call, change_at, changes_at, is_to_begin, issues, last_of, NewDevice, NewPanel, Next, noted, OfPanel, panel_says, read_at_end, read_at_silence, read_at_tick, read_by, read_by_holder, read_up_to, said_at, said_for, Step, withdrawn}
+pub use Rattle.osdp_calls.specs.Calls.{after_call, after_next, after_panel, asked_at, asked_by_holder, begins_with, begun_of, Call, change_at, is_to_begin, last_of, NewDevice, NewPanel, Next, noted, OfPanel, panel_says, read_at_end, read_at_silence, read_at_tick, read_by, read_by_holder, said_at, said_for, Step}
 pub use Rattle.osdp_entry_numbers.specs.Numbers.{AreNumbers, has_entry, IsIdle, IsNewPanel, named, Numbers, renumbered, renumbers, turn_of}
 pub use Rattle.osdp_msg.specs.declared.command.Command.{Command}
-pub use Rattle.osdp_link_laws.proofs.Lines.{both, each_all, each_of}
+pub use Rattle.osdp_link_laws.proofs.Lines.{each_all, each_of}
 pub use Rattle.osdp_reader.specs.declared.handler.Answer.{Answer}
-pub use Rattle.osdp_shared_line.specs.Line.{after_net, changed, Net, NetMove, RestartPanel as RestartsPanel, site_at}
-pub use Rattle.osdp_calls.specs.Premises.{AllKeep, AreInOrder, InRange, IsAsked, IsFreeFor, IsNoOthers, IsOfOthers, IsSaid, IsSetUp, IsThere, Keeps, MayBeAt, PanelInRange}
+pub use Rattle.osdp_shared_line.specs.Line.{after_net, Net, NetMove, RestartPanel as RestartsPanel, site_at}
+pub use Rattle.osdp_calls.specs.Premises.{AllKeep, AreInOrder, IsAsked, IsFreeFor, IsNoOthers, IsOfOthers, IsSaid, IsSetUp, IsThere, Keeps, MayBeAt, PanelInRange}
 pub use Rattle.osdp_entry_numbers.specs.OwnOrder.{after_all_own, after_own, AllOwnKeep, asked_in, Fits, in_order, IsOwnSetUp, LeavesAlone, ordered_step, own_view, OwnKeeps, OwnLine, OwnStep, turned}
 pub use Rattle.osdp_bus.proofs.Waiting.{found, IsFound}
 pub use Rattle.osdp_bus.specs.Machine.{after_begin_at, after_retarget_at, after_submit_at, begin_refusal_at, begin_refusal_of, bus_fault, changed_unless, changes_entry, entry_begins, entry_retargets, entry_submits, entry_withdraws, is_comset_refused, new_device, or_taken, remembered_after, retarget_refusal_at, retarget_refusal_of, submit_refusal_at, submit_refusal_of, withdrawal_of}
@@ -33,7 +33,7 @@ pub use Rattle.osdp_link_laws.specs.Link.{outstanding_command}
 pub use Rattle.osdp_shared_line.proofs.Sites.{some_same}
 pub use Rattle.osdp_calls.specs.Lines.{Burst, bus_with, InUse, Station}
 pub use Rattle.osdp_calls.proofs.Ends.{next_bus, said_bus}
-pub use Rattle.osdp_calls_ledger.specs.Steps.{given_back, opening, panel_restarts, panel_steps, reported, steps_at, steps_of}
+pub use Rattle.osdp_calls_ledger.specs.Steps.{given_back, opening, panel_restarts, panel_steps, reported, steps_of}
 pub use Rattle.osdp_entry_numbers.specs.Promises.{all_own_accepted, all_own_given_up, all_own_queued, DoesTheSame, IsOfPanel, own_accepted, own_along, own_restarts, own_steps, own_steps_from, OwnOrderDoesTheSame, OwnOrderKeepsApart, OwnOrderKeepsLedger}
 pub use Rattle.osdp_frame.specs.Packet.{Packet}
 pub use Rattle.osdp_frame.specs.Reading.{PacketItem, RefusedItem, RunItem, SkippedItem}
@@ -42,7 +42,7 @@ pub use Rattle.osdp_controller.specs.Machine.{acts, is_outstanding, retarget_ref
 pub use Rattle.osdp_bus_laws.proofs.Changing.{Sound}
 pub use Rattle.osdp_link_laws.proofs.Stages.{Each}
 pub use Rattle.osdp_calls.specs.Ends.{CanStand}
-pub use Rattle.osdp_calls.proofs.Matching.{changed_same, is_there}
+pub use Rattle.osdp_calls.proofs.Matching.{is_there}
 pub use Rattle.osdp_entry_numbers.specs.Including.{AnyCallsKeep, as_they_stand, same_step}
 pub use Rattle.osdp_ledger.specs.History.{AreAllowed, History, new_history, runs}
 pub use Rattle.osdp_link_ledger.specs.Steps.{after_steps, all_steps, opens, queued_before, submits, told, withdraws}

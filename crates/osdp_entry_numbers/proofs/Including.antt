@@ -1,6 +1,6 @@
 -- Calls that keep the premises of any calls keep these: the line beside the panel's own bus differs by the turn alone.
-use Rattle.std.proofs.Common.{◌≡◌, ◌⊎◌, ℕ, true, false, cond, is_some, List, [], ◌∷◌, ◌++◌, append-nil, map, option_map, Option, Some, None, refl, sym, subst, ap, ◌∙◌, inl, inr}
-use Rattle.osdp_entry_numbers.proofs.Common.{option_map_or, Packet, Command, BusState, device_of, after_begin_at, after_retarget_at, after_submit_at, begin_refusal_of, changed_unless, entry_withdraws, retarget_refusal_of, submit_refusal_of, BusConfig, Entry, sound_call, SoundBus, each_of, Each, Answer, site_at, Call, NewDevice, NewPanel, Next, OfPanel, Step, after_call, after_next, after_panel, all_hear, asked_at, begins_with, begun_of, change_at, is_to_begin, issues, last_of, noted, panel_says, read_by, said_at, said_for, CanStand, Burst, InUse, Station, AllKeep, AreInOrder, IsAsked, IsFreeFor, IsNoOthers, IsOfOthers, IsSaid, IsThere, Keeps, MayBeAt, PanelInRange, said_bus, AnyCallsKeep, as_they_stand, same_step, IsNewPanel, has_entry, named, renumbered, turn_of, AllOwnKeep, LeavesAlone, OwnKeeps, OwnLine, after_own, asked_in}
+use Rattle.std.proofs.Common.{◌≡◌, ◌⊎◌, ℕ, true, false, cond, is_some, List, [], ◌∷◌, ◌++◌, map, option_map, Option, Some, None, refl, sym, subst, ap, ◌∙◌, inl, inr}
+use Rattle.osdp_entry_numbers.proofs.Common.{option_map_or, Packet, Command, BusState, device_of, after_begin_at, after_retarget_at, after_submit_at, begin_refusal_of, changed_unless, entry_withdraws, retarget_refusal_of, submit_refusal_of, BusConfig, Entry, sound_call, SoundBus, each_of, Each, Answer, site_at, Call, NewDevice, NewPanel, Next, OfPanel, Step, after_call, after_next, after_panel, asked_at, begins_with, begun_of, change_at, is_to_begin, last_of, noted, panel_says, read_by, said_at, said_for, CanStand, Burst, InUse, Station, AllKeep, AreInOrder, IsAsked, IsFreeFor, IsNoOthers, IsOfOthers, IsSaid, IsThere, Keeps, MayBeAt, PanelInRange, said_bus, AnyCallsKeep, as_they_stand, same_step, IsNewPanel, has_entry, named, renumbered, turn_of, AllOwnKeep, LeavesAlone, OwnKeeps, OwnLine, after_own, asked_in}
 use Rattle.osdp_bus_laws.specs.Calls as bus
 use Rattle.osdp_entry_numbers.specs.Numbers.{is_of_line}
 use Rattle.osdp_entry_numbers.proofs.NewPanels.{has_turn, new_sound}
@@ -88,16 +88,9 @@ module _ {H : Type 0} where
     abbrev turn_at : bus.Call → ℕ
     turn_at call = turn_of (option_map as_they_stand.ordered (asked_in call l.bus)) first
 
-    notes_same : (call : bus.Call) → IsNoAdd call → noted call (turned_to (turn_at call) l.bus) l.stations ≡ noted call l.bus l.stations
-    notes_same (bus.Add address) added = absurd added
-    notes_same (bus.Submit k command) added =
-        ap (λ f. changed_unless f l.stations (change_at k (issues command) l.stations)) (submit_first k command (turn_at (bus.Submit k command)) l.bus)
-    notes_same (bus.OnBytes bytes moment) added =
-        ap (λ told. all_hear told l.stations) (call_to (bus.OnBytes bytes moment) first l.bus (sound first) tt tt).told
-    notes_same (bus.Tick moment) added =
-        ap (λ told. all_hear told l.stations)
-        (call_to (bus.Tick moment) (turn_at (bus.Tick moment)) l.bus (sound (turn_at (bus.Tick moment))) tt (has_turn (bus.Tick moment) as_they_stand l.bus first)).told
-    notes_same _ added = refl
+    notes_same : (call : bus.Call) → noted call (turned_to (turn_at call) l.bus) l.stations ≡ noted call l.bus l.stations
+    notes_same (bus.Begin k moment) = refl
+    notes_same _ = refl
 
     says_same : (call : bus.Call) (m : InUse H) → said_at call (turned_to (turn_at call) l.bus) m ≡ said_at call l.bus m
     says_same (bus.Tick moment) m =
@@ -118,7 +111,7 @@ module _ {H : Type 0} where
         let m : InUse H = record l { bus = bus.after_call call l.bus; stations = noted call l.bus l.stations; place = last_of ps l.place } in
         record {
           next = x.next;
-          same = (λ i. said_at call (turned_to f l.bus) (record l { bus = x.same i; stations = notes_same call added i; place = last_of ps l.place }))
+          same = (λ i. said_at call (turned_to f l.bus) (record l { bus = x.same i; stations = notes_same call i; place = last_of ps l.place }))
               ∙ says_same call (on_turn x.next m) ∙ said_first call x.next l.bus m;
           read = x.read;
         }
@@ -138,7 +131,6 @@ module _ {H : Type 0} where
       let here : device_of i l.bus ≡ None = ap (λ j. device_of j l.bus) (let e : i ≡ k = cc in e) ∙ none in
       (λ j. record l {
         bus = changed_unless (submit_refusal_of i command (here j) l.bus) l.bus (after_submit_at i command l.bus);
-        stations = changed_unless (submit_refusal_of i command (here j) l.bus) l.stations (change_at i (issues command) l.stations);
         place = last_of ps l.place;
       })
   absent_same (bus.Withdraw i) k ps l is none =

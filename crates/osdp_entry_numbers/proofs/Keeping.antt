@@ -1,5 +1,5 @@
 -- The ledger of each device, read off a panel whose entries stand in an order of its own, is that of its link.
-use Rattle.osdp_entry_numbers.proofs.Common.{◌≡◌, ◌⊎◌, ℕ, true, false, inl, inr, List, [], ◌∷◌, ◌++◌, map, option_map, Option, Some, refl, sym, subst, ap, ◌∙◌, Command, device_of, Entry, Answer, Order, RestartPanel, after, new_ledger, AreAllowed, History, new_history, runs, after_steps, all_steps, queued_before, outstanding_command, Net, NetMove, RestartsPanel, after_net, site_at, some_same, is_there, IsIdle, AllOwnKeep, OwnLine, OwnStep, after_all_own, after_own, in_order, turned, all_own_given_up, IsOfPanel, OwnOrderDoesTheSame, OwnOrderKeepsApart, OwnOrderKeepsLedger, own_along, own_steps, own_steps_from}
+use Rattle.osdp_entry_numbers.proofs.Common.{◌≡◌, ◌⊎◌, ℕ, true, false, inl, inr, List, [], ◌∷◌, ◌++◌, map, option_map, Option, Some, refl, sym, subst, ap, ◌∙◌, Command, device_of, Entry, Answer, Order, RestartPanel, after, AreAllowed, History, new_history, runs, all_steps, queued_before, outstanding_command, Net, NetMove, RestartsPanel, after_net, site_at, some_same, is_there, IsIdle, AllOwnKeep, OwnLine, OwnStep, after_all_own, after_own, in_order, turned, all_own_given_up, IsOfPanel, OwnOrderDoesTheSame, OwnOrderKeepsApart, OwnOrderKeepsLedger, own_along, own_steps, own_steps_from}
 use Rattle.std.specs.Prelude.{is_some, option_to_list}
 use Rattle.osdp_reader.specs.State.{ReaderState}
 use Rattle.osdp_ledger.specs.Ledger as ledger
@@ -15,11 +15,11 @@ use Rattle.osdp_calls.proofs.Lasting.{call_keeps}
 use Rattle.osdp_calls.proofs.Powers.{outstanding_same, waiting_too}
 use Rattle.osdp_calls.proofs.Same.{IsNetOf}
 use Rattle.osdp_calls.proofs.Setting.{first_net, first_site, first_there, starts}
-use Rattle.osdp_calls_ledger.proofs.Calling.{call_shown, call_shows}
+use Rattle.osdp_calls_ledger.proofs.Calling.{call_shown, call_shows, call_taken}
 use Rattle.osdp_calls_ledger.proofs.GivenUp.{exits_so}
-use Rattle.osdp_calls_ledger.proofs.Keeping.{allowed_without, before_still, runs_without, switched_on}
+use Rattle.osdp_calls_ledger.proofs.Keeping.{allowed_without, ledger_before, nothing_before, runs_without}
 use Rattle.osdp_calls_ledger.proofs.Seen.{in_turn, seen, seen_at, seen_of_link}
-use Rattle.osdp_calls_ledger.proofs.Shows.{Shown, Shows, shows_as, then_shows}
+use Rattle.osdp_calls_ledger.proofs.Shows.{Shown, Shows, Taken, both_taken, none_taken, shows_as, shows_kinds, then_shows}
 use Rattle.osdp_entry_numbers.specs.Numbers.{as_seen}
 use Rattle.osdp_entry_numbers.proofs.Raised.{caught_up, get_raised}
 use Rattle.osdp_entry_numbers.proofs.Entries.{FromOther, IsEntry, IsIdleOne, from_other}
@@ -39,6 +39,13 @@ module _ {H : Type 0} (answer_of : H → Command → Answer) (after_command : H 
   abbrev along : List (OwnStep H) → OwnLine H → Shown
   along steps a k g = own_along answer_of after_command k steps a g
 
+  -- .. and what each device takes in it
+  abbrev along_taken : List (OwnStep H) → OwnLine H → Taken
+  along_taken [] a = none_taken
+  along_taken (step ∷ steps) a =
+      both_taken (call_taken answer_of after_command (in_order step.call step.ordered a) (turned step.call a))
+      (along_taken steps (after_own answer_of after_command step a))
+
   abbrev here : OwnStep H → OwnLine H → Shown
   here step a k g = own_steps answer_of after_command k step.call a g
 
@@ -54,8 +61,9 @@ module _ {H : Type 0} (answer_of : H → Command → Answer) (after_command : H 
       (at.entry, at.is_entry)
 
   own_shows : (steps : List (OwnStep H)) (a : OwnLine H) (n : Net H) → IsNetOf a.line n → Follows a → AllOwnKeep answer_of after_command steps a
-      → Shows answer_of after_command (along steps a) n (after_all_own answer_of after_command steps a).line
-  own_shows [] a n h f keep = record { net = n; moves = []; fit = tt; run = refl; same = h; shows = λ heard k g own. refl }
+      → Shows answer_of after_command (λ move. Unit {0}) (along steps a) (along_taken steps a) n (after_all_own answer_of after_command steps a).line
+  own_shows [] a n h f keep =
+      record { net = n; moves = []; fit = tt; run = refl; same = h; kinds = tt; shows = λ heard k g own. refl; takes = λ heard k own. refl }
   own_shows (step ∷ steps) a n h f keep =
       let next = after_own answer_of after_command step a in
       let call = in_order step.call step.ordered a in
@@ -66,7 +74,8 @@ module _ {H : Type 0} (answer_of : H → Command → Answer) (after_command : H 
       (after_all_own answer_of after_command steps next).line (λ i. own_keep i steps next)
       (shows_as answer_of after_command (call_shown answer_of after_command call l) (here step a) n next.line
       (λ i g own. let e = entry_there i a n h (sym (own_keep i (step ∷ []) a) ∙ own) in still.shown i g e.0 e.1)
-      (call_shows answer_of after_command l n (turned_net step a n h) call step.places k.in_order k.quiet_opening k.addresses k.in_range))
+      (shows_kinds answer_of after_command n next.line (λ move is. tt)
+      (call_shows answer_of after_command l n (turned_net step a n h) call step.places k.in_order k.quiet_opening k.addresses k.in_range)))
       (λ m h1. own_shows steps next m h1 still.follows keep.1)
 
   -- the line follows to the end
@@ -132,10 +141,9 @@ module _ {H : Type 0} (answer_of : H → Command → Answer) (after_command : H 
       let kept = each n0 moves s.is_set_up fit k f at.site from (ap (λ (m : Net H). site_at k m.sites) shown.run ∙ at.there) in
       let heard = all_heard answer_of after_command nobody n0 s.is_set_up [] moves fit in
       let before = queued_before 0 first.reader.queue.events in
-      let g0 = after_steps before new_ledger in
+      let g0 = ledger_before answer_of after_command first in
       let rest = own_along answer_of after_command k steps a g0 in
-      let h0 = runs before new_history in
-      let quiet = switched_on h0 (before_still 0 first.reader.queue.events new_history (record { ahead = refl; closed = refl; ended = refl })) in
+      let quiet = nothing_before first in
       let g1 : after (RestartPanel false) g0 ≡ g0 =
       (λ i. after (RestartPanel false) (sym (runs_after before new_history) i)) ∙ ap (λ (h : History). h.ledger) quiet ∙ runs_after before new_history in
       let seen_all : all_steps answer_of after_command (moves_of answer_of after_command k moves n0) (view k f n0) g0 ≡ RestartPanel false ∷ rest =
@@ -149,7 +157,6 @@ module _ {H : Type 0} (answer_of : H → Command → Answer) (after_command : H 
       let allowed : AreAllowed (own_steps_from answer_of after_command k first steps a) new_history =
       allowed_without before rest (RestartPanel false) new_history quiet (subst (λ xs. AreAllowed xs new_history) same kept.allowed) in
       let last_follows = all_follow steps a follows keep in
-      let mine = at.is_entry in
       let mine = whole_entry k d end last_follows at.entry at.is_entry entry in
       let gone = own_gone answer_of after_command k first steps a in (
         allowed,

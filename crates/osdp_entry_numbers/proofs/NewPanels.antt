@@ -104,10 +104,6 @@ new_reached config xs i d at = by_address (site_at i xs) (sym (get_map (λ a. ne
     by_address (Some a) is = let same : new_device a config ≡ d = cc in subst (λ (x : Entry). x.controller.session.greatest ≤ 0) same (omega arith)
 
 -- a panel that loses power shows the same whatever moments its controllers have seen
-raised_restarts : (m : ℕ) (q : Option Entry) → panel_restarts (option_map (as_seen m) q) ≡ panel_restarts q
-raised_restarts m None = refl
-raised_restarts m (Some d) = refl
-
 pub raised_own : (m : ℕ) (o : Option Entry) → own_restarts (option_map (as_seen m) o) ≡ own_restarts o
 raised_own m None = refl
 raised_own m (Some d) = refl

@@ -1,7 +1,7 @@
 -- Whose turn it is changes nothing of a bus but that, as long as a tick asks the same entry.
-use Rattle.osdp_entry_numbers.proofs.Common.{◌≡◌, ℕ, Bool, true, false, cond, not, ◌||◌, List, [], ◌∷◌, ◌++◌, map, slice_set, Option, Some, None, refl, sym, subst, ap, ◌∙◌, max, option_map, option_map_or, items, whole_packets, Command, Communication, comset_of, submit_refusal, Report, BusState, device_of, has_report, holder, is_silent, seen, after_bytes, ends_run, ends_silent, hears_bytes, after_begin_at, after_retarget_at, after_submit_at, begin_refusal_at, changed_unless, changes_entry, entry_begins, entry_retargets, entry_submits, entry_withdraws, bus_fault, is_comset_refused, remembered_after, retarget_refusal_at, retarget_refusal_of, submit_refusal_at, submit_refusal_of, BusTicked, asks_free, bus_ticks, is_due_at, is_held_and_due, next_due, stays, ticks_at, ticks_by, ticks_free, ticks_held, ticks_on, ticks_with, Entry, BusFault, AddressTaken, told_in, judged, SoundBus, asked_at, asked_by_holder, read_at_silence, read_by, as_they_stand, AreNumbers, renumbers}
+use Rattle.osdp_entry_numbers.proofs.Common.{◌≡◌, ℕ, Bool, true, false, cond, not, ◌||◌, List, [], ◌∷◌, ◌++◌, slice_set, Option, Some, None, refl, sym, subst, ap, ◌∙◌, max, option_map, option_map_or, items, whole_packets, Command, Communication, comset_of, submit_refusal, Report, BusState, device_of, has_report, holder, is_silent, seen, after_bytes, ends_run, ends_silent, hears_bytes, after_begin_at, after_retarget_at, after_submit_at, begin_refusal_at, changed_unless, changes_entry, entry_begins, entry_retargets, entry_submits, entry_withdraws, bus_fault, is_comset_refused, remembered_after, retarget_refusal_at, retarget_refusal_of, submit_refusal_at, submit_refusal_of, BusTicked, asks_free, bus_ticks, is_due_at, is_held_and_due, next_due, stays, ticks_at, ticks_by, ticks_free, ticks_held, ticks_on, ticks_with, Entry, BusFault, AddressTaken, judged, SoundBus, asked_at, asked_by_holder, read_at_silence, read_by, as_they_stand, AreNumbers, renumbers}
 use Rattle.osdp_bus_laws.specs.Calls as bus
-use Rattle.osdp_entry_numbers.proofs.Buses.{IsTurn, asked_same, bytes_same, next_same, tick_read, tick_same}
+use Rattle.osdp_entry_numbers.proofs.Buses.{IsTurn, asked_same, next_same, tick_read, tick_same}
 use Rattle.osdp_entry_numbers.proofs.Entries.{Same}
 use Rattle.osdp_entry_numbers.proofs.Hearing.{UnderDevices}
 use Rattle.osdp_entry_numbers.proofs.Panels.{HasTurn, IsNoAdd}
@@ -20,10 +20,6 @@ same_option (Some k) = refl
 same_waits : (o : Option (ℕ × Report)) → o ≡ option_map (renumbers as_they_stand.ordered) o
 same_waits None = refl
 same_waits (Some said) = refl
-
-same_told : (xs : List (ℕ × Report)) → map (renumbers as_they_stand.ordered) xs ≡ xs
-same_told [] = refl
-same_told (x ∷ xs) = ap (λ ys. x ∷ ys) (same_told xs)
 
 pub same_under : (b : BusState) → UnderDevices as_they_stand b.devices b.devices
 same_under b = record { entries = λ i. Same refl; report = same_waits b.devices.report }
@@ -128,11 +124,10 @@ remembered_first : (first : ℕ) (b : BusState) (o : Option (ℕ × Report)) →
 remembered_first first b None = refl
 remembered_first first b (Some said) = refl
 
--- what a call makes of it, tells and reads
+-- what a call makes of it, and reads
 pub record CallTo (call : bus.Call) (first : ℕ) (b : BusState) : Type 0 where
   pub next : ℕ
   pub same : bus.after_call call (turned_to first b) ≡ turned_to next (bus.after_call call b)
-  pub told : told_in call (turned_to first b) ≡ told_in call b
   pub read : read_by call (turned_to first b) ≡ read_by call b
 
 pub call_to : (call : bus.Call) (first : ℕ) (b : BusState) → SoundBus (turned_to first b) → IsNoAdd call → HasTurn as_they_stand call first b → CallTo call first b
@@ -141,7 +136,6 @@ call_to (bus.Begin k now) first b sound added turn = record {
   next = first;
   same = unless_first (begin_refusal_at k b) first b (after_begin_at k now b) (after_begin_at k now (turned_to first b))
       (changes_first k (entry_begins (max b.greatest now)) first (seen now b));
-  told = refl;
   read = refl;
 }
 call_to (bus.Submit k command) first b sound added turn = record {
@@ -149,22 +143,19 @@ call_to (bus.Submit k command) first b sound added turn = record {
   same = ap (λ f. changed_unless f (turned_to first b) (after_submit_at k command (turned_to first b))) (submit_first k command first b)
       ∙ unless_first (submit_refusal_at k command b) first b (after_submit_at k command b) (after_submit_at k command (turned_to first b))
       (changes_first k (entry_submits command) first b);
-  told = refl;
   read = refl;
 }
-call_to (bus.Withdraw k) first b sound added turn = record { next = first; same = changes_first k entry_withdraws first b; told = refl; read = refl }
+call_to (bus.Withdraw k) first b sound added turn = record { next = first; same = changes_first k entry_withdraws first b; read = refl }
 call_to (bus.Retarget k address) first b sound added turn = record {
   next = first;
   same = ap (λ f. changed_unless f (turned_to first b) (after_retarget_at k address (turned_to first b))) (retarget_first k address first b)
       ∙ unless_first (retarget_refusal_at k address b) first b (after_retarget_at k address b) (after_retarget_at k address (turned_to first b))
       (changes_first k (entry_retargets address) first b);
-  told = refl;
   read = refl;
 }
 call_to (bus.OnBytes bytes now) first b sound added turn = record {
   next = first;
   same = bytes_first bytes now first b;
-  told = (bytes_same as_they_stand same_numbers b.remembered first bytes now b b.devices sound (same_under b)).told ∙ same_told (told_in (bus.OnBytes bytes now) b);
   read = by_bytes bytes;
 }
   where
@@ -172,19 +163,17 @@ call_to (bus.OnBytes bytes now) first b sound added turn = record {
     by_bytes [] = refl
     by_bytes (byte ∷ bytes) =
         ap (λ (c : BusState). read_at_silence (seen now b) ++ whole_packets (items false (c.held ++ (byte ∷ bytes)))) (silent_first first (seen now b))
-call_to (bus.OnSilence now) first b sound added turn = record { next = first; same = refl; told = refl; read = refl }
+call_to (bus.OnSilence now) first b sound added turn = record { next = first; same = refl; read = refl }
 call_to (bus.Tick now) first b sound added turn =
     let x = tick_to now first b turn in
     record {
       next = x.first;
       same = x.same;
-      told = (tick_same as_they_stand same_numbers b.remembered first now b b.devices sound (same_under b) turn).told ∙ same_told (told_in (bus.Tick now) b);
       read = tick_read as_they_stand same_numbers b.remembered first now b b.devices sound (same_under b);
     }
 call_to bus.NextReport first b sound added turn = record {
   next = first;
   same = (λ i. record b { devices = record b.devices { report = None }; first = first; remembered = remembered_first first b b.devices.report i });
-  told = refl;
   read = refl;
 }
 

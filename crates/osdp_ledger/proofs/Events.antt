@@ -161,15 +161,15 @@ report_offered c count cards shown sessions queued reports left i =
         o.0,
         All-push (IsAtMost c) reports (sessions, c) (All-weaker (λ (a : Told). Follows a (sessions, c)) (IsAtMost c) (at_most c sessions) reports o.1) (inr refl),
         o.2,
-        (sessions, Contains-push reports (sessions, c)),
+        Contains-push reports (sessions, c),
       );
       reported = All-weaker (WasReported reports) (WasReported (reports ++ (sessions, c) ∷ [])) (λ w was why. still w (was why)) left i.reported;
       withdrawn = both (NeverReported reports) (LeftNow sessions c) (NeverReported (reports ++ (sessions, c) ∷ [])) (λ w never now. never_yet w never now) left i.withdrawn o.3;
       no_later = both (NoLater reports) (LeftNow sessions c) (NoLater (reports ++ (sessions, c) ∷ [])) (λ w none now. none_yet w none now) left i.no_later o.3;
     }
   where
-    still : (w : Left) → (session : ℕ) × Contains reports (session, w.card) → (session : ℕ) × Contains (reports ++ (sessions, c) ∷ []) (session, w.card)
-    still w was = (was.0, Contains-append_left reports ((sessions, c) ∷ []) (was.0, w.card) was.1)
+    still : (w : Left) → Contains reports (w.session, w.card) → Contains (reports ++ (sessions, c) ∷ []) (w.session, w.card)
+    still w was = Contains-append_left reports ((sessions, c) ∷ []) (w.session, w.card) was
 
     both : (P Q R : Left → Type 0) → ((w : Left) → P w → Q w → R w) → (ws : List Left) → All P ws → All Q ws → All R ws
     both P Q R f ws p q k x less = f (slice_index_or ws k x) (p k x less) (q k x less)

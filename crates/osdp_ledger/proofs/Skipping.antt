@@ -52,8 +52,8 @@ skips_none steps allowed told card is_told is_queued earlier =
   where
     by_exit : (h : History) → EventsHold h → (w : Left) → Contains h.left w → w.card ≡ card → (why : Exit) → w.why ≡ why → IsToldOrGone h card
     by_exit h e w has is AfterReport why =
-        let told = All-contains (λ (x : Left). x.why ≡ AfterReport → (session : ℕ) × Contains h.reports (session, x.card)) h.left w e.reported has why in
-        inl (told.0, subst (λ (c : Card). Contains h.reports (told.0, c)) is told.1)
+        let told = All-contains (λ (x : Left). x.why ≡ AfterReport → Contains h.reports (x.session, x.card)) h.left w e.reported has why in
+        inl (w.session, subst (λ (c : Card). Contains h.reports (w.session, c)) is told)
     by_exit h e w has is TakenBack why = inr (w, has, is, (λ x. let y = sym why ∙ x in cc))
     by_exit h e w has is Lapsed why = inr (w, has, is, (λ x. let y = sym why ∙ x in cc))
     by_exit h e w has is ThrownAway why = inr (w, has, is, (λ x. let y = sym why ∙ x in cc))

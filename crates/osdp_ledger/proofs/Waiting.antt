@@ -36,10 +36,10 @@ OfferIs NoOffer sessions shown cards reports left = All (λ (d : Card). All (λ 
 OfferIs (Unreported c) sessions shown cards reports left =
     (c.place + 1 ≡ shown) × All (λ (a : Told). Follows a (sessions, c)) reports × All (IsUpTo c) cards × All (LeftNow sessions c) left
 OfferIs (Reported c) sessions shown cards reports left =
-    (c.place + 1 ≡ shown) × All (IsAtMost c) reports × All (IsUpTo c) cards × ((session : ℕ) × Contains reports (session, c))
+    (c.place + 1 ≡ shown) × All (IsAtMost c) reports × All (IsUpTo c) cards × Contains reports (sessions, c)
 
 abbrev pub WasReported : List Told → Left → Type 0
-WasReported reports w = w.why ≡ AfterReport → (session : ℕ) × Contains reports (session, w.card)
+WasReported reports w = w.why ≡ AfterReport → Contains reports (w.session, w.card)
 
 abbrev pub NeverReported : List Told → Left → Type 0
 NeverReported reports w = w.why ≡ TakenBack → All (λ (a : Told). a.1.place ≡ w.card.place → ⊥) reports

@@ -55,8 +55,8 @@ pub record EventsHold (h : History) : Type 0 where
   pub in_turn : AllPairs Follows h.reports
   -- none that waits is passed over: what is reported was not queued after it
   pub in_order : All (λ (c : Card). All (λ (told : ℕ × Card). told.1.place ≤ c.place) h.reports) h.ledger.cards
-  -- none leaves for having been reported that wasn't
-  pub reported : All (λ (w : Left). w.why ≡ AfterReport → (session : ℕ) × Contains h.reports (session, w.card)) h.left
+  -- none leaves for having been reported that wasn't, in the session in which it leaves
+  pub reported : All (λ (w : Left). w.why ≡ AfterReport → Contains h.reports (w.session, w.card)) h.left
   -- none that was taken back is reported
   pub withdrawn : All (λ (w : Left). w.why ≡ TakenBack → All (λ (told : ℕ × Card). told.1.place ≡ w.card.place → ⊥) h.reports) h.left
   -- once it has left, it is reported in no later session

@@ -4,6 +4,13 @@
 
 ghost use Rattle.osdp_ledger_laws.specs.Laws.{ActsOrOffers, PlainEndsAreTold, ReportsOnceASession, SkipsNoNeighbour};
 ghost use Rattle.osdp_ledger_laws.specs.Runs.{MoreStepsHappen};
+ghost use Rattle.osdp_ledger_laws.specs.Sessions.{EachSessionHolds, OneSessionCounts};
+
+/// In each session, whatever happens before it and in it: the orders that the device has acted on are a beginning of those that waited as it began and of those
+/// accepted since, and hold each settled one, with the device's answer, and at most one more.
+pub fn each_session_holds()
+    ensures { EachSessionHolds }
+{}
 
 /// Of two events that one session reports, the first was queued first. So none is reported twice in a session.
 pub fn reports_once_a_session()
@@ -38,3 +45,11 @@ pub fn plain_ends_are_told()
 pub fn more_steps_happen()
     ensures { MoreStepsHappen }
 {}
+
+/// In one session of plain steps as many commands are settled as were acted on, or one fewer. No more were acted on than were accepted, and no more events
+/// reported than queued.
+pub fn one_session_counts()
+    ensures { OneSessionCounts }
+{
+    osdp_ledger::one_session_holds();
+}

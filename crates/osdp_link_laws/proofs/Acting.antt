@@ -1,9 +1,8 @@
 -- What a frame does to the reader: which line of its table it meets, and what the reader keeps.
-use Rattle.osdp_link_laws.proofs.Common.{◌≡◌, ◌≢◌, ◌<◌, ◌==◌, ℕ, Bool, false, not, cond, eqb, List, [], ◌∷◌, ◌++◌, drop, take, Option, Some, None, refl, sym, subst, ap, ◌∙◌, inl, inr, arith, ◌||◌, is_some, option_to_list, eqb_tells, next_sequence, Command, Event, Reply, ControllerConfig, Exchange, Opening, Polling, Asking, event_in, ReaderConfig, Answer, Silent, Zero, Repeat, Taken, Busy, Wrong, Queue, event_for, released, ReaderState, Account, given_to, taken_command}
+use Rattle.osdp_link_laws.proofs.Common.{◌≡◌, ◌≢◌, ◌<◌, ℕ, Bool, false, not, cond, eqb, List, [], ◌∷◌, ◌++◌, drop, Option, Some, None, refl, sym, subst, ap, ◌∙◌, inl, inr, arith, ◌||◌, is_some, option_to_list, eqb_tells, next_sequence, Command, Event, Reply, ControllerConfig, Exchange, Opening, Polling, Asking, event_in, ReaderConfig, Answer, Silent, Zero, Repeat, Taken, Busy, Wrong, Queue, event_for, released, ReaderState}
 use Rattle.osdp_msg.specs.declared.command.Command.TheVariants as command
 use Rattle.osdp_msg.specs.declared.event.Event.TheVariants as event
 use Rattle.osdp_reader.specs.Table.{event_or_answer, kind_by_number, kind_of, moved}
-use Rattle.osdp_link_laws.proofs.Lines.{both}
 use Rattle.osdp_link_laws.proofs.Numbers.{is_true, is_false, next_above_zero, next_differs}
 use Rattle.osdp_link_laws.proofs.Stages.{HasActed, Offers, OffersEvent, frame, shown}
 
@@ -73,22 +72,10 @@ module _ (fixed : ControllerConfig) {H : Type 0} where
   polled (event.LocalState s ∷ rest) capacity room ever answer_of after config handler = (inl (refl, refl, (rest, refl)), refl)
   polled (_ ∷ rest) capacity room ever answer_of after config handler = (inl (refl, refl, (rest, refl)), refl)
 
-  -- the event that its answer tells is the front
-  pub polled_front : (events : List Event) (answer_of : H → Command → Answer) (after : H → Command → H) (config : ReaderConfig) (handler : H)
-      → option_to_list (event_in (event_or_answer answer_of after (event_for command.Poll events) config handler command.Poll).reply) ≡ take 1 events
-  polled_front [] answer_of after config handler = refl
-  polled_front (event.LocalState s ∷ rest) answer_of after config handler = refl
-  polled_front (_ ∷ rest) answer_of after config handler = refl
-
 -- a command other than POLL has no event for its answer, and is taken as one
 pub no_event : (c : Command) (events : List Event) → c ≢ command.Poll → event_for c events ≡ None
 no_event command.Poll events other = absurd (other refl)
 no_event c events other = refl
-
-pub taken_is : (c : Command) (said : Option Reply) (front : List Event) (t : Account) → c ≢ command.Poll
-    → taken_command c said front t ≡ record t { taken = t.taken ++ c ∷ []; given = t.given ++ given_to c said }
-taken_is command.Poll said front t other = absurd (other refl)
-taken_is c said front t other = refl
 
 -- where nothing is offered, nothing leaves the queue when the next number is taken
 leaves_none : (told : List Event) (q : Queue) → q.offered ≡ false → q.events ≡ cond q.offered told [] ++ (released q).events
@@ -105,10 +92,3 @@ pub leaves_shown : (x : Exchange) (a : Reply) (q : Queue) → Offers x a q → q
 leaves_shown Opening a q off = leaves_none [] q off
 leaves_shown Polling a q offers = leaves_event (event_in a) q offers
 leaves_shown (Asking c) a q off = leaves_none [] q off
-
--- a device that goes to another address takes its queue along
-pub moved_queue : {H : Type 0} (to : Option ℕ) (r : ReaderState H) → (moved to r).queue ≡ r.queue
-moved_queue None r = refl
-moved_queue (Some address) r =
-    both (λ (s : ReaderState _). s.queue ≡ r.queue) (address == r.config.address) r
-    (record r { config = record r.config { address = address }; last = None; stored = None }) refl refl

@@ -1,11 +1,10 @@
 -- How the stage of a session comes from the one before it, by what moves; and what is due at a stage.
-use Rattle.osdp_link_laws.proofs.Common.{◌≡◌, ◌⊎◌, ℕ, Bool, true, false, cond, List, [], ◌∷◌, ◌++◌, length, Option, Some, None, Result, Ok, refl, append-nil, option_to_list, Packet, Command, Event, MsgFault, Reply, exchange_command, Ticked, ticks, Exchange, ControllerFault, Report, State, Closed, ReaderState, command_in, kind_of, outcome, Answer, Kind, Delivered, Delivery, Link, Lost, Move, Reopen, Repeated, RestartReader, Tick, ToController, ToReader, told_by_front}
+use Rattle.osdp_link_laws.proofs.Common.{◌≡◌, ◌⊎◌, ℕ, List, [], ◌∷◌, ◌++◌, length, Option, Some, None, Result, Ok, refl, append-nil, Packet, Command, Event, MsgFault, Reply, exchange_command, Ticked, ticks, Exchange, ControllerFault, Report, ReaderState, command_in, kind_of, outcome, Answer, Kind, Delivered, Delivery, Link, Lost, Move, Reopen, Repeated, RestartReader, Tick, ToController, ToReader, told_by_front}
 use Rattle.osdp_msg.specs.declared.command.Command.TheVariants as command
 use Rattle.osdp_msg.specs.declared.reply.Reply.TheVariants as reply
 use Rattle.osdp_controller.specs.Machine as controllers
 use Rattle.osdp_controller.specs.declared.report.Report.TheVariants as report
 use Rattle.osdp_reader.specs.declared.kind.Kind.TheVariants as kind
-use Rattle.osdp_link_laws.specs.Link as link
 use Rattle.osdp_link_laws.proofs.Since.{Hears}
 use Rattle.osdp_link_laws.proofs.Stages.{After, Before, Behind, Fresh, HasRestarted, Level, Never, Now, Past, Rest, Restarted, Stage, Start, number_after, owed, owed_at, pending_at, shown, shown_at, unreported_at}
 
@@ -23,14 +22,6 @@ pub record Due : Type 0 where
 abbrev pub standing_at : Restarted → Stage → List Event
 standing_at Now at = []
 standing_at _ at = shown_at at ++ unreported_at at
-
-pub same_either : (events : List Event) (b : Bool) → cond b events events ≡ events
-same_either events true = refl
-same_either events false = refl
-
--- .. of these stand in front of its queue: all, or none where the event has lapsed, since nothing is offered then
-abbrev pub standing_of : Restarted → Stage → Bool → List Event
-standing_of since at offered = cond offered (standing_at since at) []
 
 -- of one that hears these are the event that it told last, and the one that it offers
 pub stood : (since : Restarted) → Hears since → (n : ℕ) (y : Exchange) (b : Reply) (x : Exchange) → standing_at since (Behind (After n y b) x) ≡ shown y b
@@ -70,9 +61,13 @@ pub record IsSent (t : Ticked) : Type 0 where
 abbrev pub TicksTo : Ticked → Stage → Stage → Type 0
 TicksTo t at to = (to ≡ at) ⊎ (BeginsFrom at to × IsSent t)
 
+-- the pending command and those that wait stay, in their order
+abbrev pub KeepsOrders : Stage → Stage → List Command → List Command → Type 0
+KeepsOrders at to ws vs = pending_at to ++ vs ≡ pending_at at ++ ws
+
 -- ---- a packet comes to the controller
 
--- the answers and the events that a report tells, and the command that it tells unsettled
+-- the answers and the events that a report tells
 abbrev pub settled_in : Option Report → List (Command × Reply)
 settled_in (Some (report.Settled c a)) = (c, a) ∷ []
 settled_in (Some (report.Moved c to)) = (c, reply.Com to) ∷ []
@@ -81,21 +76,6 @@ settled_in _ = []
 abbrev pub reported_in : Option Report → List Event
 reported_in (Some (report.Event event)) = event ∷ []
 reported_in _ = []
-
-abbrev pub lost_in : Option Report → List Command
-lost_in (Some (report.Lost cause command)) = option_to_list command
-lost_in _ = []
-
--- what is told unsettled is told at the session's end
-abbrev pub IsToldAtEnd : Option Report → State → Type 0
-IsToldAtEnd r new = (lost_in r ≡ []) ⊎ (new ≡ Closed)
-
--- what a controller in this state, with these commands waiting, makes of its commands, and what it tells: the pending one and those that wait stay,
--- in their order; one is told unsettled only where the session ends; and where it had ended nothing changes
-pub record Controls (at to : Stage) (old new : State) (ws vs : List Command) (r : Option Report) : Type 0 where
-  pub waits : pending_at to ++ vs ≡ pending_at at ++ ws
-  pub lost : IsToldAtEnd r new
-  pub over : old ≡ Closed → (new ≡ Closed) × (pending_at to ≡ pending_at at) × (vs ≡ ws) × (lost_in r ≡ [])
 
 abbrev pub Announces : Option Report → List (Command × Reply) → List Event → Type 0
 Announces r settled reported = (settled_in r ≡ settled) × (reported_in r ≡ reported)
@@ -142,12 +122,9 @@ module _ {H : Type 0} (answer_of : H → Command → Answer) (after : H → Comm
   abbrev pub MovesTo : Move H → Link H → Restarted → Stage → Restarted → Stage → Type 0
   MovesTo (Tick now) l since at new to =
       let t = ticks now l.controller.session l.controller.waiting in
-      (new ≡ since) × TicksTo t at to × Controls at to l.controller.session.state t.session.state l.controller.waiting t.waiting t.step.report
+      (new ≡ since) × TicksTo t at to × KeepsOrders at to l.controller.waiting t.waiting
   MovesTo (ToReader how) l since at new to = ReadsFront l.to_reader how l.reader since at new to
-  MovesTo (ToController how now) l since at new to =
-      let r = told_by_front how l.to_controller now l.controller.session in
-      (new ≡ since) × HearsTo r at to
-      × Controls at to l.controller.session.state (link.to_controller l.to_controller how now l).controller.session.state l.controller.waiting l.controller.waiting r
+  MovesTo (ToController how now) l since at new to = (new ≡ since) × HearsTo (told_by_front how l.to_controller now l.controller.session) at to
   MovesTo (Reopen now) l since at new to = ReopensTo (controllers.begin_refusal l.controller) l.to_reader l.to_controller since at new to
   MovesTo (RestartReader config handler room) l since at new to = (new ≡ Now) × (to ≡ at)
   MovesTo _ l since at new to = Stays since at new to

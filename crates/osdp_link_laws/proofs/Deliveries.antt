@@ -1,17 +1,17 @@
 -- What holds of a session holds after each packet that comes, or is lost.
-use Rattle.osdp_link_laws.proofs.Common.{◌≡◌, ◌⊎◌, ℕ, List, [], ◌∷◌, Option, Some, None, refl, sym, subst, ap, ◌∙◌, inl, inr, arith, IfSome, Packet, next_sequence, ReplyFits, Command, Reply, PdId, Machine, Closed, NotTaken, NumberRefused, Plain, ControllerConfig, Report, Session, Exchange, Opening, Polling, Asking, Answer, refused, UnexpectedSequence, IsPlain, SaysWhatFitsIf, Delivered, Delivery, Link, Lost, Repeated, lost_at, IsPlainlySaid, told_by_front}
+use Rattle.osdp_link_laws.proofs.Common.{◌≡◌, ◌⊎◌, ℕ, List, [], ◌∷◌, Option, Some, None, refl, sym, subst, ap, ◌∙◌, inl, inr, arith, IfSome, Packet, next_sequence, ReplyFits, Command, Reply, PdId, NotTaken, NumberRefused, Plain, ControllerConfig, Report, Session, Exchange, Opening, Polling, Asking, Answer, refused, UnexpectedSequence, IsPlain, SaysWhatFitsIf, Delivered, Delivery, Link, Lost, Repeated, lost_at, IsPlainlySaid, told_by_front}
 use Rattle.osdp_msg.specs.declared.reply.Reply.TheVariants as reply
 use Rattle.osdp_controller.specs.Answers as packets
 use Rattle.osdp_controller.specs.Hearing as controller
 use Rattle.osdp_reader.specs.Table as reader
 use Rattle.osdp_link_laws.specs.Link as link
 use Rattle.osdp_link_laws.proofs.Advancing.{SaysWell, goes_on, opens}
-use Rattle.osdp_link_laws.proofs.Coming.{Announces, Controls, HearsTo, IsToldAtEnd, Reads, ReadsFront, lost_in, reported_in, settled_in}
-use Rattle.osdp_link_laws.proofs.Hearing.{Ignored, Settles, closed_hears, hears_answer, hears_other, hears_refused, hears_resting}
+use Rattle.osdp_link_laws.proofs.Coming.{Announces, HearsTo, Reads, ReadsFront, reported_in, settled_in}
+use Rattle.osdp_link_laws.proofs.Hearing.{Ignored, Settles, hears_answer, hears_other, hears_refused, hears_resting}
 use Rattle.osdp_link_laws.proofs.Lines.{each_append, each_map, runs_append, runs_each, each_lost, runs_lost}
 use Rattle.osdp_link_laws.proofs.Moves.{Premises, asked_fits, runs_last}
 use Rattle.osdp_link_laws.proofs.Numbers.{next_above_zero, next_differs}
-use Rattle.osdp_link_laws.proofs.Stages.{Acted, After, Asks, Behind, ControllerAt, Each, Fresh, Introduces, IsFrame, IsOldFrame, IsPast, Level, MayRefuse, Past, Refuses, Rest, Restarted, Says, SaysOld, Stage, Start, ToControllerAt, ToReaderAt, answer, frame, number_after, pending_at}
+use Rattle.osdp_link_laws.proofs.Stages.{Acted, After, Asks, Behind, ControllerAt, Each, Fresh, Introduces, IsFrame, IsOldFrame, IsPast, Level, MayRefuse, Past, Refuses, Rest, Restarted, Says, SaysOld, Stage, Start, ToControllerAt, ToReaderAt, answer, frame, number_after}
 use Rattle.osdp_link_laws.proofs.Parts.{At, HoldsThen, with_session, with_to_controller, with_to_reader}
 use Rattle.osdp_link_laws.proofs.Taking.{HeardAt, heard_again, shows_none}
 
@@ -210,85 +210,64 @@ module _ (fixed : ControllerConfig) {H : Type 0} (answer_of : H → Command → 
   pub all_read : Assumed → (at : Stage) (l : Link H) → AtStage at l → Each IsRead l.to_controller
   all_read given at l h = all_so IsRead (λ p is. inl is) (λ p may refuses. inr refuses) given at l h
 
-  -- how far the session has come once this report is told, and what it makes of the commands
-  abbrev Heard : Option Report → Stage → Link H → Link H → Type 0
-  Heard r at l m =
-      (to : Stage)
-      × (HearsTo r at to × Controls at to l.controller.session.state m.controller.session.state l.controller.waiting l.controller.waiting r) × AtStage to m
-
-  over_heard : (at to : Stage) (now : ℕ) (p : Packet) (s : Session) (ws : List Command) → pending_at to ≡ pending_at at → s.state ≡ Closed
-      → let heard = controller.hears p now s in (heard.session.state ≡ Closed) × (pending_at to ≡ pending_at at) × (ws ≡ ws) × (lost_in heard.report ≡ [])
-  over_heard at to now p s ws same closed =
-      let is = closed_hears p now s closed in
-      (ap (λ (h : controller.Heard). h.session.state) is ∙ closed, same, refl, ap (λ (h : controller.Heard). lost_in h.report) is)
+  -- how far the session has come once this report is told
+  abbrev Heard : Option Report → Stage → Link H → Type 0
+  Heard r at m = (to : Stage) × HearsTo r at to × AtStage to m
 
   -- a packet that settles nothing
   passed_over : (at : Stage) (now : ℕ) (p : Packet) (l : Link H) → let heard = controller.hears p now l.controller.session in
-      IsToldAtEnd heard.report heard.session.state → Announces heard.report [] []
-      → ControllerAt fixed at heard.session → AtStage at l → Heard heard.report at l (link.controller_gets p now l)
-  passed_over at now p l lost none stands h =
-      let heard = controller.hears p now l.controller.session in (
-        at,
-        (stays_at heard.report at none, record { waits = refl; lost = lost; over = over_heard at at now p l.controller.session l.controller.waiting refl }),
-        with_session fixed answer_of after since at l heard.session h stands,
-      )
+      Announces heard.report [] [] → ControllerAt fixed at heard.session → AtStage at l → Heard heard.report at (link.controller_gets p now l)
+  passed_over at now p l none stands h =
+      let heard = controller.hears p now l.controller.session in
+      (at, stays_at heard.report at none, with_session fixed answer_of after since at l heard.session h stands)
 
   -- the answer comes
   settles : (past : Past) (x : Exchange) (a : Reply) (now : ℕ) (p : Packet) (l : Link H) → AtStage (Level past x a) l
       → Settles fixed (number_after past) x a (controller.hears p now l.controller.session)
       → Each (Says fixed since (number_after past) a) l.to_controller
-      → Heard (controller.hears p now l.controller.session).report (Level past x a) l (link.controller_gets p now l)
-  settles past x a now p l h ((tells, lost), rests) line =
-      let at = Level past x a in
-      let to = Rest (number_after past) x a in (
-        to,
-        (
-          inr (refl, tells),
-          record {
-            waits = refl;
-            lost = inl lost;
-            over = over_heard at to now p l.controller.session l.controller.waiting refl;
-          },
-        ),
-        record { stage = h.stage.2; controller = rests; waiting = h.waiting; reader = h.reader; to_reader = h.to_reader; to_controller = line },
-      )
+      → Heard (controller.hears p now l.controller.session).report (Level past x a) (link.controller_gets p now l)
+  settles past x a now p l h (tells, rests) line = (
+    Rest (number_after past) x a,
+    inr (refl, tells),
+    record { stage = h.stage.2; controller = rests; waiting = h.waiting; reader = h.reader; to_reader = h.to_reader; to_controller = line },
+  )
 
   -- the answer to the opening, from the device that is there by then
   identity_comes : Assumed → (past : Past) (x : Exchange) (a : Reply) (now : ℕ) (p : Packet) (l : Link H) → AtStage (Level past x a) l
       → Introduces fixed (number_after past) p → Each (Says fixed since (number_after past) a) l.to_controller
-      → Heard (controller.hears p now l.controller.session).report (Level past x a) l (link.controller_gets p now l)
+      → Heard (controller.hears p now l.controller.session).report (Level past x a) (link.controller_gets p now l)
   identity_comes given (After n y b) x a now p l h (first, identity) line = absurd (next_above_zero n first)
   identity_comes given Start Polling a now p l h identity line = absurd h.stage.1
   identity_comes given Start (Asking c) a now p l h identity line = absurd h.stage.1
   identity_comes given Start Opening a now p l h (first, (pd, fits, is)) line =
       elim (hears_answer fixed p now 0 Opening (reply.PdId pd) l.controller.session (identity_is given pd p fits is) (pd, refl) h.controller) [
-        | inl i ↦ passed_over (Level Start Opening a) now p l i.0.0 i.0.1 i.1 h
+        | inl i ↦ passed_over (Level Start Opening a) now p l i.0 i.1 h
         | inr settled ↦ settles Start Opening a now p l h settled line
       ]
 
   controller_gets : Assumed → (at : Stage) (now : ℕ) (p : Packet) (l : Link H) → AtStage at l → FrontToController at p l
-      → Heard (controller.hears p now l.controller.session).report at l (link.controller_gets p now l)
+      → Heard (controller.hears p now l.controller.session).report at (link.controller_gets p now l)
   controller_gets given Fresh now p l h front = absurd front
   controller_gets given (Behind past x) now p l h old =
-      let i = old_is given past p now x l.controller.session h.stage.0 old h.controller in passed_over (Behind past x) now p l i.0.0 i.0.1 i.1 h
+      let i = old_is given past p now x l.controller.session h.stage.0 old h.controller in passed_over (Behind past x) now p l i.0 i.1 h
   controller_gets given (Level past x a) now p l h (inl old) =
-      let i = old_is given past p now x l.controller.session h.stage.0 old h.controller in passed_over (Level past x a) now p l i.0.0 i.0.1 i.1 h
+      let i = old_is given past p now x l.controller.session h.stage.0 old h.controller in passed_over (Level past x a) now p l i.0 i.1 h
   controller_gets given (Level past x a) now p l h (inr (inl busy, line)) =
       let i = hears_other fixed p now (number_after past) x l.controller.session (inl (busy_is given p busy)) h.controller in
-      passed_over (Level past x a) now p l i.0.0 i.0.1 i.1 h
+      passed_over (Level past x a) now p l i.0 i.1 h
   controller_gets given (Level past x a) now p l h (inr (inr (inl is), line)) =
       elim (hears_answer fixed p now (number_after past) x a l.controller.session
       (plain_is given (number_after past) x a p h.stage.2 is) h.stage.2.1 h.controller) [
-        | inl i ↦ passed_over (Level past x a) now p l i.0.0 i.0.1 i.1 h
+        | inl i ↦ passed_over (Level past x a) now p l i.0 i.1 h
         | inr settled ↦ settles past x a now p l h settled line
       ]
   controller_gets given (Level past x a) now p l h (inr (inr (inr (inr identity)), line)) = identity_comes given past x a now p l h identity line
   controller_gets given (Level past x a) now p l h (inr (inr (inr (inl refused)), line)) =
       let i = hears_refused fixed p now (number_after past) x l.controller.session (refused_is given p refused) h.controller in
-      passed_over (Level past x a) now p l i.0.0 i.0.1 i.1 h
+      passed_over (Level past x a) now p l i.0 i.1 h
   controller_gets given (Rest n x a) now p l h front =
       let heard = hears_resting fixed p now n l.controller.session h.controller in
-      passed_over (Rest n x a) now p l (inl (ap lost_in heard.0)) (ap settled_in heard.0, ap reported_in heard.0) heard.1 h
+      passed_over (Rest n x a) now p l (ap settled_in heard.0, ap reported_in heard.0) heard.1 h
 
   rest_to_controller : (at : Stage) (p : Packet) (ps : List Packet) → ToControllerAt fixed since at (p ∷ ps) → ToControllerAt fixed since at ps
   rest_to_controller Fresh p ps line = absurd cc
@@ -326,28 +305,17 @@ module _ (fixed : ControllerConfig) {H : Type 0} (answer_of : H → Command → 
       with_to_controller fixed answer_of after since at l (lost_at place l.to_controller) h (less_to_controller place at l.to_controller h.to_controller)
 
   -- nothing is heard
-  unheard : (at : Stage) (l m : Link H) → m.controller ≡ l.controller → AtStage at m → Heard None at l m
-  unheard at l m same h = (
-    at,
-    (
-      stays_at None at (refl, refl),
-      record {
-        waits = refl;
-        lost = inl refl;
-        over = λ closed. (ap (λ (c : Machine). c.session.state) same ∙ closed, refl, refl, refl);
-      },
-    ),
-    h,
-  )
+  unheard : (at : Stage) (m : Link H) → AtStage at m → Heard None at m
+  unheard at m h = (at, stays_at None at (refl, refl), h)
 
   pub coming_to_controller : Assumed → (how : Delivery) (now : ℕ) (ps : List Packet) (l : Link H) → l.to_controller ≡ ps → (at : Stage) → AtStage at l
-      → Heard (told_by_front how ps now l.controller.session) at l (link.to_controller ps how now l)
-  coming_to_controller given Delivered now [] l is at h = unheard at l l refl h
-  coming_to_controller given Lost now [] l is at h = unheard at l l refl h
-  coming_to_controller given Repeated now [] l is at h = unheard at l l refl h
+      → Heard (told_by_front how ps now l.controller.session) at (link.to_controller ps how now l)
+  coming_to_controller given Delivered now [] l is at h = unheard at l h
+  coming_to_controller given Lost now [] l is at h = unheard at l h
+  coming_to_controller given Repeated now [] l is at h = unheard at l h
   coming_to_controller given Delivered now (p ∷ ps) l is at h =
       controller_gets given at now p (record l { to_controller = ps }) (losing_to_controller at p ps l is h)
       (front_to_controller at p ps ps (record l { to_controller = ps }) refl (inl refl) (subst (ToControllerAt fixed since at) is h.to_controller))
-  coming_to_controller given Lost now (p ∷ ps) l is at h = unheard at l (record l { to_controller = ps }) refl (losing_to_controller at p ps l is h)
+  coming_to_controller given Lost now (p ∷ ps) l is at h = unheard at (record l { to_controller = ps }) (losing_to_controller at p ps l is h)
   coming_to_controller given Repeated now (p ∷ ps) l is at h =
       controller_gets given at now p l h (front_to_controller at p ps (p ∷ ps) l is (inr refl) (subst (ToControllerAt fixed since at) is h.to_controller))

@@ -1,13 +1,11 @@
 -- What each move does to a link, however it stands.
-use Rattle.osdp_link_laws.proofs.Common.{◌≡◌, ◌≢◌, ◌⊎◌, ◌≤◌, ◌<◌, ℕ, zero, suc, Bool, true, false, cond, eqb, List, [], ◌∷◌, ◌++◌, length, drop, Some, None, refl, sym, subst, ap, ◌∙◌, inl, inr, arith, append_assoc, le-ltb, lt-ltb, Packet, Room, Command, Event, UnexpectedSequence, ControllerConfig, ControllerFault, NotClosed, OutOfRange, State, Closed, EventQueue, released, withdrawn, refused, ReaderState, after_set_handler, new_reader, event_or_answer, is_for_another, kind_by_number, kind_of, ReaderConfig, Answer, Silent, Secured, Zero, Busy, Wrong, ComesTo, AnswersBy, CountsRestarts, EachMoveDoes, HasAddress, HasHandler, HasNewController, HasNewReader, HasWithdrawn, LosesOne, RefusesNumbers, Retargets, Withdraws, WithdrawsEvents, Link, RestartController, RestartReader, SetHandler, after_move, but_oldest, lost_at, unoffered_in, is_offered_here, LapsesEvents, ◌&&◌}
-use Rattle.std.specs.Prelude.{◌-◌, ◌||◌, if◌then◌else◌, not}
+use Rattle.osdp_link_laws.proofs.Common.{◌≡◌, ◌≢◌, ◌⊎◌, ◌≤◌, ◌<◌, ℕ, zero, suc, Bool, true, false, cond, eqb, List, [], ◌∷◌, ◌++◌, length, drop, Some, None, refl, sym, subst, ap, ◌∙◌, inl, inr, arith, le-ltb, lt-ltb, Packet, Room, Command, Event, UnexpectedSequence, ControllerConfig, ControllerFault, NotClosed, OutOfRange, State, Closed, EventQueue, released, withdrawn, refused, ReaderState, after_set_handler, new_reader, event_or_answer, is_for_another, kind_by_number, kind_of, ReaderConfig, Answer, Silent, Secured, Zero, Busy, Wrong, ComesTo, AnswersBy, CountsRestarts, EachMoveDoes, HasAddress, HasHandler, HasNewController, HasNewReader, LosesOne, RefusesNumbers, Retargets, Withdraws, WithdrawsEvents, Link, RestartController, RestartReader, SetHandler, after_move, lost_at, LapsesEvents}
+use Rattle.std.specs.Prelude.{◌||◌, if◌then◌else◌, not}
 use Rattle.osdp_controller.specs.Machine as controllers
 use Rattle.osdp_reader.specs.Table as reader
 use Rattle.osdp_link_laws.specs.Link as link
 use Rattle.osdp_link_laws.proofs.Acting.{no_event}
 use Rattle.osdp_link_laws.proofs.Numbers.{is_false, is_true}
-use Rattle.osdp_link_laws.proofs.Withdrawing.{place_is}
-use Rattle.osdp_link_laws.proofs.Lapsed.{lapsed_told, lapsed_untold}
 
 -- ---- a reader that knows no number
 
@@ -57,7 +55,7 @@ module _ {H : Type 0} where
 
     sets_handler : (l : Link H) (handler : H) → HasHandler handler l (after_move answer_of after (SetHandler handler) l)
     sets_handler l handler =
-        record { others = refl; account = refl; handler = refl; stored = refl; reader = record { config = refl; last = refl; queue = refl; busy = refl } }
+        record { others = refl; handler = refl; stored = refl; reader = record { config = refl; last = refl; queue = refl; busy = refl } }
 
     -- ---- restarts
 
@@ -67,7 +65,6 @@ module _ {H : Type 0} where
       others = refl;
       reader = record { config = refl; last = refl; stored = refl; queue = refl; busy = refl; handler = refl };
       refuses = refuses_numbers (new_reader config handler room) refl;
-      account = refl;
     }
 
     restarts_controller : (l : Link H) (config : ControllerConfig) (room : Room)
@@ -92,20 +89,20 @@ none_back _ all why = refl
 
 withdrawn_by : (capacity room : ℕ) (offered ever : Bool) (front : List Event) (event : Event) (rest : List Event) → length front ≡ (if ever then 1 else 0)
     → let q : EventQueue = record { events = front ++ event ∷ rest; capacity = capacity; room = room; offered = offered; ever_offered = ever } in
-    ((withdrawn q).events ≡ front ++ rest) × (unoffered_in q ≡ event ∷ rest)
-withdrawn_by capacity room offered false [] event rest few = (refl, refl)
+    (withdrawn q).events ≡ front ++ rest
+withdrawn_by capacity room offered false [] event rest few = refl
 withdrawn_by capacity room offered false (f ∷ front) event rest few = absurd (omega (arith, few))
 withdrawn_by capacity room offered true [] event rest few = absurd (omega (arith, few))
-withdrawn_by capacity room offered true (f ∷ []) event rest few = (refl, refl)
+withdrawn_by capacity room offered true (f ∷ []) event rest few = refl
 withdrawn_by capacity room offered true (f ∷ g ∷ front) event rest few = absurd (omega (arith, few))
 
 none_by : (events : List Event) (capacity room : ℕ) (offered ever : Bool) → length events ≤ (if ever then 1 else 0)
     → let q : EventQueue = record { events = events; capacity = capacity; room = room; offered = offered; ever_offered = ever } in
-    ((withdrawn q).events ≡ events) × (unoffered_in q ≡ [])
-none_by [] capacity room offered false few = (refl, refl)
+    (withdrawn q).events ≡ events
+none_by [] capacity room offered false few = refl
 none_by (e ∷ events) capacity room offered false few = absurd (omega (arith, few))
-none_by [] capacity room offered true few = (refl, refl)
-none_by (e ∷ []) capacity room offered true few = (refl, refl)
+none_by [] capacity room offered true few = refl
+none_by (e ∷ []) capacity room offered true few = refl
 none_by (e ∷ f ∷ events) capacity room offered true few = absurd (omega (arith, few))
 
 -- ---- an address is set
@@ -153,40 +150,19 @@ module _ {H : Type 0} (answer_of : H → Command → Answer) (after : H → Comm
 
   withdraws_events : WithdrawsEvents answer_of after
   withdraws_events = record {
-    first = λ l front event rest is few. taken l front event rest is few;
-    none = λ l few. nothing l (none_by l.reader.queue.events l.reader.queue.capacity l.reader.queue.room l.reader.queue.offered l.reader.queue.ever_offered few);
+    first = λ l front event rest is few.
+        let q = l.reader.queue in
+        record {
+          others = refl;
+          reader = ap (λ es. record l.reader { queue = record q { events = es } })
+              (subst (λ es. (withdrawn (record q { events = es })).events ≡ front ++ rest) (sym is)
+              (withdrawn_by q.capacity q.room q.offered q.ever_offered front event rest few));
+        };
+    none = λ l few.
+        let q = l.reader.queue in
+        ap (λ es. record l { reader = record l.reader { queue = record q { events = es } } })
+        (none_by q.events q.capacity q.room q.offered q.ever_offered few);
   }
-    where
-      all_but : (all before : List Event) (q : EventQueue) (front : List Event) (event : Event) (rest : List Event) → q.events ≡ front ++ event ∷ rest
-          → unoffered_in q ≡ event ∷ rest → all ≡ before ++ q.events → but_oldest q all ≡ before ++ (front ++ rest)
-      all_but all before q front event rest is tail ends =
-          let whole : all ≡ (before ++ front) ++ event ∷ rest = ends ∙ ap (λ es. before ++ es) is ∙ sym (append_assoc before front (event ∷ rest)) in
-          ap (λ es. lost_at (length all - length es) all) tail
-          ∙ ap (λ es. lost_at (length es - length (event ∷ rest)) es) whole
-          ∙ ap (λ k. lost_at k ((before ++ front) ++ event ∷ rest)) (place_is (before ++ front) (event ∷ rest))
-          ∙ lost_there (before ++ front) event rest ∙ append_assoc before front rest
-
-      taken : (l : Link H) (front : List Event) (event : Event) (rest : List Event) → l.reader.queue.events ≡ front ++ event ∷ rest
-          → length front ≡ (if l.reader.queue.ever_offered then 1 else 0) → HasWithdrawn front rest l (link.withdraws_event l)
-      taken l front event rest is few =
-          let q = l.reader.queue in
-          let by = subst (λ es. ((withdrawn (record q { events = es })).events ≡ front ++ rest) × (unoffered_in (record q { events = es }) ≡ event ∷ rest)) (sym is)
-          (withdrawn_by q.capacity q.room q.offered q.ever_offered front event rest few) in
-          record {
-            others = refl;
-            reader = ap (λ es. record l.reader { queue = record q { events = es } }) by.0;
-            account = λ before keeps. ap (λ es. record l.account { kept = es }) (all_but l.account.kept before q front event rest is by.1 keeps);
-          }
-
-      same_all : (all : List Event) (q : EventQueue) → unoffered_in q ≡ [] → but_oldest q all ≡ all
-      same_all all q none = ap (λ es. lost_at (length all - length es) all) none ∙ lost_beyond (length all - 0) all (omega arith)
-
-      nothing : (l : Link H) → let q = l.reader.queue in ((withdrawn q).events ≡ q.events) × (unoffered_in q ≡ []) → link.withdraws_event l ≡ l
-      nothing l (events, tail) =
-          let q = l.reader.queue in
-          let t = l.account in
-          ap (λ es. record l { reader = record l.reader { queue = record q { events = es } }; account = link.event_withdrawn q t }) events
-          ∙ ap (λ es. record l { account = record t { kept = es } }) (same_all t.kept q tail)
 
   lapses_events : LapsesEvents answer_of after
   lapses_events = record {
@@ -197,17 +173,11 @@ module _ {H : Type 0} (answer_of : H → Command → Answer) (after : H → Comm
           reader = (λ i. record l.reader {
             queue = cond (ever i) (record q { events = drop 1 (is i); offered = false; ever_offered = false }) q;
           });
-          told = λ past keeps offers. lapsed_told q l.account past event rest is keeps offers;
-          untold = λ past keeps offers.
-              lapsed_untold q l.account past ever (keeps ∙ ap (λ es. past ++ es) (sym is)) offers
-              ∙ ap (λ es. record l.account { kept = past ++ drop 1 es }) is;
         };
     none = λ l never.
         let q = l.reader.queue in
-        let t = l.account in
         (λ i. record l {
           reader = record l.reader { queue = cond (never i) (record q { events = drop 1 q.events; offered = false; ever_offered = false }) q };
-          account = cond (never i && not (is_offered_here q t)) (record t { kept = lost_at (length t.kept - length q.events) t.kept }) t;
         });
   }
 

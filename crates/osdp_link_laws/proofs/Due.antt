@@ -1,6 +1,6 @@
 -- A tick that is due: the frame of an exchange goes out, or the session ends.
-use Rattle.osdp_link_laws.proofs.Common.{◌≡◌, ◌⊎◌, ℕ, ◌+◌, true, leb, ltb, List, [], ◌∷◌, Some, None, drop, refl, ap, subst, inl, inr, next_sequence, Command, acts, frame_of, later, seen, Ticked, begins, gives_up, sends_frame, stays, ticks, ticks_in, tries_again, Exchange, Opening, Polling, Asking, Outstanding, Session, State, Closed, Quiet, Idle, Waiting, Pausing}
-use Rattle.osdp_link_laws.proofs.Lines.{chosen}
+use Rattle.osdp_link_laws.proofs.Common.{◌≡◌, ◌⊎◌, ℕ, ◌+◌, true, leb, ltb, List, [], ◌∷◌, ◌++◌, Some, None, refl, ap, subst, inl, inr, option_to_list, next_sequence, Command, acts, frame_of, later, seen, Ticked, begins, gives_up, sends_frame, stays, ticks, ticks_in, tries_again, Exchange, Opening, Polling, Asking, Outstanding, Session, State, Closed, Quiet, Idle, Waiting, Pausing, outstanding_command}
+use Rattle.osdp_link_laws.proofs.Lines.{both, chosen}
 
 abbrev pub Acts : Ticked → Type 0
 Acts t = acts t.step ≡ true
@@ -41,19 +41,18 @@ abbrev pub next_exchange : List Command → Exchange
 next_exchange [] = Polling
 next_exchange (c ∷ waiting) = Asking c
 
-idle_sends : (due : ℕ) (s : Session) (waiting : List Command) → Acts (ticks_in (Idle due) s waiting)
-    → Sends (next_exchange waiting) (ticks_in (Idle due) s waiting) × ((ticks_in (Idle due) s waiting).waiting ≡ drop 1 waiting)
+idle_sends : (due : ℕ) (s : Session) (waiting : List Command) → Acts (ticks_in (Idle due) s waiting) → Sends (next_exchange waiting) (ticks_in (Idle due) s waiting)
 idle_sends due s [] does =
-    chosen Acts (λ t. Sends Polling t × (t.waiting ≡ [])) (leb due s.greatest) (begins Polling (next_sequence s.number) s []) (stays s [])
-    (λ e. (begun Polling (next_sequence s.number) s [], refl)) (λ e. stays_rests s [] e) does
-idle_sends due s (c ∷ rest) does = (begun (Asking c) (next_sequence s.number) s rest, refl)
+    chosen Acts (Sends Polling) (leb due s.greatest) (begins Polling (next_sequence s.number) s []) (stays s [])
+    (λ e. begun Polling (next_sequence s.number) s []) (λ e. stays_rests s [] e) does
+idle_sends due s (c ∷ rest) does = begun (Asking c) (next_sequence s.number) s rest
 
 due_in : (state : State) (s : Session) (waiting : List Command) → Acts (ticks_in state s waiting) → SendsOrEnds (ticks_in state s waiting)
 due_in Closed s waiting does = stays_rests s waiting does
 due_in (Quiet until) s waiting does =
     chosen Acts SendsOrEnds (leb until s.greatest) (begins Opening 0 s waiting) (stays s waiting)
     (λ e. inr (Opening, begun Opening 0 s waiting)) (λ e. stays_rests s waiting e) does
-due_in (Idle due) s waiting does = inr (next_exchange waiting, (idle_sends due s waiting does).0)
+due_in (Idle due) s waiting does = inr (next_exchange waiting, idle_sends due s waiting does)
 due_in (Waiting until k o) s waiting does =
     chosen Acts SendsOrEnds (leb until s.greatest) (tries_again k o s waiting) (stays s waiting)
     (λ e. chosen Acts SendsOrEnds (ltb k s.config.sends) (sends_frame (k + 1) o s waiting) (gives_up o s waiting)
@@ -65,3 +64,32 @@ due_in (Pausing until o) s waiting does =
 
 pub due_sends : (now : ℕ) (s : Session) (waiting : List Command) → Acts (ticks now s waiting) → SendsOrEnds (ticks now s waiting)
 due_sends now s waiting does = due_in s.state (seen now s) waiting does
+
+-- ---- each tick
+
+-- the commands that have no end stay so, in their order, or the session ends
+abbrev ahead_in : State → List Command → List Command
+ahead_in state waiting = option_to_list (outstanding_command state) ++ waiting
+
+abbrev AheadOrEnds : State → List Command → Ticked → Type 0
+AheadOrEnds state waiting t = (t.session.state ≡ Closed) ⊎ (ahead_in t.session.state t.waiting ≡ ahead_in state waiting)
+
+ahead_stays : (state : State) (s : Session) (waiting : List Command) → s.state ≡ state → AheadOrEnds state waiting (stays s waiting)
+ahead_stays state s waiting is = inr (ap (λ st. ahead_in st waiting) is)
+
+ahead_ticked : (state : State) (s : Session) (waiting : List Command) → s.state ≡ state → AheadOrEnds state waiting (ticks_in state s waiting)
+ahead_ticked Closed s waiting is = inl is
+ahead_ticked (Quiet until) s waiting is =
+    both (AheadOrEnds (Quiet until) waiting) (leb until s.greatest) (begins Opening 0 s waiting) (stays s waiting) (inr refl) (ahead_stays (Quiet until) s waiting is)
+ahead_ticked (Idle due) s [] is =
+    both (AheadOrEnds (Idle due) []) (leb due s.greatest) (begins Polling (next_sequence s.number) s []) (stays s []) (inr refl) (ahead_stays (Idle due) s [] is)
+ahead_ticked (Idle due) s (c ∷ rest) is = inr refl
+ahead_ticked (Waiting until k o) s waiting is =
+    both (AheadOrEnds (Waiting until k o) waiting) (leb until s.greatest) (tries_again k o s waiting) (stays s waiting)
+    (both (AheadOrEnds (Waiting until k o) waiting) (ltb k s.config.sends) (sends_frame (k + 1) o s waiting) (gives_up o s waiting) (inr refl) (inl refl))
+    (ahead_stays (Waiting until k o) s waiting is)
+ahead_ticked (Pausing until o) s waiting is =
+    both (AheadOrEnds (Pausing until o) waiting) (leb until s.greatest) (sends_frame 1 o s waiting) (stays s waiting) (inr refl) (ahead_stays (Pausing until o) s waiting is)
+
+pub ticks_ahead : (now : ℕ) (s : Session) (waiting : List Command) → AheadOrEnds s.state waiting (ticks now s waiting)
+ticks_ahead now s waiting = ahead_ticked s.state (seen now s) waiting refl

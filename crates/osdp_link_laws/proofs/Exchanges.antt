@@ -1,17 +1,17 @@
 -- A whole exchange without losses: what it does, and what both ends are after it.
-use Rattle.osdp_link_laws.proofs.Common.{◌≡◌, ◌≤◌, ℕ, arith, leb, cond, List, [], ◌∷◌, ◌++◌, drop, take, Some, refl, sym, subst, ap, ◌∙◌, le-leb, append-nil, packed, next_sequence, event_reply, Command, Event, Reply, exchange_body, exchange_command, poll_told, at_rest, frame_of, later, seen, begins, stays, ticks, ticks_in, ControllerConfig, Exchange, Opening, Polling, Session, State, Idle, Quiet, event_for, offering, released, unoffered, ReaderState, Answer, Kind, Busy, Taken, Zero, MaySubmit, SaysWhatFits, Account, Link, after_report, TellsItsEvent, SetsNoAddress}
+use Rattle.osdp_link_laws.proofs.Common.{◌≡◌, ◌≤◌, ℕ, arith, leb, cond, List, [], ◌∷◌, ◌++◌, drop, Option, Some, None, refl, sym, subst, ap, ◌∙◌, le-leb, Packet, packed, next_sequence, Command, Reply, exchange_body, exchange_command, at_rest, frame_of, later, seen, begins, stays, Ticked, ticks, ticks_in, ControllerConfig, Exchange, Opening, Polling, Session, State, Idle, Quiet, event_for, offering, released, unoffered, ReaderState, Answer, Kind, Busy, Taken, Zero, MaySubmit, SaysWhatFits, Delivered, Link, Report, SetsNoAddress}
 use Rattle.std.specs.Prelude.{max, false}
 use Rattle.osdp_msg.specs.declared.reply.Reply.TheVariants as reply
-use Rattle.osdp_controller.specs.declared.report.Report.TheVariants as report
-use Rattle.osdp_reader.specs.Table.{Outcome, answer_to, begun, event_or_answer, hears, kind_of, moved, outcome}
+use Rattle.osdp_reader.specs.Table.{Outcome, begun, event_or_answer, hears, kind_of, moved, outcome}
 use Rattle.osdp_link_laws.specs.Link as link
-use Rattle.osdp_link_laws.proofs.Acting.{kind_next, kind_zero, no_event, taken_is}
+use Rattle.osdp_link_laws.specs.Reports.{command_taken, taken_as, taken_by, taken_by_front}
+use Rattle.osdp_link_laws.proofs.Acting.{kind_next, kind_zero}
 use Rattle.osdp_link_laws.proofs.Answering.{Replies, SaysFit, no_address, opening, taken_answer, taken_hears, taking}
 use Rattle.osdp_link_laws.proofs.Due.{Acts, next_exchange, stays_rests}
 use Rattle.osdp_link_laws.proofs.Lines.{chosen}
 use Rattle.osdp_link_laws.proofs.Moves.{Premises}
 use Rattle.osdp_link_laws.proofs.Parts.{At}
-use Rattle.osdp_link_laws.proofs.Round.{IsStill, answered_link, at_tick, come_through, delivered, goes}
+use Rattle.osdp_link_laws.proofs.Round.{IsStill, Passed, answered_link, at_tick, come_through, passes}
 use Rattle.osdp_link_laws.proofs.Settling.{MovesNone, report_of, settles_now}
 use Rattle.osdp_link_laws.proofs.Since.{Hears, has_acted}
 use Rattle.osdp_link_laws.proofs.Stages.{After, Each, IsAsked, IsOpen, Rest, Restarted, answer, frame}
@@ -30,17 +30,26 @@ begins_next_at state due s waiting is =
     subst (λ st. Acts (ticks_in st s waiting) → ticks_in st s waiting ≡ begins (next_exchange waiting) (next_sequence s.number) s (drop 1 waiting))
     (sym is) (begins_next due s waiting)
 
+-- a whole round: the link after it, what is told at its tick and by the packet to the controller, and what the reader takes in it
+pub record Went (H : Type 0) : Type 0 where
+  pub next : Link H
+  pub first : Option Report
+  pub told : Option Report
+  pub taken : List Command
+
 module _ {H : Type 0} (answer_of : H → Command → Answer) (after : H → Command → H) where
-  -- the account after an exchange from rest: the first of the commands that wait is taken and settled, with the answer that the reader
-  -- gives; where none waits the first of these events is offered and reported; where there is none either nothing happens
-  abbrev pub accounted : List Command → List Event → ReaderState H → Account → Account
-  accounted (c ∷ waiting) events r t = record t {
-    taken = t.taken ++ c ∷ [];
-    given = t.given ++ (c, (answer_to answer_of after r.config r.handler c).reply) ∷ [];
-    settled = t.settled ++ (c, (answer_to answer_of after r.config r.handler c).reply) ∷ [];
-  }
-  accounted [] (e ∷ events) r t = record t { offered = t.offered ++ e ∷ []; reported = t.reported ++ e ∷ [] }
-  accounted [] [] r t = t
+  abbrev went_by : ℕ → Ticked → Link H → Went H
+  went_by now t l =
+      let m = link.ticked t l in
+      let w = passes answer_of after now m in
+      record { next = w.next; first = t.step.report; told = w.told; taken = taken_by_front answer_of after Delivered m.to_reader l.reader }
+
+  -- .. where nothing is told at its tick
+  abbrev went_of : Passed H → List Packet → ReaderState H → Went H
+  went_of w ps r = record { next = w.next; first = None; told = w.told; taken = taken_by_front answer_of after Delivered ps r }
+
+  abbrev pub went : ℕ → Link H → Went H
+  went now l = went_by now (ticks now l.controller.session l.controller.waiting) l
 
 module _ (fixed : ControllerConfig) {H : Type 0} (answer_of : H → Command → Answer) (after : H → Command → H) where
   abbrev Given : Type 0
@@ -64,17 +73,27 @@ module _ (fixed : ControllerConfig) {H : Type 0} (answer_of : H → Command → 
       ap (λ ps. ps ++ frame_of x (record (seen now l.controller.session) { number = n }) ∷ []) still.to_reader
       ∙ ap (λ (c : ControllerConfig). packed false c.address n c.check false 0 (exchange_body x) ∷ []) config
 
+  abbrev ended : ℕ → Exchange → ℕ → Reply → List Command → Link H → Went H
+  ended now x n a rest l = record {
+    next = ended_link now x n a rest l;
+    first = None;
+    told = report_of x a;
+    taken = taken_by answer_of after (frame fixed x n) l.reader;
+  }
+
   whole : Given → (now : ℕ) (x : Exchange) (n : ℕ) (a : Reply) (rest : List Command) (l : Link H) → Still l → l.controller.session.config ≡ fixed
       → MovesNone x → ticks now l.controller.session l.controller.waiting ≡ begins x n (seen now l.controller.session) rest
-      → Replies fixed answer_of after x n l.reader a → goes answer_of after now l ≡ ended_link now x n a rest l
+      → Replies fixed answer_of after x n l.reader a → went answer_of after now l ≡ ended now x n a rest l
   whole given now x n a rest l still config none starts replies =
       let m = begun_link now x n rest l in
       let s = record (seen now l.controller.session) { number = n } in
       let says = given.hears n a replies.acted.0.fits ∙ given.plain a replies.acted.0.plain in
       let settles = settles_now fixed x n a now m.controller.session (later s.config.reply_wait s, 1, record { exchange = x; busies = 0; sent = 1 }, refl, refl)
       (config, refl) none replies.acted.1 says in
-      ap (λ t. delivered answer_of after now (link.ticked t l)) starts
-      ∙ come_through fixed answer_of after now x n a m (begun_line now x n rest l still config) still.to_controller replies.sent settles
+      let line = begun_line now x n rest l still config in
+      ap (λ t. went_by answer_of after now t l) starts
+      ∙ ap (λ (w : Passed H). went_of answer_of after w m.to_reader l.reader) (come_through fixed answer_of after now x n a m line still.to_controller replies.sent settles)
+      ∙ ap (λ ps. went_of answer_of after (record { next = ended_link now x n a rest l; told = report_of x a }) ps l.reader) line
 
   -- what the reader says fits, where what it says to the frame on the line does
   fits_there : (now : ℕ) (x : Exchange) (n : ℕ) (rest : List Command) (l : Link H) → Still l → l.controller.session.config ≡ fixed
@@ -84,19 +103,23 @@ module _ (fixed : ControllerConfig) {H : Type 0} (answer_of : H → Command → 
       subst (λ ps. SaysWhatFits answer_of after ps l.reader)
       (ap (λ t. (link.ticked t l).to_reader) starts ∙ begun_line now x n rest l still config) fits
 
-  -- the link after both packets, by the line of the reader's table and by what comes of the frame
-  abbrev ended_by : ℕ → Exchange → ℕ → Reply → List Command → Kind → Outcome H → Link H → Link H
-  ended_by now x n a rest kind o l = record l {
-    controller = record l.controller { session = at_rest (seen now (record (seen now l.controller.session) { number = n })); waiting = rest };
-    reader = o.reader;
-    to_reader = [];
-    to_controller = [];
-    account = after_report (report_of x a) (link.taken kind o.command o.said (link.front_of l.reader) l.account);
+  -- the round, by the line of the reader's table and by what comes of the frame
+  abbrev ended_by : ℕ → Exchange → ℕ → Reply → List Command → Kind → Outcome H → Link H → Went H
+  ended_by now x n a rest kind o l = record {
+    next = record l {
+      controller = record l.controller { session = at_rest (seen now (record (seen now l.controller.session) { number = n })); waiting = rest };
+      reader = o.reader;
+      to_reader = [];
+      to_controller = [];
+    };
+    first = None;
+    told = report_of x a;
+    taken = taken_as kind o.command;
   }
 
   -- ---- the opening
 
-  -- the session is open, no event counts as offered, and the account is as it was
+  -- the session is open, and no event counts as offered
   abbrev pub opened_link : ℕ → Link H → Link H
   opened_link now l = record l {
     controller = record l.controller { session = at_rest (seen now (record (seen now l.controller.session) { number = 0 })) };
@@ -104,6 +127,10 @@ module _ (fixed : ControllerConfig) {H : Type 0} (answer_of : H → Command → 
     to_reader = [];
     to_controller = [];
   }
+
+  -- .. who the device is was told, and nothing was taken
+  abbrev pub opened : ℕ → Link H → Went H
+  opened now l = record { next = opened_link now l; first = None; told = report_of Opening (reply.PdId l.reader.config.id); taken = [] }
 
   opens_at : (until now : ℕ) (s : Session) (waiting : List Command) → s.state ≡ Quiet until → until ≤ max s.greatest now
       → ticks now s waiting ≡ begins Opening 0 (seen now s) waiting
@@ -113,7 +140,7 @@ module _ (fixed : ControllerConfig) {H : Type 0} (answer_of : H → Command → 
 
   pub opening_exchange : Given → (until now : ℕ) (l : Link H) → Still l → l.controller.session.config ≡ fixed
       → l.controller.session.state ≡ Quiet until → until ≤ max l.controller.session.greatest now
-      → SaysWhatFits answer_of after (at_tick now l).to_reader l.reader → goes answer_of after now l ≡ opened_link now l
+      → SaysWhatFits answer_of after (at_tick now l).to_reader l.reader → went answer_of after now l ≡ opened now l
   opening_exchange given until now l still config is reached fits =
       let w = l.controller.waiting in
       let p = frame fixed Opening 0 in
@@ -128,22 +155,6 @@ module _ (fixed : ControllerConfig) {H : Type 0} (answer_of : H → Command → 
       ∙ ap (λ c. ended_by now Opening 0 a w Zero (begun answer_of after c r p) l) (given.reads Opening 0 (omega arith))
 
   -- ---- from rest
-
-  -- what is told of the next exchange, and what the reader took, come to this account
-  account_is : TellsItsEvent → (waiting : List Command) (events : List Event) (r : ReaderState H) (t : Account) → Each MaySubmit waiting
-      → let x = next_exchange waiting in
-      let c = exchange_command x in
-      let a = event_or_answer answer_of after (event_for c events) r.config r.handler c in
-      after_report (report_of x a.reply) (link.taken_command c (Some a.reply) (take 1 events) t)
-      ≡ accounted answer_of after waiting events r t
-  account_is tells [] [] r t may = ap (λ es. record t { offered = es }) (append-nil t.offered)
-  account_is tells [] (e ∷ events) r t may =
-      ap (λ o. after_report (poll_told (event_reply e) o) (record t { offered = t.offered ++ e ∷ [] })) (tells e)
-  account_is tells (c ∷ waiting) events r t may =
-      let a = answer_to answer_of after r.config r.handler c in
-      ap (λ o. let b = event_or_answer answer_of after o r.config r.handler c in
-      after_report (Some (report.Settled c b.reply)) (link.taken_command c (Some b.reply) (take 1 events) t)) (no_event c events may.0.no_poll)
-      ∙ ap (after_report (Some (report.Settled c a.reply))) (taken_is c (Some a.reply) (take 1 events) t may.0.no_poll)
 
   -- the link after an exchange from rest: its command has gone, the reader has acted on it and stores its answer, and the next POLL is
   -- due after the interval
@@ -162,7 +173,18 @@ module _ (fixed : ControllerConfig) {H : Type 0} (answer_of : H → Command → 
         reader = record l.reader { last = Some n; stored = Some (answer fixed n a.reply); queue = offering event queue; handler = a.handler };
         to_reader = [];
         to_controller = [];
-        account = accounted answer_of after l.controller.waiting queue.events l.reader l.account;
+      }
+
+  -- .. and what was told and taken
+  abbrev pub rested : ℕ → Link H → Went H
+  rested now l =
+      let x = next_exchange l.controller.waiting in
+      let c = exchange_command x in
+      record {
+        next = rested_link now l;
+        first = None;
+        told = report_of x (event_or_answer answer_of after (event_for c (released l.reader.queue).events) l.reader.config l.reader.handler c).reply;
+        taken = command_taken c;
       }
 
   -- the next exchange is asked after the one before, and moves no reader
@@ -178,7 +200,7 @@ module _ (fixed : ControllerConfig) {H : Type 0} (answer_of : H → Command → 
       → At fixed answer_of after since (Rest n y b) l → Each SetsNoAddress l.controller.waiting
       → l.controller.session.state ≡ Idle due → IsOpen fixed n l.controller.session → Still l
       → Acts (ticks now l.controller.session l.controller.waiting) → SaysWhatFits answer_of after (at_tick now l).to_reader l.reader
-      → goes answer_of after now l ≡ rested_link now l
+      → went answer_of after now l ≡ rested now l
   exchange_from_rest given now due since n y b l hears_it h set is opened still does fits =
       let s = l.controller.session in
       let w = l.controller.waiting in
@@ -198,16 +220,14 @@ module _ (fixed : ControllerConfig) {H : Type 0} (answer_of : H → Command → 
       whole given now x k a.reply (drop 1 w) l still opened.0 none starts replies
       ∙ ap (λ kd. ended_by now x k a.reply (drop 1 w) kd (hears answer_of after r p) l) kind
       ∙ ap (λ o. ended_by now x k a.reply (drop 1 w) Taken o l) heard
-      ∙ ap (λ to. record l {
-        controller = record l.controller { session = at_rest (seen now (record (seen now s) { number = k })); waiting = drop 1 w };
-        reader = moved to (record r {
-          last = Some k;
-          stored = Some (answer fixed k a.reply);
-          queue = offering (event_for (exchange_command x) (released r.queue).events) (released r.queue);
-          handler = a.handler;
-        });
-        to_reader = [];
-        to_controller = [];
-        account = after_report (report_of x a.reply) (link.taken_command (exchange_command x) (Some a.reply) (link.front_of r) l.account);
-      }) (no_address x none)
-      ∙ ap (λ t. record (rested_link now l) { account = t }) (account_is given.tells w (released r.queue).events r l.account h.waiting)
+      ∙ ap (λ to.
+      let w : Went H = record (rested now l) {
+        next = record (rested_link now l) {
+          reader = moved to (record r {
+            last = Some k;
+            stored = Some (answer fixed k a.reply);
+            queue = offering (event_for (exchange_command x) (released r.queue).events) (released r.queue);
+            handler = a.handler;
+          });
+        };
+      } in w) (no_address x none)

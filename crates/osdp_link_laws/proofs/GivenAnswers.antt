@@ -1,85 +1,93 @@
--- Each answer given is one of the reader's to its command.
-use Rattle.osdp_link_laws.proofs.Common.{◌≡◌, ℕ, Bool, true, false, List, [], ◌∷◌, Option, Some, None, Result, Ok, Err, refl, sym, subst, Packet, Command, Event, MsgFault, Reply, ticks, ControllerFault, Report, event_for, released, lacks_room, ReaderState, answer_to, command_in, event_or_answer, outcome, taken, ReaderConfig, Answer, Kind, Begins, Account, Delivered, Delivery, Link, Lost, Move, QueueEvent, Reopen, Repeated, Retarget, Submit, Tick, ToController, ToReader, after_move, taken_command, after_report, LapseEvent}
-use Rattle.osdp_msg.specs.declared.command.Command.TheVariants as command
-use Rattle.osdp_controller.specs.Hearing as controller
+-- The answer that is on its way is one that the device gave to its command.
+use Rattle.osdp_link_laws.proofs.Common.{◌≡◌, ℕ, List, [], ◌∷◌, ◌++◌, Option, Some, None, Ok, refl, sym, subst, ap, ◌∙◌, Packet, Command, Reply, exchange_command, seen, ticks, Opening, Polling, Asking, Exchange, ControllerFault, Report, released, ReaderState, answer_to, command_in, event_or_answer, kind_of, taken, ReaderConfig, Answer, Kind, Delivered, Delivery, Link, Lost, Move, Reopen, Repeated, RestartReader, Tick, ToController, ToReader, told_by_front}
 use Rattle.osdp_controller.specs.Machine as controllers
-use Rattle.osdp_controller.specs.declared.report.Report.TheVariants as report
-use Rattle.osdp_reader.specs.Table as reader
 use Rattle.osdp_reader.specs.declared.kind.Kind.TheVariants as kind
-use Rattle.osdp_link_laws.specs.Link as link
-use Rattle.osdp_link_laws.proofs.Lines.{each_append}
-use Rattle.osdp_link_laws.proofs.Stages.{Each}
-use Rattle.osdp_link_laws.proofs.Lapsed.{lapsed_keeps}
-
-told_gives : (r : Option Report) (t : Account) → (after_report r t).given ≡ t.given
-told_gives None t = refl
-told_gives (Some (report.Opened id)) t = refl
-told_gives r t = refl
+use Rattle.osdp_link_laws.proofs.Acting.{no_event}
+use Rattle.osdp_link_laws.proofs.Coming.{Announces, Due, HearsTo, MovesTo, Reads, ReadsFront, ReadsTo, ReopensTo, Stays, settled_in}
+use Rattle.osdp_link_laws.proofs.Lines.{each_front, each_rest}
+use Rattle.osdp_link_laws.proofs.Reports.{tick_so}
+use Rattle.osdp_link_laws.proofs.Stages.{After, Behind, Each, IsAsked, IsStage, Restarted, Stage, Start, owed, owed_at}
+use Rattle.osdp_link_laws.proofs.Telling.{hears_tell, ticks_tell}
 
 module _ {H : Type 0} (answer_of : H → Command → Answer) (after : H → Command → H) where
   abbrev pub IsAnswerOf : Command × Reply → Type 0
   IsAnswerOf p = (config : ReaderConfig) × (handler : H) × (p.1 ≡ (answer_to answer_of after config handler p.0).reply)
 
-  abbrev pub AreAnswers : Account → Type 0
-  AreAnswers t = Each IsAnswerOf t.given
+  abbrev pub AreAnswers : Stage → Type 0
+  AreAnswers at = Each IsAnswerOf (owed_at at)
 
-  command_given : (r : ReaderState H) (front : List Event) (t : Account) (c : Command) → AreAnswers t
-      → let a = event_or_answer answer_of after (event_for c (released r.queue).events) r.config r.handler c in
-      AreAnswers (taken_command c (Some a.reply) front t)
-  command_given r front t command.Poll are = are
-  command_given r front t c are =
-      each_append IsAnswerOf t.given ((c, (answer_to answer_of after r.config r.handler c).reply) ∷ []) are ((r.config, r.handler, refl), tt)
+  stays : (since : Restarted) (at : Stage) (new : Restarted) (to : Stage) → Stays since at new to → AreAnswers at → AreAnswers to
+  stays since at new to (same, is) are = subst AreAnswers (sym is) are
 
-  taken_given : (read : Result Command MsgFault) (r : ReaderState H) (p : Packet) (front : List Event) (t : Account) → AreAnswers t
-      → let o = taken answer_of after read r p in AreAnswers (link.taken kind.Taken o.command o.said front t)
-  taken_given (Err fault) r p front t are = are
-  taken_given (Ok c) r p front t are = command_given r front t c are
+  -- a command is taken, and answered
+  answers : (x : Exchange) (n : ℕ) (y : Exchange) (b a : Reply) (p : Packet) (r : ReaderState H) → IsAsked (After n y b) x
+      → (taken answer_of after (Ok (exchange_command x)) r p).said ≡ Some a → Each IsAnswerOf (owed x a)
+  answers Opening n y b a p r asked says = absurd asked
+  answers Polling n y b a p r asked says = tt
+  answers (Asking c) n y b a p r asked says =
+      let none = no_event c (released r.queue).events asked.no_poll in
+      let said : Some (answer_to answer_of after r.config r.handler c).reply ≡ Some a =
+      sym (ap (λ told. Some (event_or_answer answer_of after told r.config r.handler c).reply) none) ∙ says in
+      ((r.config, r.handler, sym (ap (said_or a) said)), tt)
+    where
+      said_or : Reply → Option Reply → Reply
+      said_or other None = other
+      said_or other (Some said) = said
 
-  kind_given : (k : Kind) (r : ReaderState H) (p : Packet) (front : List Event) (t : Account) → AreAnswers t
-      → let o = outcome answer_of after k r p in AreAnswers (link.taken k o.command o.said front t)
-  kind_given kind.Taken r p front t are = taken_given (command_in p) r p front t are
-  kind_given _ r p front t are = are
+  takes : (since : Restarted) (at : Stage) (new : Restarted) (to : Stage) (p : Packet) (r : ReaderState H) → IsStage at
+      → ReadsTo kind.Taken (command_in p) (taken answer_of after (command_in p) r p).said since at new to → AreAnswers to
+  takes since (Behind (After n y b) x) new to p r stage (hears, same, reads, (a, says, is)) =
+      subst AreAnswers (sym is)
+      (answers x n y b a p r stage.1 (subst (λ c. (taken answer_of after c r p).said ≡ Some a) reads says))
+  takes since (Behind Start x) new to p r stage comes = absurd comes
+  takes since _ new to p r stage comes = absurd comes
 
-  submits_given : (refusal : Option ControllerFault) (c : Command) (l : Link H) → AreAnswers l.account → AreAnswers (link.submits refusal c l).account
-  submits_given (Some fault) c l are = are
-  submits_given None c l are = are
+  reads : (k : Kind) (since : Restarted) (at : Stage) (new : Restarted) (to : Stage) (p : Packet) (r : ReaderState H) → IsStage at
+      → Reads answer_of after k p r since at new to → AreAnswers at → AreAnswers to
+  reads kind.Taken since at new to p r stage comes are = takes since at new to p r stage comes
+  reads kind.Zero since at new to p r stage comes are = subst (λ (d : Due). Each IsAnswerOf d.owing) (sym comes.1.due) are
+  reads _ since at new to p r stage comes are = stays since at new to comes are
 
-  queues_given : (full : Bool) (e : Event) (l : Link H) → AreAnswers l.account → AreAnswers (link.queues full e l).account
-  queues_given true e l are = are
-  queues_given false e l are = are
+  to_reader : (ps : List Packet) (how : Delivery) (since : Restarted) (at : Stage) (new : Restarted) (to : Stage) (r : ReaderState H) → IsStage at
+      → ReadsFront answer_of after ps how r since at new to → AreAnswers at → AreAnswers to
+  to_reader [] how since at new to r stage comes are = stays since at new to comes are
+  to_reader (p ∷ ps) Delivered since at new to r stage comes are = reads (kind_of r p) since at new to p r stage comes are
+  to_reader (p ∷ ps) Lost since at new to r stage comes are = stays since at new to comes are
+  to_reader (p ∷ ps) Repeated since at new to r stage comes are = reads (kind_of r p) since at new to p r stage comes are
 
-  to_reader_given : (how : Delivery) (ps : List Packet) (l : Link H) → AreAnswers l.account → AreAnswers (link.to_reader answer_of after ps how l).account
-  to_reader_given how [] l are = are
-  to_reader_given Delivered (p ∷ ps) l are = kind_given (reader.kind_of l.reader p) l.reader p (link.front_of l.reader) l.account are
-  to_reader_given Lost (p ∷ ps) l are = are
-  to_reader_given Repeated (p ∷ ps) l are = kind_given (reader.kind_of l.reader p) l.reader p (link.front_of l.reader) l.account are
+  -- what is told was on its way
+  heard : (r : Option Report) (since : Restarted) (at to : Stage) → HearsTo r at to → AreAnswers at → Each IsAnswerOf (settled_in r ++ owed_at to)
+  heard r since at to comes are = subst (Each IsAnswerOf) (sym (hears_tell since at to r comes).owed) are
 
-  to_controller_given : (how : Delivery) (now : ℕ) (qs : List Packet) (l : Link H) → AreAnswers l.account → AreAnswers (link.to_controller qs how now l).account
-  to_controller_given how now [] l are = are
-  to_controller_given Delivered now (q ∷ qs) l are = subst (Each IsAnswerOf) (sym (told_gives (controller.hears q now l.controller.session).report l.account)) are
-  to_controller_given Lost now (q ∷ qs) l are = are
-  to_controller_given Repeated now (q ∷ qs) l are = subst (Each IsAnswerOf) (sym (told_gives (controller.hears q now l.controller.session).report l.account)) are
+  pub told_given : (r : Option Report) (since : Restarted) (at to : Stage) → HearsTo r at to → AreAnswers at → Each IsAnswerOf (settled_in r)
+  told_given r since at to comes are = each_front IsAnswerOf (settled_in r) (owed_at to) (heard r since at to comes are)
 
-  reopens_given : (refusal : Option ControllerFault) (ps qs : List Packet) (now : ℕ) (l : Link H) → AreAnswers l.account → AreAnswers (link.reopens refusal ps qs now l).account
-  reopens_given (Some fault) ps qs now l are = are
-  reopens_given None (p ∷ ps) qs now l are = are
-  reopens_given None [] (q ∷ qs) now l are = are
-  reopens_given None [] [] now l are = tt
+  to_controller : (r : Option Report) (since : Restarted) (at to : Stage) → HearsTo r at to → AreAnswers at → AreAnswers to
+  to_controller r since at to comes are = each_rest IsAnswerOf (settled_in r) (owed_at to) (heard r since at to comes are)
 
-  retargets_given : (refusal : Option ControllerFault) (address : ℕ) (l : Link H) → AreAnswers l.account → AreAnswers (link.retargets refusal address l).account
-  retargets_given (Some fault) address l are = are
-  retargets_given None address l are = are
+  ticked : (now : ℕ) (l : Link H) (since : Restarted) (at : Stage) (new : Restarted) (to : Stage) → MovesTo answer_of after (Tick now) l since at new to
+      → AreAnswers at → AreAnswers to
+  ticked now l since at new to comes are =
+      let t = ticks now l.controller.session l.controller.waiting in
+      let none : Announces t.step.report [] [] =
+      tick_so (λ r. Announces r [] []) (refl, refl) (λ o. (refl, refl)) l.controller.session.state (seen now l.controller.session) l.controller.waiting in
+      each_rest IsAnswerOf (settled_in t.step.report) (owed_at to)
+      (subst (Each IsAnswerOf) (sym (ticks_tell since at to t none comes.1).owed) are)
 
-  pub move_given : (move : Move H) (l : Link H) → AreAnswers l.account → AreAnswers (after_move answer_of after move l).account
-  move_given (Submit c) l are = submits_given (controllers.submit_refusal c l.controller) c l are
-  move_given (QueueEvent e) l are = queues_given (lacks_room e l.reader.queue) e l are
-  move_given (Tick now) l are = subst (Each IsAnswerOf) (sym (told_gives (ticks now l.controller.session l.controller.waiting).step.report l.account)) are
-  move_given (ToReader how) l are = to_reader_given how l.to_reader l are
-  move_given (ToController how now) l are = to_controller_given how now l.to_controller l are
-  move_given (Reopen now) l are = reopens_given (controllers.begin_refusal l.controller) l.to_reader l.to_controller now l are
-  move_given (Retarget address) l are = retargets_given (controllers.retarget_refusal address l.controller) address l are
-  move_given LapseEvent l are = subst AreAnswers (sym (lapsed_keeps l.reader.queue l.account).1) are
-  move_given _ l are = are
+  reopens : (refusal : Option ControllerFault) (ps qs : List Packet) (since : Restarted) (at : Stage) (new : Restarted) (to : Stage)
+      → ReopensTo answer_of after refusal ps qs since at new to → AreAnswers at → AreAnswers to
+  reopens None [] [] since at new to is are = subst AreAnswers (sym is) tt
+  reopens None [] (q ∷ qs) since at new to comes are = stays since at new to comes are
+  reopens None (p ∷ ps) qs since at new to comes are = stays since at new to comes are
+  reopens (Some fault) ps qs since at new to comes are = stays since at new to comes are
 
-  pub first_given : (l : Link H) → Begins l → AreAnswers l.account
-  first_given l b = subst AreAnswers (sym b.account) tt
+  pub move_given : (move : Move H) (l : Link H) (since : Restarted) (at : Stage) (new : Restarted) (to : Stage) → IsStage at
+      → MovesTo answer_of after move l since at new to → AreAnswers at → AreAnswers to
+  move_given (Tick now) l since at new to stage comes are = ticked now l since at new to comes are
+  move_given (ToReader how) l since at new to stage comes are = to_reader l.to_reader how since at new to l.reader stage comes are
+  move_given (ToController how now) l since at new to stage comes are =
+      to_controller (told_by_front how l.to_controller now l.controller.session) since at to comes.1 are
+  move_given (Reopen now) l since at new to stage comes are =
+      reopens (controllers.begin_refusal l.controller) l.to_reader l.to_controller since at new to comes are
+  move_given (RestartReader config handler room) l since at new to stage comes are = subst AreAnswers (sym comes.1) are
+  move_given _ l since at new to stage comes are = stays since at new to comes are

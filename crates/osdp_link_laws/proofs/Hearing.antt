@@ -3,7 +3,7 @@ use Rattle.osdp_link_laws.proofs.Common.{◌≡◌, ◌≢◌, ◌⊎◌, ℕ, z
 use Rattle.osdp_msg.specs.declared.reply.Reply.TheVariants as reply
 use Rattle.osdp_controller.specs.declared.report.LostCause.TheVariants as cause
 use Rattle.osdp_controller.specs.declared.report.Report.TheVariants as report
-use Rattle.osdp_link_laws.proofs.Coming.{Announces, IsToldAtEnd, lost_in}
+use Rattle.osdp_link_laws.proofs.Coming.{Announces}
 use Rattle.osdp_link_laws.proofs.Lines.{both}
 use Rattle.osdp_link_laws.proofs.Numbers.{is_false}
 use Rattle.osdp_link_laws.proofs.Stages.{Asks, IsAnswerTo, IsOpen, Rests, owed, shown}
@@ -16,13 +16,12 @@ and_false false = refl
 module _ (fixed : ControllerConfig) where
   -- the exchange stays outstanding, or the session ends; nothing is settled or reported
   abbrev pub Ignored : ℕ → Exchange → Heard → Type 0
-  Ignored n x h =
-      (IsToldAtEnd h.report h.session.state × Announces h.report [] []) × Asks fixed h.session.state n x h.session
+  Ignored n x h = Announces h.report [] [] × Asks fixed h.session.state n x h.session
 
   ignored : (state : State) (n : ℕ) (x : Exchange) (s : Session) → s.state ≡ state → Asks fixed state n x s
       → Ignored n x (ignores s)
   ignored state n x s e asks =
-      ((inl refl, (refl, refl)), subst (λ st. Asks fixed st n x s) (sym e) asks)
+      ((refl, refl), subst (λ st. Asks fixed st n x s) (sym e) asks)
 
   busy_heard : (n : ℕ) (x : Exchange) (o : Outstanding) (s : Session) → IsOpen fixed n s → o.exchange ≡ x
       → Ignored n x (hears_busy o s)
@@ -32,8 +31,8 @@ module _ (fixed : ControllerConfig) where
         session = record s { state = Pausing (later s.config.busy_wait s) (record o { busies = o.busies + 1 }) };
         report = None;
       })
-      ((inr refl, (refl, refl)), tt)
-      ((inl refl, (refl, refl)), (at, is))
+      ((refl, refl), tt)
+      ((refl, refl), (at, is))
 
   -- BUSY settles nothing
   busy_in : (state : State) (number n : ℕ) (x : Exchange) (s : Session) → s.state ≡ state → Asks fixed state n x s
@@ -53,10 +52,10 @@ module _ (fixed : ControllerConfig) where
   refused_in Closed number n x s e asks = ignored Closed n x s e asks
   refused_in (Waiting until k o) number n x s e asks =
       both (Ignored n x) (is_numbered number NumberRefused s) (loses cause.NumberRefused o s) (ignores s)
-      ((inr refl, (refl, refl)), tt) (ignored (Waiting until k o) n x s e asks)
+      ((refl, refl), tt) (ignored (Waiting until k o) n x s e asks)
   refused_in (Pausing until o) number n x s e asks =
       both (Ignored n x) (is_numbered number NumberRefused s) (loses cause.NumberRefused o s) (ignores s)
-      ((inr refl, (refl, refl)), tt) (ignored (Pausing until o) n x s e asks)
+      ((refl, refl), tt) (ignored (Pausing until o) n x s e asks)
   refused_in _ number n x s e asks = absurd asks
 
   pub hears_refused : (p : Packet) (now n : ℕ) (x : Exchange) (s : Session) → meaning_of p ≡ NumberRefused → Asks fixed s.state n x s
@@ -123,12 +122,11 @@ module _ (fixed : ControllerConfig) where
 
   -- what an answer settles or reports
   abbrev pub Settles : ℕ → Exchange → Reply → Heard → Type 0
-  Settles n x r h = (Announces h.report (owed x r) (shown x r) × (lost_in h.report ≡ [])) × Rests fixed h.session.state n h.session
+  Settles n x r h = Announces h.report (owed x r) (shown x r) × Rests fixed h.session.state n h.session
 
-poll_tells : (event : Option Event) (r : Reply) → Announces (poll_told r event) [] (option_to_list event) × (lost_in (poll_told r event) ≡ [])
-poll_tells (Some event) r = ((refl, refl), refl)
-poll_tells None r =
-    both (λ o. Announces o [] [] × (lost_in o ≡ [])) (is_ack r) None (Some (report.PollAnswered r)) ((refl, refl), refl) ((refl, refl), refl)
+poll_tells : (event : Option Event) (r : Reply) → Announces (poll_told r event) [] (option_to_list event)
+poll_tells (Some event) r = (refl, refl)
+poll_tells None r = both (λ o. Announces o [] []) (is_ack r) None (Some (report.PollAnswered r)) (refl, refl) (refl, refl)
 
 com_is : (r : Reply) (c : Communication) → com_of r ≡ Some c → reply.Com c ≡ r
 com_is (reply.Com d) c e = cc
@@ -147,13 +145,13 @@ module _ (fixed : ControllerConfig) where
   command_settles : (moved : Option Communication) (n : ℕ) (c : Command) (r : Reply) (s : Session)
       → ((to : Communication) → moved ≡ Some to → reply.Com to ≡ r) → IsOpen fixed n s
       → Settles fixed n (Asking c) r (command_answered moved c r s)
-  command_settles None n c r s is at = (((refl, refl), refl), at)
-  command_settles (Some to) n c r s is at = (((ap (λ q. (c, q) ∷ []) (is to refl), refl), refl), tt)
+  command_settles None n c r s is at = ((refl, refl), at)
+  command_settles (Some to) n c r s is at = ((ap (λ q. (c, q) ∷ []) (is to refl), refl), tt)
 
   opening_settles : (pd : PdId) (n : ℕ) (r : Reply) (s : Session) → r ≡ reply.PdId pd → IsOpen fixed n s
       → Settles fixed n Opening r (answered Opening r s)
   opening_settles pd n r s is at =
-      subst (λ q. Settles fixed n Opening q (answered Opening q s)) (sym is) (((refl, refl), refl), at)
+      subst (λ q. Settles fixed n Opening q (answered Opening q s)) (sym is) ((refl, refl), at)
 
   answer_settles : (x : Exchange) (n : ℕ) (r : Reply) (s : Session) → IsAnswerTo x n r → IsOpen fixed n s
       → Settles fixed n x r (answered x r s)

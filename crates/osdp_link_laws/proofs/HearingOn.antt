@@ -1,8 +1,8 @@
 -- A reader hears on until it restarts, and again from number 0 on.
-use Rattle.osdp_link_laws.proofs.Common.{◌≡◌, Some, Result, Ok, Err, refl, sym, subst, ap, arith, inl, inr, Packet, Command, MsgFault, Room, unoffered, ReaderState, command_in, ReaderConfig, Answer, Link, RestartReader, after_move, HearsOn, SetsNoAddress, KeepsReader}
+use Rattle.osdp_link_laws.proofs.Common.{◌≡◌, ℕ, Some, Result, Ok, Err, refl, sym, subst, ap, arith, inl, inr, Packet, Command, MsgFault, Room, unoffered, ReaderState, command_in, ReaderConfig, Answer, Link, RestartReader, after_move, HearsOn, SetsNoAddress, KeepsReader, restarts_after}
 use Rattle.osdp_reader.specs.Table as table
 use Rattle.osdp_link_laws.specs.HearingOn.{HearsOnUntilRestart}
-use Rattle.osdp_link_laws.proofs.Kept.{first_kept, moves_kept}
+use Rattle.osdp_link_laws.proofs.Counting.{none_in_session}
 use Rattle.osdp_link_laws.proofs.Lines.{each_of}
 
 module _ {H : Type 0} (answer_of : H → Command → Answer) (after : H → Command → H) where
@@ -17,16 +17,16 @@ module _ {H : Type 0} (answer_of : H → Command → Answer) (after : H → Comm
         handler = (table.answer_to answer_of after r.config r.handler command).handler;
       })).last) (stays command refl)
 
-  restarts_deaf : (l : Link H) (config : ReaderConfig) (handler : H) (room : Room)
-      → HearsOn (after_move answer_of after (RestartReader config handler room) l) → ⊥
-  restarts_deaf l config handler room (inl none) = omega (arith, none)
-  restarts_deaf l config handler room (inr known) = absurd (let is = known.1 in cc)
+  restarts_deaf : (l : Link H) (config : ReaderConfig) (handler : H) (room : Room) (count : ℕ) → let restart = RestartReader config handler room in
+      HearsOn (restarts_after answer_of after restart l count) (after_move answer_of after restart l) → ⊥
+  restarts_deaf l config handler room count (inl none) = omega (arith, none)
+  restarts_deaf l config handler room count (inr known) = absurd (let is = known.1 in cc)
 
   pub hears_on : HearsOnUntilRestart answer_of after
   hears_on = record {
-    kept = λ l moves begins keep. inl (moves_kept answer_of after moves l (each_of KeepsReader moves keep) (first_kept answer_of after l begins)).0;
+    kept = λ l moves begins keep. inl (none_in_session answer_of after moves l (each_of KeepsReader moves keep));
     restarted = restarts_deaf;
-    again = λ l p zero stays. inr (
+    again = λ l p count zero stays. inr (
       0,
       subst (λ k. (table.outcome answer_of after k l.reader p).reader.last ≡ Some 0) (sym zero) (begun_at_zero (command_in p) l.reader p stays),
     );

@@ -79,9 +79,7 @@ module _ {H : Type 0} where
 
       queues_so : (one two : Bool) (e : Event) (rest : List Event) (room : Room) (l : Link H) → one ≡ false → two ≡ false
           → DifferFor event (link.queues two e (lapses (off event rest room l))) (link.queues one e (off event rest room l))
-      queues_so false false e rest room l a b = yet (rest ++ e ∷ []) room (record l {
-        account = record l.account { queued = l.account.queued ++ e ∷ []; kept = l.account.kept ++ e ∷ [] };
-      })
+      queues_so false false e rest room l a b = yet (rest ++ e ∷ []) room l
       queues_so true two e rest room l a b = absurd cc
       queues_so false true e rest room l a b = absurd cc
 
@@ -92,7 +90,6 @@ module _ {H : Type 0} where
           record l {
             reader = o.reader;
             to_controller = l.to_controller ++ option_to_list o.reply;
-            account = link.taken kind o.command o.said (link.front_of l.reader) l.account;
           }
 
       taken_so : (p : Packet) (rest : List Event) (room : Room) (l : Link H)
@@ -102,15 +99,9 @@ module _ {H : Type 0} where
           by_command : (c : _) → record l {
             reader = (Rattle.osdp_reader.specs.Table.taken answer_of after c (lapses (off event rest room l)).reader p).reader;
             to_controller = l.to_controller ++ option_to_list (Rattle.osdp_reader.specs.Table.taken answer_of after c (lapses (off event rest room l)).reader p).reply;
-            account = link.taken Taken (Rattle.osdp_reader.specs.Table.taken answer_of after c (lapses (off event rest room l)).reader p).command
-                (Rattle.osdp_reader.specs.Table.taken answer_of after c (lapses (off event rest room l)).reader p).said
-                (link.front_of (lapses (off event rest room l)).reader) l.account;
           } ≡ record l {
             reader = (Rattle.osdp_reader.specs.Table.taken answer_of after c (off event rest room l).reader p).reader;
             to_controller = l.to_controller ++ option_to_list (Rattle.osdp_reader.specs.Table.taken answer_of after c (off event rest room l).reader p).reply;
-            account = link.taken Taken (Rattle.osdp_reader.specs.Table.taken answer_of after c (off event rest room l).reader p).command
-                (Rattle.osdp_reader.specs.Table.taken answer_of after c (off event rest room l).reader p).said
-                (link.front_of (off event rest room l).reader) l.account;
           }
           by_command (Ok c) = refl
           by_command (Err fault) = refl
@@ -149,7 +140,7 @@ module _ {H : Type 0} where
       moves_so Withdraw rest room l stays = yet rest room (link.withdraws l)
       moves_so (Retarget address) rest room l stays = retargets_so (controllers.retarget_refusal address l.controller) address rest room l
       moves_so WithdrawEvent rest room l stays =
-          yet (Rattle.std.specs.Prelude.drop 1 rest) room (record l { account = link.event_withdrawn (offered_queue event rest room) l.account })
+          yet (Rattle.std.specs.Prelude.drop 1 rest) room l
       moves_so (RestartReader config handler room_for) rest room l stays = inl refl
       moves_so (RestartController config room_for) rest room l stays = yet rest room (link.restarts_controller config room_for l)
       moves_so move rest room l stays = yet rest room (after_move answer_of after move l)

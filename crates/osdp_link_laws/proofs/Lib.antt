@@ -4,7 +4,6 @@ pub mod Stages
 pub mod Lines
 pub mod Numbers
 pub mod Parts
-pub mod Withdrawing
 pub mod Acting
 pub mod Taking
 pub mod Ticks
@@ -15,22 +14,20 @@ pub mod Advancing
 pub mod Moves
 pub mod Deliveries
 pub mod Restarts
-pub mod Growing
-pub mod Accounts
-pub mod Lapsed
-pub mod Accounting
+pub mod Telling
 pub mod Once
 pub mod Controllers
 pub mod Devices
+pub mod Counting
 pub mod InARow
-pub mod EachAccount
-pub mod Ordinary
 pub mod OrdinaryRuns
-pub mod Kept
 pub mod GivenAnswers
 pub mod Reports
 pub mod Refusals
 pub mod Endings
+pub mod Ahead
+pub mod Leaving
+mod Forgetting
 pub mod Due
 pub mod Settling
 pub mod Answering
@@ -47,6 +44,5 @@ pub mod Addresses
 mod AskedMoves
 mod MovesFitting
 pub mod Doing
-pub mod Counting
 mod Lapsing
 mod HearingOn

@@ -1,16 +1,15 @@
 -- What holds of a session holds after each move.
-use Rattle.osdp_link_laws.proofs.Common.{◌≡◌, ◌≢◌, ◌<◌, ℕ, Bool, true, false, List, [], ◌∷◌, ◌++◌, Option, Some, None, Ok, refl, sym, subst, ap, ◌∙◌, inl, inr, arith, append-nil, Packet, CommandFits, ReplyFits, Command, Machine, submit_refusal, Event, Reply, meaning_by_reply, exchange_command, event_in, Ticked, ticks, Plain, ControllerConfig, Session, Exchange, Opening, Polling, Asking, ControllerFault, Answer, ReaderState, after_submit, after_withdraw_event, command_in, AnswersPlainly, IsPlain, MaySubmit, Link, TellsItsEvent, after_lapse_event}
+use Rattle.osdp_link_laws.proofs.Common.{◌≡◌, ◌≢◌, ◌<◌, ℕ, Bool, true, false, List, [], ◌∷◌, ◌++◌, Option, Some, None, Ok, refl, sym, subst, ap, ◌∙◌, inl, inr, arith, append-nil, Packet, CommandFits, ReplyFits, Command, Machine, submit_refusal, Event, Reply, meaning_by_reply, exchange_command, event_in, ticks, Plain, ControllerConfig, Session, Exchange, Opening, Polling, Asking, ControllerFault, Answer, ReaderState, after_submit, after_withdraw_event, command_in, AnswersPlainly, IsPlain, MaySubmit, Link, TellsItsEvent, after_lapse_event}
 use Rattle.std.specs.Prelude.{drop, if◌then◌else◌, option_to_list, take}
 use Rattle.osdp_msg.specs.declared.command.Command.TheVariants as command
 use Rattle.osdp_controller.specs.Answers as packets
-use Rattle.osdp_reader.specs.Queue.{Queue, queued, withdrawn}
+use Rattle.osdp_reader.specs.Queue.{Queue, lapsed, queued, withdrawn}
 use Rattle.osdp_link_laws.specs.Link as link
-use Rattle.osdp_link_laws.proofs.Coming.{BeginsFrom, Controls, IsToldAtEnd, TicksTo, lost_in}
+use Rattle.osdp_link_laws.proofs.Coming.{BeginsFrom, KeepsOrders, TicksTo}
 use Rattle.osdp_link_laws.proofs.Lines.{each_append, each_rest, runs_append, runs_first}
 use Rattle.osdp_link_laws.proofs.Stages.{After, Before, Behind, ControllerAt, Each, Fresh, HasActed, IsAsked, IsFrame, IsOldFrame, IsPast, Knows, Level, Never, Now, Offers, OffersEvent, Past, ReaderAt, ReaderBehind, Rest, Restarted, Runs, SaysOld, Stage, Start, ToReaderAt, answer, frame, number_after, pending, pending_at}
 use Rattle.osdp_link_laws.proofs.Parts.{At, with_reader}
-use Rattle.osdp_link_laws.proofs.Ticks.{Begun, RestsOn, Unchanged, WaitsOn, closed_tick, ticks_asking, ticks_resting, ticks_waiting}
-use Rattle.osdp_link_laws.proofs.Lapsed.{offers_lapsed}
+use Rattle.osdp_link_laws.proofs.Ticks.{Begun, RestsOn, Unchanged, WaitsOn, ticks_asking, ticks_resting, ticks_waiting}
 
 pub runs_last : (P Q : Packet → Type 0) (ps : List Packet) → Each Q ps → Runs P Q ps
 runs_last P Q [] all = tt
@@ -48,6 +47,21 @@ offers_less (Some e) q (inl (on, ever, (rest, is))) = inl (
     ap (λ b. if b then take 1 q.events ++ drop 2 q.events else drop 1 q.events) ever ∙ ap (λ es. take 1 es ++ drop 2 es) is,
   ),
 )
+
+offers_by : (x : Exchange) (a : Reply) (events : List Event) (capacity room : ℕ) (offered ever : Bool)
+    → let q : Queue = record { events = events; capacity = capacity; room = room; offered = offered; ever_offered = ever } in Offers x a q → Offers x a (lapsed q)
+offers_by x a events capacity room offered false is = is
+offers_by Opening a events capacity room offered true is = refl
+offers_by Polling a events capacity room offered true is = by_event (event_in a)
+  where
+    by_event : (told : Option Event) → OffersEvent told (lapsed (record { events = events; capacity = capacity; room = room; offered = offered; ever_offered = true }))
+    by_event None = refl
+    by_event (Some e) = inr refl
+offers_by (Asking c) a events capacity room offered true is = refl
+
+-- what is offered is so still, or has lapsed
+offers_lapsed : (x : Exchange) (a : Reply) (q : Queue) → Offers x a q → Offers x a (lapsed q)
+offers_lapsed x a q is = offers_by x a q.events q.capacity q.room q.offered q.ever_offered is
 
 still_offers : (x : Exchange) (a : Reply) (event : Event) (q : Queue) → Offers x a q → Offers x a (queued event q)
 still_offers Opening a event q offers = offers
@@ -174,42 +188,30 @@ module _ (fixed : ControllerConfig) {H : Type 0} (answer_of : H → Command → 
   TicksFrom now at l =
       let t = ticks now l.controller.session l.controller.waiting in
       (to : Stage)
-      × (TicksTo t at to × Controls at to l.controller.session.state t.session.state l.controller.waiting t.waiting t.step.report) × AtStage to (link.ticked t l)
+      × (TicksTo t at to × KeepsOrders at to l.controller.waiting t.waiting) × AtStage to (link.ticked t l)
 
   -- a tick that begins no exchange
   same_exchange : (at : Stage) (now : ℕ) (l : Link H) → let t = ticks now l.controller.session l.controller.waiting in
-      t.waiting ≡ l.controller.waiting → IsToldAtEnd t.step.report t.session.state
-      → ControllerAt fixed at t.session → ToReaderAt fixed at (l.to_reader ++ option_to_list t.step.frame) → AtStage at l → TicksFrom now at l
-  same_exchange at now l waits lost stands line h =
-      let s = l.controller.session in
-      let ws = l.controller.waiting in (
-        at,
-        (
-          inl refl,
-          record {
-            waits = ap (λ vs. pending_at at ++ vs) waits;
-            lost = lost;
-            over = λ closed.
-                let is = closed_tick now s ws closed in
-                (ap (λ (t : Ticked). t.session.state) is ∙ closed, refl, waits, ap (λ (t : Ticked). lost_in t.step.report) is);
-          },
-        ),
-        record {
-          stage = h.stage;
-          controller = stands;
-          waiting = subst (Each MaySubmit) (sym waits) h.waiting;
-          reader = h.reader;
-          to_reader = line;
-          to_controller = h.to_controller;
-        },
-      )
+      t.waiting ≡ l.controller.waiting → ControllerAt fixed at t.session → ToReaderAt fixed at (l.to_reader ++ option_to_list t.step.frame) → AtStage at l → TicksFrom now at l
+  same_exchange at now l waits stands line h = (
+    at,
+    (inl refl, ap (λ vs. pending_at at ++ vs) waits),
+    record {
+      stage = h.stage;
+      controller = stands;
+      waiting = subst (Each MaySubmit) (sym waits) h.waiting;
+      reader = h.reader;
+      to_reader = line;
+      to_controller = h.to_controller;
+    },
+  )
 
   -- .. and says nothing
   quiet : (at : Stage) (now : ℕ) (l : Link H) (P : Session → Type 0) → ((s : Session) → P s → ControllerAt fixed at s)
       → Unchanged fixed P l.controller.waiting (ticks now l.controller.session l.controller.waiting) → AtStage at l → TicksFrom now at l
   quiet at now l P stands (waits, silent, told, on) h =
       let t = ticks now l.controller.session l.controller.waiting in
-      same_exchange at now l waits (inl (ap lost_in told)) (stands t.session on)
+      same_exchange at now l waits (stands t.session on)
       (subst (λ o. ToReaderAt fixed at (l.to_reader ++ option_to_list o)) (sym silent) (subst (ToReaderAt fixed at) (sym (append-nil l.to_reader)) h.to_reader)) h
 
   -- an exchange begins after another
@@ -225,11 +227,7 @@ module _ (fixed : ControllerConfig) {H : Type 0} (answer_of : H → Command → 
         Behind past x,
         (
           inr (from x, record { frame = frame fixed x n; sent = sent; told = told }),
-          record {
-            waits = sym waits ∙ ap (λ cs. cs ++ ws) (sym none);
-            lost = inl (ap lost_in told);
-            over = λ closed. absurd (let e : None ≡ Some (frame fixed x n) = sym (ap (λ (t : Ticked). t.step.frame) (closed_tick now s ws closed)) ∙ sent in cc);
-          },
+          sym waits ∙ ap (λ cs. cs ++ ws) (sym none),
         ),
         record {
           stage = (acted, asked);
@@ -252,12 +250,12 @@ module _ (fixed : ControllerConfig) {H : Type 0} (answer_of : H → Command → 
   ticking (Behind past x) now l h =
       let t = ticks now l.controller.session l.controller.waiting in
       let w = ticks_asking fixed (number_after past) x l.controller.session l.controller.waiting now h.controller in
-      same_exchange (Behind past x) now l w.0 w.2 w.3
+      same_exchange (Behind past x) now l w.0 w.2
       (runs_append (IsOldFrame fixed past) (IsFrame fixed x (number_after past)) l.to_reader (option_to_list t.step.frame) h.to_reader w.1) h
   ticking (Level past x a) now l h =
       let t = ticks now l.controller.session l.controller.waiting in
       let w = ticks_asking fixed (number_after past) x l.controller.session l.controller.waiting now h.controller in
-      same_exchange (Level past x a) now l w.0 w.2 w.3
+      same_exchange (Level past x a) now l w.0 w.2
       (each_append (IsFrame fixed x (number_after past)) l.to_reader (option_to_list t.step.frame) h.to_reader w.1) h
   ticking (Rest n x a) now l h =
       elim (ticks_resting fixed n x a l.controller.session l.controller.waiting now h.controller h.waiting) [

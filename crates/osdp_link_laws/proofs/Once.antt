@@ -1,26 +1,28 @@
--- Within one session: each move keeps what holds, and what holds says that all is once and in order.
-use Rattle.osdp_link_laws.proofs.Common.{◌≡◌, ◌≤◌, ℕ, [], ◌++◌, length, Option, Some, None, refl, sym, subst, ap, ◌∙◌, inl, arith, append_assoc, option_to_list, Command, Reply, new_session, ControllerConfig, Exchange, Opening, Polling, Asking, ControllerFault, Session, State, Closed, lacks_room, Answer, IsOnce, MoveFits, MaySubmit, Link, LoseToController, LoseToReader, Move, QueueEvent, Reopen, RestartController, RestartReader, Retarget, SetBusy, SetHandler, Submit, Tick, ToController, ToReader, Withdraw, WithdrawEvent, after_move, new_account, LapseEvent, inr}
+-- Within one session: each move keeps what holds.
+use Rattle.osdp_link_laws.proofs.Common.{◌≡◌, ℕ, List, [], ◌∷◌, ◌++◌, Option, Some, None, refl, sym, subst, option_to_list, Command, new_session, ControllerConfig, ControllerFault, Session, State, Closed, lacks_room, Answer, MoveFits, MaySubmit, Link, LoseToController, LoseToReader, Move, QueueEvent, Reopen, RestartController, RestartReader, Retarget, SetBusy, SetHandler, Submit, Tick, ToController, ToReader, Withdraw, WithdrawEvent, after_move, LapseEvent}
 use Rattle.osdp_controller.specs.Machine as controllers
 use Rattle.osdp_link_laws.specs.Link as link
-use Rattle.osdp_link_laws.proofs.Accounting.{accounts_so, withdrawn_first}
-use Rattle.osdp_link_laws.proofs.Accounts.{Accounted, Accounts}
-use Rattle.osdp_link_laws.proofs.Coming.{MovesTo, same_either}
+use Rattle.osdp_link_laws.proofs.Coming.{MovesTo}
 use Rattle.osdp_link_laws.proofs.Deliveries.{coming_to_controller, coming_to_reader, missing_to_controller, missing_to_reader}
-use Rattle.osdp_link_laws.proofs.Growing.{GoesOn}
 use Rattle.osdp_link_laws.proofs.Lines.{each_rest}
 use Rattle.osdp_link_laws.proofs.Moves.{Premises, being_otherwise, not_poll, queueing, submitting, ticking, withdrawing, lapsing}
 use Rattle.osdp_link_laws.proofs.Parts.{At, HoldsAtSomeStage, HoldsThen, with_session}
-use Rattle.osdp_link_laws.proofs.Restarts.{front_at, restarting_reader}
-use Rattle.osdp_link_laws.proofs.Stages.{Asks, Behind, ControllerAt, Each, Fresh, Level, Never, Now, Rest, Restarted, Rests, Stage, Waits, number_after, owed, owed_at, pending_at, unreported_at}
+use Rattle.osdp_link_laws.proofs.Restarts.{restarting_reader}
+use Rattle.osdp_link_laws.proofs.Stages.{Asks, Behind, ControllerAt, Each, Fresh, Level, Never, Now, Rest, Restarted, Rests, Stage, Waits, number_after}
 
-one_owed : (x : Exchange) (a : Reply) → length (owed x a) ≤ 1
-one_owed Opening a = omega arith
-one_owed Polling a = omega arith
-one_owed (Asking c) a = omega arith
+-- a move that begins no session again
+abbrev pub GoesOn : {H : Type 0} → Move H → Type 0
+GoesOn (Reopen now) = ⊥
+GoesOn _ = Unit {0}
 
-one_owed_at : (at : Stage) → length (owed_at at) ≤ 1
-one_owed_at (Level past x a) = one_owed x a
-one_owed_at _ = omega arith
+-- nothing was sent yet, and the reader hasn't restarted
+abbrev pub IsFirst : Restarted → Stage → Type 0
+IsFirst since at = (since ≡ Never) × (at ≡ Fresh)
+
+withdrawn_first : (state : State) (ws : List Command) → option_to_list (controllers.withdrawn_in state ws) ++ controllers.kept_in state ws ≡ ws
+withdrawn_first Closed [] = refl
+withdrawn_first Closed (w ∷ ws) = refl
+withdrawn_first _ ws = refl
 
 target_closed : (state : State) (address : ℕ) → controllers.or_no_device (controllers.refused_unless_closed state) address ≡ None → state ≡ Closed
 target_closed Closed address may = refl
@@ -65,7 +67,7 @@ module _ (fixed : ControllerConfig) {H : Type 0} (answer_of : H → Command → 
       let t = ticking fixed answer_of after s at now l h in (s, t.0, (refl, t.1.0, t.1.1), t.2)
   holds_on given (ToReader how) l on fits (s, at, h) = coming_to_reader fixed answer_of after s given how l.to_reader l refl at h fits
   holds_on given (ToController how now) l on fits (s, at, h) =
-      let c = coming_to_controller fixed answer_of after s given how now l.to_controller l refl at h in (s, c.0, (refl, c.1.0, c.1.1), c.2)
+      let c = coming_to_controller fixed answer_of after s given how now l.to_controller l refl at h in (s, c.0, (refl, c.1), c.2)
   holds_on given (LoseToReader place) l on fits (s, at, h) = (s, at, (refl, refl), missing_to_reader fixed answer_of after s place at l h)
   holds_on given (LoseToController place) l on fits (s, at, h) = (s, at, (refl, refl), missing_to_controller fixed answer_of after s place at l h)
   holds_on given (SetHandler handler) l on fits (s, at, h) = (s, at, (refl, refl), being_otherwise fixed answer_of after s l.reader.busy handler at l h)
@@ -104,11 +106,10 @@ module _ (fixed : ControllerConfig) {H : Type 0} (answer_of : H → Command → 
   )
   holds_on given (Reopen now) l on fits h = absurd on
 
-  -- ---- with the account of the session
+  -- ---- a session
 
   pub record Goes (l : Link H) : Type 0 where
     pub holds : HoldsAt l
-    pub accounts : Accounts holds.0 holds.1 l
 
   abbrev GoesThen : (Restarted → Stage → Type 0) → Link H → Type 0
   GoesThen Comes l = (n : Goes l) × Comes n.holds.0 n.holds.1
@@ -116,39 +117,11 @@ module _ (fixed : ControllerConfig) {H : Type 0} (answer_of : H → Command → 
   pub moving_so : Premises fixed answer_of after → (move : Move H) (l : Link H) → GoesOn move → MoveFits answer_of after move l → (h : Goes l)
       → GoesThen (MovesTo answer_of after move l h.holds.0 h.holds.1) (after_move answer_of after move l)
   moving_so given move l on fits h =
-      let m = holds_on given move l on fits h.holds in
-      let accounts = accounts_so fixed answer_of after h.holds.0 h.holds.1 l h.holds.2 h.accounts m.0 m.1 move on m.2 in
-      (record { holds = (m.0, m.1, m.3); accounts = accounts }, m.2)
+      let m = holds_on given move l on fits h.holds in (record { holds = (m.0, m.1, m.3) }, m.2)
 
   pub moving : Premises fixed answer_of after → (move : Move H) (l : Link H) → GoesOn move → MoveFits answer_of after move l → Goes l
       → Goes (after_move answer_of after move l)
   moving given move l on fits h = (moving_so given move l on fits h).0
-
-  -- what holds of a session says that all is once and in order
-  pub is_once : (l : Link H) → Goes l → IsOnce l.account
-  is_once l h =
-      let t = l.account in
-      let at = h.holds.1 in
-      let o = h.accounts.orders in
-      let e = h.accounts.events in
-      let front = front_at fixed h.holds.0 at l.reader h.holds.2.reader in
-      record {
-        taken = (pending_at at ++ (h.accounts.gone ++ l.controller.waiting), o.issued);
-        answered = o.answered;
-        settled = (owed_at at, sym o.settled, one_owed_at at);
-        reported = (
-          unreported_at at ++ front.0,
-          e.kept ∙ ap (λ es. e.past ++ es) front.1 ∙ sym (append_assoc e.past _ front.0) ∙ ap (λ es. es ++ front.0) (sym e.offered ∙ e.reported)
-              ∙ append_assoc t.reported (unreported_at at) front.0,
-        );
-      }
-
-  -- while the session lasts none of those that wait is gone, and none is told unsettled
-  pub lasts : (l : Link H) (h : Goes l) → (l.controller.session.state ≡ Closed → ⊥) → (h.accounts.gone ≡ []) × (l.account.unsettled ≡ [])
-  lasts l h open_at = elim h.accounts.quiet [
-    | inl both ↦ both
-    | inr closed ↦ absurd (open_at closed)
-  ]
 
   -- a session has begun and nothing was sent yet
   pub record IsNew (l : Link H) : Type 0 where
@@ -156,9 +129,8 @@ module _ (fixed : ControllerConfig) {H : Type 0} (answer_of : H → Command → 
     pub waiting : Each MaySubmit l.controller.waiting
     pub to_reader : l.to_reader ≡ []
     pub to_controller : l.to_controller ≡ []
-    pub account : l.account ≡ new_account l.controller.waiting l.reader.queue.events
 
-  pub fresh_so : (l : Link H) → IsNew l → (n : Goes l) × (n.holds.1 ≡ Fresh)
+  pub fresh_so : (l : Link H) → IsNew l → GoesThen IsFirst l
   fresh_so l new = (
     record {
       holds = (
@@ -166,15 +138,8 @@ module _ (fixed : ControllerConfig) {H : Type 0} (answer_of : H → Command → 
         Fresh,
         record { stage = tt; controller = new.controller; waiting = new.waiting; reader = tt; to_reader = new.to_reader; to_controller = new.to_controller },
       );
-      accounts = subst (Accounted Never Fresh l.controller.session.state l.controller.waiting l.reader.queue) (sym new.account) (record {
-        gone = [];
-        orders = record { issued = refl; answered = refl; settled = refl };
-        quiet = inl (refl, refl);
-        events = record { past = []; kept = refl; offered = sym (same_either [] l.reader.queue.offered); reported = refl };
-        restarts = refl;
-      });
     },
-    refl,
+    (refl, refl),
   )
 
   pub fresh : (l : Link H) → IsNew l → Goes l

@@ -1,11 +1,9 @@
--- What ordinary moves keep, and what their sessions have ended.
-use Rattle.osdp_link_laws.proofs.Common.{List, [], ◌∷◌, All, refl, sym, subst, Command, Answer, SetsNoOther, Begins, Link, Move, after_move, KeepHandler, KeepsDevice, KeepsHandler, AreUndisturbed, IsOrdinary, IsSteady, IsUndisturbed, KeepsReader}
+-- What steady moves keep.
+use Rattle.osdp_link_laws.proofs.Common.{List, [], ◌∷◌, All, Command, Answer, SetsNoOther, Link, Move, after_move, KeepHandler, KeepsDevice, KeepsHandler, IsOrdinary, IsSteady, KeepsReader}
 use Rattle.std.specs.Prelude.{ℕ}
 use Rattle.osdp_link_laws.specs.Link as link
 use Rattle.osdp_link_laws.proofs.Lines.{each_all, each_map}
 use Rattle.osdp_link_laws.proofs.Stages.{Each}
-
--- ---- moves
 
 is_ordinary : {H : Type 0} (m : Move H) → IsSteady m → IsOrdinary m
 is_ordinary link.Withdraw steady = absurd steady
@@ -54,12 +52,3 @@ keep_reader ms steady = each_all KeepsReader ms (each_map IsSteady KeepsReader k
 pub set_no_other : {H : Type 0} (reader controller : ℕ) (ms : List (Move H)) → Each IsSteady ms → All (SetsNoOther reader controller) ms
 set_no_other reader controller ms steady =
     each_all (SetsNoOther reader controller) ms (each_map IsSteady (SetsNoOther reader controller) (sets_no_other reader controller) ms steady)
-
--- ---- accounts
-
--- nothing has disturbed a first session
-pub begins_so : {H : Type 0} (l : Link H) → Begins l → AreUndisturbed (l.account ∷ l.earlier)
-begins_so l begins = (
-  subst IsUndisturbed (sym begins.account) (record { kept = refl; restarts = refl }),
-  subst AreUndisturbed (sym begins.earlier) tt,
-)

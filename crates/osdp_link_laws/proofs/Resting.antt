@@ -1,16 +1,12 @@
 -- A round from a clear link leaves it clear and at rest, or ends the session; and from rest each round brings one more.
-use Rattle.osdp_link_laws.proofs.Common.{◌≡◌, ◌+◌, ℕ, length, Some, ap, sym, subst, ◌∙◌, inl, inr, arith, min-le_left, min-le_right, Command, seen, ControllerConfig, State, Closed, Idle, Answer, Link, run, ReadEachOther, ComesThroughFromRest, ComesToRest, SetsNoAddress, round, rounds}
+use Rattle.osdp_link_laws.proofs.Common.{◌≡◌, ◌≢◌, ℕ, length, Some, ap, sym, subst, ◌∙◌, inl, inr, arith, min-le_left, min-le_right, Command, seen, ControllerConfig, Closed, Idle, Answer, Link, run, ReadEachOther, ComesThroughFromRest, ComesToRest, SetsNoAddress, round, ahead, left}
 use Rattle.osdp_link_laws.proofs.Due.{closed_rests}
-use Rattle.osdp_link_laws.proofs.InARow.{assumed, stands}
+use Rattle.osdp_link_laws.proofs.InARow.{assumed, stands, stands_since}
 use Rattle.osdp_link_laws.proofs.Lines.{each_all}
 use Rattle.osdp_link_laws.proofs.Parts.{At}
 use Rattle.osdp_link_laws.proofs.Round.{IsIdle}
-use Rattle.osdp_link_laws.proofs.Rounds.{all_of, counted}
 use Rattle.osdp_link_laws.proofs.Stages.{Asks, Before, Behind, Fresh, HasRestarted, Level, Never, Now, Rest, Restarted, Stage, Waits, number_after}
-use Rattle.osdp_link_laws.proofs.Through.{clear_still, config_is, first_round, held_after, through}
-
-idle_lasts : (state : State) → (due : ℕ) × (state ≡ Idle due) → state ≡ Closed → ⊥
-idle_lasts state (due, idle) closed = let same : Idle due ≡ Closed = sym idle ∙ closed in cc
+use Rattle.osdp_link_laws.proofs.Through.{clear_still, config_is, first_round, held_after, idle_lasts, through}
 
 module _ {H : Type 0} (answer_of : H → Command → Answer) (after : H → Command → H) where
   pub comes_to_rest : ReadEachOther answer_of after → ComesToRest answer_of after
@@ -19,7 +15,7 @@ module _ {H : Type 0} (answer_of : H → Command → Answer) (after : H → Comm
       let next = run answer_of after (round now) afterwards in
       let s = stands answer_of after peers l moves b fits in
       let session = afterwards.controller.session in
-      let lasts : session.state ≡ Closed → ⊥ = λ closed. closed_rests session.state (seen now session) afterwards.controller.waiting closed due in
+      let lasts : session.state ≢ Closed = λ closed. closed_rests session.state (seen now session) afterwards.controller.waiting closed due in
       let holds = s.goes.holds in
       let same = config_is s.fixed answer_of after holds.0 holds.1 afterwards holds.2 lasts in
       let still = clear_still s.fixed answer_of after afterwards clear same in
@@ -34,7 +30,7 @@ module _ {H : Type 0} (answer_of : H → Command → Answer) (after : H → Comm
             address = idle.still.ready.here
                 ∙ sym (ap (λ c. c.address) (config_is s.fixed answer_of after held.holds.0 held.holds.1 next held.holds.2 (idle_lasts next.controller.session.state idle.idle)));
             ready = idle.still.ready.ready;
-            issued = each_all SetsNoAddress next.account.issued idle.still.issued;
+            stays = each_all SetsNoAddress (ahead next.controller) idle.still.stays;
           },
           idle.idle,
         )
@@ -43,20 +39,20 @@ module _ {H : Type 0} (answer_of : H → Command → Answer) (after : H → Comm
 module _ (fixed : ControllerConfig) {H : Type 0} (answer_of : H → Command → Answer) (after : H → Command → H) where
   -- at rest a reader that hasn't restarted knows its last number
   known : (since : Restarted) (at : Stage) (l : Link H) → At fixed answer_of after since at l → (due : ℕ) → l.controller.session.state ≡ Idle due
-      → l.reader.config.address ≡ fixed.address → HasRestarted since l.account.restarts → l.account.restarts ≡ 0 → (n : ℕ) × (l.reader.last ≡ Some n)
-  known since Fresh l h due idle here some none = absurd (subst (λ st. Waits fixed st l.controller.session) idle h.controller)
-  known since (Behind past x) l h due idle here some none = absurd (subst (λ st. Asks fixed st (number_after past) x l.controller.session) idle h.controller)
-  known since (Level past x a) l h due idle here some none = absurd (subst (λ st. Asks fixed st (number_after past) x l.controller.session) idle h.controller)
-  known Never (Rest n x a) l h due idle here some none = (n, (h.reader.here here).0)
-  known Before (Rest n x a) l h due idle here some none = absurd (omega (arith, none, some))
-  known Now (Rest n x a) l h due idle here some none = absurd (omega (arith, none, some))
+      → l.reader.config.address ≡ fixed.address → HasRestarted since 0 → (n : ℕ) × (l.reader.last ≡ Some n)
+  known since Fresh l h due idle here none = absurd (subst (λ st. Waits fixed st l.controller.session) idle h.controller)
+  known since (Behind past x) l h due idle here none = absurd (subst (λ st. Asks fixed st (number_after past) x l.controller.session) idle h.controller)
+  known since (Level past x a) l h due idle here none = absurd (subst (λ st. Asks fixed st (number_after past) x l.controller.session) idle h.controller)
+  known Never (Rest n x a) l h due idle here none = (n, (h.reader.here here).0)
+  known Before (Rest n x a) l h due idle here none = absurd (omega (arith, none))
+  known Now (Rest n x a) l h due idle here none = absurd (omega (arith, none))
 
 module _ {H : Type 0} (answer_of : H → Command → Answer) (after : H → Command → H) where
   pub comes_through_from_rest : ReadEachOther answer_of after → ComesThroughFromRest answer_of after
   comes_through_from_rest peers l moves moments b fits clear rest hears due more =
       let afterwards = run answer_of after moves l in
-      let last = run answer_of after (rounds moments) afterwards in
-      let s = stands answer_of after peers l moves b fits in
+      let stood = stands_since answer_of after peers l moves b fits in
+      let s = stood.0 in
       let lasts = idle_lasts afterwards.controller.session.state rest in
       let holds = s.goes.holds in
       let same = config_is s.fixed answer_of after holds.0 holds.1 afterwards holds.2 lasts in
@@ -65,16 +61,14 @@ module _ {H : Type 0} (answer_of : H → Command → Answer) (after : H → Comm
         idle = rest;
         still = still;
         known = elim hears [
-          | inl none ↦ known s.fixed answer_of after holds.0 holds.1 afterwards holds.2 rest.0 rest.1 still.ready.here s.goes.accounts.restarts none
+          | inl none ↦ known s.fixed answer_of after holds.0 holds.1 afterwards holds.2 rest.0 rest.1 still.ready.here (subst (HasRestarted holds.0) none stood.1)
           | inr knows ↦ knows
         ];
       } in
       let all = assumed answer_of after peers s.fixed s.device in
-      let come = through s.fixed answer_of after all moments afterwards s.goes idle due more in
-      let few = min-le_left (counted afterwards.account + length moments) (all_of last.account) in
-      let every = min-le_right (counted afterwards.account + length moments) (all_of last.account) in
-      let whole = come.1 in
-      elim come.0 [
+      let few = min-le_left (length moments) (left afterwards) in
+      let every = min-le_right (length moments) (left afterwards) in
+      elim (through s.fixed answer_of after all moments afterwards s.goes idle due more) [
         | inl far ↦ omega (arith, far, few)
-        | inr done ↦ omega (arith, done, whole, every)
+        | inr whole ↦ omega (arith, whole, every)
       ]

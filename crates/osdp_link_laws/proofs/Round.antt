@@ -1,32 +1,38 @@
 -- A round that loses nothing, from a tick that is due: the exchange ends, or the session does.
-use Rattle.osdp_link_laws.proofs.Common.{◌≡◌, ◌⊎◌, ℕ, [], ◌∷◌, ◌++◌, Some, refl, sym, subst, ap, ◌∙◌, inl, inr, option_to_list, Packet, Command, Reply, Heard, at_rest, later, seen, ticks, Plain, ControllerConfig, Exchange, Opening, Polling, Asking, Session, Closed, Idle, Answer, refused, UnexpectedSequence, SaysWhatFits, Delivered, Link, after_report, SetsNoAddress}
+use Rattle.osdp_link_laws.proofs.Common.{◌≡◌, ◌⊎◌, ℕ, List, [], ◌∷◌, ◌++◌, Option, Some, refl, sym, subst, ap, ◌∙◌, inl, inr, option_to_list, Packet, Command, Reply, Heard, at_rest, later, seen, ticks, Plain, ControllerConfig, Exchange, Opening, Polling, Asking, Session, Closed, Idle, Answer, refused, UnexpectedSequence, Report, outstanding_command, submitted_command, SaysWhatFits, Delivered, Link, SetsNoAddress, ahead, told_by_front}
 use Rattle.osdp_controller.specs.Answers as packets
 use Rattle.osdp_controller.specs.Hearing as controller
-use Rattle.osdp_reader.specs.Table.{hears, kind_of}
+use Rattle.osdp_reader.specs.Table.{hears}
 use Rattle.osdp_link_laws.specs.Link as link
 use Rattle.osdp_link_laws.proofs.Deliveries.{refusal_fits}
 use Rattle.osdp_link_laws.proofs.Answering.{IsReady, Refused, Replies, SaysFit, replies_at}
-use Rattle.osdp_link_laws.proofs.Due.{Awaits, Sends}
-use Rattle.osdp_link_laws.proofs.Growing.{taken_takes, told_issues}
-use Rattle.osdp_link_laws.proofs.Lines.{each_front, each_rest}
+use Rattle.osdp_link_laws.proofs.Due.{Awaits, Sends, ticks_ahead}
 use Rattle.osdp_link_laws.proofs.Moves.{Premises}
 use Rattle.osdp_link_laws.proofs.Parts.{At}
 use Rattle.osdp_link_laws.proofs.Settling.{MovesNone, refusal_ends, report_of, settles_now}
-use Rattle.osdp_link_laws.proofs.Stages.{Asks, Behind, Each, Fresh, IsOpen, IsOut, Level, Rest, Restarted, Rests, Stage, Waits, answer, exchange_at, frame, number_at, number_after, owed}
+use Rattle.osdp_link_laws.proofs.Stages.{Asks, Behind, Each, Fresh, IsOpen, IsOut, Level, Rest, Restarted, Rests, Stage, Waits, answer, exchange_at, frame, number_at, number_after}
 use Rattle.osdp_link_laws.proofs.Ticks.{frame_is}
-use Rattle.osdp_link_laws.proofs.Accounts.{Accounts, settled_commands, taken_commands}
 use Rattle.osdp_link_laws.proofs.Once.{Goes}
 
 -- the link after a tick
 abbrev pub at_tick : {H : Type 0} → ℕ → Link H → Link H
 at_tick {H} now l = link.ticked (ticks now l.controller.session l.controller.waiting) l
 
+-- .. after the packet to the controller, and what is told then
+pub record Passed (H : Type 0) : Type 0 where
+  pub next : Link H
+  pub told : Option Report
+
+abbrev passes_back : {H : Type 0} → List Packet → ℕ → Link H → Passed H
+passes_back {H} qs now l = record { next = link.to_controller qs Delivered now l; told = told_by_front Delivered qs now l.controller.session }
+
 module _ {H : Type 0} (answer_of : H → Command → Answer) (after : H → Command → H) where
   -- .. after the packets in front of both directions, one after the other
+  abbrev pub passes : ℕ → Link H → Passed H
+  passes now l = let m = link.to_reader answer_of after l.to_reader Delivered l in passes_back m.to_controller now m
+
   abbrev pub delivered : ℕ → Link H → Link H
-  delivered now l =
-      let m = link.to_reader answer_of after l.to_reader Delivered l in
-      link.to_controller m.to_controller Delivered now m
+  delivered now l = (passes now l).next
 
   -- .. and after a whole round
   abbrev pub goes : ℕ → Link H → Link H
@@ -49,20 +55,23 @@ module _ (fixed : ControllerConfig) {H : Type 0} (answer_of : H → Command → 
       record { out = tt; exchange = sym asks.1 ∙ is; session = asks.0 }
   awaited since (Rest n y a) l x h (until, k, o, state, is) = absurd (subst (λ st. Rests fixed st n l.controller.session) state h.controller)
 
-  -- no COMSET to a device's address was issued, so the exchange asks none
-  pub moves_none : (since : Restarted) (at : Stage) (l : Link H) → Accounts since at l → IsOut at → Each SetsNoAddress l.account.issued → MovesNone (exchange_at at)
-  moves_none since Fresh l h out all = absurd out
-  moves_none since (Behind past Opening) l h out all = tt
-  moves_none since (Behind past Polling) l h out all = tt
-  moves_none since (Behind past (Asking c)) l h out all =
-      (each_rest SetsNoAddress l.account.taken (c ∷ (h.gone ++ l.controller.waiting)) (subst (Each SetsNoAddress) h.orders.issued all)).0
-  moves_none since (Level past Opening a) l h out all = tt
-  moves_none since (Level past Polling a) l h out all = tt
-  moves_none since (Level past (Asking c) a) l h out all =
-      let taken = each_front SetsNoAddress l.account.taken (h.gone ++ l.controller.waiting) (subst (Each SetsNoAddress) h.orders.issued all) in
-      let is = taken_commands l.account (owed (Asking c) a) h.orders.answered h.orders.settled in
-      (each_rest SetsNoAddress (settled_commands l.account) (c ∷ []) (subst (Each SetsNoAddress) (sym is) taken)).0
-  moves_none since (Rest n y a) l h out all = absurd out
+  -- none of the commands that have no end is a COMSET to a device's address, so the exchange asks none
+  asks_none : (x : Exchange) (waiting : List Command) → Each SetsNoAddress (option_to_list (submitted_command x) ++ waiting) → MovesNone x × Each SetsNoAddress waiting
+  asks_none Opening waiting all = (tt, all)
+  asks_none Polling waiting all = (tt, all)
+  asks_none (Asking c) waiting all = (all.0, all.1)
+
+  awaits_none : (now : ℕ) (x : Exchange) (l : Link H) → Awaits x (at_tick now l).controller.session.state → Each SetsNoAddress (ahead l.controller)
+      → MovesNone x × Each SetsNoAddress (at_tick now l).controller.waiting
+  awaits_none now x l (until, k, o, state, is) all =
+      let t = ticks now l.controller.session l.controller.waiting in
+      elim (ticks_ahead now l.controller.session l.controller.waiting) [
+        | inl closed ↦ absurd (let e = sym state ∙ closed in cc)
+        | inr same ↦
+            let out : option_to_list (outstanding_command t.session.state) ≡ option_to_list (submitted_command x) =
+            ap (λ st. option_to_list (outstanding_command st)) state ∙ ap (λ y. option_to_list (submitted_command y)) is in
+            asks_none x t.waiting (subst (Each SetsNoAddress) (sym same ∙ ap (λ cs. cs ++ t.waiting) out) all)
+      ]
 
   -- both packets come through: the link after them
   abbrev pub answered_link : ℕ → Packet → Exchange → Reply → Link H → Link H
@@ -71,27 +80,23 @@ module _ (fixed : ControllerConfig) {H : Type 0} (answer_of : H → Command → 
     reader = (hears answer_of after l.reader p).reader;
     to_reader = [];
     to_controller = [];
-    account = after_report (report_of x a) (link.taken (kind_of l.reader p) (hears answer_of after l.reader p).command (hears answer_of after l.reader p).said (link.front_of l.reader) l.account);
   }
 
   pub come_through : (now : ℕ) (x : Exchange) (n : ℕ) (a : Reply) (l : Link H) → l.to_reader ≡ frame fixed x n ∷ [] → l.to_controller ≡ []
       → (hears answer_of after l.reader (frame fixed x n)).reply ≡ Some (answer fixed n a)
       → controller.hears (answer fixed n a) now l.controller.session
       ≡ record { session = at_rest (seen now l.controller.session); report = report_of x a }
-      → delivered answer_of after now l ≡ answered_link now (frame fixed x n) x a l
+      → passes answer_of after now l ≡ record { next = answered_link now (frame fixed x n) x a l; told = report_of x a }
   come_through now x n a l asks none says settles =
       let p = frame fixed x n in
       let q = answer fixed n a in
       let m = link.reader_gets answer_of after p (record l { to_reader = [] }) in
       let back : m.to_controller ≡ q ∷ [] =
       ap (λ ps. ps ++ option_to_list (hears answer_of after l.reader p).reply) none ∙ ap option_to_list says in
-      ap (λ ps. let k = link.to_reader answer_of after ps Delivered l in link.to_controller k.to_controller Delivered now k) asks
-      ∙ ap (λ qs. link.to_controller qs Delivered now m) back
-      ∙ ap (λ (heard : Heard). record m {
-        to_controller = [];
-        controller = record l.controller { session = heard.session };
-        account = after_report heard.report m.account;
-      }) settles
+      ap (λ ps. let k = link.to_reader answer_of after ps Delivered l in passes_back k.to_controller now k) asks
+      ∙ ap (λ qs. passes_back qs now m) back
+      ∙ ap (λ (heard : Heard).
+      let w : Passed H = record { next = record m { to_controller = []; controller = record l.controller { session = heard.session } }; told = heard.report } in w) settles
 
   -- a number that is refused ends the session
   refused_closes : Premises fixed answer_of after → (now : ℕ) (x : Exchange) (n : ℕ) (l : Link H) → l.to_reader ≡ frame fixed x n ∷ [] → l.to_controller ≡ []
@@ -131,7 +136,7 @@ module _ (fixed : ControllerConfig) {H : Type 0} (answer_of : H → Command → 
         | inl (a, r) ↦
             let says : packets.meaning_of (answer fixed n a) ≡ Plain a = given.hears n a r.acted.0.fits ∙ given.plain a r.acted.0.plain in
             let settles = settles_now fixed (exchange_at at) n a now l.controller.session waits is.session stays r.acted.1 says in
-            inl (record { a = a; replies = r; is = come_through now (exchange_at at) n a l line quiet r.sent settles })
+            inl (record { a = a; replies = r; is = ap (λ w. w.next) (come_through now (exchange_at at) n a l line quiet r.sent settles) })
         | inr refuses ↦ inr (refused_closes given now (exchange_at at) n l line quiet refuses waits is.session)
       ])
       fits asks none awaits
@@ -141,7 +146,7 @@ module _ (fixed : ControllerConfig) {H : Type 0} (answer_of : H → Command → 
     pub to_reader : l.to_reader ≡ []
     pub to_controller : l.to_controller ≡ []
     pub ready : IsReady fixed answer_of after l.reader
-    pub issued : Each SetsNoAddress l.account.issued
+    pub stays : Each SetsNoAddress (ahead l.controller)
 
   pub record IsIdle (l : Link H) : Type 0 where
     pub idle : (due : ℕ) × (l.controller.session.state ≡ Idle due)
@@ -169,24 +174,18 @@ module _ (fixed : ControllerConfig) {H : Type 0} (answer_of : H → Command → 
       let h = held.holds.2 in
       let is = awaited since at m x h sends.awaits in
       let line = sent_line now l x at still.to_reader sends is in
-      let issued : m.account.issued ≡ l.account.issued = ap (λ o. (after_report o l.account).issued) sends.report in
-      let none = moves_none since at m held.accounts is.out (subst (Each SetsNoAddress) (sym issued) still.issued) in
-      let stays = subst MovesNone is.exchange none in
+      let none = awaits_none now x l sends.awaits still.stays in
       let fit = subst (λ ps. SaysWhatFits answer_of after ps l.reader) line fits in
-      let p = frame fixed x (number_at at) in
-      let heard = hears answer_of after l.reader p in
-      let goes = taken_takes (kind_of l.reader p) heard.command heard.said (link.front_of l.reader) m.account in
-      elim (is_answered given now x since at m h sends.awaits is still.ready stays line still.to_controller fit) [
+      elim (is_answered given now x since at m h sends.awaits is still.ready none.0 line still.to_controller fit) [
         | inl answer ↦ inr (subst IsIdle (sym answer.is) (record {
           idle = (later m.controller.session.config.poll_interval (seen now m.controller.session), refl);
           still = record {
             to_reader = refl;
             to_controller = refl;
-            ready = answer.replies.stays stays;
-            issued = subst (Each SetsNoAddress) (sym (told_issues (report_of x answer.a) (link.taken (kind_of l.reader p) heard.command heard.said (link.front_of l.reader) m.account)
-                ∙ ap (λ t. t.issued) goes.1 ∙ issued)) still.issued;
+            ready = answer.replies.stays none.0;
+            stays = none.1;
           };
-          known = (number_at at, answer.replies.known stays);
+          known = (number_at at, answer.replies.known none.0);
         }))
         | inr closed ↦ inl closed
       ]

@@ -1,68 +1,55 @@
--- Rounds that lose nothing: each but the first settles a command or reports an event, until all are.
-use Rattle.osdp_link_laws.proofs.Common.{◌≡◌, ◌⊎◌, ◌≤◌, ◌+◌, ℕ, suc, List, [], ◌∷◌, ◌++◌, length, drop, refl, sym, subst, ap, ◌∙◌, inl, inr, arith, append-nil, length-append, length-map, Command, Event, later, seen, ticks, ControllerConfig, Closed, Idle, next_sequence, Answer, released, ReaderState, answer_to, SaysWhatFits, asked, Account, Link, SetsNoAddress}
-use Rattle.osdp_link_laws.proofs.Due.{Acts}
-use Rattle.osdp_link_laws.proofs.Exchanges.{accounted, exchange_from_rest, rested_link}
-use Rattle.osdp_link_laws.proofs.Lines.{each_rest}
+-- Rounds that lose nothing, from rest: each settles a command or reports an event, until all are.
+use Rattle.osdp_link_laws.proofs.Common.{◌≡◌, ◌⊎◌, ◌+◌, ℕ, suc, Bool, false, List, [], ◌∷◌, ◌++◌, length, drop, refl, sym, subst, ap, ◌∙◌, inl, inr, arith, Command, Event, exchange_command, later, seen, ticks, ControllerConfig, Idle, next_sequence, Answer, ReaderConfig, event_for, event_or_answer, offering, Queue, released, option_to_list, outstanding_command, MaySubmit, SaysWhatFits, Link, SetsNoAddress, TellsItsEvent, left}
+use Rattle.osdp_controller.specs.Hearing.{poll_told}
+use Rattle.osdp_msg.specs.Events.{event_reply}
+use Rattle.osdp_link_laws.specs.Ahead.{has_number, is_polling, is_unopened, offered_to, unoffered_events}
+use Rattle.osdp_link_laws.proofs.Acting.{no_event}
+use Rattle.osdp_link_laws.proofs.Due.{Acts, next_exchange}
+use Rattle.osdp_link_laws.proofs.Exchanges.{exchange_from_rest, rested, rested_link, went}
+use Rattle.osdp_link_laws.proofs.Leaving.{tells}
 use Rattle.osdp_link_laws.proofs.Moves.{Premises}
+use Rattle.osdp_link_laws.proofs.Once.{Goes}
 use Rattle.osdp_link_laws.proofs.Parts.{At}
 use Rattle.osdp_link_laws.proofs.Round.{IsIdle, at_tick, goes}
+use Rattle.osdp_link_laws.proofs.Settling.{report_of}
 use Rattle.osdp_link_laws.proofs.Since.{Hears}
-use Rattle.osdp_link_laws.proofs.Stages.{Asks, Before, Behind, Each, Fresh, Level, Never, Now, Rest, Restarted, Rests, Stage, Waits, number_after, pending_at}
-use Rattle.osdp_link_laws.proofs.Accounts.{Accounts, settled_commands, taken_commands}
-use Rattle.osdp_link_laws.proofs.Coming.{standing_of}
-use Rattle.osdp_link_laws.proofs.Once.{Goes, lasts}
+use Rattle.osdp_link_laws.proofs.Stages.{Asks, Before, Behind, Each, Fresh, Level, Never, Now, Rest, Restarted, Rests, Stage, Waits, number_after}
 
-abbrev pub counted : Account → ℕ
-counted t = length t.settled + length t.reported
+-- one is told and one less is left, or none was
+abbrev pub OneLess : ℕ → ℕ → ℕ → Type 0
+OneLess told before after = ((told ≡ 1) × (before ≡ suc after)) ⊎ (before ≡ 0)
 
-abbrev pub all_of : Account → ℕ
-all_of t = length t.issued + length t.kept
+-- no event is offered
+abbrev calm : List Event → ℕ → ℕ → Bool → Queue
+calm events capacity room ever = record { events = events; capacity = capacity; room = room; offered = false; ever_offered = ever }
+
+module _ {H : Type 0} where
+  -- where nobody waits for an answer
+  left_at_rest : (l : Link H) (due : ℕ) → l.controller.session.state ≡ Idle due → left l ≡ length l.controller.waiting + length (released l.reader.queue).events
+  left_at_rest l due idle =
+      ap (λ st. length (option_to_list (outstanding_command st) ++ l.controller.waiting)
+      + length (offered_to (is_polling st) (has_number l.controller.session.number l.reader.last) l.reader.stored ++ unoffered_events (is_unopened st) l.reader.queue)) idle
+
+  waiting_at_rest : (l : Link H) (due : ℕ) → l.controller.session.state ≡ Idle due
+      → Each SetsNoAddress (option_to_list (outstanding_command l.controller.session.state) ++ l.controller.waiting) → Each SetsNoAddress l.controller.waiting
+  waiting_at_rest l due idle = subst (λ st. Each SetsNoAddress (option_to_list (outstanding_command st) ++ l.controller.waiting)) idle
+
+  module _ (answer_of : H → Command → Answer) (after : H → Command → H) where
+    -- what the next exchange tells, and what it leaves
+    counts : TellsItsEvent → (ws : List Command) (events : List Event) (capacity room : ℕ) (ever : Bool) (config : ReaderConfig) (handler : H) → Each MaySubmit ws
+        → let x = next_exchange ws in
+        let told = event_for (exchange_command x) events in
+        OneLess (tells (report_of x (event_or_answer answer_of after told config handler (exchange_command x)).reply)) (length ws + length events)
+        (length (drop 1 ws) + length (released (offering told (calm events capacity room ever))).events)
+    counts tells_it [] [] capacity room ever config handler may = inr refl
+    counts tells_it [] (e ∷ events) capacity room ever config handler may = inl (ap (λ o. tells (poll_told (event_reply e) o)) (tells_it e), omega arith)
+    counts tells_it (c ∷ ws) events capacity room ever config handler may =
+        let same = ap (λ o. length (released (offering o (calm events capacity room ever))).events) (no_event c events may.0.no_poll) in
+        inl (refl, omega (arith, same))
 
 module _ (fixed : ControllerConfig) {H : Type 0} (answer_of : H → Command → Answer) (after : H → Command → H) where
   abbrev Idles : Link H → Type 0
   Idles l = IsIdle fixed answer_of after l
-
-  -- where no exchange is outstanding, and no command and no event waits, all is settled and reported
-  done_all : (l : Link H) → Goes fixed answer_of after l → (due : ℕ) → l.controller.session.state ≡ Idle due → l.controller.waiting ≡ []
-      → l.reader.queue.events ≡ [] → all_of l.account ≤ counted l.account
-  done_all l held due idle none empty =
-      let stay = (lasts fixed answer_of after l held (λ closed. let same : Idle due ≡ Closed = sym idle ∙ closed in absurd cc)).0 in
-      by_stage held.holds.0 held.holds.1 held.holds.2 held.accounts (λ i. stay i ++ none i)
-    where
-      by_stage : (since : Restarted) (at : Stage) → At fixed answer_of after since at l → (a : Accounts since at l) → a.gone ++ l.controller.waiting ≡ []
-          → all_of l.account ≤ counted l.account
-      by_stage since Fresh h a rest = absurd (subst (λ st. Waits fixed st l.controller.session) idle h.controller)
-      by_stage since (Behind past x) h a rest = absurd (subst (λ st. Asks fixed st (number_after past) x l.controller.session) idle h.controller)
-      by_stage since (Level past x a) h b rest = absurd (subst (λ st. Asks fixed st (number_after past) x l.controller.session) idle h.controller)
-      by_stage since (Rest n x a) h b rest =
-          let t = l.account in
-          let commands = taken_commands t [] b.orders.answered b.orders.settled in
-          let settled : length t.settled ≡ length t.taken =
-          sym (length-map t.settled asked) ∙ ap length (sym (append-nil (settled_commands t)) ∙ commands) in
-          let issued : length t.issued ≡ length t.taken = ap length (b.orders.issued ∙ ap (λ ws. t.taken ++ ws) rest ∙ append-nil t.taken) in
-          let past = b.events.past in
-          let queued : length t.kept ≡ length past = ap length (b.events.kept ∙ ap (λ es. past ++ es) empty ∙ append-nil past) in
-          let reported : length t.reported ≡ length past + length (standing_of since (Rest n x a) l.reader.queue.offered) =
-          ap length (sym (append-nil t.reported) ∙ sym b.events.reported ∙ b.events.offered) ∙ length-append past (standing_of since (Rest n x a) l.reader.queue.offered) in
-          omega (arith, settled, issued, queued, reported)
-
-  -- one more is settled or reported, or all is
-  abbrev OneMore : Account → Account → Type 0
-  OneMore t u = (suc (counted t) ≤ counted u) ⊎ (all_of u ≤ counted u)
-
-  -- what comes of an exchange from rest counts one more, where a command or an event waits
-  counts : (waiting : List Command) (events : List Event) (r : ReaderState H) (t : Account)
-      → let u = accounted answer_of after waiting events r t in (waiting ≡ [] → events ≡ [] → all_of u ≤ counted u) → OneMore t u
-  counts [] [] r t none = inr (none refl refl)
-  counts [] (e ∷ events) r t none = inl (omega (arith, length-append t.reported (e ∷ [])))
-  counts (c ∷ waiting) events r t none =
-      inl (omega (arith, length-append t.settled ((c, (answer_to answer_of after r.config r.handler c).reply) ∷ [])))
-
-  issues_none : (waiting : List Command) (events : List Event) (r : ReaderState H) (t : Account)
-      → (accounted answer_of after waiting events r t).issued ≡ t.issued
-  issues_none [] [] r t = refl
-  issues_none [] (e ∷ events) r t = refl
-  issues_none (c ∷ waiting) events r t = refl
 
   abbrev Given : Type 0
   Given = Premises fixed answer_of after
@@ -75,14 +62,17 @@ module _ (fixed : ControllerConfig) {H : Type 0} (answer_of : H → Command → 
       to_reader = refl;
       to_controller = refl;
       ready = record { here = idle.still.ready.here; ready = idle.still.ready.ready };
-      issued = subst (Each SetsNoAddress)
-          (sym (issues_none l.controller.waiting (released l.reader.queue).events l.reader l.account)) idle.still.issued;
+      stays = less l.controller.waiting (waiting_at_rest l idle.idle.0 idle.idle.1 idle.still.stays);
     };
     known = (next_sequence l.controller.session.number, refl);
   }
+    where
+      less : (ws : List Command) → Each SetsNoAddress ws → Each SetsNoAddress (drop 1 ws)
+      less [] all = tt
+      less (c ∷ ws) all = all.1
 
   -- a reader that knows its last number hears
-  hears_known : (since : Restarted) (at : Stage) (l : Link H) → At fixed answer_of after since at l → Idles l → Hears since
+  pub hears_known : (since : Restarted) (at : Stage) (l : Link H) → At fixed answer_of after since at l → Idles l → Hears since
   hears_known Never at l h idle = tt
   hears_known Before at l h idle = tt
   hears_known Now Fresh l h idle = absurd (subst (λ st. Waits fixed st l.controller.session) idle.idle.1 h.controller)
@@ -93,45 +83,34 @@ module _ (fixed : ControllerConfig) {H : Type 0} (answer_of : H → Command → 
   -- a round from a controller that waits for nothing is an exchange from rest
   pub idle_exchange : Given → (now : ℕ) (l : Link H) → Goes fixed answer_of after l → Idles l
       → Acts (ticks now l.controller.session l.controller.waiting) → SaysWhatFits answer_of after (at_tick now l).to_reader l.reader
-      → goes answer_of after now l ≡ rested_link fixed answer_of after now l
+      → went answer_of after now l ≡ rested fixed answer_of after now l
   idle_exchange given now l held idle does fits = by_stage held.holds.1 held.holds.2
     where
       since : Restarted
       since = held.holds.0
 
-      set : Each SetsNoAddress l.controller.waiting
-      set =
-          each_rest SetsNoAddress held.accounts.gone l.controller.waiting
-          (each_rest SetsNoAddress (pending_at held.holds.1) (held.accounts.gone ++ l.controller.waiting)
-          (each_rest SetsNoAddress l.account.taken (pending_at held.holds.1 ++ (held.accounts.gone ++ l.controller.waiting))
-          (subst (Each SetsNoAddress) held.accounts.orders.issued idle.still.issued)))
-
-      by_stage : (at : Stage) → At fixed answer_of after since at l → goes answer_of after now l ≡ rested_link fixed answer_of after now l
+      by_stage : (at : Stage) → At fixed answer_of after since at l → went answer_of after now l ≡ rested fixed answer_of after now l
       by_stage Fresh h = absurd (subst (λ st. Waits fixed st l.controller.session) idle.idle.1 h.controller)
       by_stage (Behind past x) h =
           absurd (subst (λ st. Asks fixed st (number_after past) x l.controller.session) idle.idle.1 h.controller)
       by_stage (Level past x a) h =
           absurd (subst (λ st. Asks fixed st (number_after past) x l.controller.session) idle.idle.1 h.controller)
       by_stage (Rest n y b) h =
-          exchange_from_rest fixed answer_of after given now idle.idle.0 since n y b l (hears_known since (Rest n y b) l h idle) h set idle.idle.1
+          exchange_from_rest fixed answer_of after given now idle.idle.0 since n y b l (hears_known since (Rest n y b) l h idle) h
+          (waiting_at_rest l idle.idle.0 idle.idle.1 idle.still.stays) idle.idle.1
           (subst (λ st. Rests fixed st n l.controller.session) idle.idle.1 h.controller) idle.still does fits
 
-  -- .. which settles or reports one more, unless all is
+  -- .. which tells one, unless none is left
   pub idle_round : Given → (now : ℕ) (l : Link H) → Goes fixed answer_of after l → Idles l
       → Acts (ticks now l.controller.session l.controller.waiting) → SaysWhatFits answer_of after (at_tick now l).to_reader l.reader
-      → Goes fixed answer_of after (goes answer_of after now l) → Idles (goes answer_of after now l) × OneMore l.account (goes answer_of after now l).account
-  idle_round given now l held idle does fits afterwards =
+      → Idles (goes answer_of after now l) × OneLess (tells (went answer_of after now l).told) (left l) (left (goes answer_of after now l))
+  idle_round given now l held idle does fits =
       let is = idle_exchange given now l held idle does fits in
-      let m = goes answer_of after now l in
-      let w = l.controller.waiting in
-      let events = (released l.reader.queue).events in
-      let rested = rested_idle now l idle in (
-        subst Idles (sym is) rested,
-        subst (λ k. OneMore l.account k.account) (sym is)
-            (counts w events l.reader l.account (λ none empty.
-            subst (λ k. all_of k.account ≤ counted k.account) is
-            (done_all m afterwards
-            (later l.controller.session.config.poll_interval (seen now (record (seen now l.controller.session) { number = next_sequence l.controller.session.number })))
-            (ap (λ k. k.controller.session.state) is)
-            (ap (λ k. k.controller.waiting) is ∙ ap (drop 1) none) (ap (λ k. k.reader.queue.events) is ∙ empty)))),
+      let q = l.reader.queue in
+      let rest = released q in
+      let before = left_at_rest l idle.idle.0 idle.idle.1 in
+      let one = counts answer_of after given.tells l.controller.waiting rest.events q.capacity q.room rest.ever_offered l.reader.config l.reader.handler held.holds.2.waiting in (
+        subst (λ w. Idles w.next) (sym is) (rested_idle now l idle),
+        subst (λ w. OneLess (tells w.told) (left l) (left w.next)) (sym is)
+            (subst (λ n. OneLess (tells (rested fixed answer_of after now l).told) n (left (rested_link fixed answer_of after now l))) (sym before) one),
       )

@@ -2,7 +2,6 @@
 use Rattle.osdp_link_laws.proofs.Common.{◌≡◌, ◌≢◌, ◌<◌, ℕ, zero, suc, [], ◌∷◌, ◌++◌, length, Some, None, Ok, refl, sym, subst, inl, inr, append-nil, option_to_list, IfSome, eqb_tells, Packet, ReplyFits, Command, Reply, ControllerConfig, Exchange, Opening, Polling, Asking, Answer, Kind, Zero, Busy, refused, ReaderState, UnexpectedSequence, begun, command_in, kind_of, outcome, Link}
 use Rattle.osdp_msg.specs.declared.command.Command.TheVariants as command
 use Rattle.osdp_msg.specs.declared.reply.Reply.TheVariants as reply
-use Rattle.osdp_link_laws.specs.Link as link
 use Rattle.osdp_link_laws.proofs.Acting.{kind_again, kind_away, kind_unknown, kind_zero}
 use Rattle.osdp_link_laws.proofs.Coming.{KeepsDue, Reads, standing_at}
 use Rattle.osdp_link_laws.proofs.Lines.{both}
@@ -39,7 +38,6 @@ module _ (fixed : ControllerConfig) {H : Type 0} (answer_of : H → Command → 
       record l {
         reader = o.reader;
         to_controller = l.to_controller ++ option_to_list o.reply;
-        account = link.taken kind o.command o.said (link.front_of l.reader) l.account;
       }
 
   -- the reader stays as it is, and says this

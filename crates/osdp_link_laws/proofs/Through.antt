@@ -1,37 +1,22 @@
 -- From a link without losses over its rounds.
-use Rattle.osdp_link_laws.proofs.Common.{◌≡◌, ◌⊎◌, ◌≤◌, ◌+◌, ◌-◌, ℕ, List, [], ◌∷◌, length, refl, sym, subst, ap, ◌∙◌, inl, inr, arith, Option, Some, None, min-le_left, min-le_right, length-append, Packet, Command, said_by, hears_in, ignores, is_from_reader, seen, ticks, ControllerConfig, Exchange, Report, Session, State, Closed, Quiet, Idle, Waiting, Pausing, Answer, MovesFit, SaysWhatFits, Account, Delivered, Link, Tick, ToController, ToReader, run, after_report, AreDue, ComeOn, ComesThrough, IsClear, SetsNoAddress, round, rounds, ReadEachOther}
-use Rattle.osdp_msg.specs.declared.reply.Reply.TheVariants as reply
-use Rattle.osdp_controller.specs.Hearing as controller
-use Rattle.osdp_controller.specs.declared.report.Report.TheVariants as report
-use Rattle.osdp_reader.specs.Table.{hears, kind_of}
+use Rattle.osdp_link_laws.proofs.Common.{◌≡◌, ◌≢◌, ◌⊎◌, ◌≤◌, ◌+◌, ◌-◌, ℕ, List, [], ◌∷◌, ◌++◌, length, refl, sym, subst, ap, ◌∙◌, inl, inr, arith, option_to_list, Option, min-le_left, min-le_right, Packet, Command, said_by, hears_in, ignores, is_from_reader, seen, ticks, ControllerConfig, Report, State, Closed, Idle, Answer, MovesFit, SaysWhatFits, Delivered, Link, Tick, ToController, ToReader, run, AreDue, ComeOn, ComesThrough, IsClear, SetsNoAddress, round, rounds, ReadEachOther, ahead, left, reports, told_by, told_in}
 use Rattle.osdp_link_laws.specs.Link as link
+use Rattle.osdp_link_laws.proofs.Ahead.{asks_for, count_at, left_at, placed_here, rests_none, waits_none}
 use Rattle.osdp_link_laws.proofs.Due.{Acts, closed_rests, due_sends}
-use Rattle.osdp_link_laws.proofs.Growing.{taken_takes}
+use Rattle.osdp_link_laws.proofs.Exchanges.{went}
 use Rattle.osdp_link_laws.proofs.InARow.{assumed, stands}
+use Rattle.osdp_link_laws.proofs.Leaving.{front_leaves, hears_leave, leaves_reader, tells, tick_announces, ticks_leave, told_first}
 use Rattle.osdp_link_laws.proofs.Lines.{both, each_of}
 use Rattle.osdp_link_laws.proofs.Moves.{Premises}
 use Rattle.osdp_link_laws.proofs.Parts.{At}
 use Rattle.osdp_link_laws.proofs.Round.{IsIdle, IsStill, at_tick, goes, has_come}
-use Rattle.osdp_link_laws.proofs.Rounds.{all_of, counted, idle_round}
-use Rattle.osdp_link_laws.proofs.Stages.{Asks, Behind, Fresh, Level, Rest, Restarted, Rests, Stage, Waits, number_after}
-use Rattle.osdp_link_laws.proofs.Once.{Goes, moving}
+use Rattle.osdp_link_laws.proofs.Rounds.{hears_known, idle_round}
+use Rattle.osdp_link_laws.proofs.Since.{Hears}
+use Rattle.osdp_link_laws.proofs.Stages.{Behind, Fresh, Level, Rest, Restarted, Stage, number_after}
+use Rattle.osdp_link_laws.proofs.Once.{Goes, holds_on, moving}
 
-module _ (fixed : ControllerConfig) where
-  waits_config : (state : State) (s : Session) → Waits fixed state s → (state ≡ Closed → ⊥) → s.config ≡ fixed
-  waits_config Closed s waits not = absurd (not refl)
-  waits_config (Quiet until) s waits not = waits
-  waits_config state s waits not = absurd waits
-
-  asks_config : (state : State) (n : ℕ) (x : Exchange) (s : Session) → (state ≡ Closed → ⊥) → Asks fixed state n x s → s.config ≡ fixed
-  asks_config Closed n x s not asks = absurd (not refl)
-  asks_config (Waiting until k o) n x s not asks = asks.0.0
-  asks_config (Pausing until o) n x s not asks = asks.0.0
-  asks_config state n x s not asks = absurd asks
-
-  rests_config : (state : State) (n : ℕ) (s : Session) → (state ≡ Closed → ⊥) → Rests fixed state n s → s.config ≡ fixed
-  rests_config Closed n s not rests = absurd (not refl)
-  rests_config (Idle due) n s not rests = rests.0
-  rests_config state n s not rests = absurd rests
+pub idle_lasts : (state : State) → (due : ℕ) × (state ≡ Idle due) → state ≢ Closed
+idle_lasts state (due, idle) closed = let same : Idle due ≡ Closed = sym idle ∙ closed in cc
 
 module _ {H : Type 0} (answer_of : H → Command → Answer) (after : H → Command → H) where
   -- what has ended stays so
@@ -50,12 +35,14 @@ module _ {H : Type 0} (answer_of : H → Command → Answer) (after : H → Comm
 
 module _ (fixed : ControllerConfig) {H : Type 0} (answer_of : H → Command → Answer) (after : H → Command → H) where
   -- a session that has not ended has the settings that it began with
-  pub config_is : (since : Restarted) (at : Stage) (l : Link H) → At fixed answer_of after since at l → (l.controller.session.state ≡ Closed → ⊥)
+  pub config_is : (since : Restarted) (at : Stage) (l : Link H) → At fixed answer_of after since at l → l.controller.session.state ≢ Closed
       → l.controller.session.config ≡ fixed
-  config_is since Fresh l h not = waits_config fixed l.controller.session.state l.controller.session h.controller not
-  config_is since (Behind past x) l h not = asks_config fixed l.controller.session.state (number_after past) x l.controller.session not h.controller
-  config_is since (Level past x a) l h not = asks_config fixed l.controller.session.state (number_after past) x l.controller.session not h.controller
-  config_is since (Rest n x a) l h not = rests_config fixed l.controller.session.state n l.controller.session not h.controller
+  config_is since Fresh l h lasts = (waits_none fixed l.controller.session.state l.controller.session refl lasts h.controller).config
+  config_is since (Behind past x) l h lasts =
+      (asks_for fixed l.controller.session.state (number_after past) x l.controller.session refl lasts h.controller).is_open.0
+  config_is since (Level past x a) l h lasts =
+      (asks_for fixed l.controller.session.state (number_after past) x l.controller.session refl lasts h.controller).is_open.0
+  config_is since (Rest n x a) l h lasts = (rests_none fixed l.controller.session.state n l.controller.session refl lasts h.controller).config
 
   closed_after : (now : ℕ) (l : Link H) → (at_tick now l).controller.session.state ≡ Closed → (goes answer_of after now l).controller.session.state ≡ Closed
   closed_after now l closed =
@@ -67,6 +54,14 @@ module _ (fixed : ControllerConfig) {H : Type 0} (answer_of : H → Command → 
 
   abbrev Holds : Link H → Type 0
   Holds l = Goes fixed answer_of after l
+
+  -- what the packet to the controller tells
+  abbrev told_there : ℕ → Link H → Option Report
+  told_there now l = (went answer_of after now l).told
+
+  -- .. and how many the whole round tells
+  abbrev told_now : ℕ → Link H → ℕ
+  told_now now l = tells (told_by (Tick now) l) + tells (told_there now l)
 
   pub held_after : Given → (now : ℕ) (l : Link H) → SaysWhatFits answer_of after (at_tick now l).to_reader l.reader → Holds l → Holds (goes answer_of after now l)
   held_after given now l fits held =
@@ -80,7 +75,7 @@ module _ (fixed : ControllerConfig) {H : Type 0} (answer_of : H → Command → 
     to_reader = clear.to_reader;
     to_controller = clear.to_controller;
     ready = record { here = clear.address ∙ ap (λ c. c.address) same; ready = clear.ready };
-    issued = each_of SetsNoAddress l.account.issued clear.issued;
+    stays = each_of SetsNoAddress (ahead l.controller) clear.stays;
   }
 
   -- the first round: the controller comes to rest, or the session ends
@@ -94,129 +89,99 @@ module _ (fixed : ControllerConfig) {H : Type 0} (answer_of : H → Command → 
         | inr (x, sends) ↦ has_come fixed answer_of after given now x l still sends there fits
       ]
 
-  -- a round issues nothing, and keeps the events
-  abbrev SameAll : Account → Account → Type 0
-  SameAll t u = (u.issued ≡ t.issued) × (u.kept ≡ t.kept)
+  -- no less is told and left after the first round than was left before it
+  first_left : Given → (now : ℕ) (l : Link H) → Holds l → IsStill fixed answer_of after l → l.controller.session.state ≢ Closed
+      → SaysWhatFits answer_of after (at_tick now l).to_reader l.reader → IsIdle fixed answer_of after (goes answer_of after now l)
+      → left l ≤ told_now now l + left (goes answer_of after now l)
+  first_left given now l held still lasts fits idle =
+      let s = l.controller.session in
+      let ws = l.controller.waiting in
+      let m = at_tick now l in
+      let k = link.to_reader answer_of after m.to_reader Delivered m in
+      let next = goes answer_of after now l in
+      let h = held.holds in
+      let ticked = holds_on fixed answer_of after given (Tick now) l tt tt h in
+      let read = holds_on fixed answer_of after given (ToReader Delivered) m tt fits (ticked.0, ticked.1, ticked.3) in
+      let heard = holds_on fixed answer_of after given (ToController Delivered now) k tt tt (read.0, read.1, read.3) in
+      let knows = subst Hears heard.2.0 (hears_known fixed answer_of after heard.0 heard.1 next heard.3 idle) in
+      let before = left_at fixed answer_of after given h.0 h.1 l h.2 (placed_here fixed h.1 l.reader.config.address l.reader.last still.ready.here) lasts in
+      let tick = ticks_leave h.0 h.1 ticked.1 (ticks now s ws) ws l.reader.queue (tick_announces now s ws) ticked.2.1 ticked.2.2 in
+      let same = ap (λ since. count_at since ticked.1 m.controller.waiting l.reader.queue) ticked.2.0 in
+      let more = (front_leaves fixed answer_of after ticked.0 read.0 ticked.1 read.1 m.to_reader Delivered m read.2 ticked.3.stage ticked.3.reader read.3.stage read.3.reader).least in
+      let told = hears_leave fixed read.0 read.1 heard.1 (told_there now l) k.controller.waiting k.reader knows read.3.stage read.3.reader heard.2.1 in
+      let passed = leaves_reader k.to_controller Delivered now k in
+      let as_told : count_at heard.0 heard.1 next.controller.waiting next.reader.queue ≡ count_at read.0 heard.1 k.controller.waiting k.reader.queue =
+      (λ i. count_at (heard.2.0 i) heard.1 (passed.1 i) (passed.0 i).queue) in
+      let afterwards = left_at fixed answer_of after given heard.0 heard.1 next heard.3
+      (placed_here fixed heard.1 next.reader.config.address next.reader.last idle.still.ready.here) (idle_lasts next.controller.session.state idle.idle) in
+      omega (arith, before, tick, same, more, told, as_told, afterwards)
 
-  told_same : (r : Option Report) (t : Account) → SameAll t (after_report r t)
-  told_same None t = (refl, refl)
-  told_same (Some (report.Opened id)) t = (refl, refl)
-  told_same r t = (refl, refl)
+  -- what the rounds tell
+  abbrev pub all_told : List ℕ → Link H → ℕ
+  all_told moments l = told_in (reports answer_of after (rounds moments) l)
 
-  to_reader_same : (ps : List Packet) (l : Link H) → SameAll l.account (link.to_reader answer_of after ps Delivered l).account
-  to_reader_same [] l = (refl, refl)
-  to_reader_same (p ∷ ps) l =
-      let o = hears answer_of after l.reader p in
-      let is = (taken_takes (kind_of l.reader p) o.command o.said (link.front_of l.reader) l.account).1 in
-      (ap (λ t. t.issued) is, ap (λ t. t.kept) is)
-
-  to_controller_same : (qs : List Packet) (now : ℕ) (l : Link H) → SameAll l.account (link.to_controller qs Delivered now l).account
-  to_controller_same [] now l = (refl, refl)
-  to_controller_same (q ∷ qs) now l = told_same (controller.hears q now l.controller.session).report l.account
-
-  same_length : (t u : Account) → SameAll t u → all_of u ≡ all_of t
-  same_length t u (issued, kept) = let i = ap length issued in let k = ap length kept in omega (arith, i, k)
-
-  all_same : (now : ℕ) (l : Link H) → all_of (goes answer_of after now l).account ≡ all_of l.account
-  all_same now l =
-      let m = link.to_reader answer_of after (at_tick now l).to_reader Delivered (at_tick now l) in
-      same_length m.account (goes answer_of after now l).account (to_controller_same m.to_controller now m)
-      ∙ same_length (at_tick now l).account m.account (to_reader_same (at_tick now l).to_reader (at_tick now l))
-      ∙ same_length l.account (at_tick now l).account (told_same (ticks now l.controller.session l.controller.waiting).step.report l.account)
-
-  -- no report makes what is settled and reported less
-  told_more : (r : Option Report) (u : Account) → counted u ≤ counted (after_report r u)
-  told_more None u = omega arith
-  told_more (Some (report.Opened id)) u = omega arith
-  told_more (Some (report.Settled c a)) u = omega (arith, length-append u.settled ((c, a) ∷ []))
-  told_more (Some (report.Moved c a)) u = omega (arith, length-append u.settled ((c, reply.Com a) ∷ []))
-  told_more (Some (report.Event e)) u = omega (arith, length-append u.reported (e ∷ []))
-  told_more (Some (report.PollAnswered a)) u = omega arith
-  told_more (Some (report.Unread c code)) u = omega arith
-  told_more (Some (report.Lost cause c)) u = omega arith
-
-  to_reader_more : (ps : List Packet) (l : Link H) → counted l.account ≤ counted (link.to_reader answer_of after ps Delivered l).account
-  to_reader_more [] l = omega arith
-  to_reader_more (p ∷ ps) l =
-      let o = hears answer_of after l.reader p in
-      let is = (taken_takes (kind_of l.reader p) o.command o.said (link.front_of l.reader) l.account).1 in
-      omega (arith, ap counted is)
-
-  to_controller_more : (qs : List Packet) (now : ℕ) (l : Link H) → counted l.account ≤ counted (link.to_controller qs Delivered now l).account
-  to_controller_more [] now l = omega arith
-  to_controller_more (q ∷ qs) now l = told_more (controller.hears q now l.controller.session).report l.account
-
-  goes_more : (now : ℕ) (l : Link H) → counted l.account ≤ counted (goes answer_of after now l).account
-  goes_more now l =
-      let m = link.to_reader answer_of after (at_tick now l).to_reader Delivered (at_tick now l) in
-      let tick = told_more (ticks now l.controller.session l.controller.waiting).step.report l.account in
-      omega (arith, tick, to_reader_more (at_tick now l).to_reader (at_tick now l), to_controller_more m.to_controller now m)
+  round_told : (now : ℕ) (later : List ℕ) (l : Link H) → told_now now l + all_told later (goes answer_of after now l) ≤ all_told (now ∷ later) l
+  round_told now later l =
+      let back = told_first (told_there now l) (reports answer_of after (rounds later) (goes answer_of after now l)) in
+      let first = told_first (told_by (Tick now) l) (option_to_list (told_there now l) ++ reports answer_of after (rounds later) (goes answer_of after now l)) in
+      omega (arith, back, first)
 
   -- one more with each round, until it is all
-  abbrev Through : List ℕ → Link H → Link H → Type 0
-  Through moments l m =
-      ((counted l.account + length moments ≤ counted m.account) ⊎ (all_of l.account ≤ counted m.account)) × (all_of m.account ≡ all_of l.account)
+  abbrev Through : List ℕ → Link H → Type 0
+  Through moments l = (length moments ≤ all_told moments l) ⊎ (left l ≤ all_told moments l)
 
   pub through : Given → (moments : List ℕ) (l : Link H) → Holds l → IsIdle fixed answer_of after l → AreDue answer_of after moments l
-      → MovesFit answer_of after (rounds moments) l → Through moments l (run answer_of after (rounds moments) l)
-  through given [] l held idle due fits = (inl (omega arith), refl)
+      → MovesFit answer_of after (rounds moments) l → Through moments l
+  through given [] l held idle due fits = inl (omega arith)
   through given (now ∷ later) l held idle due fits =
-      let afterwards = held_after given now l fits.1.0 held in
-      let one = idle_round fixed answer_of after given now l held idle due.0 fits.1.0 afterwards in
-      let more = through given later (goes answer_of after now l) afterwards one.0 due.1 fits.1.1.1 in
-      let same = all_same now l in (
-        elim one.1 [
-          | inl first ↦ elim more.0 [
-            | inl far ↦ inl (omega (arith, first, far))
-            | inr all ↦ inr (omega (arith, same, all))
-          ]
-          | inr done ↦ elim more.0 [
-            | inl far ↦ inr (omega (arith, same, done, far))
-            | inr all ↦ inr (omega (arith, same, all))
-          ]
-        ],
-        more.1 ∙ same,
-      )
+      let next = goes answer_of after now l in
+      let one = idle_round fixed answer_of after given now l held idle due.0 fits.1.0 in
+      let more = through given later next (held_after given now l fits.1.0 held) one.0 due.1 fits.1.1.1 in
+      let told = round_told now later l in
+      elim one.1 [
+        | inr none ↦ inr (omega (arith, none))
+        | inl (first, less) ↦ elim more [
+          | inl far ↦ inl (omega (arith, first, told, far))
+          | inr all ↦ inr (omega (arith, first, told, less, all))
+        ]
+      ]
 
-  at_least : (moments : List ℕ) (now : ℕ) (before : Account) (l m : Link H) → counted before ≤ counted l.account → Through moments l m
-      → ComeOn (now ∷ moments) before m.account
-  at_least moments now before l m more (far, same) =
-      let few = min-le_left (counted before + (length (now ∷ moments) - 1)) (all_of m.account) in
-      let all = min-le_right (counted before + (length (now ∷ moments) - 1)) (all_of m.account) in
-      elim far [
-        | inl one ↦ omega (arith, one, few, more)
-        | inr done ↦ omega (arith, done, same, all)
+  -- the first round counts for none
+  come_on : (now : ℕ) (later : List ℕ) (l : Link H) → left l ≤ told_now now l + left (goes answer_of after now l)
+      → Through later (goes answer_of after now l) → ComeOn answer_of after (now ∷ later) l
+  come_on now later l first more =
+      let few = min-le_left (length (now ∷ later) - 1) (left l) in
+      let all = min-le_right (length (now ∷ later) - 1) (left l) in
+      let told = round_told now later l in
+      elim more [
+        | inl far ↦ omega (arith, few, told, far)
+        | inr whole ↦ omega (arith, all, told, first, whole)
       ]
 
 module _ {H : Type 0} (answer_of : H → Command → Answer) (after : H → Command → H) where
   -- once a session has ended no more tick is due, so there was one round
-  ended : (now : ℕ) (later : List ℕ) (before : Account) (m : Link H) → m.controller.session.state ≡ Closed → AreDue answer_of after later m
-      → counted before ≤ counted m.account → ComeOn (now ∷ later) before (run answer_of after (rounds later) m).account
-  ended now [] before m closed due more =
-      let few = min-le_left (counted before + (length (now ∷ []) - 1)) (all_of m.account) in
-      omega (arith, few, more)
-  ended now (next ∷ later) before m closed due more =
+  ended : (now : ℕ) (later : List ℕ) (l m : Link H) → m.controller.session.state ≡ Closed → AreDue answer_of after later m → ComeOn answer_of after (now ∷ later) l
+  ended now [] l m closed due = let few = min-le_left (length (now ∷ []) - 1) (left l) in omega (arith, few)
+  ended now (next ∷ later) l m closed due =
       absurd (closed_rests m.controller.session.state (seen next m.controller.session) m.controller.waiting closed due.0)
 
   pub comes_through : ReadEachOther answer_of after → ComesThrough answer_of after
   comes_through peers l moves [] b fits clear due more =
-      let t = (run answer_of after moves l).account in
-      let few = min-le_left (counted t + (length {A = ℕ} [] - 1)) (all_of t) in
-      omega (arith, few)
+      let few = min-le_left (length {A = ℕ} [] - 1) (left (run answer_of after moves l)) in omega (arith, few)
   comes_through peers l moves (now ∷ later) b fits clear due more =
       let afterwards = run answer_of after moves l in
       let s = stands answer_of after peers l moves b fits in
       let session = afterwards.controller.session in
-      let lasts : session.state ≡ Closed → ⊥ = λ closed. closed_rests session.state (seen now session) afterwards.controller.waiting closed due.0 in
+      let lasts : session.state ≢ Closed = λ closed. closed_rests session.state (seen now session) afterwards.controller.waiting closed due.0 in
       let holds = s.goes.holds in
       let same = config_is s.fixed answer_of after holds.0 holds.1 afterwards holds.2 lasts in
       let still = clear_still s.fixed answer_of after afterwards clear same in
       let all = assumed answer_of after peers s.fixed s.device in
       let first = run answer_of after (round now) afterwards in
       let held = held_after s.fixed answer_of after all now afterwards more.1.0 s.goes in
-      let more_first = goes_more s.fixed answer_of after now afterwards in
       elim (first_round s.fixed answer_of after all now afterwards s.goes still due.0 more.1.0) [
-        | inl closed ↦ ended now later afterwards.account first closed due.1 more_first
-        | inr idle ↦ at_least s.fixed answer_of after later now afterwards.account first (run answer_of after (rounds later) first) more_first
+        | inl closed ↦ ended now later afterwards first closed due.1
+        | inr idle ↦ come_on s.fixed answer_of after now later afterwards
+            (first_left s.fixed answer_of after all now afterwards s.goes still lasts more.1.0 idle)
             (through s.fixed answer_of after all later first held idle due.1 more.1.1.1)
       ]

@@ -1,6 +1,5 @@
 -- What a tick does to the controller, by how far the session has come.
 use Rattle.osdp_link_laws.proofs.Common.{◌≡◌, ◌⊎◌, ℕ, ◌+◌, leb, ltb, List, [], ◌∷◌, ◌++◌, Some, None, refl, sym, subst, ap, inl, inr, option_to_list, next_sequence, Command, Reply, ControllerConfig, Exchange, Opening, Polling, Asking, Outstanding, Session, State, Closed, Quiet, Idle, Waiting, Pausing, submitted_command, frame_of, seen, Ticked, begins, gives_up, sends_frame, stays, ticks, ticks_in, tries_again, MaySubmit}
-use Rattle.osdp_link_laws.proofs.Coming.{IsToldAtEnd}
 use Rattle.osdp_link_laws.proofs.Lines.{both}
 use Rattle.osdp_link_laws.proofs.Stages.{After, Asks, Each, IsAsked, IsFrame, IsOpen, Past, Rests, Start, Waits, frame, pending}
 
@@ -9,10 +8,6 @@ submitted_is Opening = refl
 submitted_is Polling = refl
 submitted_is (Asking c) = refl
 
--- a session that has ended stays so, and nothing is told
-pub closed_tick : (now : ℕ) (s : Session) (ws : List Command) → s.state ≡ Closed → ticks now s ws ≡ stays (seen now s) ws
-closed_tick now s ws closed = ap (λ state. ticks_in state (seen now s) ws) closed
-
 module _ (fixed : ControllerConfig) where
   pub frame_is : (n : ℕ) (o x : Exchange) (s : Session) → IsOpen fixed n s → o ≡ x → frame_of o s ≡ frame fixed x n
   frame_is n o x s open_at is = cc
@@ -20,18 +15,17 @@ module _ (fixed : ControllerConfig) where
   -- the exchange stays outstanding, or the session ends
   abbrev pub StillAsks : ℕ → Exchange → List Command → Ticked → Type 0
   StillAsks n x waiting t =
-      (t.waiting ≡ waiting) × Each (IsFrame fixed x n) (option_to_list t.step.frame)
-      × IsToldAtEnd t.step.report t.session.state × Asks fixed t.session.state n x t.session
+      (t.waiting ≡ waiting) × Each (IsFrame fixed x n) (option_to_list t.step.frame) × Asks fixed t.session.state n x t.session
 
   sends_again : (n : ℕ) (x : Exchange) (k : ℕ) (o : Outstanding) (s : Session) (waiting : List Command)
       → IsOpen fixed n s → o.exchange ≡ x → StillAsks n x waiting (sends_frame k o s waiting)
   sends_again n x k o s waiting at is =
-      (refl, (frame_is n o.exchange x s at is, tt), inl refl, (at, is))
+      (refl, (frame_is n o.exchange x s at is, tt), (at, is))
 
   still : (state : State) (n : ℕ) (x : Exchange) (s : Session) (waiting : List Command) → s.state ≡ state
       → Asks fixed state n x s → StillAsks n x waiting (stays s waiting)
   still state n x s waiting e asks =
-      (refl, tt, inl refl, subst (λ st. Asks fixed st n x s) (sym e) asks)
+      (refl, tt, subst (λ st. Asks fixed st n x s) (sym e) asks)
 
   tick_asking : (state : State) (n : ℕ) (x : Exchange) (s : Session) (waiting : List Command) → s.state ≡ state
       → Asks fixed state n x s → StillAsks n x waiting (ticks_in state s waiting)
@@ -41,7 +35,7 @@ module _ (fixed : ControllerConfig) where
   tick_asking (Waiting until k o) n x s waiting e asks =
       both (StillAsks n x waiting) (leb until s.greatest) (tries_again k o s waiting) (stays s waiting)
       (both (StillAsks n x waiting) (ltb k s.config.sends) (sends_frame (k + 1) o s waiting) (gives_up o s waiting)
-      (sends_again n x (k + 1) o s waiting asks.0 asks.1) (refl, tt, inr refl, tt))
+      (sends_again n x (k + 1) o s waiting asks.0 asks.1) (refl, tt, tt))
       (still (Waiting until k o) n x s waiting e asks)
   tick_asking (Pausing until o) n x s waiting e asks =
       both (StillAsks n x waiting) (leb until s.greatest) (sends_frame 1 o s waiting) (stays s waiting)

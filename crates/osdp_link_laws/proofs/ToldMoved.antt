@@ -1,16 +1,16 @@
 -- A COMSET to a device's address is only ever told moved.
-use Rattle.osdp_link_laws.proofs.Common.{◌≡◌, ◌<◌, ℕ, Bool, true, false, cond, eqb, leb, ltb, List, [], ◌∷◌, ◌++◌, Option, Some, None, refl, sym, subst, ap, ◌∙◌, inl, inr, arith, leb-false, leb-true, lt-ltb, ◌&&◌, IfSome, option_to_list, Packet, Command, Communication, Reply, com_of, comset_of, hears, hears_in, ignores, is_from_reader, is_numbered, moved_by, pausing_hears, waiting_hears, said_by, NumberRefused, Session, State, Waiting, Pausing, seen, Report, ReaderConfig, Answer, not_processed, answer_to, MovesFit, IsOnce, MoveFits, Account, Delivered, Delivery, Link, Move, Repeated, Tick, ToController, after_move, after_report, IsNoDevice, IsToldAsAsked, TellAsAsked, ReadEachOther, reports, told_by, told_by_front}
+use Rattle.osdp_link_laws.proofs.Common.{◌≡◌, ◌<◌, ℕ, Bool, true, false, cond, eqb, leb, ltb, List, [], ◌∷◌, Option, Some, None, refl, sym, subst, ap, ◌∙◌, inl, inr, arith, leb-false, leb-true, lt-ltb, ◌&&◌, IfSome, option_to_list, Packet, Command, Communication, Reply, com_of, comset_of, hears, hears_in, ignores, is_from_reader, is_numbered, moved_by, pausing_hears, waiting_hears, said_by, NumberRefused, Session, State, Waiting, Pausing, seen, Report, ReaderConfig, Answer, not_processed, answer_to, MovesFit, Delivered, Delivery, Link, Move, Repeated, Tick, ToController, after_move, IsNoDevice, IsToldAsAsked, TellAsAsked, ReadEachOther, reports, told_by, told_by_front}
 use Rattle.osdp_msg.specs.declared.command.Command.TheVariants as command
 use Rattle.osdp_msg.specs.declared.reply.Reply.TheVariants as reply
 use Rattle.osdp_controller.specs.declared.report.Report.TheVariants as report
-use Rattle.osdp_link_laws.specs.Link as link
+use Rattle.osdp_link_laws.proofs.Coming.{MovesTo, settled_in}
 use Rattle.osdp_link_laws.proofs.Deliveries.{IsRead, all_read}
-use Rattle.osdp_link_laws.proofs.GivenAnswers.{AreAnswers, IsAnswerOf, first_given, move_given}
-use Rattle.osdp_link_laws.proofs.InARow.{Assumed, Stands, assumed, begins, is_once_now, standing}
+use Rattle.osdp_link_laws.proofs.GivenAnswers.{AreAnswers, IsAnswerOf, move_given, told_given}
+use Rattle.osdp_link_laws.proofs.InARow.{Assumed, Stands, assumed, begins_so, standing_so}
 use Rattle.osdp_link_laws.proofs.Lines.{both, each_all, each_append}
 use Rattle.osdp_link_laws.proofs.Numbers.{is_true}
 use Rattle.osdp_link_laws.proofs.Reports.{MayBring, heard_so, tick_so}
-use Rattle.osdp_link_laws.proofs.Stages.{Each}
+use Rattle.osdp_link_laws.proofs.Stages.{Each, Restarted, Stage}
 use Rattle.osdp_link_laws.proofs.Refusals.{one_report}
 
 abbrev pub ToldAsAsked : Option Report → Type 0
@@ -57,53 +57,45 @@ module _ {H : Type 0} (answer_of : H → Command → Answer) (after : H → Comm
       above d (leb d.address 126) refl (subst (λ r. moved_by (Some d) (com_of r) ≡ None) is none)
   no_device config h c a is none = tt
 
-  -- a settled command has an answer that the reader gave
-  answered_by : (xs ys : List (Command × Reply)) (c : Command) (a : Reply) → Each (IsAnswerOf answer_of after) ((xs ++ (c, a) ∷ []) ++ ys)
-      → IsAnswerOf answer_of after (c, a)
-  answered_by [] ys c a are = are.0
-  answered_by (x ∷ xs) ys c a are = answered_by xs ys c a are.1
-
-  told_so : (r : Option Report) (t : Account) → MayTell r → AreAnswers answer_of after (after_report r t) → IsOnce (after_report r t) → ToldAsAsked r
-  told_so (Some (report.Settled c a)) t is are once =
-      let by = answered_by t.settled once.settled.0 c a (subst (Each (IsAnswerOf answer_of after)) once.settled.1 are) in
-      no_device by.0 by.1 c a by.2 is
-  told_so (Some (report.Unread c code)) t is are once = is
-  told_so r t is are once = tt
-
-  -- what is told last is in the account after it
-  front_told : (how : Delivery) (ps : List Packet) (now : ℕ) (l : Link H) → Each IsRead ps
-      → AreAnswers answer_of after (link.to_controller ps how now l).account → IsOnce (link.to_controller ps how now l).account
-      → ToldAsAsked (told_by_front how ps now l.controller.session)
-  front_told Delivered (p ∷ ps) now l read are once =
-      told_so (hears p now l.controller.session).report l.account (heard_read p now l.controller.session read.0) are once
-  front_told Repeated (p ∷ ps) now l read are once =
-      told_so (hears p now l.controller.session).report l.account (heard_read p now l.controller.session read.0) are once
-  front_told how ps now l read are once = tt
+  told_so : (r : Option Report) → MayTell r → Each (IsAnswerOf answer_of after) (settled_in r) → ToldAsAsked r
+  told_so (Some (report.Settled c a)) is given = no_device given.0.0 given.0.1 c a given.0.2 is
+  told_so (Some (report.Unread c code)) is given = is
+  told_so r is given = tt
 
 module _ {H : Type 0} (answer_of : H → Command → Answer) (after : H → Command → H) where
-  pub move_told : Assumed answer_of after → (move : Move H) (l : Link H) → MoveFits answer_of after move l
-      → Stands answer_of after l → AreAnswers answer_of after l.account → ToldAsAsked (told_by move l)
-  move_told given (Tick now) l fits h are = tick_so ToldAsAsked tt (λ o. tt) l.controller.session.state (seen now l.controller.session) l.controller.waiting
-  move_told given (ToController how now) l fits h are =
-      let new = after_move answer_of after (ToController how now) l in
-      let next = standing answer_of after given (ToController how now) l fits h in
-      let held = h.goes.holds in
-      front_told answer_of after how l.to_controller now l
-      (all_read h.fixed answer_of after held.0 (given h.fixed h.device) held.1 l held.2)
-      (move_given answer_of after (ToController how now) l are) (is_once_now answer_of after new next)
-  move_told given _ l fits h are = tt
+  front_told : (how : Delivery) (ps : List Packet) (now : ℕ) (s : Session) → Each IsRead ps → MayTell (told_by_front how ps now s)
+  front_told Delivered (p ∷ ps) now s read = heard_read p now s read.0
+  front_told Repeated (p ∷ ps) now s read = heard_read p now s read.0
+  front_told how ps now s read = tt
 
-  each_told : Assumed answer_of after → (moves : List (Move H)) (l : Link H) → MovesFit answer_of after moves l → Stands answer_of after l
-      → AreAnswers answer_of after l.account → Each IsToldAsAsked (reports answer_of after moves l)
+  move_told : Assumed answer_of after → (move : Move H) (l : Link H) (h : Stands answer_of after l) (to : Stage) (new : Restarted)
+      → MovesTo answer_of after move l h.goes.holds.0 h.goes.holds.1 new to → AreAnswers answer_of after h.goes.holds.1 → ToldAsAsked (told_by move l)
+  move_told given (Tick now) l h to new comes are =
+      tick_so ToldAsAsked tt (λ o. tt) l.controller.session.state (seen now l.controller.session) l.controller.waiting
+  move_told given (ToController how now) l h to new comes are =
+      let s = l.controller.session in
+      let held = h.goes.holds in
+      let r = told_by_front how l.to_controller now s in
+      told_so answer_of after r
+      (front_told how l.to_controller now s (all_read h.fixed answer_of after held.0 (given h.fixed h.device) held.1 l held.2))
+      (told_given answer_of after r held.0 held.1 to comes.1 are)
+  move_told given _ l h to new comes are = tt
+
+  each_told : Assumed answer_of after → (moves : List (Move H)) (l : Link H) → MovesFit answer_of after moves l → (h : Stands answer_of after l)
+      → AreAnswers answer_of after h.goes.holds.1 → Each IsToldAsAsked (reports answer_of after moves l)
   each_told given [] l fits h are = tt
   each_told given (move ∷ moves) l fits h are =
       let new = after_move answer_of after move l in
+      let next = standing_so answer_of after given move l fits.0 h in
+      let held = next.0.goes.holds in
       each_append IsToldAsAsked (option_to_list (told_by move l)) (reports answer_of after moves new)
-      (one_report IsToldAsAsked (told_by move l) (move_told given move l fits.0 h are))
-      (each_told given moves new fits.1 (standing answer_of after given move l fits.0 h) (move_given answer_of after move l are))
+      (one_report IsToldAsAsked (told_by move l) (move_told given move l h held.1 held.0 next.1 are))
+      (each_told given moves new fits.1 next.0
+      (move_given answer_of after move l h.goes.holds.0 h.goes.holds.1 held.0 held.1 h.goes.holds.2.stage next.1 are))
 
 module _ {H : Type 0} (answer_of : H → Command → Answer) (after : H → Command → H) where
   pub tell_as_asked : ReadEachOther answer_of after → TellAsAsked answer_of after
   tell_as_asked peers l moves b fits =
+      let s = begins_so answer_of after l b in
       each_all IsToldAsAsked (reports answer_of after moves l)
-      (each_told answer_of after (assumed answer_of after peers) moves l fits (begins answer_of after l b) (first_given answer_of after l b))
+      (each_told answer_of after (assumed answer_of after peers) moves l fits s.0 (subst (AreAnswers answer_of after) (sym s.1) tt))

@@ -2,7 +2,7 @@
 use Rattle.std.specs.Prelude.{◌≡◌, ◌++◌, ℕ, All, List}
 use Rattle.osdp_msg.specs.declared.command.Command.{Command}
 use Rattle.osdp_reader.specs.declared.handler.Answer.{Answer}
-use Rattle.osdp_link_laws.specs.Headline.{MovesFit, Begins}
+use Rattle.osdp_link_laws.specs.Beginning.{MovesFit, Begins}
 use Rattle.osdp_link_laws.specs.Link.{Link, Move, RestartController, RestartReader, Retarget, run}
 use Rattle.osdp_link_laws.specs.Progress.{SetsNoAddress}
 use Rattle.osdp_link_laws.specs.Sessions.{all_submitted}

@@ -17,18 +17,8 @@ use Rattle.osdp_reader.specs.declared.config.ReaderConfig.{ReaderConfig}
 use Rattle.osdp_reader.specs.declared.handler.Answer.{Answer}
 use Rattle.osdp_reader.specs.declared.kind.Kind.TheVariants.{Repeat, Taken}
 use Rattle.osdp_reader_laws.specs.Laws.{ComesTo, DiffersByHandler}
-use Rattle.osdp_link_laws.specs.Link.{Account, LapseEvent, Link, LoseToController, LoseToReader, Move, Reopen, RestartController, RestartReader, Retarget, SetHandler, Withdraw, WithdrawEvent, after_move, run}
-
--- ---- accounts
-
--- a restart of the reader throws the events away that it had not offered in the session, and is counted; what it had offered stays, and all that is
--- said of commands
-abbrev pub ThrowsAway : Account → Account → Type 0
-ThrowsAway t u = u ≡ record t { kept = t.offered; restarts = t.restarts + 1 }
-
--- an event is withdrawn: the events that may be reported are those before the queue, and those that it holds now; all else stays
-abbrev pub WithdrawsIt : List Event → List Event → Account → Account → Type 0
-WithdrawsIt before queue t u = u ≡ record t { kept = before ++ queue }
+use Rattle.osdp_link_laws.specs.Link.{LapseEvent, Link, LoseToController, LoseToReader, Move, Reopen, RestartController, RestartReader, Retarget, SetHandler, Withdraw, WithdrawEvent, after_move}
+use Rattle.osdp_link_laws.specs.Sessions.{all_begun, restarts_in_session}
 
 -- ---- machines
 
@@ -62,9 +52,9 @@ module _ {H : Type 0} where
 
   -- ---- links
 
-  -- where the reader alone is another, and its account
+  -- where the reader alone is another
   abbrev pub SameButReader : Link H → Link H → Type 0
-  SameButReader l next = next ≡ record l { reader = next.reader; account = next.account }
+  SameButReader l next = next ≡ record l { reader = next.reader }
 
   -- .. and where the controller alone is
   abbrev pub SameButController : Link H → Link H → Type 0
@@ -73,7 +63,6 @@ module _ {H : Type 0} where
   -- the reader has this handler, and is as it was: its number, its stored reply and its events stay
   pub record HasHandler (answering : H) (l next : Link H) : Type 0 where
     pub others : SameButReader l next
-    pub account : next.account ≡ l.account
     pub handler : next.reader.handler ≡ answering
     pub stored : next.reader.stored ≡ l.reader.stored
     pub reader : DiffersByHandler l.reader next.reader
@@ -90,16 +79,11 @@ module _ {H : Type 0} where
   pub record HasWithdrawn (front rest : List Event) (l next : Link H) : Type 0 where
     pub others : SameButReader l next
     pub reader : next.reader ≡ record l.reader { queue = record l.reader.queue { events = front ++ rest } }
-    pub account : (before : List Event) → l.account.kept ≡ before ++ l.reader.queue.events → WithdrawsIt before (front ++ rest) l.account next.account
 
-  -- the front has left the queue, nothing is offered any more, and what is stored stays. An event that was offered in this session may be reported
-  -- yet, so its account stays; and else it may not.
+  -- the front has left the queue, nothing is offered any more, and what is stored stays
   pub record HasLapsed (event : Event) (rest : List Event) (l next : Link H) : Type 0 where
     pub others : SameButReader l next
     pub reader : next.reader ≡ record l.reader { queue = record l.reader.queue { events = rest; offered = false; ever_offered = false } }
-    pub told : (past : List Event) → l.account.kept ≡ past ++ event ∷ rest → l.account.offered ≡ past ++ event ∷ [] → next.account ≡ l.account
-    pub untold : (past : List Event) → l.account.kept ≡ past ++ event ∷ rest → l.account.offered ≡ past
-        → next.account ≡ record l.account { kept = past ++ rest }
 
   -- the controller has this address, and is as it was: closed, with the commands that wait
   pub record HasAddress (here : ℕ) (l next : Link H) : Type 0 where
@@ -140,12 +124,11 @@ module _ {H : Type 0} where
         → ((hears answer_of after new p).said ≡ Some (refused UnexpectedSequence)) × ((hears answer_of after new p).command ≡ None)
         × ((hears answer_of after new p).reader ≡ new)
 
-    -- the reader is new, and what its queue held and it had not offered in the session is thrown away
+    -- the reader is new, and what its queue held is thrown away
     pub record HasNewReader (config : ReaderConfig) (handler : H) (room : Room) (l next : Link H) : Type 0 where
       pub others : SameButReader l next
       pub reader : IsNewReader config handler room next.reader
       pub refuses : RefusesNumbers next.reader
-      pub account : ThrowsAway l.account next.account
 
     -- ---- what each does
 
@@ -181,13 +164,12 @@ module _ {H : Type 0} where
       pub to_controller : (l : Link H) (place : ℕ) → let next = after_move answer_of after (LoseToController place) l in
           LosesOne place l.to_controller next.to_controller × (next ≡ record l { to_controller = next.to_controller })
 
-    -- the account counts the restarts of the reader in its session: none where it begins, and one more with each as long as no other session
-    -- begins
+    -- the restarts of the reader in a session are counted: none where it begins again, and one more with each as long as no other begins
     pub record CountsRestarts : Type 0 where
-      pub none : (l : Link H) (now : ℕ) → let next = after_move answer_of after (Reopen now) l in
-          length next.earlier ≢ length l.earlier → next.account.restarts ≡ 0
-      pub each : (l : Link H) (moves : List (Move H)) → let last = run answer_of after moves l in
-          length last.earlier ≡ length l.earlier → last.account.restarts ≡ l.account.restarts + restarts_in moves
+      pub none : (l : Link H) (now count : ℕ) → all_begun answer_of after (Reopen now ∷ []) l ≢ 0
+          → restarts_in_session answer_of after (Reopen now ∷ []) l count ≡ 0
+      pub each : (l : Link H) (moves : List (Move H)) (count : ℕ) → all_begun answer_of after moves l ≡ 0
+          → restarts_in_session answer_of after moves l count ≡ count + restarts_in moves
 
     -- each move of a program, of a power failure or of the line
     pub record EachMoveDoes : Type 0 where

@@ -1,13 +1,14 @@
 -- Each session ends once at most, and the next begins only then.
-use Rattle.std.specs.Prelude.{◌≡◌, ℕ, ◌+◌, Bool, true, false, List, [], ◌∷◌, length, not, Some}
+use Rattle.std.specs.Prelude.{◌≡◌, ℕ, ◌+◌, Bool, true, false, List, [], ◌∷◌, not, Some}
 use Rattle.osdp_msg.specs.declared.command.Command.{Command}
 use Rattle.osdp_controller.specs.States.{is_closed}
 use Rattle.osdp_controller.specs.declared.report.Report.{Report}
 use Rattle.osdp_controller_laws.specs.Commands.{tells_end}
 use Rattle.osdp_reader.specs.declared.handler.Answer.{Answer}
-use Rattle.osdp_link_laws.specs.Headline.{Begins}
+use Rattle.osdp_link_laws.specs.Beginning.{Begins}
 use Rattle.osdp_link_laws.specs.Link.{Link, Move, RestartController, after_move, run}
-use Rattle.osdp_link_laws.specs.Refusals.{reports}
+use Rattle.osdp_link_laws.specs.Reports.{reports}
+use Rattle.osdp_link_laws.specs.Sessions.{all_begun}
 
 abbrev pub count : Bool → ℕ
 count true = 1
@@ -39,4 +40,4 @@ module _ {H : Type 0} (answer_of : H → Command → Answer) (after : H → Comm
   abbrev pub EndOnce : Type 0
   EndOnce = (l : Link H) (moves : List (Move H)) → Begins l
       → let last = run answer_of after moves l in
-      ends_in (reports answer_of after moves l) + untold moves l + lasting (is_closed last.controller.session.state) ≡ length last.earlier + 1
+      ends_in (reports answer_of after moves l) + untold moves l + lasting (is_closed last.controller.session.state) ≡ all_begun answer_of after moves l + 1

@@ -12,7 +12,7 @@ use Rattle.osdp_reader.specs.Table.{hears}
 use Rattle.osdp_reader.specs.declared.config.ReaderConfig.{ReaderConfig}
 use Rattle.osdp_reader.specs.declared.handler.Answer.{Answer}
 use Rattle.osdp_link_laws.specs.Asked.{AtEach}
-use Rattle.osdp_link_laws.specs.Headline.{MoveFits, MovesFit}
+use Rattle.osdp_link_laws.specs.Beginning.{MoveFits, MovesFit}
 use Rattle.osdp_link_laws.specs.Link.{Delivery, Link, Lost, Move, RestartController, RestartReader, Submit, ToReader}
 
 module _ {H : Type 0} (answer_of : H → Command → Answer) (after : H → Command → H) where

@@ -1,5 +1,5 @@
 -- An event lapses: the front of the queue, which is offered and whose answer may be lost, leaves it as in doubt. As long as the session lasts nobody
--- hears that: the line, the controller and the account are as without it, and from the next command on that the reader takes it is too.
+-- hears that: the line and the controller are as without it, and from the next command on that the reader takes it is too.
 use Rattle.std.specs.Prelude.{◌≡◌, ◌≢◌, ◌⊎◌, true, false, List, [], ◌∷◌}
 use Rattle.osdp_frame.specs.Packet.{Packet}
 use Rattle.osdp_msg.specs.declared.command.Command.{Command}

@@ -1,8 +1,10 @@
 pub mod Peers
 pub mod Link
-pub mod Headline
+pub mod Beginning
 pub mod OneHandler
 pub mod Sessions
+pub mod Reports
+pub mod Ahead
 pub mod Progress
 pub mod HearingOn
 pub mod Refusals

@@ -1,16 +1,11 @@
 -- One link: a controller, a reader, and the packets that are on the way between them.
-use Rattle.std.specs.Prelude.{ℕ, zero, suc, Bool, true, false, ◌+◌, ◌-◌, ◌&&◌, not, nat_lt, if◌then◌else◌, List, [], ◌∷◌, ◌++◌, drop, length, take, Option, Some, None, option_to_list}
+use Rattle.std.specs.Prelude.{ℕ, zero, suc, Bool, true, false, List, [], ◌∷◌, ◌++◌, Option, Some, None, option_to_list}
 use Rattle.osdp_frame.specs.Packet.{Packet}
 use Rattle.osdp_msg.specs.declared.command.Command.{Command}
-use Rattle.osdp_msg.specs.declared.command.Command.TheVariants.{Poll}
 use Rattle.osdp_msg.specs.declared.event.Event.{Event}
 use Rattle.osdp_msg.specs.declared.limits.Room.{Room}
-use Rattle.osdp_msg.specs.declared.reply.Reply.{Reply}
-use Rattle.osdp_msg.specs.declared.reply.Reply.TheVariants as reply
 use Rattle.osdp_controller.specs.declared.config.ControllerConfig.{ControllerConfig}
 use Rattle.osdp_controller.specs.declared.fault.ControllerFault.{ControllerFault}
-use Rattle.osdp_controller.specs.declared.report.Report.{Report}
-use Rattle.osdp_controller.specs.declared.report.Report.TheVariants as report
 use Rattle.osdp_controller.specs.declared.state.State.{State}
 use Rattle.osdp_controller.specs.declared.state.State.TheVariants.{Waiting, Pausing}
 use Rattle.osdp_controller.specs.Exchanges.{submitted_command}
@@ -20,54 +15,17 @@ use Rattle.osdp_controller.specs.Machine.{Machine}
 use Rattle.osdp_controller.specs.Ticking.{Ticked, ticks}
 use Rattle.osdp_reader.specs.declared.config.ReaderConfig.{ReaderConfig}
 use Rattle.osdp_reader.specs.declared.handler.Answer.{Answer}
-use Rattle.osdp_reader.specs.declared.kind.Kind.{Kind}
-use Rattle.osdp_reader.specs.declared.kind.Kind.TheVariants as kind
-use Rattle.osdp_reader.specs.Queue.{Queue as EventQueue, lacks_room, released}
+use Rattle.osdp_reader.specs.Queue.{lacks_room}
 use Rattle.osdp_reader.specs.State as readers
 use Rattle.osdp_reader.specs.State.{ReaderState}
 use Rattle.osdp_reader.specs.Table as reader
 
--- what a session comes to, each list in its order.
--- Of commands: those that waited when it began and those accepted since; those that the reader has taken, POLLs left out, and each with the
--- answer that the reader gave to it then; those settled, each with its answer; and those told unsettled.
--- Of events: those in the queue when it began and those accepted since; those of them that may be reported in it, since they were offered in it or
--- may be yet; those that the reader has offered; and those reported. What has become of all others says the ledger (`osdp_ledger`).
--- And how often the reader has restarted in it.
-pub record Account : Type 0 where
-  pub issued : List Command
-  pub taken : List Command
-  pub given : List (Command × Reply)
-  pub settled : List (Command × Reply)
-  pub unsettled : List Command
-  pub queued : List Event
-  pub kept : List Event
-  pub offered : List Event
-  pub reported : List Event
-  pub restarts : ℕ
-
-abbrev pub new_account : List Command → List Event → Account
-new_account waiting events = record {
-  issued = waiting;
-  taken = [];
-  given = [];
-  settled = [];
-  unsettled = [];
-  queued = events;
-  kept = events;
-  offered = [];
-  reported = [];
-  restarts = 0;
-}
-
--- both ends, what either has sent and the other has not had yet, the oldest first, the account of the session, and those of the
--- sessions before it, the last of them first
+-- both ends, and what either has sent and the other has not had yet, the oldest first
 pub record Link (H : Type 0) : Type 0 where
   pub controller : Machine
   pub reader : ReaderState H
   pub to_reader : List Packet
   pub to_controller : List Packet
-  pub account : Account
-  pub earlier : List Account
 
 -- what the line does with the packet in front: it comes through, is lost, or comes through and will come again. Damage that is
 -- detected is a loss.
@@ -106,57 +64,6 @@ lost_at k [] = []
 lost_at zero (x ∷ xs) = xs
 lost_at (suc k) (x ∷ xs) = x ∷ lost_at k xs
 
--- the account after a report: a COMSET that moves the reader is settled by its COM
-abbrev pub after_report : Option Report → Account → Account
-after_report None t = t
-after_report (Some (report.Opened id)) t = t
-after_report (Some (report.Settled command answer)) t = record t { settled = t.settled ++ (command, answer) ∷ [] }
-after_report (Some (report.Moved command answered)) t = record t { settled = t.settled ++ (command, reply.Com answered) ∷ [] }
-after_report (Some (report.Event event)) t = record t { reported = t.reported ++ event ∷ [] }
-after_report (Some (report.PollAnswered answer)) t = t
-after_report (Some (report.Unread command code)) t = t
-after_report (Some (report.Lost cause command)) t = record t { unsettled = t.unsettled ++ option_to_list command }
-
--- a command that was taken, with the reply that was said to it
-abbrev pub given_to : Command → Option Reply → List (Command × Reply)
-given_to command None = []
-given_to command (Some answer) = (command, answer) ∷ []
-
--- .. and after a command with a number that is taken, and what is said to it: a POLL offers the event in front, if there is one
-abbrev pub taken_command : Command → Option Reply → List Event → Account → Account
-taken_command Poll said front t = record t { offered = t.offered ++ front }
-taken_command command said front t = record t { taken = t.taken ++ command ∷ []; given = t.given ++ given_to command said }
-
-abbrev pub taken : Kind → Option Command → Option Reply → List Event → Account → Account
-taken kind.Taken (Some command) said front t = taken_command command said front t
-taken _ _ said front t = t
-
--- the events of a queue that were never offered, in this session or before
-abbrev pub unoffered_in : EventQueue → List Event
-unoffered_in q = if q.ever_offered then drop 1 q.events else q.events
-
--- events that end with those in the queue, but the oldest that was never offered
-abbrev pub but_oldest : EventQueue → List Event → List Event
-but_oldest q events = lost_at (length events - length (unoffered_in q)) events
-
--- .. after an event was withdrawn
-abbrev pub event_withdrawn : EventQueue → Account → Account
-event_withdrawn q t = record t { kept = but_oldest q t.kept }
-
--- the front of the queue was offered in this session: of what is kept, all before the queue were offered, and so was the front
-abbrev pub is_offered_here : EventQueue → Account → Bool
-is_offered_here q t = nat_lt (length t.kept) (length t.offered + length q.events)
-
--- .. after an event lapsed: where it was offered in this session it may be reported yet, and else it is gone
-abbrev pub event_lapsed : EventQueue → Account → Account
-event_lapsed q t = if q.ever_offered && not (is_offered_here q t)
-    then record t { kept = lost_at (length t.kept - length q.events) t.kept }
-    else t
-
--- .. after a restart of the reader: the events that it had not offered in this session are gone
-abbrev pub reader_restarted : Account → Account
-reader_restarted t = record t { kept = t.offered; restarts = t.restarts + 1 }
-
 -- the command whose answer the controller waits for
 abbrev pub outstanding_command : State → Option Command
 outstanding_command (Waiting until sends o) = submitted_command o.exchange
@@ -164,47 +71,27 @@ outstanding_command (Pausing until o) = submitted_command o.exchange
 outstanding_command _ = None
 
 module _ {H : Type 0} where
-  -- the event that comes next, once an offered one has left
-  abbrev pub front_of : ReaderState H → List Event
-  front_of r = take 1 (released r.queue).events
-
   abbrev pub submits : Option ControllerFault → Command → Link H → Link H
   submits (Some fault) command l = l
-  submits None command l = record l {
-    controller = controllers.after_submit command l.controller;
-    account = record l.account { issued = l.account.issued ++ command ∷ [] };
-  }
+  submits None command l = record l { controller = controllers.after_submit command l.controller }
 
   abbrev pub queues : Bool → Event → Link H → Link H
   queues true event l = l
-  queues false event l = record l {
-    reader = readers.after_submit event l.reader;
-    account = record l.account { queued = l.account.queued ++ event ∷ []; kept = l.account.kept ++ event ∷ [] };
-  }
+  queues false event l = record l { reader = readers.after_submit event l.reader }
 
   -- the controller's frame goes after those that are on the way
   abbrev pub ticked : Ticked → Link H → Link H
   ticked t l = record l {
     controller = record l.controller { session = t.session; waiting = t.waiting };
     to_reader = l.to_reader ++ option_to_list t.step.frame;
-    account = after_report t.step.report l.account;
   }
 
   abbrev pub controller_gets : Packet → ℕ → Link H → Link H
-  controller_gets p now l =
-      let heard = controller.hears p now l.controller.session in
-      record l {
-        controller = record l.controller { session = heard.session };
-        account = after_report heard.report l.account;
-      }
+  controller_gets p now l = record l { controller = record l.controller { session = (controller.hears p now l.controller.session).session } }
 
   -- a session begins again where nothing is on the line and the controller is closed; else nothing happens
   abbrev pub reopens : Option ControllerFault → List Packet → List Packet → ℕ → Link H → Link H
-  reopens None [] [] now l = record l {
-    controller = controllers.after_begin now l.controller;
-    account = new_account l.controller.waiting l.reader.queue.events;
-    earlier = l.account ∷ l.earlier;
-  }
+  reopens None [] [] now l = record l { controller = controllers.after_begin now l.controller }
   reopens _ _ _ now l = l
 
   -- the command that has waited longest is taken back, where the controller is closed and one waits
@@ -217,18 +104,15 @@ module _ {H : Type 0} where
 
   -- the oldest event that was never offered is taken back, where there is one; what is offered stays so
   abbrev pub withdraws_event : Link H → Link H
-  withdraws_event l = record l { reader = readers.after_withdraw_event l.reader; account = event_withdrawn l.reader.queue l.account }
+  withdraws_event l = record l { reader = readers.after_withdraw_event l.reader }
 
   -- the front leaves the queue, where it was ever offered; the stored reply stays
   abbrev pub lapses_event : Link H → Link H
-  lapses_event l = record l { reader = readers.after_lapse_event l.reader; account = event_lapsed l.reader.queue l.account }
+  lapses_event l = record l { reader = readers.after_lapse_event l.reader }
 
   -- a device with nothing taken, nothing stored and no event, the same or another
   abbrev pub restarts_reader : ReaderConfig → H → Room → Link H → Link H
-  restarts_reader config handler room l = record l {
-    reader = readers.new_reader config handler room;
-    account = reader_restarted l.account;
-  }
+  restarts_reader config handler room l = record l { reader = readers.new_reader config handler room }
 
   -- closed, with nothing waiting and no moment seen: a session that lasted has ended, and nobody is told
   abbrev pub restarts_controller : ControllerConfig → Room → Link H → Link H
@@ -245,11 +129,7 @@ module _ {H : Type 0} where
     abbrev pub reader_gets : Packet → Link H → Link H
     reader_gets p l =
         let outcome = reader.hears answer_of after l.reader p in
-        record l {
-          reader = outcome.reader;
-          to_controller = l.to_controller ++ option_to_list outcome.reply;
-          account = taken (reader.kind_of l.reader p) outcome.command outcome.said (front_of l.reader) l.account;
-        }
+        record l { reader = outcome.reader; to_controller = l.to_controller ++ option_to_list outcome.reply }
 
     abbrev pub to_reader : List Packet → Delivery → Link H → Link H
     to_reader [] how l = l

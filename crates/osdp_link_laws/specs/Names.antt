@@ -7,9 +7,9 @@ use Rattle.osdp_controller.specs.Hearing.{comset_of}
 use Rattle.osdp_controller.specs.declared.report.Report.{Report}
 use Rattle.osdp_controller.specs.declared.report.Report.TheVariants as report
 use Rattle.osdp_reader.specs.declared.handler.Answer.{Answer}
-use Rattle.osdp_link_laws.specs.Headline.{MovesFit, Begins}
+use Rattle.osdp_link_laws.specs.Beginning.{MovesFit, Begins}
 use Rattle.osdp_link_laws.specs.Link.{Link, Move, run}
-use Rattle.osdp_link_laws.specs.Refusals.{reports}
+use Rattle.osdp_link_laws.specs.Reports.{reports}
 
 -- ---- on the line
 

@@ -1,16 +1,21 @@
--- Something comes through: after m rounds that lose nothing m - 1 more commands and events, or all of them, are settled and reported.
+-- Something comes through: each of m rounds that lose nothing, but the first, settles a command or reports an event while one is left.
 use Rattle.std.specs.Prelude.{◌≡◌, ◌⊎◌, ◌≤◌, ℕ, ◌+◌, ◌-◌, min, true, false, All, List, [], ◌∷◌, ◌++◌, length, Some, None}
 use Rattle.osdp_msg.specs.declared.command.Command.{Command}
 use Rattle.osdp_controller.specs.Hearing.{comset_of}
 use Rattle.osdp_controller.specs.Machine.{Machine, is_due}
 use Rattle.osdp_controller.specs.Sessions.{later as later_by}
+use Rattle.osdp_controller.specs.States.{is_closed}
 use Rattle.osdp_controller.specs.declared.state.State.TheVariants.{Closed, Idle}
 use Rattle.osdp_controller_laws.specs.Calls.{IsInRange, longest_wait}
 use Rattle.osdp_reader.specs.declared.handler.Answer.{Answer}
 use Rattle.osdp_reader.specs.State.{ReaderState}
 use Rattle.osdp_reader.specs.Table.{new_address}
-use Rattle.osdp_link_laws.specs.Headline.{MovesFit, Begins}
-use Rattle.osdp_link_laws.specs.Link.{Account, Delivered, Link, Move, Tick, ToController, ToReader, run}
+use Rattle.osdp_link_laws.specs.Ahead.{ahead, left}
+use Rattle.osdp_link_laws.specs.Beginning.{MovesFit, Begins}
+use Rattle.osdp_link_laws.specs.Link.{Delivered, Link, Move, Tick, ToController, ToReader, run}
+use Rattle.osdp_link_laws.specs.Ordinary.{IsOrdinary}
+use Rattle.osdp_link_laws.specs.Reports.{reports, told_in}
+use Rattle.osdp_link_laws.specs.Sessions.{all_begun, all_queued, all_submitted, restarts_in_session}
 
 -- a round that loses nothing: a tick, then the packet to the reader, then the one to the controller
 abbrev pub round : {H : Type 0} → ℕ → List (Move H)
@@ -28,33 +33,27 @@ NoComset command = comset_of command ≡ None
 abbrev pub SetsNoAddress : Command → Type 0
 SetsNoAddress command = new_address command ≡ None
 
--- after so many rounds as many more commands and events but one are settled and reported, or all are but the events that a restart threw
--- away
-abbrev pub ComeOn : List ℕ → Account → Account → Type 0
-ComeOn moments before t =
-    min (length before.settled + length before.reported + (length moments - 1)) (length t.issued + length t.kept)
-    ≤ length t.settled + length t.reported
-
 module _ {H : Type 0} where
-  -- nothing is on the line, there or back, both ends are at one address, the reader isn't busy, and no COMSET to a device's address was issued
+  -- nothing is on the line, there or back, both ends are at one address, the reader isn't busy, and none of these commands is a COMSET to a device's
+  -- address
   pub record AreClear {There Back : Type 0} (there : List There) (back : List Back) (r : ReaderState H) (c : Machine) (commands : List Command) : Type 0 where
     pub to_reader : there ≡ []
     pub to_controller : back ≡ []
     pub address : r.config.address ≡ c.session.config.address
     pub ready : r.busy ≡ false
-    pub issued : All SetsNoAddress commands
+    pub stays : All SetsNoAddress commands
 
   -- nobody waits for an answer
   abbrev pub IsAtRest : Link H → Type 0
   IsAtRest l = (due : ℕ) × (l.controller.session.state ≡ Idle due)
 
-  -- the reader hasn't restarted in this session, or has heard number 0 since
-  abbrev pub HearsOn : Link H → Type 0
-  HearsOn l = (l.account.restarts ≡ 0) ⊎ ((n : ℕ) × (l.reader.last ≡ Some n))
+  -- the reader, which has restarted so often in this session, hasn't, or it has heard number 0 since
+  abbrev pub HearsOn : ℕ → Link H → Type 0
+  HearsOn restarts l = (restarts ≡ 0) ⊎ ((n : ℕ) × (l.reader.last ≡ Some n))
 
-  -- the link is
+  -- the link is, and none of these is outstanding or waits
   abbrev pub IsClear : Link H → Type 0
-  IsClear l = AreClear l.to_reader l.to_controller l.reader l.controller l.account.issued
+  IsClear l = AreClear l.to_reader l.to_controller l.reader l.controller (ahead l.controller)
 
   module _ (answer_of : H → Command → Answer) (after : H → Command → H) where
     -- each tick is due when it comes: none is where the session has ended
@@ -62,11 +61,15 @@ module _ {H : Type 0} where
     AreDue [] l = Unit {0}
     AreDue (now ∷ later) l = (is_due now l.controller ≡ true) × AreDue later (run answer_of after (round now) l)
 
+    -- of so many rounds each but one settles a command or reports an event, or all that was left is settled and reported
+    abbrev pub ComeOn : List ℕ → Link H → Type 0
+    ComeOn moments l = min (length moments - 1) (left l) ≤ told_in (reports answer_of after (rounds moments) l)
+
     abbrev pub ComesThrough : Type 0
     ComesThrough = (l : Link H) (moves : List (Move H)) (moments : List ℕ) → Begins l → MovesFit answer_of after moves l
         → let later = run answer_of after moves l in
         IsClear later → AreDue moments later → MovesFit answer_of after (rounds moments) later
-        → ComeOn moments later.account (run answer_of after (rounds moments) later).account
+        → ComeOn moments later
 
     -- a round from a clear link leaves it clear and at rest, or ends the session
     abbrev pub ComesToRest : Type 0
@@ -76,14 +79,14 @@ module _ {H : Type 0} where
         → let last = run answer_of after (round now) later in
         (last.controller.session.state ≡ Closed) ⊎ (IsClear last × IsAtRest last)
 
-    -- from a link at rest, where the reader knows its last number, each of the rounds brings one more, until it is all
+    -- from a link at rest, where the reader hasn't restarted in this session, or has heard number 0 since, each of the rounds brings one more, until it is
+    -- all
     abbrev pub ComesThroughFromRest : Type 0
     ComesThroughFromRest = (l : Link H) (moves : List (Move H)) (moments : List ℕ) → Begins l → MovesFit answer_of after moves l
         → let later = run answer_of after moves l in
-        IsClear later → IsAtRest later → HearsOn later → AreDue moments later → MovesFit answer_of after (rounds moments) later
-        → let last = run answer_of after (rounds moments) later in
-        min (length later.account.settled + length later.account.reported + length moments) (length last.account.issued + length last.account.kept)
-        ≤ length last.account.settled + length last.account.reported
+        IsClear later → IsAtRest later → HearsOn (restarts_in_session answer_of after moves l 0) later
+        → AreDue moments later → MovesFit answer_of after (rounds moments) later
+        → min (length moments) (left later) ≤ told_in (reports answer_of after (rounds moments) later)
 
     -- each tick comes so much later than the greatest moment seen as the longest of the controller's waits
     abbrev pub AreLate : List ℕ → Link H → Type 0
@@ -98,4 +101,12 @@ module _ {H : Type 0} where
         → let later = run answer_of after moves l in
         IsClear later → AreLate moments later → MovesFit answer_of after (rounds moments) later
         → let last = run answer_of after (rounds moments) later in
-        (last.controller.session.state ≡ Closed) ⊎ ComeOn moments later.account last.account
+        (last.controller.session.state ≡ Closed) ⊎ ComeOn moments later
+
+    -- a session that lasts forgets none: what is accepted in it is told, or left
+    abbrev pub ForgetsNone : Type 0
+    ForgetsNone = (l : Link H) (moves : List (Move H)) → Begins l → MovesFit answer_of after moves l → All IsOrdinary moves
+        → let last = run answer_of after moves l in
+        all_begun answer_of after moves l ≡ 0 → is_closed last.controller.session.state ≡ false
+        → told_in (reports answer_of after moves l) + left last
+        ≡ left l + length (all_submitted answer_of after moves l) + length (all_queued answer_of after moves l)

@@ -1,18 +1,16 @@
--- The sessions of a link, one after the other: a list of all of them, and what was accepted in them. What becomes of commands and of events from one
--- session to the next says the ledger (`osdp_link_ledger`).
-use Rattle.std.specs.Prelude.{◌≡◌, Bool, true, false, List, [], ◌∷◌, ◌++◌, Option, Some, None, ◌⊎◌}
+-- What was accepted in moves, and how many sessions began in them. What becomes of commands and of events says the ledger (`osdp_link_ledger`).
+use Rattle.std.specs.Prelude.{◌≡◌, ℕ, zero, suc, ◌+◌, Bool, true, false, List, [], ◌∷◌, ◌++◌, Option, Some, None, ◌⊎◌}
 use Rattle.osdp_msg.specs.declared.command.Command.{Command}
 use Rattle.osdp_msg.specs.declared.event.Event.{Event}
-use Rattle.osdp_controller.specs.Machine.{submit_refusal}
+use Rattle.osdp_frame.specs.Packet.{Packet}
+use Rattle.osdp_controller.specs.Machine.{begin_refusal, submit_refusal}
 use Rattle.osdp_controller.specs.declared.fault.ControllerFault.{ControllerFault}
 use Rattle.osdp_reader.specs.declared.handler.Answer.{Answer}
 use Rattle.osdp_reader.specs.Queue.{lacks_room}
-use Rattle.osdp_link_laws.specs.Link.{Account, Link, Move, Queue, Submit, after_move}
+use Rattle.osdp_link_laws.specs.Link.{Link, Move, Queue, Reopen, RestartReader, Submit, after_move}
 
--- a list of each of these sessions, session after session
-abbrev pub in_all : {A : Type 0} → (Account → List A) → List Account → List A
-in_all part [] = []
-in_all part (t ∷ earlier) = in_all part earlier ++ part t
+abbrev pub IsBeginning : {A : Type 0} → List A → List A → Type 0
+IsBeginning {A} xs ys = (rest : List A) × (ys ≡ xs ++ rest)
 
 -- some of a list, in its order: the first of it is left out, or comes first
 abbrev pub IsAmong : {A : Type 0} → List A → List A → Type 0
@@ -28,6 +26,16 @@ accepted (Some fault) command = []
 abbrev pub unless_full : Bool → Event → List Event
 unless_full true event = []
 unless_full false event = event ∷ []
+
+-- one where a session begins again: the controller is closed, and nothing is on the line
+abbrev pub begun_again : Option ControllerFault → List Packet → List Packet → ℕ
+begun_again None [] [] = 1
+begun_again _ _ _ = 0
+
+-- how often the reader has restarted in a session: none where it begins again
+abbrev pub kept_count : ℕ → ℕ → ℕ
+kept_count zero count = count
+kept_count (suc again) count = 0
 
 module _ {H : Type 0} where
   abbrev pub submitted : Move H → Link H → List Command
@@ -46,3 +54,21 @@ module _ {H : Type 0} where
     abbrev pub all_queued : List (Move H) → Link H → List Event
     all_queued [] l = []
     all_queued (move ∷ moves) l = queued move l ++ all_queued moves (after_move answer_of after move l)
+
+    abbrev pub begins : Move H → Link H → ℕ
+    begins (Reopen now) l = begun_again (begin_refusal l.controller) l.to_reader l.to_controller
+    begins _ l = 0
+
+    -- how many sessions have begun again
+    abbrev pub all_begun : List (Move H) → Link H → ℕ
+    all_begun [] l = 0
+    all_begun (move ∷ moves) l = begins move l + all_begun moves (after_move answer_of after move l)
+
+    abbrev pub restarts_after : Move H → Link H → ℕ → ℕ
+    restarts_after (RestartReader config handler room) l count = suc count
+    restarts_after move l count = kept_count (begins move l) count
+
+    -- how often the reader has restarted in the session at the end, where it had so often in the one at the beginning
+    abbrev pub restarts_in_session : List (Move H) → Link H → ℕ → ℕ
+    restarts_in_session [] l count = count
+    restarts_in_session (move ∷ moves) l count = restarts_in_session moves (after_move answer_of after move l) (restarts_after move l count)

@@ -4,7 +4,7 @@ ghost use Rattle.osdp_link_laws.specs.Effects.{EachMoveDoes};
 
 use osdp_reader::Handler;
 
-/// Each move of a program, of a power failure or of the line does to the two ends, to the line and to the account what its clause here says.
+/// Each move of a program, of a power failure or of the line does to the two ends and to the line what its clause here says.
 ///
 /// `handler`: a device that has another handler keeps its number, its stored reply and its events. A repeat is answered with what was stored, and no
 /// handler is asked. The next command that is taken is answered with the new handler.
@@ -17,15 +17,14 @@ use osdp_reader::Handler;
 /// `retarget`: where the controller is closed and the address is a device's, the controller has this address, and all else stays; else nothing
 /// happens.
 ///
-/// `reader`: a reader that has restarted has taken nothing, stores nothing, has no event and isn't busy. It refuses every number but 0. The events
-/// that it had not offered in the session are thrown away. What is on the line stays there, and so does all that is told of commands.
+/// `reader`: a reader that has restarted has taken nothing, stores nothing, has no event and isn't busy. It refuses every number but 0. What is on the
+/// line stays there, and the controller stays as it is.
 ///
-/// `controller`: a controller that has restarted is closed, and nothing waits. What is on the line stays there, and so does all that is told of commands
-/// and of events.
+/// `controller`: a controller that has restarted is closed, and nothing waits. What is on the line stays there, and the reader stays as it is.
 ///
 /// `losses`: of what is on the line, what stands at the place is lost, and all else stays in its order.
 ///
-/// `restarts`: an account counts the restarts of the reader in its session.
+/// `restarts`: the restarts of the reader in a session are counted: none where it begins again, and one more with each until another begins.
 pub fn each_move_does<H: Handler>()
     ensures { EachMoveDoes H.answer_of H.after }
 {}

@@ -3,10 +3,8 @@
 #![tactic(auto)]
 
 ghost use Rattle.osdp_link_laws.specs.Peers.{ReadEachOther, ReadsWhatIsAsked, ReadsWhatIsAnswered, TakesPlainReplies, TellsItsEvent};
-ghost use Rattle.osdp_link_laws.specs.Headline.{HoldsOnce};
-ghost use Rattle.osdp_link_laws.specs.Ordinary.{OrdinaryIsUndisturbed};
 ghost use Rattle.osdp_link_laws.specs.Addresses.{StayWhereTheyAre};
-ghost use Rattle.osdp_link_laws.specs.Progress.{ComesThrough, ComesThroughFromRest, ComesThroughInTime, ComesToRest};
+ghost use Rattle.osdp_link_laws.specs.Progress.{ComesThrough, ComesThroughFromRest, ComesThroughInTime, ComesToRest, ForgetsNone};
 ghost use Rattle.osdp_link_laws.specs.Clean.{GoesInTurn};
 ghost use Rattle.osdp_link_laws.specs.Refusals.{RefusesNoNumber, RefusesNoNumberWithoutRestart, SaysAllPlainly};
 
@@ -50,20 +48,6 @@ pub fn read_each_other<H: Handler>()
     osdp_reader_laws::answers_plainly::<H>();
 }
 
-/// Within each session, opened by ID on a quiet line, commands are taken once and in order, settled with the answers that the reader gave to them
-/// then, and events are reported once and in order. So it is over every list of losses, repeats and detected damage, whatever the device tells, whoever
-/// restarts, and whatever model comes back. Which events may be reported at all, and what becomes of the others, says the ledger (`osdp_link_ledger`).
-pub fn holds_once<H: Handler>()
-    ensures { HoldsOnce H.answer_of H.after }
-{
-    read_each_other::<H>();
-}
-
-/// Where neither end restarts and nothing is withdrawn, every event that was queued may be reported, and no restart is counted.
-pub fn ordinary_runs_are_undisturbed<H: Handler>()
-    ensures { OrdinaryIsUndisturbed H.answer_of H.after }
-{}
-
 /// In a session in which the reader hasn't restarted it refuses no number and no check, and each of its packets can be read: whatever is on its
 /// way to the controller says BUSY, or a reply that settles. So no such session ends because a reader refused a number.
 pub fn refuses_no_number<H: Handler>()
@@ -81,16 +65,20 @@ pub fn stay_where_they_are<H: Handler>()
     reads_what_is_asked();
 }
 
-/// From a link with nothing on the line, both ends at one address, the reader not busy and no COMSET to a device's address
-/// issued: after m rounds that lose nothing, each with a tick that is due, m - 1 more commands and events of this session, or all of them, are settled and reported.
+/// From a link with nothing on the line, both ends at one address, the reader not busy and no COMSET to a device's address outstanding or waiting: after m
+/// rounds that lose nothing, each with a tick that is due, m - 1 of the commands and events that were left, or all of them, are settled and reported.
 /// With ticks that come as much later than the greatest moment seen as the longest of the controller's waits, that is so or the session
 /// has ended. After one such round the link is clear again and nobody waits for an answer, or the session has ended. Where nobody waits for
-/// an answer at first, and the reader knows its last number, m rounds settle and report m more, or all.
+/// an answer at first, and the reader hasn't restarted in this session or has heard number 0 since, m rounds settle and report m, or all.
+///
+/// A first session that lasts forgets none, where neither end restarts, nothing is taken back and no event lapses: as many commands are settled and events
+/// reported, or left, as were left when it began and were accepted since. Which these are says the ledger (`osdp_link_ledger`).
 pub fn comes_through<H: Handler>()
     ensures due { ComesThrough H.answer_of H.after }
     ensures in_time { ComesThroughInTime H.answer_of H.after }
     ensures from_rest { ComesThroughFromRest H.answer_of H.after }
     ensures rest { ComesToRest H.answer_of H.after }
+    ensures none_forgotten { ForgetsNone H.answer_of H.after }
 {
     read_each_other::<H>();
     osdp_controller_laws::stays_in_range();

@@ -1,7 +1,7 @@
 -- What is outstanding at a stage of a session, and how what is due changes with the stage.
-use Rattle.osdp_link_ledger.proofs.Common.{◌≡◌, ℕ, true, false, ◌⊎◌, List, [], ◌∷◌, ◌++◌, length, map, Option, Some, None, refl, sym, subst, ap, ◌∙◌, inl, inr, append-nil, option_to_list, Packet, Command, Event, Reply, submitted_command, Ticked, ControllerConfig, Exchange, ControllerFault, Report, Session, State, Closed, Quiet, Idle, Waiting, Pausing, Answer, asked, outstanding_command, BeginsFrom, Due, HearsTo, IsSent, ReopensTo, Stays, TicksTo, due_at, reported_in, settled_in, Asks, Before, Behind, ControllerAt, Fresh, IsOpen, Level, Never, Now, Rest, Restarted, Rests, Stage, Waits, number_after, owed_at, pending, pending_at, is_poll, is_polling, is_under_way}
-use Rattle.osdp_link_laws.proofs.Accounts.{begins_tells, hears_tell}
-use Rattle.osdp_link_laws.proofs.Accounts.{owed_command}
+use Rattle.osdp_link_ledger.proofs.Common.{◌≡◌, ◌≢◌, true, ◌⊎◌, List, [], ◌∷◌, ◌++◌, length, map, Option, Some, None, refl, sym, subst, ap, ◌∙◌, inl, inr, append-nil, option_to_list, Packet, Command, Event, Reply, Ticked, ControllerConfig, ControllerFault, Report, Session, State, Closed, Quiet, Answer, asked, outstanding_command, BeginsFrom, Due, HearsTo, IsSent, ReopensTo, Stays, TicksTo, due_at, reported_in, settled_in, Before, Behind, ControllerAt, Fresh, Level, Never, Now, Rest, Restarted, Stage, Waits, number_after, owed_at, pending, pending_at, is_under_way}
+use Rattle.osdp_link_laws.proofs.Ahead.{asks_for, rests_none}
+use Rattle.osdp_link_laws.proofs.Telling.{begins_tells, hears_tell, owed_command}
 use Rattle.osdp_link_laws.proofs.Ticks.{submitted_is}
 
 abbrev pub out_of : State → List Command
@@ -14,32 +14,12 @@ none_due = record { pend = []; owing = []; untold = []; stands = 0 }
 abbrev pub OutIs : State → Due → Type 0
 OutIs state d = is_under_way state ≡ true → out_of state ≡ d.pend ++ map asked d.owing
 
+-- .. which hasn't ended
+pub lasts : (state : State) → is_under_way state ≡ true → state ≢ Closed
+lasts Closed way = absurd cc
+lasts state way = λ closed. absurd cc
+
 module _ (fixed : ControllerConfig) where
-  -- this exchange is outstanding
-  pub record IsAsking (n : ℕ) (x : Exchange) (s : Session) : Type 0 where
-    pub is_open : IsOpen fixed n s
-    pub command : outstanding_command s.state ≡ submitted_command x
-    pub polls : is_polling s.state ≡ is_poll x
-
-  pub asking : (state : State) (n : ℕ) (x : Exchange) (s : Session) → s.state ≡ state → Asks fixed state n x s → is_under_way state ≡ true → IsAsking n x s
-  asking Closed n x s is asks way = absurd cc
-  asking (Waiting until k o) n x s is asks way =
-      record { is_open = asks.0; command = ap outstanding_command is ∙ ap submitted_command asks.1; polls = ap is_polling is ∙ ap is_poll asks.1 }
-  asking (Pausing until o) n x s is asks way =
-      record { is_open = asks.0; command = ap outstanding_command is ∙ ap submitted_command asks.1; polls = ap is_polling is ∙ ap is_poll asks.1 }
-  asking _ n x s is asks way = absurd asks
-
-  -- none is
-  pub record IsResting (s : Session) : Type 0 where
-    pub config : s.config ≡ fixed
-    pub command : outstanding_command s.state ≡ None
-    pub polls : is_polling s.state ≡ false
-
-  pub resting : (state : State) (n : ℕ) (s : Session) → s.state ≡ state → Rests fixed state n s → is_under_way state ≡ true → IsResting s
-  resting Closed n s is rests way = absurd cc
-  resting (Idle due) n s is rests way = record { config = rests.0; command = ap outstanding_command is; polls = ap is_polling is }
-  resting _ n s is rests way = absurd rests
-
   pub unopened : (state : State) (s : Session) → Waits fixed state s → is_under_way state ≡ true → ⊥
   unopened Closed s waits way = cc
   unopened (Quiet until) s waits way = cc
@@ -47,16 +27,16 @@ module _ (fixed : ControllerConfig) where
 
   pub out_at : (at : Stage) (s : Session) → ControllerAt fixed at s → is_under_way s.state ≡ true → out_of s.state ≡ pending_at at ++ map asked (owed_at at)
   out_at Fresh s is way = absurd (unopened s.state s is way)
-  out_at (Behind past x) s is way = ap option_to_list (asking s.state (number_after past) x s refl is way).command ∙ submitted_is x ∙ sym (append-nil (pending x))
-  out_at (Level past x a) s is way = ap option_to_list (asking s.state (number_after past) x s refl is way).command ∙ submitted_is x ∙ sym (owed_command x a)
-  out_at (Rest n x a) s is way = ap option_to_list (resting s.state n s refl is way).command
+  out_at (Behind past x) s is way = ap option_to_list (asks_for fixed s.state (number_after past) x s refl (lasts s.state way) is).command ∙ submitted_is x ∙ sym (append-nil (pending x))
+  out_at (Level past x a) s is way = ap option_to_list (asks_for fixed s.state (number_after past) x s refl (lasts s.state way) is).command ∙ submitted_is x ∙ sym (owed_command x a)
+  out_at (Rest n x a) s is way = ap option_to_list (rests_none fixed s.state n s refl (lasts s.state way) is).command
 
   -- the address of a session that is under way
   pub goes_to : (at : Stage) (s : Session) → ControllerAt fixed at s → is_under_way s.state ≡ true → s.config.address ≡ fixed.address
   goes_to Fresh s is way = absurd (unopened s.state s is way)
-  goes_to (Behind past x) s is way = ap (λ (c : ControllerConfig). c.address) (asking s.state (number_after past) x s refl is way).is_open.0
-  goes_to (Level past x a) s is way = ap (λ (c : ControllerConfig). c.address) (asking s.state (number_after past) x s refl is way).is_open.0
-  goes_to (Rest n x a) s is way = ap (λ (c : ControllerConfig). c.address) (resting s.state n s refl is way).config
+  goes_to (Behind past x) s is way = ap (λ (c : ControllerConfig). c.address) (asks_for fixed s.state (number_after past) x s refl (lasts s.state way) is).is_open.0
+  goes_to (Level past x a) s is way = ap (λ (c : ControllerConfig). c.address) (asks_for fixed s.state (number_after past) x s refl (lasts s.state way) is).is_open.0
+  goes_to (Rest n x a) s is way = ap (λ (c : ControllerConfig). c.address) (rests_none fixed s.state n s refl (lasts s.state way) is).config
 
 -- ---- what is due after a move
 

@@ -28,8 +28,6 @@ module _ {H : Type 0} (answer_of : H → Command → Answer) (after : H → Comm
     waiting = each_all MaySubmit (Cap 0 ∷ []) (record { no_poll = λ e. let is = e in cc; fits = omega arith }, tt);
     to_reader = refl;
     to_controller = refl;
-    account = refl;
-    earlier = refl;
   }
 
   acting_fits : (handler : H) → MovesFit answer_of after acting (begun_with handler)

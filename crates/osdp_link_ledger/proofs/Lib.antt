@@ -12,8 +12,9 @@ pub mod Acting
 pub mod Keeping
 pub mod Machines
 pub mod Running
+pub mod Told
 pub mod Tallies
-pub mod Accounts
 pub mod Answered
+pub mod Taking
 pub mod Plain
 mod Instance

@@ -1,7 +1,9 @@
 -- What the two machines keep says what is acted on and isn't settled, and what is offered and isn't reported.
 use Rattle.osdp_link_ledger.proofs.Common.{◌≡◌, ℕ, ◌==◌, Bool, true, false, List, [], ◌∷◌, Option, Some, None, refl, sym, ap, ◌∙◌, inl, inr, Command, Event, Reply, meaning_of, ControllerConfig, Exchange, Opening, Polling, Asking, Plain, Session, Packet, next_sequence, ReaderState, Answer, Order, outstanding_command, Premises, is_false, is_true, next_differs, After, Before, Behind, ControllerAt, Fresh, HasActed, IsStage, Knows, Level, Never, Now, ReaderAt, Rest, Restarted, Stage, Start, answer, number_after, owed, owed_at, shown, unreported_at}
-use Rattle.osdp_link_ledger.specs.Laws.{answer_to, event_told, is_polling, is_under_way, offered_to, read_as}
-use Rattle.osdp_link_ledger.proofs.Facts.{IsAsking, asking, resting, unopened}
+use Rattle.osdp_link_laws.specs.Ahead.{event_told, is_polling, offered_to, read_as}
+use Rattle.osdp_link_laws.proofs.Ahead.{AsksFor, asks_for, rests_none}
+use Rattle.osdp_link_ledger.specs.Laws.{answer_to, is_under_way}
+use Rattle.osdp_link_ledger.proofs.Facts.{lasts, unopened}
 use Rattle.osdp_link_ledger.proofs.Ties.{ActedIs}
 
 -- the answer that is on its way
@@ -44,7 +46,7 @@ module _ (fixed : ControllerConfig) where
 
     -- the device hasn't acted on the exchange: its last number is the one before
     none_kept_for_next : (m n : ℕ) (y : Exchange) (b : Reply) (x : Exchange) → r.config.address ≡ fixed.address → r.last ≡ Some m → HasActed fixed n y b r
-        → IsAsking fixed (next_sequence n) x s → AreKept m [] []
+        → AsksFor fixed (next_sequence n) x s → AreKept m [] []
     none_kept_for_next m n y b x here last acted asks =
         let same = same_number m n last (acted.here here).0 in
         let differs : (m == s.number) ≡ false = is_false m s.number (λ e. next_differs n (sym asks.is_open.1 ∙ sym e ∙ same)) in (
@@ -54,7 +56,7 @@ module _ (fixed : ControllerConfig) where
 
     -- it has: its last number is that of the exchange
     kept_for_last : (m n : ℕ) (x : Exchange) (a : Reply) → r.config.address ≡ fixed.address → r.last ≡ Some m → HasActed fixed n x a r
-        → IsAsking fixed n x s → meaning_of (answer fixed n a) ≡ Plain a → AreKept m (owed x a) (shown x a)
+        → AsksFor fixed n x s → meaning_of (answer fixed n a) ≡ Plain a → AreKept m (owed x a) (shown x a)
     kept_for_last m n Opening a here last acted asks says = none_kept m asks.command asks.polls
     kept_for_last m n Polling a here last acted asks says =
         let kept = acted.here here in
@@ -73,31 +75,31 @@ module _ (fixed : ControllerConfig) where
         → is_under_way s.state ≡ true → r.config.address ≡ fixed.address → r.last ≡ Some m → AreKept m (owed_at at) (unreported_at at)
     kept_at given since Fresh m stage is reader way here last = absurd (unopened fixed s.state s is way)
     kept_at given since (Behind Start Opening) m stage is reader way here last =
-        let asks = asking fixed s.state 0 Opening s refl is way in none_kept m asks.command asks.polls
+        let asks = asks_for fixed s.state 0 Opening s refl (lasts s.state way) is in none_kept m asks.command asks.polls
     kept_at given since (Behind Start Polling) m stage is reader way here last = absurd stage.1
     kept_at given since (Behind Start (Asking c)) m stage is reader way here last = absurd stage.1
     kept_at given since (Behind (After n y b) x) m stage is reader way here last =
-        none_kept_for_next m n y b x here last (has_acted since m n y b last reader) (asking fixed s.state (next_sequence n) x s refl is way)
+        none_kept_for_next m n y b x here last (has_acted since m n y b last reader) (asks_for fixed s.state (next_sequence n) x s refl (lasts s.state way) is)
     kept_at given since (Level past x a) m stage is reader way here last =
         let n = number_after past in
-        kept_for_last m n x a here last (has_acted since m n x a last reader) (asking fixed s.state n x s refl is way)
+        kept_for_last m n x a here last (has_acted since m n x a last reader) (asks_for fixed s.state n x s refl (lasts s.state way) is)
         (given.hears n a stage.2.0.fits ∙ given.plain a stage.2.0.plain)
     kept_at given since (Rest n x a) m stage is reader way here last =
-        let rests = resting fixed s.state n s refl is way in none_kept m rests.command rests.polls
+        let rests = rests_none fixed s.state n s refl (lasts s.state way) is in none_kept m rests.command rests.polls
 
   -- nothing is owed to a command that isn't outstanding, nor offered to such a POLL
-  unasked_by : (x : Exchange) (a : Reply) (s : Session) (n : ℕ) → IsAsking fixed n x s → outstanding_command s.state ≡ None → owed_answer (owed x a) ≡ None
+  unasked_by : (x : Exchange) (a : Reply) (s : Session) (n : ℕ) → AsksFor fixed n x s → outstanding_command s.state ≡ None → owed_answer (owed x a) ≡ None
   unasked_by (Asking c) a s n asks none = absurd (let e : Some c ≡ None = sym asks.command ∙ none in cc)
   unasked_by _ a s n asks none = refl
 
   pub unasked_at : (at : Stage) (s : Session) → ControllerAt fixed at s → is_under_way s.state ≡ true → outstanding_command s.state ≡ None → owed_answer (owed_at at) ≡ None
-  unasked_at (Level past x a) s is way none = unasked_by x a s (number_after past) (asking fixed s.state (number_after past) x s refl is way) none
+  unasked_at (Level past x a) s is way none = unasked_by x a s (number_after past) (asks_for fixed s.state (number_after past) x s refl (lasts s.state way) is) none
   unasked_at _ s is way none = refl
 
-  unpolled_by : (x : Exchange) (a : Reply) (s : Session) (n : ℕ) → IsAsking fixed n x s → is_polling s.state ≡ false → shown x a ≡ []
+  unpolled_by : (x : Exchange) (a : Reply) (s : Session) (n : ℕ) → AsksFor fixed n x s → is_polling s.state ≡ false → shown x a ≡ []
   unpolled_by Polling a s n asks none = absurd (let e : true ≡ false = sym asks.polls ∙ none in cc)
   unpolled_by _ a s n asks none = refl
 
   pub unpolled_at : (at : Stage) (s : Session) → ControllerAt fixed at s → is_under_way s.state ≡ true → is_polling s.state ≡ false → unreported_at at ≡ []
-  unpolled_at (Level past x a) s is way none = unpolled_by x a s (number_after past) (asking fixed s.state (number_after past) x s refl is way) none
+  unpolled_at (Level past x a) s is way none = unpolled_by x a s (number_after past) (asks_for fixed s.state (number_after past) x s refl (lasts s.state way) is) none
   unpolled_at _ s is way none = refl

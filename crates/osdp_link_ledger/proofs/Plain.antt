@@ -137,7 +137,7 @@ module _ {H : Type 0} (answer_of : H → Command → Answer) (after : H → Comm
       each_append IsPlain steps (all_steps answer_of after ms next (after_steps steps g)) (move_plain m l g ordinary.0)
       (moves_plain ms next (after_steps steps g) ordinary.1)
 
-  link_plain : (ms : List (Move H)) (l : Link H) → Each IsOrdinary ms → Each IsPlain (steps_from answer_of after ms l)
+  pub link_plain : (ms : List (Move H)) (l : Link H) → Each IsOrdinary ms → Each IsPlain (steps_from answer_of after ms l)
   link_plain ms l ordinary =
       let submitted = submitted_before 0 l.controller.waiting in
       let queued = queued_before 0 l.reader.queue.events in

@@ -8,7 +8,7 @@ use Rattle.osdp_link_ledger.proofs.Lists.{IsOfferedFront, commands, front_order,
 use Rattle.osdp_link_ledger.proofs.Programs.{front_late, nothing_out}
 use Rattle.osdp_link_ledger.proofs.Telling.{Stays, Tells}
 use Rattle.osdp_link_ledger.proofs.Ties.{ActedIs, IsTied, IsUnderWay, Leads, OffersAre, Ties}
-use Rattle.osdp_link_ledger.proofs.Tallies.{command_at}
+use Rattle.osdp_link_ledger.proofs.Told.{command_at}
 
 module _ {H : Type 0} (l : Link H) (d : Due) (g : Ledger) (f : OutIs l.controller.session.state d) (h : IsTied l d g) (s : IsUnderWay l.controller.session.state l.reader.queue d g) where
   abbrev state : State

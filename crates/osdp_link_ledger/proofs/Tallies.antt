@@ -1,247 +1,261 @@
--- What a history says and what accounts say, as plain lists: what each step adds to the ones its move adds to the others.
-use Rattle.osdp_link_ledger.proofs.Common.{◌≡◌, ℕ, Bool, true, false, cond, ltb, List, [], ◌∷◌, ◌++◌, flat_map, map, Option, Some, None, refl, sym, ap, ◌∙◌, append_assoc, append-nil, map-append, Packet, event_in, Command, Event, Reply, Report, State, Closed, Quiet, End, Forgotten, GivenBack, History, InDoubt, Settled, ends_at_restart, runs, steps_on, Card, Lapse, Ledger, NoOffer, Offer, Order, RestartDevice, RestartPanel, Account, after_report, in_all, doubted_as, settled_as, acts_on, card_at, gives_up_event, lapses_event, leaves, offered_at, offers, opens, order_acted, order_at, told, withdraws, withdraws_event}
-use Rattle.std.proofs.lemmas.Grind.{flat_map-append}
-use Rattle.std.specs.Prelude.{if◌then◌else◌, option_to_list}
-use Rattle.osdp_msg.specs.declared.command.Command.TheVariants as command
-use Rattle.osdp_msg.specs.declared.reply.Reply.TheVariants as reply
+-- What a history comes to, as plain lists: what each of its steps adds to them, and what each move does. No step is forgotten, and none is made up,
+-- whatever goes over the line.
+use Rattle.osdp_link_ledger.proofs.Common.{◌≡◌, ◌+◌, ◌++◌, ℕ, Bool, true, false, cond, ltb, List, [], ◌∷◌, map, Option, Some, None, refl, sym, ap, ◌∙◌, append_assoc, append-nil, map-append, option_to_list, Packet, event_in, Command, Id, Poll, Event, Reply, ticks, ControllerFault, Report, State, Quiet, EventQueue, in_doubt, lacks_room, never_offered, ReaderState, hears, kind_of, Answer, Kind, History, new_history, runs, steps_on, Act, Card, Lapse, Ledger, Order, Step, new_ledger, Delivered, Delivery, LapseEvent, Link, Lost, Move, QueueEvent, Repeated, Submit, Tick, ToController, ToReader, Withdraw, WithdrawEvent, after_move, Told, nothing_told, reports, told_by, told_by_front, with_reports, accepted, all_queued, all_submitted, queued, submitted, unless_full, acts, after_steps, all_steps, card_at, lapses_event, leaves, leaves_and_acts, leaving, offers, opens, order_acted, queued_before, queues, steps_before, steps_from, steps_of, submits, submitted_before, to_reader, told, told_in_history, withdraws, withdraws_event, asked}
+use Rattle.osdp_controller.specs.Machine.{submit_refusal, withdrawn_in}
 use Rattle.osdp_controller.specs.declared.report.Report.TheVariants as report
+use Rattle.osdp_reader.specs.declared.kind.Kind.TheVariants as kind
 use Rattle.osdp_ledger.specs.Ledger as ledger
-use Rattle.osdp_link_laws.specs.Link as link
 use Rattle.osdp_link_ledger.proofs.Lists.{commands, events}
+use Rattle.osdp_link_ledger.proofs.Told.{order_is, report_tells, reports_more, step_tells, with_step}
 
-abbrev by_settled : Order × End → List (Command × Reply)
-by_settled e = settled_as e.0 e.1
-
-abbrev by_doubt : Order × End → List Command
-by_doubt e = doubted_as e.0 e.1
-
-abbrev asked_in : Order × Reply → Command × Reply
+abbrev pub asked_in : Order × Reply → Command × Reply
 asked_in d = (d.0.command, d.1)
 
-abbrev event_of : ℕ × Card → Event
-event_of r = r.1.event
+pub commands_acted : (ds : List (Order × Reply)) → map asked (map asked_in ds) ≡ map (λ (d : Order × Reply). d.0.command) ds
+commands_acted [] = refl
+commands_acted (d ∷ ds) = ap (λ cs. d.0.command ∷ cs) (commands_acted ds)
 
 pub record Tally : Type 0 where
   pub orders : List Command
-  pub cards : List Event
   pub acted : List (Command × Reply)
-  pub settled : List (Command × Reply)
-  pub in_doubt : List Command
-  pub reported : List Event
+  pub cards : List Event
+  pub told : Told
 
-abbrev pub of_history : History → Tally
-of_history h = record {
-  orders = commands h.accepted;
-  cards = events h.queued;
-  acted = map asked_in h.acted;
-  settled = flat_map by_settled h.ended;
-  in_doubt = flat_map by_doubt h.ended;
-  reported = map event_of h.reports;
-}
+abbrev of_history : History → Tally
+of_history h = record { orders = commands h.accepted; acted = map asked_in h.acted; cards = events h.queued; told = told_in_history h }
 
--- of these commands and events, and these sessions, the last of them first
-abbrev pub of_accounts : List Command → List Event → List Account → Tally
-of_accounts cs es ts = record {
-  orders = cs;
-  cards = es;
-  acted = in_all (λ t. t.given) ts;
-  settled = in_all (λ t. t.settled) ts;
-  in_doubt = in_all (λ t. t.unsettled) ts;
-  reported = in_all (λ t. t.reported) ts;
-}
+-- ---- what a step adds
 
-abbrev pub Tells : List Command → List Event → List Account → History → Type 0
-Tells cs es ts h = of_history h ≡ of_accounts cs es ts
+abbrev with_one : Step → Tally → Tally
+with_one (ledger.Submit order) y = record y { orders = y.orders ++ order.command ∷ [] }
+with_one (Act order answer) y = record y { acted = y.acted ++ (order.command, answer) ∷ [] }
+with_one (ledger.Queue card) y = record y { cards = y.cards ++ card.event ∷ [] }
+with_one step y = record y { told = with_step step y.told }
 
--- more commands have ended so
-abbrev with_ends : List (Command × Reply) → List Command → Tally → Tally
-with_ends settled in_doubt y = record y { settled = y.settled ++ settled; in_doubt = y.in_doubt ++ in_doubt }
+abbrev with_all : List Step → Tally → Tally
+with_all [] y = y
+with_all (step ∷ steps) y = with_all steps (with_one step y)
 
--- ---- what a history gains
+all_more : (xs ys : List Step) (y : Tally) → with_all (xs ++ ys) y ≡ with_all ys (with_all xs y)
+all_more [] ys y = refl
+all_more (x ∷ xs) ys y = all_more xs ys (with_one x y)
 
-ends_more : (more : List (Order × End)) (h : History) → of_history (record h { ended = h.ended ++ more })
-    ≡ with_ends (flat_map by_settled more) (flat_map by_doubt more) (of_history h)
-ends_more more h =
-    (λ i. record (of_history h) {
-      settled = flat_map-append by_settled h.ended more i;
-      in_doubt = flat_map-append by_doubt h.ended more i;
+one_adds : (step : Step) (h : History) → of_history (steps_on step h) ≡ with_one step (of_history h)
+one_adds (ledger.Submit o) h = (λ i. record (of_history h) { orders = map-append (λ (o : Order). o.command) h.accepted (o ∷ []) i })
+one_adds (Act o answer) h = (λ i. record (of_history h) { acted = map-append asked_in h.acted ((o, answer) ∷ []) i })
+one_adds (ledger.Queue c) h = (λ i. record (of_history h) { cards = map-append (λ (c : Card). c.event) h.queued (c ∷ []) i })
+one_adds step h = (λ i. record (of_history h) { told = step_tells step h i })
+
+runs_add : (steps : List Step) (h : History) → of_history (runs steps h) ≡ with_all steps (of_history h)
+runs_add [] h = refl
+runs_add (step ∷ steps) h = runs_add steps (steps_on step h) ∙ ap (with_all steps) (one_adds step h)
+
+-- what is added at once: commands that were accepted, those that were acted on with their answers, events, and reports
+abbrev adding : List Command → List (Command × Reply) → List Event → List Report → Tally → Tally
+adding cs ds es rs y = record { orders = y.orders ++ cs; acted = y.acted ++ ds; cards = y.cards ++ es; told = with_reports rs y.told }
+
+none_added : (y : Tally) → y ≡ adding [] [] [] [] y
+none_added y = (λ i. record y { orders = sym (append-nil y.orders) i; acted = sym (append-nil y.acted) i; cards = sym (append-nil y.cards) i })
+
+acted_added : (ds : List (Command × Reply)) (y : Tally) → record y { acted = y.acted ++ ds } ≡ adding [] ds [] [] y
+acted_added ds y = (λ i. record y { orders = sym (append-nil y.orders) i; acted = y.acted ++ ds; cards = sym (append-nil y.cards) i })
+
+told_added : (rs : List Report) (y : Tally) → record y { told = with_reports rs y.told } ≡ adding [] [] [] rs y
+told_added rs y =
+    (λ i. record {
+      orders = sym (append-nil y.orders) i;
+      acted = sym (append-nil y.acted) i;
+      cards = sym (append-nil y.cards) i;
+      told = with_reports rs y.told;
     })
 
-pub submits_more : (o : Order) (cs : List Command) (es : List Event) (ts : List Account) (h : History) → Tells cs es ts h → Tells (cs ++ o.command ∷ []) es ts (steps_on (ledger.Submit o) h)
-submits_more o cs es ts h is =
-    (λ i. record (of_history h) { orders = map-append (λ (o : Order). o.command) h.accepted (o ∷ []) i })
-    ∙ (λ i. record (is i) { orders = (is i).orders ++ o.command ∷ [] })
+added_more : (cs more : List Command) (ds bs : List (Command × Reply)) (es fs : List Event) (rs qs : List Report) (y : Tally)
+    → adding more bs fs qs (adding cs ds es rs y) ≡ adding (cs ++ more) (ds ++ bs) (es ++ fs) (rs ++ qs) y
+added_more cs more ds bs es fs rs qs y =
+    (λ i. record {
+      orders = append_assoc y.orders cs more i;
+      acted = append_assoc y.acted ds bs i;
+      cards = append_assoc y.cards es fs i;
+      told = sym (reports_more rs qs y.told) i;
+    })
 
-pub queues_more : (c : Card) (cs : List Command) (es : List Event) (ts : List Account) (h : History) → Tells cs es ts h → Tells cs (es ++ c.event ∷ []) ts (steps_on (ledger.Queue c) h)
-queues_more c cs es ts h is =
-    (λ i. record (of_history h) { cards = map-append (λ (c : Card). c.event) h.queued (c ∷ []) i })
-    ∙ (λ i. record (is i) { cards = (is i).cards ++ c.event ∷ [] })
+-- ---- the panel
 
--- ---- the places of what is read off
+submits_add : (refusal : Option ControllerFault) (c : Command) (g : Ledger) (y : Tally) → with_all (submits refusal c g) y ≡ adding (accepted refusal c) [] [] [] y
+submits_add (Some fault) c g y = none_added y
+submits_add None c g y = (λ i. record y { orders = y.orders ++ c ∷ []; acted = sym (append-nil y.acted) i; cards = sym (append-nil y.cards) i })
 
-pub command_at : (os : List Order) (c : Command) → (order_at os c).command ≡ c
-command_at [] c = refl
-command_at (o ∷ os) c = refl
+opens_add : (state : State) (frame : Option Packet) (y : Tally) → with_all (opens state frame) y ≡ y
+opens_add (Quiet until) (Some frame) y = refl
+opens_add (Quiet until) None y = refl
+opens_add state frame y = refl
 
-pub order_is : (c : Command) (g : Ledger) → (order_acted c g).command ≡ c
-order_is c g = command_at (if g.is_open then g.ahead else option_to_list g.late) c
+told_adds : (r : Option Report) (g : Ledger) (y : Tally) → with_all (told r g) y ≡ record y { told = with_reports (option_to_list r) y.told }
+told_adds None g y = refl
+told_adds (Some (report.Lost cause (Some c))) g y = (λ i. record y { told = report_tells (report.Lost cause (Some c)) g y.told i })
+told_adds (Some (report.Lost cause None)) g y = (λ i. record y { told = report_tells (report.Lost cause None) g y.told i })
+told_adds (Some r) g y = (λ i. record y { told = report_tells r g y.told i })
 
-pub offered_event : (offer : Offer) (e : Event) → (offered_at offer e).event ≡ e
-offered_event NoOffer e = refl
-offered_event _ e = refl
+withdraws_add : (out : Option Command) (g : Ledger) (y : Tally) → with_all (withdraws out g) y ≡ y
+withdraws_add None g y = refl
+withdraws_add (Some c) g y = refl
 
--- ---- a restart of the panel
+-- ---- the device
 
--- it settles none, and tells none in doubt
-forgets_none : (os : List Order) → (flat_map by_settled (map (λ o. (o, Forgotten)) os) ≡ []) × (flat_map by_doubt (map (λ o. (o, Forgotten)) os) ≡ [])
-forgets_none [] = (refl, refl)
-forgets_none (o ∷ os) = forgets_none os
+queues_add : (full : Bool) (e : Event) (g : Ledger) (y : Tally) → with_all (queues full e g) y ≡ adding [] [] (unless_full full e) [] y
+queues_add true e g y = none_added y
+queues_add false e g y = (λ i. record y { orders = sym (append-nil y.orders) i; acted = sym (append-nil y.acted) i; cards = y.cards ++ e ∷ [] })
 
-ends_none : (is_open on_wire : Bool) (os : List Order)
-    → (flat_map by_settled (ends_at_restart is_open on_wire os) ≡ []) × (flat_map by_doubt (ends_at_restart is_open on_wire os) ≡ [])
-ends_none true true (o ∷ os) = forgets_none os
-ends_none true true [] = (refl, refl)
-ends_none true false os = forgets_none os
-ends_none false on_wire os = forgets_none os
+withdraws_event_add : (out : Option Event) (ever : Bool) (g : Ledger) (y : Tally) → with_all (withdraws_event out ever g) y ≡ y
+withdraws_event_add None ever g y = refl
+withdraws_event_add (Some e) ever g y = refl
 
-module _ (cs : List Command) (es : List Event) (earlier : List Account) where
-  -- ---- what the account of the last session gains
+lapses_add : (out : Option Event) (g : Ledger) (y : Tally) → with_all (lapses_event out g) y ≡ y
+lapses_add None g y = refl
+lapses_add (Some e) g y = by_test (ltb (card_at g.cards e).place g.shown)
+  where
+    by_test : (shown : Bool) → with_one (cond shown (Lapse (card_at g.cards e)) (ledger.WithdrawEvent (card_at g.cards e))) y ≡ y
+    by_test true = refl
+    by_test false = refl
 
-  abbrev pub Now : Account → History → Type 0
-  Now t h = Tells cs es (t ∷ earlier) h
+leaves_add : (es : List Event) (g : Ledger) (y : Tally) → with_all (leaves es g) y ≡ y
+leaves_add [] g y = refl
+leaves_add (e ∷ es) g y = refl
 
-  abbrev said : Account → Tally
-  said t = of_accounts cs es (t ∷ earlier)
+offers_add : (e : Option Event) (g : Ledger) (y : Tally) → with_all (offers e g) y ≡ y
+offers_add None g y = refl
+offers_add (Some e) g y = refl
 
-  told_settled : (more : List (Command × Reply)) (t : Account) → with_ends more [] (said t) ≡ said (record t { settled = t.settled ++ more })
-  told_settled more t =
-      (λ i. record (said t) {
-        settled = append_assoc (in_all (λ t. t.settled) earlier) t.settled more i;
-        in_doubt = append-nil (said t).in_doubt i;
-      })
+-- the command that is acted on, with its answer
+abbrev pub given_on : Command → Reply → List (Command × Reply)
+given_on Poll answer = []
+given_on c answer = (c, answer) ∷ []
 
-  told_in_doubt : (more : List Command) (t : Account) → with_ends [] more (said t) ≡ said (record t { unsettled = t.unsettled ++ more })
-  told_in_doubt more t =
-      (λ i. record (said t) {
-        settled = append-nil (said t).settled i;
-        in_doubt = append_assoc (in_all (λ t. t.unsettled) earlier) t.unsettled more i;
-      })
+abbrev given_at_zero : Command → Reply → List (Command × Reply)
+given_at_zero (Id kept) answer = []
+given_at_zero c answer = (c, answer) ∷ []
 
-  -- none of these ends is told
-  ends_untold : (more : List (Order × End)) (t : Account) (h : History) → (flat_map by_settled more ≡ []) × (flat_map by_doubt more ≡ []) → Now t h
-      → of_history (record h { ended = h.ended ++ more }) ≡ said t
-  ends_untold more t h none is =
-      ends_more more h
-      ∙ (λ i. with_ends (none.0 i) (none.1 i) (is i))
-      ∙ (λ i. record (said t) { settled = append-nil (said t).settled i; in_doubt = append-nil (said t).in_doubt i })
+abbrev pub given_as : Kind → Option Command → Option Reply → List (Command × Reply)
+given_as kind.Taken (Some c) (Some answer) = given_on c answer
+given_as kind.Zero (Some c) (Some answer) = given_at_zero c answer
+given_as _ c said = []
 
-  -- ---- reports
+abbrev with_given : List (Command × Reply) → Tally → Tally
+with_given ds y = record y { acted = y.acted ++ ds }
 
-  settles : (t : Account) (h : History) (g : Ledger) (c : Command) (a : Reply) → Now t h
-      → Now (record t { settled = t.settled ++ (c, a) ∷ [] }) (steps_on (ledger.Settle (order_at g.ahead c) a) h)
-  settles t h g c a is =
-      ends_more ((order_at g.ahead c, Settled a) ∷ []) h
-      ∙ (λ i. with_ends ((command_at g.ahead c i, a) ∷ []) [] (is i))
-      ∙ told_settled ((c, a) ∷ []) t
+none_given : (y : Tally) → y ≡ with_given [] y
+none_given y = (λ i. record y { acted = sym (append-nil y.acted) i })
 
-  doubts : (t : Account) (h : History) (g : Ledger) (c : Command) → Now t h
-      → Now (record t { unsettled = t.unsettled ++ c ∷ [] }) (steps_on (ledger.Doubt (order_at g.ahead c)) h)
-  doubts t h g c is =
-      ends_more ((order_at g.ahead c, InDoubt) ∷ []) h
-      ∙ (λ i. with_ends [] (command_at g.ahead c i ∷ []) (is i))
-      ∙ told_in_doubt (c ∷ []) t
+order_acts : (c : Command) (answer : Reply) (g : Ledger) (y : Tally) → with_one (Act (order_acted c g) answer) y ≡ with_given ((c, answer) ∷ []) y
+order_acts c answer g y = (λ i. with_given ((order_is c g i, answer) ∷ []) y)
 
-  reports_one : (t : Account) (h : History) (g : Ledger) (e : Event) → Now t h
-      → Now (record t { reported = t.reported ++ e ∷ [] }) (steps_on (ledger.Report (offered_at g.offer e)) h)
-  reports_one t h g e is =
-      (λ i. record (of_history h) { reported = map-append event_of h.reports ((h.sessions, offered_at g.offer e) ∷ []) i })
-      ∙ (λ i. record (is i) { reported = (is i).reported ++ offered_event g.offer e i ∷ [] })
-      ∙ (λ i. record (said t) { reported = append_assoc (in_all (λ t. t.reported) earlier) t.reported (e ∷ []) i })
+taken_adds : (c : Command) (answer : Reply) (g : Ledger) (y : Tally) → with_all (acts kind.Taken (Some c) (Some answer) g) y ≡ with_given (given_on c answer) y
+taken_adds Poll answer g y = offers_add (event_in answer) g y ∙ none_given y
+taken_adds c answer g y = order_acts c answer g y
 
-  pub tells : (r : Option Report) (t : Account) (h : History) (g : Ledger) → Now t h → Now (after_report r t) (runs (told r g) h)
-  tells (Some (report.Settled c a)) t h g is = settles t h g c a is
-  tells (Some (report.Moved c a)) t h g is = settles t h g c (reply.Com a) is
-  tells (Some (report.Event e)) t h g is = reports_one t h g e is
-  tells (Some (report.Lost cause (Some c))) t h g is = doubts t h g c is
-  tells (Some (report.Lost cause None)) t h g is =
-      is ∙ (λ i. record (said t) { in_doubt = ap (λ l. in_all (λ t. t.unsettled) earlier ++ l) (sym (append-nil t.unsettled)) i })
-  tells (Some (report.Opened id)) t h g is = is
-  tells (Some (report.PollAnswered answer)) t h g is = is
-  tells (Some (report.Unread c code)) t h g is = is
-  tells None t h g is = is
+zero_adds : (c : Command) (answer : Reply) (g : Ledger) (y : Tally) → with_all (acts kind.Zero (Some c) (Some answer) g) y ≡ with_given (given_at_zero c answer) y
+zero_adds (Id kept) answer g y = none_given y
+zero_adds c answer g y = order_acts c answer g y
 
-  pub opening : (state : State) (frame : Option Packet) (t : Account) (h : History) → Now t h → Now t (runs (opens state frame) h)
-  opening (Quiet until) (Some frame) t h is = is
-  opening (Quiet until) None t h is = is
-  opening Closed frame t h is = is
-  opening _ frame t h is = is
+acts_add : (k : Kind) (c : Option Command) (said : Option Reply) (g : Ledger) (y : Tally) → with_all (acts k c said g) y ≡ with_given (given_as k c said) y
+acts_add kind.Taken (Some c) (Some answer) g y = taken_adds c answer g y
+acts_add kind.Zero (Some c) (Some answer) g y = zero_adds c answer g y
+acts_add k c said g y = none_given y
 
-  -- ---- the device
+gets_add : (k : Kind) (q : EventQueue) (c : Option Command) (said : Option Reply) (g : Ledger) (y : Tally)
+    → with_all (leaves_and_acts k q c said g) y ≡ with_given (given_as k c said) y
+gets_add k q c said g y =
+    let left = leaves (leaving k q) g in
+    all_more left (acts k c said (after_steps left g)) y
+    ∙ ap (with_all (acts k c said (after_steps left g))) (leaves_add (leaving k q) g y)
+    ∙ acts_add k c said (after_steps left g) y
 
-  pub leaving_tally : (front : List Event) (t : Account) (h : History) (g : Ledger) → Now t h → Now t (runs (leaves front g) h)
-  leaving_tally [] t h g is = is
-  leaving_tally (e ∷ rest) t h g is = is
+module _ {H : Type 0} (answer_of : H → Command → Answer) (after : H → Command → H) where
+  abbrev given_by : Packet → ReaderState H → List (Command × Reply)
+  given_by p r = let o = hears answer_of after r p in given_as (kind_of r p) o.command o.said
 
-  offering_tally : (event : Option Event) (t : Account) (h : History) (g : Ledger) → Now t h → Now t (runs (offers event g) h)
-  offering_tally None t h g is = is
-  offering_tally (Some e) t h g is = is
+  abbrev pub given_by_front : Delivery → List Packet → ReaderState H → List (Command × Reply)
+  given_by_front Delivered (p ∷ rest) r = given_by p r
+  given_by_front Repeated (p ∷ rest) r = given_by p r
+  given_by_front _ _ r = []
 
-  acted_tally : (c : Command) (a : Reply) (t : Account) (h : History) (g : Ledger) → Now t h
-      → Now (record t { taken = t.taken ++ c ∷ []; given = t.given ++ (c, a) ∷ [] }) (steps_on (ledger.Act (order_acted c g) a) h)
-  acted_tally c a t h g is =
-      (λ i. record (of_history h) { acted = map-append asked_in h.acted ((order_acted c g, a) ∷ []) i })
-      ∙ (λ i. record (is i) { acted = (is i).acted ++ (order_is c g i, a) ∷ [] })
-      ∙ (λ i. record (said t) { acted = append_assoc (in_all (λ t. t.given) earlier) t.given ((c, a) ∷ []) i })
+  abbrev pub given_in : Move H → Link H → List (Command × Reply)
+  given_in (ToReader how) l = given_by_front how l.to_reader l.reader
+  given_in _ l = []
 
-  pub taking_tally : (c : Command) (a : Reply) (front : List Event) (t : Account) (h : History) (g : Ledger) → Now t h
-      → Now (link.taken_command c (Some a) front t) (runs (acts_on c a g) h)
-  taking_tally command.Poll a front t h g is = offering_tally (event_in a) t h g is
-  taking_tally c a front t h g is = acted_tally c a t h g is
+  abbrev pub all_given : List (Move H) → Link H → List (Command × Reply)
+  all_given [] l = []
+  all_given (move ∷ moves) l = given_in move l ++ all_given moves (after_move answer_of after move l)
 
-  -- ---- programs
+  to_reader_adds : (how : Delivery) (ps : List Packet) (r : ReaderState H) (g : Ledger) (y : Tally)
+      → with_all (to_reader answer_of after ps how r g) y ≡ with_given (given_by_front how ps r) y
+  to_reader_adds Delivered [] r g y = none_given y
+  to_reader_adds Lost [] r g y = none_given y
+  to_reader_adds Repeated [] r g y = none_given y
+  to_reader_adds Lost (p ∷ ps) r g y = none_given y
+  to_reader_adds Delivered (p ∷ ps) r g y = let o = hears answer_of after r p in gets_add (kind_of r p) r.queue o.command o.said g y
+  to_reader_adds Repeated (p ∷ ps) r g y = let o = hears answer_of after r p in gets_add (kind_of r p) r.queue o.command o.said g y
 
-  pub withdrawing_tally : (out : Option Command) (t : Account) (h : History) (g : Ledger) → Now t h → Now t (runs (withdraws out g) h)
-  withdrawing_tally None t h g is = is
-  withdrawing_tally (Some c) t h g is = ends_untold ((order_at g.ahead c, GivenBack) ∷ []) t h (refl, refl) is
+  -- ---- a move
 
-  pub withdrawing_event_tally : (out : Option Event) (ever : Bool) (kept : List Event) (t : Account) (h : History) (g : Ledger) → Now t h
-      → Now (record t { kept = kept }) (runs (withdraws_event out ever g) h)
-  withdrawing_event_tally None ever kept t h g is = is
-  withdrawing_event_tally (Some e) ever kept t h g is = is
+  move_adds : (move : Move H) (l : Link H) (g : Ledger) (y : Tally)
+      → with_all (steps_of answer_of after move l g) y ≡ adding (submitted move l) (given_in move l) (queued move l) (option_to_list (told_by move l)) y
+  move_adds (Submit c) l g y = submits_add (submit_refusal c l.controller) c g y
+  move_adds (QueueEvent e) l g y = queues_add (lacks_room e l.reader.queue) e g y
+  move_adds (Tick now) l g y =
+      let t = ticks now l.controller.session l.controller.waiting in
+      let first = opens l.controller.session.state t.step.frame in
+      all_more first (told t.step.report g) y
+      ∙ ap (with_all (told t.step.report g)) (opens_add l.controller.session.state t.step.frame y)
+      ∙ told_adds t.step.report g y ∙ told_added (option_to_list t.step.report) y
+  move_adds (ToReader how) l g y = to_reader_adds how l.to_reader l.reader g y ∙ acted_added (given_by_front how l.to_reader l.reader) y
+  move_adds (ToController how now) l g y =
+      let r = told_by_front how l.to_controller now l.controller.session in told_adds r g y ∙ told_added (option_to_list r) y
+  move_adds Withdraw l g y = withdraws_add (withdrawn_in l.controller.session.state l.controller.waiting) g y ∙ none_added y
+  move_adds WithdrawEvent l g y = withdraws_event_add (never_offered l.reader.queue) l.reader.queue.ever_offered g y ∙ none_added y
+  move_adds LapseEvent l g y = lapses_add (in_doubt l.reader.queue) g y ∙ none_added y
+  move_adds _ l g y = none_added y
 
-  -- the account of a lapse, whose event may have been offered in this session or before
-  lapsed_account : (old : Bool) (kept : List Event) (t : Account) (h : History) → Now t h → Now (cond old (record t { kept = kept }) t) h
-  lapsed_account true kept t h is = is
-  lapsed_account false kept t h is = is
+  moves_add : (moves : List (Move H)) (l : Link H) (g : Ledger) (y : Tally) → with_all (all_steps answer_of after moves l g) y
+      ≡ adding (all_submitted answer_of after moves l) (all_given moves l) (all_queued answer_of after moves l) (reports answer_of after moves l) y
+  moves_add [] l g y = none_added y
+  moves_add (move ∷ moves) l g y =
+      let steps = steps_of answer_of after move l g in
+      let next = after_move answer_of after move l in
+      let cs = all_submitted answer_of after moves next in
+      let ds = all_given moves next in
+      let es = all_queued answer_of after moves next in
+      let rs = reports answer_of after moves next in
+      all_more steps (all_steps answer_of after moves next (after_steps steps g)) y
+      ∙ moves_add moves next (after_steps steps g) (with_all steps y)
+      ∙ ap (adding cs ds es rs) (move_adds move l g y)
+      ∙ added_more (submitted move l) cs (given_in move l) ds (queued move l) es (option_to_list (told_by move l)) rs y
 
-  lapsed_step : (shown : Bool) (c : Card) (t : Account) (h : History) → Now t h → Now t (steps_on (cond shown (Lapse c) (ledger.WithdrawEvent c)) h)
-  lapsed_step true c t h is = is
-  lapsed_step false c t h is = is
+-- ---- from the beginning
 
-  pub lapsing_event_tally : (out : Option Event) (old : Bool) (kept : List Event) (t : Account) (h : History) (g : Ledger) → Now t h
-      → Now (cond old (record t { kept = kept }) t) (runs (lapses_event out g) h)
-  lapsing_event_tally None old kept t h g is = lapsed_account old kept t h is
-  lapsing_event_tally (Some e) old kept t h g is =
-      let c = card_at g.cards e in
-      let new = steps_on (gives_up_event c g.shown) h in
-      lapsed_account old kept t new (lapsed_step (ltb c.place g.shown) c t h is)
+submitted_adds : (place : ℕ) (cs : List Command) (y : Tally) → with_all (submitted_before place cs) y ≡ record y { orders = y.orders ++ cs }
+submitted_adds place [] y = (λ i. record y { orders = sym (append-nil y.orders) i })
+submitted_adds place (c ∷ cs) y =
+    submitted_adds (place + 1) cs (record y { orders = y.orders ++ c ∷ [] }) ∙ (λ i. record y { orders = append_assoc y.orders (c ∷ []) cs i })
 
-  -- ---- power
+queued_adds : (place : ℕ) (es : List Event) (y : Tally) → with_all (queued_before place es) y ≡ record y { cards = y.cards ++ es }
+queued_adds place [] y = (λ i. record y { cards = sym (append-nil y.cards) i })
+queued_adds place (e ∷ es) y =
+    queued_adds (place + 1) es (record y { cards = y.cards ++ e ∷ [] }) ∙ (λ i. record y { cards = append_assoc y.cards (e ∷ []) es i })
 
-  pub device_tally : (kept : List Event) (count : ℕ) (t : Account) (h : History) → Now t h
-      → Now (record t { kept = kept; restarts = count }) (steps_on RestartDevice h)
-  device_tally kept count t h is = is
-
-  pub panel_tally : (on_wire : Bool) (t : Account) (h : History) → Now t h → Now t (steps_on (RestartPanel on_wire) h)
-  panel_tally on_wire t h is =
-      ends_untold (ends_at_restart h.ledger.is_open on_wire h.ledger.ahead) t h (ends_none h.ledger.is_open on_wire h.ledger.ahead) is
-
-  -- another session begins
-  pub begins_anew : (waiting : List Command) (queue : List Event) (t : Account) (h : History) → Now t h → Tells cs es (link.new_account waiting queue ∷ t ∷ earlier) h
-  begins_anew waiting queue t h is =
-      is ∙ (λ i. record (said t) {
-        acted = sym (append-nil (said t).acted) i;
-        settled = sym (append-nil (said t).settled) i;
-        in_doubt = sym (append-nil (said t).in_doubt) i;
-        reported = sym (append-nil (said t).reported) i;
-      })
+module _ {H : Type 0} (answer_of : H → Command → Answer) (after : H → Command → H) where
+  pub come_to : (moves : List (Move H)) (l : Link H) → of_history (runs (steps_from answer_of after moves l) new_history) ≡ record {
+    orders = l.controller.waiting ++ all_submitted answer_of after moves l;
+    acted = all_given answer_of after moves l;
+    cards = l.reader.queue.events ++ all_queued answer_of after moves l;
+    told = with_reports (reports answer_of after moves l) nothing_told;
+  }
+  come_to moves l =
+      let first = submitted_before 0 l.controller.waiting in
+      let second = queued_before 0 l.reader.queue.events in
+      let more = all_steps answer_of after moves l (after_steps (steps_before l) new_ledger) in
+      let none = of_history new_history in
+      runs_add (steps_before l ++ more) new_history ∙ all_more (steps_before l) more none
+      ∙ ap (with_all more) (all_more first second none ∙ ap (with_all second) (submitted_adds 0 l.controller.waiting none)
+      ∙ queued_adds 0 l.reader.queue.events (record none { orders = l.controller.waiting }))
+      ∙ moves_add answer_of after moves l (after_steps (steps_before l) new_ledger) (record none { orders = l.controller.waiting; cards = l.reader.queue.events })

@@ -14,8 +14,8 @@ use Rattle.osdp_reader.specs.declared.config.ReaderConfig.{ReaderConfig}
 use Rattle.osdp_reader.specs.declared.handler.Answer.{Answer}
 use Rattle.osdp_ledger.specs.History.{new_history, runs}
 use Rattle.osdp_ledger.specs.Ledger.{Ledger}
-use Rattle.osdp_link_laws.specs.Headline.{Begins, MovesFit}
-use Rattle.osdp_link_laws.specs.Link.{Delivered, Link, Move, Tick, ToController, ToReader, new_account, run}
+use Rattle.osdp_link_laws.specs.Beginning.{Begins, MovesFit}
+use Rattle.osdp_link_laws.specs.Link.{Delivered, Link, Move, Tick, ToController, ToReader, run}
 use Rattle.osdp_link_ledger.specs.Laws.{HasNumber, unreported_in}
 use Rattle.osdp_link_ledger.specs.Steps.{steps_from}
 
@@ -34,8 +34,6 @@ module _ {H : Type 0} where
     reader = after_event the_event (new_reader the_device handler (record { messages = 1; bytes = 100 }));
     to_reader = [];
     to_controller = [];
-    account = new_account (Cap 0 ∷ []) (the_event ∷ []);
-    earlier = [];
   }
 
   -- the opening is answered, and the device acts on the order: its answer is on its way. It comes, and the device offers the event to a POLL.

@@ -1,22 +1,17 @@
 -- A link keeps the ledger of its two programs.
 use Rattle.std.specs.Prelude.{◌≡◌, ℕ, ◌==◌, Bool, true, false, List, [], ◌∷◌, ◌++◌, map, Option, Some, None, option_to_list}
 use Rattle.osdp_frame.specs.Packet.{Packet}
-use Rattle.osdp_msg.specs.Events.{event_in}
 use Rattle.osdp_msg.specs.declared.command.Command.{Command}
 use Rattle.osdp_msg.specs.declared.event.Event.{Event}
 use Rattle.osdp_msg.specs.declared.reply.Reply.{Reply}
-use Rattle.osdp_controller.specs.Answers.{meaning_of}
-use Rattle.osdp_controller.specs.declared.exchange.Exchange.{Exchange}
-use Rattle.osdp_controller.specs.declared.exchange.Exchange.TheVariants.{Polling}
-use Rattle.osdp_controller.specs.declared.meaning.ReplyMeaning.{ReplyMeaning}
-use Rattle.osdp_controller.specs.declared.meaning.ReplyMeaning.TheVariants.{Plain}
 use Rattle.osdp_controller.specs.declared.state.State.{State}
-use Rattle.osdp_controller.specs.declared.state.State.TheVariants.{Closed, Quiet, Waiting, Pausing}
+use Rattle.osdp_controller.specs.declared.state.State.TheVariants.{Closed, Quiet}
 use Rattle.osdp_reader.specs.declared.handler.Answer.{Answer}
 use Rattle.osdp_ledger.specs.History.{AreAllowed, new_history, runs}
 use Rattle.osdp_ledger.specs.Laws.{EventsHold, OrdersHold}
 use Rattle.osdp_ledger.specs.Ledger.{Card, Ledger, NoOffer, Offer, Order, Reported, Unreported}
-use Rattle.osdp_link_laws.specs.Headline.{Begins, MovesFit}
+use Rattle.osdp_link_laws.specs.Ahead.{is_polling, offered_to, stored_answer}
+use Rattle.osdp_link_laws.specs.Beginning.{Begins, MovesFit}
 use Rattle.osdp_link_laws.specs.Link.{Link, Move, outstanding_command, run}
 use Rattle.osdp_link_ledger.specs.Steps.{steps_from}
 
@@ -26,44 +21,16 @@ is_under_way Closed = false
 is_under_way (Quiet until) = false
 is_under_way _ = true
 
--- a POLL is outstanding
-abbrev pub is_poll : Exchange → Bool
-is_poll Polling = true
-is_poll _ = false
-
-abbrev pub is_polling : State → Bool
-is_polling (Waiting until sends o) = is_poll o.exchange
-is_polling (Pausing until o) = is_poll o.exchange
-is_polling _ = false
-
 -- the event that was offered and isn't reported yet
 abbrev pub unreported_in : Offer → List Event
 unreported_in NoOffer = []
 unreported_in (Unreported card) = card.event ∷ []
 unreported_in (Reported card) = []
 
--- the reply that a panel reads in what the device stores
-abbrev pub read_as : ReplyMeaning → Option Reply
-read_as (Plain answer) = Some answer
-read_as _ = None
-
-abbrev pub stored_answer : Option Packet → Option Reply
-stored_answer None = None
-stored_answer (Some packet) = read_as (meaning_of packet)
-
 -- the device's answer to the command that is outstanding, where its last number is that command's: the one that it stores
 abbrev pub answer_to : Option Command → Bool → Option Packet → Option Reply
 answer_to (Some command) true stored = stored_answer stored
 answer_to _ _ stored = None
-
--- the event that its answer to the POLL that is outstanding tells, where its last number is that POLL's: the answer that it stores
-abbrev pub event_told : Option Reply → List Event
-event_told None = []
-event_told (Some answer) = option_to_list (event_in answer)
-
-abbrev pub offered_to : Bool → Bool → Option Packet → List Event
-offered_to true true stored = event_told (stored_answer stored)
-offered_to _ _ stored = []
 
 -- the device is where the panel's packets go, and this is its last number. A device that has lost power, or has gone to another address, has none
 -- until number 0 comes.

@@ -1,6 +1,6 @@
 pub mod Steps
 pub mod Laws
-pub mod Accounts
+pub mod Telling
 pub mod Answers
 pub mod Ordinary
 pub mod Instance

@@ -26,7 +26,7 @@ use Rattle.osdp_ledger.specs.Ledger as ledger
 use Rattle.osdp_ledger.specs.Ledger.{Act, Card, Close, Doubt, Leave, Ledger, NoOffer, Offer, Offers, Open, Order, Reported, RestartDevice, RestartPanel, Settle, Step, Unreported, after, new_ledger}
 use Rattle.osdp_link_laws.specs.Link as link
 use Rattle.osdp_link_laws.specs.Link.{Delivered, Delivery, Link, Lost, LoseToController, LoseToReader, Move, Reopen, Repeated, RestartController, RestartReader, Retarget, SetBusy, SetHandler, Tick, ToController, ToReader, after_move, outstanding_command}
-use Rattle.osdp_link_laws.specs.Refusals.{told_by_front}
+use Rattle.osdp_link_laws.specs.Reports.{told_by_front}
 
 -- the ledger after steps
 abbrev pub after_steps : List Step → Ledger → Ledger

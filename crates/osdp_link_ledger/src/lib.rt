@@ -2,11 +2,11 @@
 //! functions do nothing: their contracts are laws.
 #![tactic(auto)]
 
-ghost use Rattle.osdp_link_ledger.specs.Accounts.{LedgerTellsAccounts};
 ghost use Rattle.osdp_link_ledger.specs.Answers.{ActsHaveAnswersOfOneHandler};
 ghost use Rattle.osdp_link_ledger.specs.Instance.{DevicesActAndOffer};
 ghost use Rattle.osdp_link_ledger.specs.Laws.{HoldsByLedger, LinkKeepsLedger};
 ghost use Rattle.osdp_link_ledger.specs.Ordinary.{OrdinaryMovesEndTold};
+ghost use Rattle.osdp_link_ledger.specs.Telling.{LedgerTellsMoves};
 
 use osdp_reader::Handler;
 
@@ -27,10 +27,10 @@ pub fn devices_act_and_offer<H: Handler>()
     link_keeps_ledger::<H>();
 }
 
-/// What these steps come to is what the accounts of the link's sessions say: the commands accepted, those that the device acted on, each with
-/// its answer, those settled and told in doubt, and the events queued and reported. So no such step is forgotten, and none is made up.
-pub fn ledger_tells_accounts<H: Handler>()
-    ensures { LedgerTellsAccounts H.answer_of H.after }
+/// What these steps come to is what the moves say: the commands accepted, those that the device has taken, those settled, each with its answer, and
+/// those told in doubt, and the events queued and reported, each in its order. So no such step is forgotten, and none is made up.
+pub fn ledger_tells_moves<H: Handler>()
+    ensures { LedgerTellsMoves H.answer_of H.after }
 {
     osdp_link_laws::read_each_other::<H>();
 }

@@ -26,4 +26,4 @@ pub use Rattle.osdp_calls.specs.Ends.{CanStand, KeepsPanel}
 pub use Rattle.osdp_premises.specs.Leaving.{is_ordinary, keeps_device, keeps_handler, keeps_panel, leaves_commands, LeavingIsExact}
 pub use Rattle.osdp_link_laws.proofs.Lines.{each_all}
 pub use Rattle.osdp_link_laws.proofs.Stages.{Each}
-pub use Rattle.osdp_premises.specs.LongDay.{answers, calls, device_at, first_line, four, had_sessions, line_in_the_morning, long_day, LongDayKeeps, RestartHappens, RestartsHappen, spare_at, station_at, twice}
+pub use Rattle.osdp_premises.specs.LongDay.{answers, calls, device_at, first_line, four, had_sessions, line_after, line_in_the_morning, long_day, LongDayKeeps, RestartHappens, RestartsHappen, spare_at, station_at, twice}

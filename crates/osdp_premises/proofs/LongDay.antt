@@ -1,5 +1,5 @@
 -- The long day keeps the premises: by the tests of each call, and since its values are in their ranges.
-use Rattle.osdp_premises.proofs.Common.{◌≡◌, ◌≢◌, ◌<◌, ◌≤◌, ℕ, zero, suc, true, IfSome, List, [], ◌∷◌, length, Option, Some, None, is_some, refl, sym, subst, ap, ◌∙◌, inr, arith, and_parts, Sum, Command, device_of, new_device, Entry, items_of, each_all, Each, hears, Answer, site_at, Call, NewDevice, NewPanel, Next, OfPanel, Step, after_call, after_calls, read_up_to, CanStand, InUse, Station, bus_with, AllKeep, InRange, IsSetUp, Keeps, NextInRange, PanelInRange, each_of, AllInRange, keeps_panel, LongDayKeeps, RestartHappens, RestartsHappen, calls, device_at, first_line, four, had_sessions, line_in_the_morning, long_day, spare_at, station_at, twice}
+use Rattle.osdp_premises.proofs.Common.{◌≡◌, ◌≢◌, ◌<◌, ◌≤◌, ℕ, zero, suc, true, IfSome, List, [], ◌∷◌, length, Option, Some, None, is_some, refl, sym, subst, ap, ◌∙◌, inr, arith, and_parts, Sum, Command, device_of, new_device, Entry, items_of, each_all, Each, hears, Answer, site_at, Call, NewDevice, NewPanel, Next, OfPanel, Step, after_call, after_calls, read_up_to, CanStand, InUse, Station, bus_with, AllKeep, InRange, IsSetUp, Keeps, NextInRange, PanelInRange, each_of, AllInRange, keeps_panel, LongDayKeeps, RestartHappens, RestartsHappen, calls, device_at, first_line, four, had_sessions, line_after, line_in_the_morning, long_day, spare_at, station_at, twice}
 use Rattle.std.specs.Prelude.{All, drop, slice_index, take}
 use Rattle.osdp_frame.specs.Held.{decided}
 use Rattle.osdp_frame.specs.Items.{items, left_over}
@@ -9,7 +9,6 @@ use Rattle.osdp_msg.specs.ReplyFields.{CapabilityFits, KeypadFits, PdIdFits}
 use Rattle.osdp_msg.specs.ReplyTable.{ReplyFits, reply_at, reply_fault, reply_of}
 use Rattle.osdp_bus.specs.Settings.{IsBusConfig}
 use Rattle.osdp_bus.proofs.Defaults.{bus_in_range}
-use Rattle.osdp_link_laws.specs.Link.{new_account}
 use Rattle.osdp_reader_laws.specs.Storing.{StoresItsOwn}
 use Rattle.osdp_premises.proofs.Exactly.{fair_keep}
 use Rattle.osdp_premises.proofs.Leaving.{leaving_exact}
@@ -88,9 +87,8 @@ module _ {H : Type 0} where
     stands (suc (suc k)) t is = absurd cc
 
     set_up_with : StoresItsOwn first.reader → (first.place ≡ 0) × (first.begun ≡ None)
-        → (first.account ≡ new_account [] first.reader.queue.events) × (first.earlier ≡ [])
         → IsSetUp (record (first_line handler) { stations = first ∷ station_at 4 handler ∷ [] })
-    set_up_with stores place account = record {
+    set_up_with stores place = record {
       config = twice;
       settings = twice_fits;
       others = 20 ∷ [];
@@ -99,17 +97,16 @@ module _ {H : Type 0} where
       apart = λ j k s t other at there e. far j k other (stands j s at).0 (stands k t there).0 (sym (stands j s at).1 ∙ e ∙ (stands k t there).1);
       stored = both (λ t. StoresItsOwn t.reader) stores tt;
       place = both (λ t. (t.place ≡ 0) × (t.begun ≡ None)) place (refl, refl);
-      account = both (λ t. (t.account ≡ new_account [] t.reader.queue.events) × (t.earlier ≡ [])) account (refl, refl);
       said = refl;
       read = refl;
       openings = refl;
     }
 
   pub is_set_up : (handler : H) → IsSetUp (first_line handler)
-  is_set_up handler = set_up_with handler (station_at 3 handler) refl tt (refl, refl) (refl, refl)
+  is_set_up handler = set_up_with handler (station_at 3 handler) refl tt (refl, refl)
 
   in_the_morning : (handler : H) → IsSetUp (line_in_the_morning handler)
-  in_the_morning handler = set_up_with handler (had_sessions (station_at 3 handler)) refl (refl, inr refl) (refl, refl) (refl, refl)
+  in_the_morning handler = set_up_with handler (had_sessions (station_at 3 handler)) refl (refl, inr refl) (refl, refl)
 
   -- calls among which no panel is made anew
   still : (steps : List (Step H)) → each_of (λ (step : Step H). keeps_panel step.call) steps ≡ true → Each (λ (step : Step H). CanStand step.call) steps
@@ -170,25 +167,23 @@ module _ {H : Type 0} (answer_of : H → Command → Answer) (after : H → Comm
     openings = refl;
     addresses = refl;
     spare = refl;
+    accepted = refl;
     taken = refl;
-    settled = refl;
-    in_doubt = refl;
+    told = refl;
     cut_off = refl;
-    reported = refl;
-    offered = refl;
-    waiting = refl;
-    said = refl;
+    handed = refl;
     queued = refl;
-    kept = refl;
+    pressed = refl;
+    taken_back = refl;
+    offered = refl;
+    lapsed = refl;
+    said = refl;
   }
 
   -- ---- restarts of that day
 
-  abbrev line_after : ℕ → H → H → InUse H
-  line_after count handler other = after_calls answer_of after (take count (long_day handler other)) (line_in_the_morning handler)
-
   abbrev line_then : ℕ → Call H → H → H → InUse H
-  line_then count call handler other = after_call answer_of after call [] (line_after count handler other)
+  line_then count call handler other = after_call answer_of after call [] (line_after answer_of after count handler other)
 
   keep_before : (count : ℕ) (steps : List (Step H)) (l : InUse H) → AllKeep answer_of after steps l → AllKeep answer_of after (take count steps) l
   keep_before zero steps l keep = tt
@@ -213,16 +208,16 @@ module _ {H : Type 0} (answer_of : H → Command → Answer) (after : H → Comm
 
   restart : (count k : ℕ) (call : Call H) (handler other : H) (first : Station H)
       → site_at count (long_day handler other) ≡ Some (calls call []) → site_at k (line_in_the_morning handler).stations ≡ Some first
-      → is_some (site_at k (line_after count handler other).stations) ≡ true → is_some (device_of k (line_after count handler other).bus) ≡ true
+      → is_some (site_at k (line_after answer_of after count handler other).stations) ≡ true → is_some (device_of k (line_after answer_of after count handler other).bus) ≡ true
       → is_some (site_at k (line_then count call handler other).stations) ≡ true → is_some (device_of k (line_then count call handler other).bus) ≡ true
       → RestartHappens answer_of after count k call handler other
   restart count k call handler other first at was station entry next_station next_entry =
       let keep = (day_keeps handler other).keep in
       record {
         first = first;
-        before = the_station (site_at k (line_after count handler other).stations) handler;
+        before = the_station (site_at k (line_after answer_of after count handler other).stations) handler;
         next = the_station (site_at k (line_then count call handler other).stations) handler;
-        entry = the_entry (device_of k (line_after count handler other).bus);
+        entry = the_entry (device_of k (line_after answer_of after count handler other).bus);
         next_entry = the_entry (device_of k (line_then count call handler other).bus);
         at = at;
         happens = record {
@@ -230,8 +225,8 @@ module _ {H : Type 0} (answer_of : H → Command → Answer) (after : H → Comm
           keep = keep_before count (long_day handler other) (line_in_the_morning handler) keep;
           keeps = keep_at count (long_day handler other) (line_in_the_morning handler) (calls call []) at keep;
           was = was;
-          station = there (site_at k (line_after count handler other).stations) handler station;
-          entry = stands_there (device_of k (line_after count handler other).bus) entry;
+          station = there (site_at k (line_after answer_of after count handler other).stations) handler station;
+          entry = stands_there (device_of k (line_after answer_of after count handler other).bus) entry;
           next_station = there (site_at k (line_then count call handler other).stations) handler next_station;
           next_entry = stands_there (device_of k (line_then count call handler other).bus) next_entry;
         };

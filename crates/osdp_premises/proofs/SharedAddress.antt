@@ -43,7 +43,7 @@ module _ {H : Type 0} (answer_of : H → Command → Answer) (after : H → Comm
     up = is_set_up handler;
     others = but_order shared_day (first_line handler) refl
         (all_range answer_of after shared_day (first_line handler) (tt, (omega arith, (tt, (tt, (tt, (tt, (tt, tt))))))));
-    settled = refl;
+    told = refl;
     taken = refl;
     not_in_order = not_in_order handler;
   }

@@ -2,7 +2,7 @@
 -- damage, lost packets and repeated ones, a packet that is read twice, a busy device, an event that is told again, orders and events that are
 -- taken back, an event that lapses, another handler, a COMSET that is settled and one that is in doubt, a device that restarts where it is, spares of
 -- another model that come in a device's place and elsewhere, a panel that restarts, and a reader of another make, whose entry is the last.
-use Rattle.std.specs.Prelude.{◌≡◌, ℕ, true, false, All, List, [], ◌∷◌, ◌++◌, map, length, take, drop, option_to_list, Option, Some, None}
+use Rattle.std.specs.Prelude.{◌≡◌, ℕ, Bool, true, false, All, List, [], ◌∷◌, ◌++◌, map, length, take, drop, Option, Some, None}
 use Rattle.osdp_frame.specs.Packed.{packed}
 use Rattle.osdp_frame.specs.Receiving.{new_line}
 use Rattle.osdp_frame.specs.Spelling.{spelling}
@@ -12,24 +12,29 @@ use Rattle.osdp_msg.specs.declared.command.Command.TheVariants.{Cap, Comset}
 use Rattle.osdp_msg.specs.declared.event.Event.{Event}
 use Rattle.osdp_msg.specs.declared.event.Event.TheVariants.{Keypad}
 use Rattle.osdp_msg.specs.declared.limits.Room.{Room}
+use Rattle.osdp_msg.specs.declared.reply.Reply.TheVariants.{Com, PdCap}
 use Rattle.osdp_bus.specs.Buses.{device_of, new_bus}
 use Rattle.osdp_bus.specs.Settings.{default_config}
 use Rattle.osdp_bus.specs.declared.config.BusConfig.{BusConfig}
 use Rattle.osdp_bus.specs.declared.entry.Entry.{Entry}
 use Rattle.osdp_bus_laws.specs.Calls as bus
-use Rattle.osdp_link_laws.specs.Link.{Account, new_account, outstanding_command}
+use Rattle.osdp_link_laws.specs.Link.{outstanding_command}
+use Rattle.osdp_link_laws.specs.Reports.{nothing_told, with_reports}
 use Rattle.osdp_controller.specs.declared.report.Report.TheVariants.{Opened}
 use Rattle.osdp_reader.specs.State.{new_reader}
 use Rattle.std.specs.Option.{option_map}
 use Rattle.osdp_reader.specs.declared.config.ReaderConfig.{ReaderConfig}
 use Rattle.osdp_reader.specs.declared.handler.Answer.{Answer}
 use Rattle.osdp_shared_line.specs.Line.{site_at}
+use Rattle.osdp_calls.specs.Accepted.{all_accepted, all_queued}
 use Rattle.osdp_calls.specs.Calls.{Call, NewDevice, NewPanel, Next, OfPanel, Pending, SetBusy, SetHandler, Silence, Step, SubmitEvent, Take, TickDevice, LapseEvent, WithdrawEvent, after_calls}
 use Rattle.osdp_calls.specs.Ends.{CanStand}
 use Rattle.osdp_calls.specs.Lines.{InUse, Opening, Station, bus_with}
+use Rattle.osdp_calls.specs.Marks.{all_handed}
 use Rattle.osdp_calls.specs.Premises.{AllKeep, IsSetUp}
 use Rattle.osdp_calls.specs.Restarts.{IsBeforeAndAfter}
 use Rattle.osdp_calls.specs.Sayings.{NoneRefused}
+use Rattle.osdp_calls.specs.Told.{all_taken, all_told, reports_of}
 
 -- room for four messages, however long each is
 abbrev pub four : Room
@@ -79,8 +84,6 @@ module _ {H : Type 0} where
     line = new_line 20;
     place = 0;
     begun = None;
-    account = new_account [] [];
-    earlier = [];
   }
 
   -- the same device, which had sessions with another panel: the last command that it took was a POLL to 127 with number 2, and it stores the answer
@@ -345,21 +348,21 @@ module _ {H : Type 0} where
       ++ lapse handler other
       ++ replaced handler other
 
-  -- the accounts of the sessions of an entry, the last of them first
-  abbrev pub sessions_of : Option (Station H) → List Account
-  sessions_of None = []
-  sessions_of (Some t) = t.account ∷ t.earlier
+  -- the events that wait at the first device, and whether the one in front was ever offered
+  abbrev pub waits : InUse H → Option (List Event × Bool)
+  waits l = option_map (λ (t : Station H). (t.reader.queue.events, t.reader.queue.ever_offered)) (site_at 0 l.stations)
 
   module _ (answer_of : H → Command → Answer) (after : H → Command → H) where
     abbrev pub line_at_night : H → H → InUse H
     line_at_night handler other = after_calls answer_of after (long_day handler other) (line_in_the_morning handler)
 
-    abbrev pub first_sessions : H → H → List Account
-    first_sessions handler other = sessions_of (site_at 0 (line_at_night handler other).stations)
+    -- .. and after so many of these calls
+    abbrev pub line_after : ℕ → H → H → InUse H
+    line_after count handler other = after_calls answer_of after (take count (long_day handler other)) (line_in_the_morning handler)
 
     -- All of these calls keep the premises, whatever the devices' handlers answer. What they come to: seven sessions have opened, six of the first entry.
-    -- In its sessions, the last of them first, so many commands were taken, and so many of them settled and told in doubt; and so many events were
-    -- reported. The key was told twice, and once more in the last session, where it lapsed.
+    -- These commands were accepted for it and taken, and these settled and told in doubt. The key was told twice, and offered once more in the last
+    -- session, where it lapsed.
     pub record LongDayKeeps (handler other : H) : Type 0 where
       pub up : IsSetUp (line_in_the_morning handler)
       pub keep : AllKeep answer_of after (long_day handler other) (line_in_the_morning handler)
@@ -368,23 +371,32 @@ module _ {H : Type 0} where
       pub openings : map (λ (o : Opening). o.entry) (line_at_night handler other).openings ≡ 0 ∷ 0 ∷ 0 ∷ 0 ∷ 0 ∷ 1 ∷ 0 ∷ []
       pub addresses : map (λ (o : Opening). o.address) (line_at_night handler other).openings ≡ 9 ∷ 9 ∷ 7 ∷ 5 ∷ 3 ∷ 4 ∷ 3 ∷ []
       -- the spare is told by its own identity
-      pub spare : (after_calls answer_of after (take 117 (long_day handler other)) (line_in_the_morning handler)).bus.devices.report
-          ≡ Some (0, Opened (spare_at 9).id)
-      pub taken : map (λ (a : Account). length a.taken) (first_sessions handler other) ≡ 0 ∷ 1 ∷ 0 ∷ 1 ∷ 1 ∷ 1 ∷ 0 ∷ []
-      pub settled : map (λ (a : Account). length a.settled) (first_sessions handler other) ≡ 0 ∷ 0 ∷ 0 ∷ 0 ∷ 1 ∷ 1 ∷ 0 ∷ []
-      pub in_doubt : map (λ (a : Account). a.unsettled) (first_sessions handler other) ≡ [] ∷ [] ∷ [] ∷ (away 7 ∷ []) ∷ [] ∷ [] ∷ [] ∷ []
+      pub spare : (line_after 117 handler other).bus.devices.report ≡ Some (0, Opened (spare_at 9).id)
+      -- the second CAP is taken back
+      pub accepted : all_accepted answer_of after 0 (long_day handler other) (line_in_the_morning handler) ≡ Cap 0 ∷ Cap 0 ∷ away 5 ∷ away 7 ∷ Cap 0 ∷ []
+      pub taken : all_taken answer_of after 0 (long_day handler other) (line_in_the_morning handler) ≡ Cap 0 ∷ away 5 ∷ away 7 ∷ Cap 0 ∷ []
+      pub told : with_reports (reports_of 0 (all_told answer_of after (long_day handler other) (line_in_the_morning handler))) nothing_told ≡ record {
+        settled =
+            (Cap 0, PdCap (record { capabilities = record { items = [] } }))
+            ∷ (away 5, Com (record { address = 5; baud_rate = 9600 }))
+            ∷ [];
+        in_doubt = away 7 ∷ [];
+        reported = key ∷ key ∷ [];
+      }
       -- the panel was made anew while a CAP was outstanding at the first entry
-      pub cut_off : option_map (λ (d : Entry). outstanding_command d.controller.session.state)
-          (device_of 0 (after_calls answer_of after (take 122 (long_day handler other)) (line_in_the_morning handler)).bus) ≡ Some (Some (Cap 0))
-      pub reported : map (λ (a : Account). a.reported) (first_sessions handler other) ≡ [] ∷ [] ∷ [] ∷ [] ∷ (key ∷ []) ∷ (key ∷ []) ∷ [] ∷ []
-      pub offered : map (λ (a : Account). a.offered) (first_sessions handler other) ≡ (key ∷ []) ∷ [] ∷ [] ∷ [] ∷ (key ∷ []) ∷ (key ∷ []) ∷ [] ∷ []
-      -- what has lapsed waits no more
-      pub waiting : map (λ (t : Station H). t.reader.queue.events) (option_to_list (site_at 0 (line_at_night handler other).stations)) ≡ [] ∷ []
+      pub cut_off : option_map (λ (d : Entry). outstanding_command d.controller.session.state) (device_of 0 (line_after 122 handler other).bus)
+          ≡ Some (Some (Cap 0))
+      -- the key was told in two sessions, and is marked the second time
+      pub handed : all_handed answer_of after 0 (long_day handler other) (line_in_the_morning handler) ≡ (key, false) ∷ (key, true) ∷ []
+      pub queued : all_queued answer_of after 0 (long_day handler other) (line_in_the_morning handler) ≡ key ∷ key ∷ key ∷ []
+      -- two keys wait, of which the one that was never offered is taken back
+      pub pressed : waits (line_after 59 handler other) ≡ Some (key ∷ key ∷ [], true)
+      pub taken_back : waits (line_after 60 handler other) ≡ Some (key ∷ [], true)
+      -- what has lapsed was offered, and waits no more
+      pub offered : waits (line_after 152 handler other) ≡ Some (key ∷ [], true)
+      pub lapsed : waits (line_at_night handler other) ≡ Some ([], false)
       -- what is said for the reader of another make, or by it, is not among this
       pub said : length (line_at_night handler other).said ≡ 45
-      -- of two keys that were pressed in the second session one is taken back
-      pub queued : map (λ (a : Account). length a.queued) (first_sessions handler other) ≡ 1 ∷ 0 ∷ 0 ∷ 0 ∷ 1 ∷ 2 ∷ 0 ∷ []
-      pub kept : map (λ (a : Account). length a.kept) (first_sessions handler other) ≡ 1 ∷ 0 ∷ 0 ∷ 0 ∷ 1 ∷ 1 ∷ 0 ∷ []
 
     -- a call of that list that makes an end of an entry anew, after so many: what restarts cost speaks of the entry before it and after it
     pub record RestartHappens (count k : ℕ) (call : Call H) (handler other : H) : Type 0 where

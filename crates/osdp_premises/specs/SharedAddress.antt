@@ -1,16 +1,17 @@
 -- Why others may not use an address of ours: a list of calls in which another maker's machine answers from the address of our device. All that is asked of it is
 -- kept, but order. The panel tells an order settled that its device never had.
-use Rattle.std.specs.Prelude.{◌≡◌, List, [], ◌∷◌, map, length}
+use Rattle.std.specs.Prelude.{◌≡◌, List, [], ◌∷◌}
 use Rattle.osdp_msg.specs.declared.command.Command.{Command}
 use Rattle.osdp_msg.specs.declared.command.Command.TheVariants.{Cap}
+use Rattle.osdp_msg.specs.declared.reply.Reply.TheVariants.{Ack}
 use Rattle.osdp_bus_laws.specs.Calls as bus
-use Rattle.osdp_link_laws.specs.Link.{Account}
+use Rattle.osdp_link_laws.specs.Reports.{nothing_told, with_reports}
 use Rattle.osdp_reader.specs.declared.handler.Answer.{Answer}
-use Rattle.osdp_shared_line.specs.Line.{site_at}
-use Rattle.osdp_calls.specs.Calls.{OfPanel, Step, after_call, after_calls}
+use Rattle.osdp_calls.specs.Calls.{OfPanel, Step, after_call}
 use Rattle.osdp_calls.specs.Lines.{InUse}
 use Rattle.osdp_calls.specs.Premises.{Addresses, AllKeep, InRange, IsSetUp, QuietOpening}
-use Rattle.osdp_premises.specs.LongDay.{answers, calls, first_line, sessions_of}
+use Rattle.osdp_calls.specs.Told.{all_taken, all_told, reports_of}
+use Rattle.osdp_premises.specs.LongDay.{answers, calls, first_line}
 
 module _ {H : Type 0} where
   -- The session is opened, and the order is answered, from 3. Nothing has come to our device, which is there.
@@ -36,13 +37,11 @@ module _ {H : Type 0} where
     AllKeepButOrder [] l = Unit {0}
     AllKeepButOrder (step ∷ steps) l = KeepsButOrder step l × AllKeepButOrder steps (after_call answer_of after step.call step.places l)
 
-    abbrev pub sessions_then : H → List Account
-    sessions_then handler = sessions_of (site_at 0 (after_calls answer_of after shared_day (first_line handler)).stations)
-
-    -- the order is settled in the session that has opened, and the device has taken none
+    -- the order is settled, and the device has taken none
     pub record SharedAddressBreaksOrder (handler : H) : Type 0 where
       pub up : IsSetUp (first_line handler)
       pub others : AllKeepButOrder shared_day (first_line handler)
-      pub settled : map (λ (a : Account). length a.settled) (sessions_then handler) ≡ 1 ∷ 0 ∷ []
-      pub taken : map (λ (a : Account). length a.taken) (sessions_then handler) ≡ 0 ∷ 0 ∷ []
+      pub told : with_reports (reports_of 0 (all_told answer_of after shared_day (first_line handler))) nothing_told
+          ≡ record { settled = (Cap 0, Ack) ∷ []; in_doubt = []; reported = [] }
+      pub taken : all_taken answer_of after 0 shared_day (first_line handler) ≡ []
       pub not_in_order : AllKeep answer_of after shared_day (first_line handler) → ⊥

@@ -8,7 +8,7 @@ pub use Rattle.osdp_bus.specs.declared.config.BusConfig.{BusConfig}
 pub use Rattle.osdp_link_laws.proofs.Lines.{each_append, each_map}
 pub use Rattle.osdp_link_laws.proofs.Stages.{Each}
 pub use Rattle.osdp_reader.specs.declared.handler.Answer.{Answer}
-pub use Rattle.osdp_shared_line.specs.Line.{Net, RestartPanel, site_at}
+pub use Rattle.osdp_shared_line.specs.Line.{site_at}
 pub use Rattle.osdp_shared_line.proofs.Sites.{some_same}
 pub use Rattle.osdp_sim_bus.specs.Runs.{are_apart, AreSettings, is_at, is_reader_in_range, is_well, run}
 pub use Rattle.osdp_sim_bus.specs.State.{address_of, Given, LineState, new_site, ReaderSite, set_up}
@@ -21,8 +21,6 @@ pub use Rattle.osdp_calls_instance.specs.SimulatedBus.{all_hear, AreItsCalls, be
 pub use Rattle.osdp_calls_instance.proofs.OwnCalls.{call_the_line, each_bus, splits}
 pub use Rattle.osdp_bus.specs.Buses.{BusState, device_of, new_bus}
 pub use Rattle.osdp_bus.specs.declared.entry.Entry.{Entry}
-pub use Rattle.osdp_link_laws.specs.Headline.{asked, EachIsOnce, HoldsOnce}
-pub use Rattle.osdp_shared_line.specs.Runs.{EachIsALink, moves_of}
 pub use Rattle.osdp_calls_ledger.specs.Promises.{LedgerHoldsOnce}
 pub use Rattle.osdp_calls_instance.proofs.SimSetUp.{both, is_not, neither, not_equal, runs_from_a_set_up}
 pub use Rattle.osdp_device.specs.Status.{status_after, status_answer}

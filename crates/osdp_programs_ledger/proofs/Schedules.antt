@@ -1,13 +1,11 @@
 -- The run of a schedule is calls of a line in use, and its account tells what their ledger says.
-use Rattle.osdp_programs_ledger.proofs.Common.{◌≡◌, ℕ, zero, suc, List, [], ◌∷◌, map, Some, sym, subst, ap, ◌∙◌, slice_get, Command, device_of, HoldsOnce, asked, Answer, site_at, EachIsALink, Given, GoByTheirOwn, InUse, RunIsCalls, line_at_first, new_station, runs_from_a_set_up, LedgerHoldsOnce}
-use Rattle.osdp_ledger.specs.History.{new_history, runs}
-use Rattle.osdp_link_ledger.proofs.Answered.{commands_acted, taken_in}
-use Rattle.osdp_calls_instance.specs.SimulatedReports.{RunTakesTheSame, RunTellsTheSame, Told}
+use Rattle.osdp_programs_ledger.proofs.Common.{◌≡◌, ℕ, zero, suc, List, [], ◌∷◌, map, Some, sym, subst, ap, ◌∙◌, slice_get, Command, device_of, Answer, site_at, Given, GoByTheirOwn, InUse, RunIsCalls, line_at_first, new_station, runs_from_a_set_up, LedgerHoldsOnce}
+use Rattle.osdp_link_laws.specs.Reports.{Told}
+use Rattle.osdp_calls_instance.specs.SimulatedReports.{RunTakesTheSame, RunTellsTheSame}
 use Rattle.osdp_calls_ledger.specs.Laws.{EachKeepsLedger}
-use Rattle.osdp_calls_ledger.specs.Steps.{steps_from}
 use Rattle.osdp_programs_ledger.specs.Schedules.{RunsHoldOnce}
 use Rattle.osdp_programs_ledger.proofs.Accepted.{run_accepts}
-use Rattle.osdp_programs_ledger.proofs.Entries.{entry_of, once_of}
+use Rattle.osdp_programs_ledger.proofs.Entries.{entry_of}
 use Rattle.osdp_programs_ledger.proofs.Standing.{entries_stand}
 
 module _ {H : Type 0} where
@@ -18,9 +16,9 @@ module _ {H : Type 0} where
   station_at gap (suc k) given (g ∷ readers) at = station_at gap k given readers at
 
   module _ (answer_of : H → Command → Answer) (after : H → Command → H) where
-    pub runs_hold_once : ((l : InUse H) → GoByTheirOwn answer_of after l) → EachKeepsLedger answer_of after → LedgerHoldsOnce answer_of after → EachIsALink answer_of after → HoldsOnce answer_of after → RunIsCalls answer_of after
+    pub runs_hold_once : ((l : InUse H) → GoByTheirOwn answer_of after l) → EachKeepsLedger answer_of after → LedgerHoldsOnce answer_of after → RunIsCalls answer_of after
         → RunTellsTheSame answer_of after → RunTakesTheSame answer_of after → RunsHoldOnce answer_of after
-    runs_hold_once own keeps holds links once is_calls tells takes config readers steps gap calls some taken are keep k given u there at =
+    runs_hold_once own keeps holds is_calls tells takes config readers steps gap calls some taken are keep k given u there at =
         let l = line_at_first config gap readers in
         let first = new_station gap given in
         let is = station_at gap k given readers there in
@@ -30,11 +28,10 @@ module _ {H : Type 0} where
         let entry = entry_of answer_of after l calls up keep k t.0 t.1 in
         let held = holds l calls up keep k first t.0 entry.0 is t.1 entry.1 in
         let kept = keeps l calls up keep k first t.0 entry.0 is t.1 entry.1 in
-        let sessions = t.0.account ∷ t.0.earlier in
-        let h = runs (steps_from answer_of after k first calls l) new_history in
-        let told = tells config readers steps gap calls taken.settings.bus (entries_stand config readers taken.settings) taken.well taken.bytes are k u t.0 at t.1 in
+        let told = tells config readers steps gap calls taken.settings.bus (entries_stand config readers taken.settings) taken.well taken.bytes are k u at in
+        let same = kept.tells.told ∙ told in
         let more = run_accepts answer_of after own config readers steps gap calls some taken.well taken.bytes are k given u there at in
-        let took = takes config readers steps gap calls some taken.well taken.bytes are k u t.0 at t.1 in
+        let took = takes config readers steps gap calls some taken.well taken.bytes are k u at in
         record {
           entry = entry.0;
           has = subst (λ b. device_of k b ≡ Some entry.0) ends.bus entry.1;
@@ -44,12 +41,11 @@ module _ {H : Type 0} where
           allowed = held.0;
           holds = held.1;
           told = record {
-            issued = more.0 ∙ sym kept.accounts.orders;
-            queued = more.1 ∙ sym kept.accounts.cards;
-            settled = sym (kept.accounts.settled ∙ ap (λ (x : Told). x.settled) told);
-            unsettled = sym (kept.accounts.in_doubt ∙ ap (λ (x : Told). x.unsettled) told);
-            taken = sym (sym (commands_acted h.acted) ∙ ap (map asked) kept.accounts.acted
-                ∙ taken_in sessions (once_of answer_of after links once l calls up keep k first t.0 is t.1) ∙ took);
-            reported = sym (kept.accounts.reported ∙ ap (λ (x : Told). x.reported) told);
+            issued = more.0 ∙ sym kept.tells.orders;
+            queued = more.1 ∙ sym kept.tells.cards;
+            settled = sym (ap (λ (x : Told). x.settled) same);
+            unsettled = sym (ap (λ (x : Told). x.in_doubt) same);
+            taken = sym (kept.tells.acted ∙ took);
+            reported = sym (ap (λ (x : Told). x.reported) same);
           };
         }

@@ -8,7 +8,7 @@ use Rattle.osdp_bus.specs.declared.entry.Entry.{Entry}
 use Rattle.osdp_reader.specs.declared.handler.Answer.{Answer}
 use Rattle.osdp_ledger.specs.History.{AreAllowed, End, History, new_history, runs}
 use Rattle.osdp_ledger.specs.Ledger.{Card, Order}
-use Rattle.osdp_link_ledger.specs.Accounts.{doubted_as, settled_as}
+use Rattle.osdp_link_ledger.specs.Telling.{doubted_as, settled_as}
 use Rattle.osdp_shared_line.specs.Line.{site_at}
 use Rattle.osdp_sim.specs.Account.{Account}
 use Rattle.osdp_sim.specs.declared.step.SimStep.{SimStep}

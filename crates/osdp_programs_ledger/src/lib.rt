@@ -50,8 +50,6 @@ pub fn runs_hold_once<H: Handler>()
     osdp_calls_instance::run_tells_the_same::<H>();
     osdp_calls_ledger::each_keeps_ledger::<H>();
     osdp_calls_ledger::ledger_holds_once::<H>();
-    osdp_shared_line::each_is_a_link::<H>();
-    osdp_link_laws::holds_once::<H>();
 }
 
 /// What programs in C are promised holds, too, where the panel's entries stand in any order, with entries of others between ours, and where the panel is

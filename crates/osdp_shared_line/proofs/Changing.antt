@@ -1,5 +1,5 @@
 -- A site changes, and gives up nothing that keeps it apart: what calls, losses and restarts do.
-use Rattle.osdp_shared_line.proofs.Common.{◌≡◌, ◌≢◌, ◌⊎◌, ◌<◌, ℕ, zero, suc, Bool, true, false, cond, leb, ltb, List, [], ◌∷◌, ◌++◌, Option, Some, None, IfSome, refl, sym, subst, ap, ◌∙◌, inl, inr, append_assoc, ltb-true, ◌||◌, is_some, not, Room, Packet, CommandFits, Command, Communication, Event, has_comset, comset_of, ControllerFault, State, Closed, Quiet, Idle, Waiting, Pausing, Answer, lost_at, each_append, each_map, each_of, each_rest, is_true, Each, HasNoOther, IsAsked, IsFreeFor, IsNameOf, IsSaid, IsThere, Sets, Somewhere, asked_in, unended, Net, Site, address_of, calls, changed, is_command_accepted, is_comset_refused, is_reserved, is_retarget_accepted, is_retarget_refused, is_taken, is_taken_beside, site_at, takes_up, IsQuiet}
+use Rattle.osdp_shared_line.proofs.Common.{◌≡◌, ◌≢◌, ◌⊎◌, ◌<◌, ℕ, zero, suc, Bool, true, false, cond, leb, ltb, List, [], ◌∷◌, ◌++◌, Option, Some, None, IfSome, refl, sym, subst, ap, ◌∙◌, inl, inr, append_assoc, ltb-true, ◌||◌, is_some, not, Room, Packet, CommandFits, Command, Communication, Event, has_comset, comset_of, ControllerFault, State, Closed, Quiet, Idle, Waiting, Pausing, Answer, lost_at, each_append, each_map, each_of, each_rest, is_true, Each, HasNoOther, IsAsked, IsFreeFor, IsNameOf, IsSaid, IsThere, Sets, Somewhere, option_to_list, outstanding_command, ahead, unended, Net, Site, address_of, calls, changed, is_command_accepted, is_comset_refused, is_reserved, is_retarget_accepted, is_retarget_refused, is_taken, is_taken_beside, site_at, takes_up, IsQuiet}
 use Rattle.osdp_msg.specs.declared.command.Command.TheVariants as command
 use Rattle.osdp_controller.specs.Machine as controllers
 use Rattle.osdp_controller.specs.Machine.{Machine}
@@ -55,7 +55,7 @@ set_is (command.Comset d) to is = by_test (leb d.address 126) is
 set_is _ to is = absurd cc
 
 -- what is left of the commands where one is withdrawn
-pub left_withdrawn : (state : State) (ws : List Command) → AreLeft (asked_in state ++ ws) (asked_in state ++ controllers.kept_in state ws)
+pub left_withdrawn : (state : State) (ws : List Command) → AreLeft (option_to_list (outstanding_command state) ++ ws) (option_to_list (outstanding_command state) ++ controllers.kept_in state ws)
 left_withdrawn Closed [] = ([], refl)
 left_withdrawn Closed (c ∷ cs) = (c ∷ [], refl)
 left_withdrawn _ ws = ([], refl)
@@ -138,7 +138,7 @@ module _ {H : Type 0} where
       → IsRead s.coming t.coming → Quietly s t
   unmoved s t controller reader stored coming = record {
     address = ap (λ (m : Machine). m.session.config.address) controller;
-    left = subst (λ (m : Machine). AreLeft (unended s) (asked_in m.session.state ++ m.waiting)) (sym controller) (all_left (unended s));
+    left = subst (λ (m : Machine). AreLeft (unended s) (ahead m)) (sym controller) (all_left (unended s));
     reader = reader;
     stored = stored;
     closed = λ is. ap (λ (m : Machine). m.session.state) controller ∙ is;
@@ -209,7 +209,7 @@ module _ {H : Type 0} where
         t = line.keeping r (line.left_by s (link.submits None c (line.link_of s [] [])))
 
         longer : unended t ≡ unended s ++ c ∷ []
-        longer = sym (append_assoc (asked_in s.controller.session.state) s.controller.waiting (c ∷ []))
+        longer = sym (append_assoc (option_to_list (outstanding_command s.controller.session.state)) s.controller.waiting (c ∷ []))
 
         names : NamesGo i s t n.sites
         names b (inl is) = inl (inl is)
@@ -305,7 +305,7 @@ module _ {H : Type 0} where
       names = names_one i s t n.sites next at from (λ b name. inl (names b name)) a.names;
       kept = kept_one i t n.sites next from (record {
         device = h.device;
-        fits = subst (λ q. Each CommandFits (asked_in q ++ s.controller.waiting)) closed h.fits;
+        fits = subst (λ q. Each CommandFits (option_to_list (outstanding_command q) ++ s.controller.waiting)) closed h.fits;
         devices = h.devices;
         away = h.away;
         order = h.order;
@@ -334,7 +334,7 @@ module _ {H : Type 0} where
         names b (inl is) = inl is
         names b (inr (IsThere is)) = inr (IsThere is)
         names b (inr (IsSaid is)) = inr (IsSaid is)
-        names b (inr (IsAsked is)) = inr (IsAsked (subst (λ q. Somewhere (Sets b) (asked_in q ++ s.controller.waiting)) (sym closed) is))
+        names b (inr (IsAsked is)) = inr (IsAsked (subst (λ q. Somewhere (Sets b) (option_to_list (outstanding_command q) ++ s.controller.waiting)) (sym closed) is))
 
         panel : (qs : List (ℕ × Packet)) → Each (IsToClosed n.sites) qs
             → Each (λ (q : ℕ × Packet). (q.0 ≢ i) × (q.1.address ≢ address_of s)) qs → Each (IsToClosed next) qs

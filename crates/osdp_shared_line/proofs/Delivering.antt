@@ -1,5 +1,5 @@
 -- What is said and read keeps all sites apart.
-use Rattle.osdp_shared_line.proofs.Common.{◌≡◌, ◌≢◌, ◌⊎◌, ◌<◌, ℕ, suc, Bool, true, false, cond, List, [], ◌∷◌, ◌++◌, Option, Some, None, IfSome, refl, sym, subst, ap, ◌∙◌, inl, inr, append_assoc, arith, eqb_tells, append-nil, ◌==◌, map, option_to_list, Packet, CommandFits, Command, seen, ticks_in, Answer, Delivered, Delivery, Lost, Repeated, ReadsWhatIsAsked, each_append, each_map, each_rest, Each, IsAsked, IsNameOf, IsSaid, IsThere, MayComeTo, Sets, SetsReader, Somewhere, asked_in, unended, Net, Site, address_of, changed, first_gets, gets, is_told, left_by, link_of, site_at, tagged}
+use Rattle.osdp_shared_line.proofs.Common.{◌≡◌, ◌≢◌, ◌⊎◌, ◌<◌, ℕ, suc, Bool, true, false, cond, List, [], ◌∷◌, ◌++◌, Option, Some, None, IfSome, refl, sym, subst, ap, ◌∙◌, inl, inr, append_assoc, arith, eqb_tells, append-nil, ◌==◌, map, option_to_list, Packet, CommandFits, Command, seen, ticks_in, Answer, Delivered, Delivery, Lost, Repeated, ReadsWhatIsAsked, each_append, each_map, each_rest, Each, IsAsked, IsNameOf, IsSaid, IsThere, MayComeTo, Sets, SetsReader, Somewhere, outstanding_command, unended, Net, Site, address_of, changed, first_gets, gets, is_told, left_by, link_of, site_at, tagged}
 use Rattle.osdp_controller.specs.Hearing as controller
 use Rattle.osdp_reader.specs.Table as reader
 use Rattle.osdp_link_laws.specs.Link as link
@@ -279,11 +279,11 @@ module _ {H : Type 0} where
           heard : controller.Heard
           heard = controller.hears p now s.controller.session
 
-          well : AreLeft (asked_in s.controller.session.state) (asked_in heard.session.state)
+          well : AreLeft (option_to_list (outstanding_command s.controller.session.state)) (option_to_list (outstanding_command heard.session.state))
           well = (hears_well p now s.controller.session).left
 
           left : unended s ≡ well.0 ++ unended t
-          left = ap (λ cs. cs ++ s.controller.waiting) well.1 ∙ append_assoc well.0 (asked_in heard.session.state) s.controller.waiting
+          left = ap (λ cs. cs ++ s.controller.waiting) well.1 ∙ append_assoc well.0 (option_to_list (outstanding_command heard.session.state)) s.controller.waiting
 
           h : IsKept i s
           h = a.kept i s at
@@ -295,8 +295,8 @@ module _ {H : Type 0} where
           names : NamesGo i s t n.sites
           names b (inl is) = elim (hears_well p now s.controller.session).goes [
             | inl still ↦ inl (inl (sym still ∙ is))
-            | inr went ↦ inl (inr (IsAsked (somewhere_front (Sets b) (asked_in s.controller.session.state) s.controller.waiting
-                (subst (λ to. Somewhere (Sets to) (asked_in s.controller.session.state)) is went.2))))
+            | inr went ↦ inl (inr (IsAsked (somewhere_front (Sets b) (option_to_list (outstanding_command s.controller.session.state)) s.controller.waiting
+                (subst (λ to. Somewhere (Sets to) (option_to_list (outstanding_command s.controller.session.state))) is went.2))))
           ]
           names b (inr (IsThere is)) = inl (inr (IsThere is))
           names b (inr (IsSaid is)) = inl (inr (IsSaid is))

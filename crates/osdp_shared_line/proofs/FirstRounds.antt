@@ -1,5 +1,5 @@
 -- From the first sessions on rounds ask that a reader isn't busy, and that they fit.
-use Rattle.osdp_shared_line.proofs.Common.{◌≡◌, ◌++◌, ℕ, false, All, Option, Some, None, refl, sym, subst, ap, Command, new_address, Answer, Account, NoComset, SetsNoAddress, each_all, each_map, each_of, IsSetUp, asked_in, Net, Site, site_at, IsEmpty, IsReady, own}
+use Rattle.osdp_shared_line.proofs.Common.{◌≡◌, ◌++◌, ℕ, false, All, Option, Some, None, refl, sym, subst, ap, Command, new_address, Answer, NoComset, SetsNoAddress, each_all, each_map, each_of, IsSetUp, option_to_list, outstanding_command, Net, Site, site_at, IsEmpty, IsReady, own}
 use Rattle.osdp_shared_line.specs.FirstRounds.{FirstRoundsAreExact}
 use Rattle.osdp_shared_line.proofs.Changing.{set_is}
 
@@ -16,18 +16,13 @@ module _ {H : Type 0} where
   is_empty n up = record { coming = up.coming; to_panel = up.to_panel }
 
   pub is_ready : (n : Net H) (k : ℕ) (s : Site H) → IsSetUp n → site_at k n.sites ≡ Some s → s.reader.busy ≡ false → IsReady k s n
-  is_ready n k s up at idle =
-      let begins = up.begins k s at in
-      record {
-        clear = record {
-          to_reader = ap (own k) (up.coming k s at);
-          to_controller = ap (own k) up.to_panel;
-          address = up.together k s at;
-          ready = idle;
-          issued = subst (λ (t : Account). All SetsNoAddress t.issued) (sym begins.account) waits;
-        };
-        unended = subst (λ q. All SetsNoAddress (asked_in q ++ s.controller.waiting)) (sym begins.quiet.1) waits;
-      }
+  is_ready n k s up at idle = record {
+    to_reader = ap (own k) (up.coming k s at);
+    to_controller = ap (own k) up.to_panel;
+    address = up.together k s at;
+    ready = idle;
+    stays = subst (λ q. All SetsNoAddress (option_to_list (outstanding_command q) ++ s.controller.waiting)) (sym (up.begins k s at).quiet.1) waits;
+  }
     where
       waits : All SetsNoAddress s.controller.waiting
       waits =
@@ -37,7 +32,7 @@ module _ {H : Type 0} where
   module _ (answer_of : H → Command → Answer) (after : H → Command → H) where
     pub first_rounds : FirstRoundsAreExact answer_of after
     first_rounds n turns k s last up at there = (
-      λ h. (h.ready.clear.ready, h.stored, h.rounds_fit),
+      λ h. (h.ready.ready, h.stored, h.rounds_fit),
       λ h. record {
         up = up;
         fits = tt;

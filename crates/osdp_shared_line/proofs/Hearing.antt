@@ -92,7 +92,6 @@ module _ {H : Type 0} where
               record l {
                 reader = o.reader;
                 to_controller = l.to_controller ++ option_to_list o.reply;
-                account = link.taken k o.command o.said (link.front_of l.reader) l.account;
               }) is
               ∙ ap (λ qs. record l { to_controller = qs }) (append-nil l.to_controller)
         ]

@@ -11,6 +11,7 @@ pub mod Delivering
 pub mod Running
 pub mod Linking
 pub mod Storing
+pub mod Telling
 pub mod Still
 pub mod Reading
 pub mod Rounds

@@ -139,6 +139,5 @@ module _ {H : Type 0} (answer_of : H → Command → Answer) (after : H → Comm
   pub each_refuses_no_number : EachIsALink answer_of after → RefusesNoNumber answer_of after → EachRefusesNoNumber answer_of after
   each_refuses_no_number links none n moves up fits k s last is there never move =
       let h = links n moves up fits k s is in
-      let same = viewed n moves k s last h there in
-      subst (λ (v : Link H). IfSome (told_by move v) IsNoRefusal) (sym same)
-      (none (view k s n) (moves_of answer_of after k moves n) move (up.begins k s is) h.fits (sym (ap (λ (v : Link H). v.account.restarts) same) ∙ never))
+      subst (λ (v : Link H). IfSome (told_by move v) IsNoRefusal) (sym (viewed n moves k s last h there))
+      (none (view k s n) (moves_of answer_of after k moves n) move (up.begins k s is) h.fits never)

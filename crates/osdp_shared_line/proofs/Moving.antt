@@ -267,7 +267,6 @@ module _ {H : Type 0} (answer_of : H → Command → Answer) (after : H → Comm
   sees_alone p now k s qs closed =
       ap (λ (h : controller.Heard). link_of (left_by s (record (link_of s [] []) {
         controller = record s.controller { session = h.session };
-        account = link.after_report h.report s.account;
       })) (own k s.coming) qs) (closed_hears p now s.controller.session closed)
       ∙ sym (ap (λ state. link.ticked (ticks_in state (seen now s.controller.session) s.controller.waiting) (link_of s (own k s.coming) qs)) closed
       ∙ ap (λ ps. link_of (left_by s (record (link_of s [] []) {

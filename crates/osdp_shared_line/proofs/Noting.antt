@@ -1,5 +1,5 @@
 -- A program that keeps to its rule gives no address where another device may come.
-use Rattle.osdp_shared_line.proofs.Common.{◌≡◌, ◌≢◌, ◌⊎◌, ℕ, Bool, true, false, cond, List, [], ◌∷◌, Option, Some, None, refl, sym, subst, ap, ◌∙◌, inl, inr, eqb_tells, ◌||◌, is_some, Packet, Command, Communication, has_comset, comset_of, Exchange, Opening, Polling, Asking, State, Closed, Quiet, Idle, Waiting, Pausing, Answer, Each, IsAsked, IsNameOf, IsSaid, IsThere, MayComeTo, NetMoveFits, Sets, SetsReader, Somewhere, asked_by, asked_in, unended, Net, NetMove, RestartPanel, RestartReader, Retarget, Site, Submit, address_of, changed, restarts, site_at, IsKnown, KeepsRule, Note, RestFits, all_addresses, also_at, note_after, noted_at, notes_after, two_addresses}
+use Rattle.osdp_shared_line.proofs.Common.{◌≡◌, ◌≢◌, ◌⊎◌, ℕ, Bool, true, false, cond, List, [], ◌∷◌, Option, Some, None, refl, sym, subst, ap, ◌∙◌, inl, inr, eqb_tells, ◌||◌, is_some, Packet, Command, Communication, has_comset, comset_of, Exchange, Opening, Polling, Asking, State, Closed, Quiet, Idle, Waiting, Pausing, Answer, Each, IsAsked, IsNameOf, IsSaid, IsThere, MayComeTo, NetMoveFits, Sets, SetsReader, Somewhere, option_to_list, outstanding_command, submitted_command, unended, Net, NetMove, RestartPanel, RestartReader, Retarget, Site, Submit, address_of, changed, restarts, site_at, IsKnown, KeepsRule, Note, RestFits, all_addresses, also_at, note_after, noted_at, notes_after, two_addresses}
 use Rattle.osdp_shared_line.specs.Line as line
 use Rattle.osdp_shared_line.proofs.Apart.{IsOwnComset, all_left, reader_address}
 use Rattle.osdp_shared_line.proofs.Readers.{IsForAll, IsFrom}
@@ -72,12 +72,12 @@ none_asks a (c ∷ cs) none (inr is) = none_asks a cs (rest (is_some (comset_of 
     rest true y none = absurd cc
     rest false y none = none
 
-by_exchange : (x : Exchange) → IsOpeningIn x → asked_by x ≡ []
+by_exchange : (x : Exchange) → IsOpeningIn x → option_to_list (submitted_command x) ≡ []
 by_exchange Opening opens = refl
 by_exchange Polling opens = absurd opens
 by_exchange (Asking c) opens = absurd opens
 
-pub opening_asks_none : (state : State) → IsOpening state → asked_in state ≡ []
+pub opening_asks_none : (state : State) → IsOpening state → option_to_list (outstanding_command state) ≡ []
 opening_asks_none Closed opens = refl
 opening_asks_none (Quiet until) opens = refl
 opening_asks_none (Idle due) opens = absurd opens

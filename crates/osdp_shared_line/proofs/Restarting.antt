@@ -69,7 +69,7 @@ module _ {H : Type 0} (P : Move H → Type 0) (k : ℕ) where
   loss_to_panel holds None = tt
   loss_to_panel holds (Some place) = (holds place, tt)
 
-  move_holds : (move : NetMove H) (s : Site H) (n : Net H) → HoldsOf move → Each P (move_of k s move n)
+  pub move_holds : (move : NetMove H) (s : Site H) (n : Net H) → HoldsOf move → Each P (move_of k s move n)
   move_holds (Submit i c) s n holds =
       both (Each P) (is_comset_refused i (comset_of c) s n.sites) [] (one_if i k (link.Submit c)) tt (one_holds i (link.Submit c) holds)
   move_holds (Queue i e) s n holds = one_holds i (link.Queue e) holds

@@ -1,7 +1,8 @@
 -- Rounds that lose nothing are for each site its own rounds.
-use Rattle.osdp_shared_line.proofs.Common.{◌≡◌, ◌≢◌, ◌⊎◌, ◌<◌, ℕ, zero, suc, true, false, cond, eqb, List, [], ◌∷◌, ◌++◌, length, Option, Some, None, IfSome, refl, sym, subst, ap, ◌∙◌, inl, inr, arith, eqb_tells, Packet, Command, seen, Closed, Answer, MovesFit, SaysWhatFitsIf, Delivered, Link, after_move, ReadsWhatIsAsked, AreDue, AreLate, ComeOn, ComesThrough, ComesThroughInTime, IsClear, SetsNoAddress, round, rounds, each_of, NetMovesFit, unended, Net, NetMove, Site, Tick, ToPanel, address_of, after_net, changed, first_gets, gets, is_told, run, site_at, tagged, AreRounds, EachComesThrough, EachComesThroughInTime, IsEmpty, RoundsAreItsOwn, all_read, moments_of, net_round, net_rounds, IsItsLink, moves_of, IsMoved, front_to_panel, one_if, own, own_reply, other_reply, view, is_false, is_true}
-use Rattle.std.specs.Prelude.{Bool, map, option_to_list}
+use Rattle.osdp_shared_line.proofs.Common.{◌≡◌, ◌≢◌, ◌⊎◌, ◌<◌, ◌≤◌, ℕ, zero, suc, true, false, cond, eqb, List, [], ◌∷◌, ◌++◌, length, Option, Some, None, IfSome, refl, sym, subst, ap, ◌∙◌, inl, inr, arith, eqb_tells, Packet, Command, seen, Closed, Answer, MovesFit, SaysWhatFitsIf, Delivered, Link, Move, after_move, ReadsWhatIsAsked, AreDue, AreLate, ComeOn, ComesThrough, ComesThroughInTime, IsClear, SetsNoAddress, round, rounds, reports, told_in, each_of, NetMovesFit, unended, Net, NetMove, Site, Tick, ToPanel, address_of, after_net, changed, first_gets, gets, is_told, run, site_at, tagged, AreRounds, ComesOn, EachComesThrough, EachComesThroughInTime, IsEmpty, RoundsAreItsOwn, all_read, moments_of, net_round, net_rounds, IsItsLink, moves_of, reports_at, IsMoved, front_to_panel, one_if, own, own_reply, other_reply, view, is_false, is_true}
+use Rattle.std.specs.Prelude.{Bool, ◌-◌, map, min, option_to_list}
 use Rattle.osdp_controller.specs.Ticking as ticking
+use Rattle.osdp_link_laws.specs.Ahead.{left}
 use Rattle.osdp_link_laws.specs.Link as link
 use Rattle.osdp_shared_line.specs.Line as line
 use Rattle.osdp_shared_line.specs.Views as views
@@ -15,6 +16,7 @@ use Rattle.osdp_shared_line.proofs.Running.{apart_after, apart_all, apart_first,
 use Rattle.osdp_shared_line.proofs.Sites.{changed_from, map_from, some_same}
 use Rattle.osdp_shared_line.proofs.Still.{IsStill, round_still}
 use Rattle.osdp_shared_line.proofs.Storing.{from_there, keeps_own}
+use Rattle.osdp_shared_line.proofs.Telling.{reports_more, round_tells, tells_more}
 use Rattle.osdp_shared_line.proofs.Readers.{IsNoAddress, StoresFrom}
 
 pub at_length : {A : Type 0} (m : ℕ) (u : A) (ss : List A) → site_at m ss ≡ Some u → m < length ss
@@ -155,22 +157,28 @@ module _ {H : Type 0} (answer_of : H → Command → Answer) (after : H → Comm
         ∙ ap (λ b. cond b (own_reply here q Delivered now) (other_reply here q Delivered now)) (is_false i k other)
         ∙ ap (λ b. cond b (link.Tick now ∷ []) []) (is_false here q.address away)
 
-    -- .. and its own
-    panel_own : (x : Option Packet) (i now : ℕ) (s : Site H) (ps : List Packet) (qs : List (ℕ × Packet)) → qs ≡ tagged i (option_to_list x)
+    -- .. and its own: whatever is made of its moves, where with nothing to read it is the same
+    panel_own : {A : Type 0} (f : List (Move H) → Link H → A) (x : Option Packet) (i now : ℕ) (s : Site H) (ps : List Packet) (qs : List (ℕ × Packet))
+        → f [] (line.link_of s ps []) ≡ f (link.ToController Delivered now ∷ []) (line.link_of s ps []) → qs ≡ tagged i (option_to_list x)
         → IfSome x (λ q. address_of s ≡ q.address)
-        → link.run answer_of after (front_to_panel i (address_of s) qs Delivered now) (line.link_of s ps (own i qs))
-        ≡ after_move answer_of after (link.ToController Delivered now) (line.link_of s ps (own i qs))
-    panel_own None i now s ps qs is at =
-        subst (λ l. link.run answer_of after (front_to_panel i (address_of s) l Delivered now) (line.link_of s ps (own i l))
-        ≡ after_move answer_of after (link.ToController Delivered now) (line.link_of s ps (own i l))) (sym is) refl
-    panel_own (Some q) i now s ps qs is at =
-        subst (λ l. link.run answer_of after (front_to_panel i (address_of s) l Delivered now) (line.link_of s ps (own i l))
-        ≡ after_move answer_of after (link.ToController Delivered now) (line.link_of s ps (own i l))) (sym is)
-        (ap (λ ms. link.run answer_of after ms (line.link_of s ps (own i ((i, q) ∷ []))))
+        → f (front_to_panel i (address_of s) qs Delivered now) (line.link_of s ps (own i qs))
+        ≡ f (link.ToController Delivered now ∷ []) (line.link_of s ps (own i qs))
+    panel_own f None i now s ps qs none is at =
+        subst (λ l. f (front_to_panel i (address_of s) l Delivered now) (line.link_of s ps (own i l))
+        ≡ f (link.ToController Delivered now ∷ []) (line.link_of s ps (own i l))) (sym is) none
+    panel_own f (Some q) i now s ps qs none is at =
+        subst (λ l. f (front_to_panel i (address_of s) l Delivered now) (line.link_of s ps (own i l))
+        ≡ f (link.ToController Delivered now ∷ []) (line.link_of s ps (own i l))) (sym is)
+        (ap (λ ms. f ms (line.link_of s ps (own i ((i, q) ∷ []))))
         (ap (λ b. cond b (own_reply (address_of s) q Delivered now) (other_reply (address_of s) q Delivered now)) (is_true i i refl)
         ∙ ap (λ b. cond b (link.ToController Delivered now ∷ []) (views.lost Delivered now)) (is_true (address_of s) q.address at)))
 
     -- ---- a round
+
+    -- it is these moves of the site at this place, and tells what they tell
+    abbrev IsOwn : ℕ → List (Move H) → ℕ × ℕ → Site H → Net H → Net H → Type 0
+    IsOwn k ms turn s n next = IsSeen answer_of after known k (link.run answer_of after ms (view k s n)) next × MovesFit answer_of after ms (view k s n)
+        × (reports_at answer_of after k (net_round total turn) s n ≡ reports answer_of after ms (view k s n))
 
     pub record IsRound (k i now : ℕ) (s : Site H) (n next : Net H) : Type 0 where
       pub apart : Apart next
@@ -178,6 +186,7 @@ module _ {H : Type 0} (answer_of : H → Command → Answer) (after : H → Comm
       pub few : IsFew next
       pub seen : IsSeen answer_of after known k (link.run answer_of after (cond (eqb i k) (round now) []) (view k s n)) next
       pub fits : MovesFit answer_of after (cond (eqb i k) (round now) []) (view k s n)
+      pub tells : reports_at answer_of after k (net_round total (i, now)) s n ≡ reports answer_of after (cond (eqb i k) (round now) []) (view k s n)
 
     pub one_round : (k i now : ℕ) (s : Site H) (n : Net H) → site_at k n.sites ≡ Some s
         → (i ≡ k → (reader_address s ≡ address_of s) × StoresFrom IsNoAddress s.reader) → Apart n → IsEmpty n → IsFew n → NetMovesFit answer_of after (net_round total (i, now)) n
@@ -189,6 +198,7 @@ module _ {H : Type 0} (answer_of : H → Command → Answer) (after : H → Comm
           few = done.1;
           seen = (by_turn (eqb_tells i k)).0;
           fits = (by_turn (eqb_tells i k)).1;
+          tells = (by_turn (eqb_tells i k)).2;
         })
       where
         n1 : Net H
@@ -215,6 +225,10 @@ module _ {H : Type 0} (answer_of : H → Command → Answer) (after : H → Comm
         b2 : Between answer_of after known total total i begun.0 (Together i n) n2
         b2 = read.1
 
+        -- the rest of its own round, once it has ticked
+        reading : List (Move H)
+        reading = link.ToReader Delivered ∷ link.ToController Delivered now ∷ []
+
         n3 : Net H
         n3 = after_net answer_of after (ToPanel Delivered now) n2
 
@@ -228,27 +242,28 @@ module _ {H : Type 0} (answer_of : H → Command → Answer) (after : H → Comm
         if_map None f all = tt
         if_map (Some y) f all = f y all
 
-        by_turn : ((eqb i k ≡ true) × (i ≡ k)) ⊎ ((eqb i k ≡ false) × (i ≢ k))
-            → IsSeen answer_of after known k (link.run answer_of after (cond (eqb i k) (round now) []) (view k s n)) n3
-            × MovesFit answer_of after (cond (eqb i k) (round now) []) (view k s n)
+        by_turn : ((eqb i k ≡ true) × (i ≡ k)) ⊎ ((eqb i k ≡ false) × (i ≢ k)) → IsOwn k (cond (eqb i k) (round now) []) (i, now) s n n3
         by_turn (inr differs) =
             let seen = reads_none answer_of after known 0 total total i begun.0 (Together i n) n1 k m1.site m1.there reading_fits a1 begun.1 (inl differs.1) in
             let m3 = each_is_its_own answer_of after n2 (ToPanel Delivered now) (by_own n2 a2) tt k seen.site seen.there in
-            subst (λ b. IsSeen answer_of after known k (link.run answer_of after (cond b (round now) []) (view k s n)) n3
-            × MovesFit answer_of after (cond b (round now) []) (view k s n)) (sym differs.0) (
+            let none_read = panel_none b2.said k i now (address_of seen.site) n2.to_panel b2.panel differs.1
+            (if_map b2.said (λ q far. far k seen.site (λ e. differs.1 (sym e)) seen.there) b2.away) in
+            let none_ticked = one_not i k (link.Tick now) differs.1 in
+            subst (λ b. IsOwn k (cond b (round now) []) (i, now) s n n3) (sym differs.0) (
               record {
                 site = m3.site;
                 there = m3.there;
                 seen = m3.moved
-                    ∙ ap (λ ms. link.run answer_of after ms (view k seen.site n2))
-                    (panel_none b2.said k i now (address_of seen.site) n2.to_panel b2.panel differs.1
-                    (if_map b2.said (λ q far. far k seen.site (λ e. differs.1 (sym e)) seen.there) b2.away))
+                    ∙ ap (λ ms. link.run answer_of after ms (view k seen.site n2)) none_read
                     ∙ seen.seen ∙ m1.moved
-                    ∙ ap (λ ms. link.run answer_of after ms (view k s n)) (one_not i k (link.Tick now) differs.1);
+                    ∙ ap (λ ms. link.run answer_of after ms (view k s n)) none_ticked;
               },
               tt,
+              round_tells answer_of after known total i now n (fits.0, reading_fits) a k s seen.site is seen.there [] [] none_ticked
+                  (ap (λ ms. reports answer_of after ms (view k seen.site n2)) none_read),
             )
         by_turn (inl equal) =
+            let mine = subst (λ j. site_at j n.sites ≡ Some s) (sym equal.1) is in
             let there1 = subst (λ j. site_at j n1.sites ≡ Some m1.site) (sym equal.1) m1.there in
             let few = begun.1.few i m1.site there1 in
             let told = reads_own answer_of after known 0 total total i begun.0 (Together i n) n1 m1.site there1 (omega arith) (omega (arith, few)) reading_fits a1 begun.1 in
@@ -259,24 +274,30 @@ module _ {H : Type 0} (answer_of : H → Command → Answer) (after : H → Comm
             (m1.moved ∙ ap (λ ms. link.run answer_of after ms (view k s n)) (one_is i k (link.Tick now) equal.1))
             in
             let near = if_map b2.said (λ q close. close seen.site seen.there (λ u at.
-            subst (λ v. (reader_address v ≡ address_of v) × StoresFrom IsNoAddress v.reader) (some_same s u (sym (subst (λ j. site_at j n.sites ≡ Some s) (sym equal.1) is) ∙ at)) (together equal.1)))
+            subst (λ v. (reader_address v ≡ address_of v) × StoresFrom IsNoAddress v.reader) (some_same s u (sym mine ∙ at)) (together equal.1)))
             b2.own
             in
-            subst (λ b. IsSeen answer_of after known k (link.run answer_of after (cond b (round now) []) (view k s n)) n3
-            × MovesFit answer_of after (cond b (round now) []) (view k s n)) (sym equal.0)
-            (subst (λ j. IsSeen answer_of after known j (link.run answer_of after (round now) (view j s n)) n3
-            × MovesFit answer_of after (round now) (view j s n)) equal.1 (
+            let read : view i seen.site n2 ≡ after_move answer_of after (link.ToReader Delivered) (after_move answer_of after (link.Tick now) (view i s n)) =
+            seen.seen ∙ ap (after_move answer_of after (link.ToReader Delivered)) ticks
+            in
+            subst (λ b. IsOwn k (cond b (round now) []) (i, now) s n n3) (sym equal.0)
+            (subst (λ j. IsOwn j (round now) (i, now) s n n3) equal.1 (
               record {
                 site = m3.site;
                 there = m3.there;
                 seen = m3.moved
-                    ∙ panel_own b2.said i now seen.site (own i seen.site.coming) n2.to_panel b2.panel near
-                    ∙ ap (after_move answer_of after (link.ToController Delivered now)) (seen.seen ∙ ap (after_move answer_of after (link.ToReader Delivered)) ticks);
+                    ∙ panel_own (link.run answer_of after) b2.said i now seen.site (own i seen.site.coming) n2.to_panel refl b2.panel near
+                    ∙ ap (after_move answer_of after (link.ToController Delivered now)) read;
               },
               (
                 tt,
                 (subst (λ (l : Link H). SaysWhatFitsIf answer_of after Delivered l.to_reader l.reader) ticks told.0, (tt, tt)),
               ),
+              round_tells answer_of after known total i now n (fits.0, reading_fits) a i s seen.site mine seen.there (link.Tick now ∷ [])
+                  (reports answer_of after reading (after_move answer_of after (link.Tick now) (view i s n))) (one_is i i (link.Tick now) refl)
+                  (panel_own (reports answer_of after) b2.said i now seen.site (own i seen.site.coming) n2.to_panel refl b2.panel near
+                  ∙ ap (reports answer_of after (link.ToController Delivered now ∷ [])) read)
+                  ∙ sym (reports_more answer_of after (link.Tick now ∷ []) reading (view i s n)),
             ))
 
     -- ---- one round after another
@@ -285,10 +306,12 @@ module _ {H : Type 0} (answer_of : H → Command → Answer) (after : H → Comm
         → IsStill (view k s n) → NetMovesFit answer_of after (net_rounds total turns) n
         → IsSeen answer_of after known k (link.run answer_of after (rounds (moments_of k turns)) (view k s n)) (run answer_of after (net_rounds total turns) n)
         × MovesFit answer_of after (rounds (moments_of k turns)) (view k s n)
-    all_rounds [] k s n is a empty few still fits = (record { site = s; there = is; seen = refl }, tt)
+        × (reports_at answer_of after k (net_rounds total turns) s n ≡ reports answer_of after (rounds (moments_of k turns)) (view k s n))
+    all_rounds [] k s n is a empty few still fits = (record { site = s; there = is; seen = refl }, tt, refl)
     all_rounds (turn ∷ turns) k s n is a empty few still fits =
         let next = run answer_of after (net_round total turn) n in
-        let r = one_round k turn.0 turn.1 s n is (λ e. (still.together, still.stored)) a empty few (fits_first (net_round total turn) (net_rounds total turns) n fits) in
+        let first = fits_first (net_round total turn) (net_rounds total turns) n fits in
+        let r = one_round k turn.0 turn.1 s n is (λ e. (still.together, still.stored)) a empty few first in
         let now_still = subst IsStill (sym r.seen.seen) (stays (eqb turn.0 k) turn.1) in
         let rest = all_rounds turns k r.seen.site next r.seen.there r.apart r.empty r.few now_still (fits_then (net_round total turn) (net_rounds total turns) n fits) in (
           subst (IsSeen answer_of after known k (link.run answer_of after (rounds (moments_of k (turn ∷ turns))) (view k s n)))
@@ -298,6 +321,11 @@ module _ {H : Type 0} (answer_of : H → Command → Answer) (after : H → Comm
                 seen = rest.0.seen ∙ ap (link.run answer_of after (rounds (moments_of k turns))) r.seen.seen ∙ joins (eqb turn.0 k);
               }),
           fit (eqb turn.0 k) r.fits (subst (MovesFit answer_of after (rounds (moments_of k turns))) r.seen.seen rest.1),
+          tells_more answer_of after known (net_round total turn) (net_rounds total turns) n first a k s r.seen.site is r.seen.there
+              ∙ ap (λ rs. rs ++ reports_at answer_of after k (net_rounds total turns) r.seen.site next) r.tells
+              ∙ ap (λ rs. reports answer_of after (cond (eqb turn.0 k) (round turn.1) []) (view k s n) ++ rs)
+              (rest.2 ∙ ap (reports answer_of after (rounds (moments_of k turns))) r.seen.seen)
+              ∙ tell (eqb turn.0 k),
         )
       where
         stays : (b : Bool) (now : ℕ) → IsStill (link.run answer_of after (cond b (round now) []) (view k s n))
@@ -308,6 +336,13 @@ module _ {H : Type 0} (answer_of : H → Command → Answer) (after : H → Comm
             ≡ link.run answer_of after (rounds (cond b (turn.1 ∷ moments_of k turns) (moments_of k turns))) (view k s n)
         joins true = refl
         joins false = refl
+
+        tell : (b : Bool)
+            → reports answer_of after (cond b (round turn.1) []) (view k s n)
+            ++ reports answer_of after (rounds (moments_of k turns)) (link.run answer_of after (cond b (round turn.1) []) (view k s n))
+            ≡ reports answer_of after (rounds (cond b (turn.1 ∷ moments_of k turns) (moments_of k turns))) (view k s n)
+        tell true = sym (reports_more answer_of after (round turn.1) (rounds (moments_of k turns)) (view k s n))
+        tell false = refl
 
         fit : (b : Bool) → MovesFit answer_of after (cond b (round turn.1) []) (view k s n)
             → MovesFit answer_of after (rounds (moments_of k turns)) (link.run answer_of after (cond b (round turn.1) []) (view k s n))
@@ -323,39 +358,47 @@ module _ {H : Type 0} (answer_of : H → Command → Answer) (after : H → Comm
         (view k last (run answer_of after (net_rounds (length later.sites) turns) later)
         ≡ link.run answer_of after (rounds (moments_of k turns)) (view k s later))
         × MovesFit answer_of after (rounds (moments_of k turns)) (view k s later)
+        × (reports_at answer_of after k (net_rounds (length later.sites) turns) s later ≡ reports answer_of after (rounds (moments_of k turns)) (view k s later))
     come n moves turns k first s last h =
         let later = run answer_of after moves n in
         let a = apart_all answer_of after known moves n h.fits (apart_first n h.up) in
         let kept = a.kept k s h.is in
         let all = all_rounds known (length later.sites) turns k s later h.is a h.empty (λ m u there. at_length m u later.sites there) (record {
-          together = h.ready.clear.address;
-          none = each_of SetsNoAddress (unended s) h.ready.unended;
+          together = h.ready.address;
+          none = each_of SetsNoAddress (unended s) h.ready.stays;
           fits = kept.fits;
           stored = keeps_own answer_of after known moves n h.fits (apart_first n h.up) k first s h.was h.is (from_there first.reader.stored (reader_address first) h.stored);
         }) h.rounds_fit in (
           subst (λ v. view k v (run answer_of after (net_rounds (length later.sites) turns) later)
               ≡ link.run answer_of after (rounds (moments_of k turns)) (view k s later)) (some_same all.0.site last (sym all.0.there ∙ h.there)) all.0.seen,
           all.1,
+          all.2,
         )
 
     pub rounds_are_its_own : RoundsAreItsOwn answer_of after
-    rounds_are_its_own n moves turns k first s last h = (come n moves turns k first s last h).0
+    rounds_are_its_own n moves turns k first s last h = let came = come n moves turns k first s last h in (came.0, came.2)
 
     -- the link of the site after the moves
     its_link : (n : Net H) (moves : List (NetMove H)) (turns : List (ℕ × ℕ)) (k : ℕ) (first s last : Site H) → AreRounds answer_of after n moves turns k first s last
         → IsItsLink answer_of after k first moves n
     its_link n moves turns k first s last h = each_is_a_link answer_of after known n moves h.up h.fits k first h.was
 
+    -- what its link tells over its own rounds the net tells over those of all
+    come_on : (n : Net H) (moves : List (NetMove H)) (turns : List (ℕ × ℕ)) (k : ℕ) (first s last : Site H) → AreRounds answer_of after n moves turns k first s last
+        → let later = run answer_of after moves n in
+        ComeOn answer_of after (moments_of k turns) (view k s later) → ComesOn answer_of after k turns s later
+    come_on n moves turns k first s last h comes =
+        let later = run answer_of after moves n in
+        subst (λ rs. min (length (moments_of k turns) - 1) (left (view k s later)) ≤ told_in rs) (sym (come n moves turns k first s last h).2) comes
+
     pub each_comes_through : ComesThrough answer_of after → EachComesThrough answer_of after
     each_comes_through through n moves turns k first s last h due =
-        let later = run answer_of after moves n in
         let own = its_link n moves turns k first s last h in
         let came = come n moves turns k first s last h in
         let same = viewed answer_of after n moves k first s own h.is in
-        subst (λ (l : Link H). ComeOn (moments_of k turns) s.account l.account) (sym came.0)
-        (subst (λ (l : Link H). ComeOn (moments_of k turns) l.account (link.run answer_of after (rounds (moments_of k turns)) l).account) (sym same)
+        come_on n moves turns k first s last h (subst (ComeOn answer_of after (moments_of k turns)) (sym same)
         (through (view k first n) (moves_of answer_of after k moves n) (moments_of k turns) (h.up.begins k first h.was) own.fits
-        (subst IsClear same h.ready.clear) (subst (AreDue answer_of after (moments_of k turns)) same due)
+        (subst IsClear same h.ready) (subst (AreDue answer_of after (moments_of k turns)) same due)
         (subst (MovesFit answer_of after (rounds (moments_of k turns))) same came.1)))
 
     pub each_comes_through_in_time : ComesThroughInTime answer_of after → EachComesThroughInTime answer_of after
@@ -364,9 +407,12 @@ module _ {H : Type 0} (answer_of : H → Command → Answer) (after : H → Comm
         let own = its_link n moves turns k first s last h in
         let came = come n moves turns k first s last h in
         let same = viewed answer_of after n moves k first s own h.is in
-        subst (λ (l : Link H). (l.controller.session.state ≡ Closed) ⊎ ComeOn (moments_of k turns) s.account l.account) (sym came.0)
-        (subst (λ (l : Link H). let end = link.run answer_of after (rounds (moments_of k turns)) l in
-        (end.controller.session.state ≡ Closed) ⊎ ComeOn (moments_of k turns) l.account end.account) (sym same)
+        elim (subst (λ (l : Link H). (l.controller.session.state ≡ Closed) ⊎ ComeOn answer_of after (moments_of k turns) (view k s later)) (sym came.0)
+        (subst (λ (l : Link H). ((link.run answer_of after (rounds (moments_of k turns)) l).controller.session.state ≡ Closed)
+        ⊎ ComeOn answer_of after (moments_of k turns) l) (sym same)
         (through (view k first n) (moves_of answer_of after k moves n) (moments_of k turns) (h.up.begins k first h.was) range own.fits
-        (subst IsClear same h.ready.clear) (subst (AreLate answer_of after (moments_of k turns)) same late)
-        (subst (MovesFit answer_of after (rounds (moments_of k turns))) same came.1)))
+        (subst IsClear same h.ready) (subst (AreLate answer_of after (moments_of k turns)) same late)
+        (subst (MovesFit answer_of after (rounds (moments_of k turns))) same came.1)))) [
+          | inl ended ↦ inl ended
+          | inr comes ↦ inr (come_on n moves turns k first s last h comes)
+        ]

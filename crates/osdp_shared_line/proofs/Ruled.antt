@@ -1,5 +1,5 @@
 -- What a program notes holds after what the panel reads, and so after every list of moves.
-use Rattle.osdp_shared_line.proofs.Common.{◌≡◌, ℕ, Bool, true, false, cond, eqb, List, [], ◌∷◌, ◌++◌, Option, Some, refl, sym, subst, ap, ◌∙◌, inl, inr, append_assoc, arith, eqb_tells, ◌&&◌, Packet, Command, Answer, lacks_room, Delivered, Delivery, Lost, Repeated, lost_at, ReadsWhatIsAsked, NoComset, each_of, Each, IsAsked, IsSetUp, IsSaid, IsThere, MayComeTo, NetMovesFit, Sets, Somewhere, asked_in, unended, LoseToPanel, LoseToReader, Net, NetMove, Queue, Reopen, RestartPanel, RestartReader, Retarget, SetBusy, SetHandler, Site, Submit, Tick, ToPanel, ToReader, Withdraw, LapseEvent, WithdrawEvent, address_of, after_net, calls, first_gets, gets, site_at, IsKnown, KeepRule, KeepsRule, Note, RestFits, RuleSuffices, all_addresses, is_opened, no_notes, note_after, noted_opened, noted_panel, notes_after}
+use Rattle.osdp_shared_line.proofs.Common.{◌≡◌, ℕ, Bool, true, false, cond, eqb, List, [], ◌∷◌, ◌++◌, Option, Some, refl, sym, subst, ap, ◌∙◌, inl, inr, append_assoc, arith, eqb_tells, ◌&&◌, Packet, Command, Answer, lacks_room, Delivered, Delivery, Lost, Repeated, lost_at, ReadsWhatIsAsked, NoComset, each_of, Each, IsAsked, IsSetUp, IsSaid, IsThere, MayComeTo, NetMovesFit, Sets, Somewhere, option_to_list, outstanding_command, unended, LoseToPanel, LoseToReader, Net, NetMove, Queue, Reopen, RestartPanel, RestartReader, Retarget, SetBusy, SetHandler, Site, Submit, Tick, ToPanel, ToReader, Withdraw, LapseEvent, WithdrawEvent, address_of, after_net, calls, first_gets, gets, site_at, IsKnown, KeepRule, KeepsRule, Note, RestFits, RuleSuffices, all_addresses, is_opened, no_notes, note_after, noted_opened, noted_panel, notes_after}
 use Rattle.osdp_controller.specs.Hearing as controller
 use Rattle.osdp_controller.specs.declared.report.Report.{Report as ReportTold}
 use Rattle.osdp_link_laws.specs.Link as link
@@ -57,15 +57,15 @@ module _ {H : Type 0} (answer_of : H → Command → Answer) (after : H → Comm
         noted : IsNoted k s (notes k) n.to_panel
         noted = h.sites k s at
 
-        ended : AreLeft (asked_in s.controller.session.state) (asked_in (controller.hears q.1 now s.controller.session).session.state)
+        ended : AreLeft (option_to_list (outstanding_command s.controller.session.state)) (option_to_list (outstanding_command (controller.hears q.1 now s.controller.session).session.state))
         ended = (hears_well q.1 now s.controller.session).left
 
         -- nothing more is asked
-        before : (P : Command → Type 0) → Somewhere P (asked_in (controller.hears q.1 now s.controller.session).session.state ++ s.controller.waiting) → Somewhere P (unended s)
+        before : (P : Command → Type 0) → Somewhere P (option_to_list (outstanding_command (controller.hears q.1 now s.controller.session).session.state) ++ s.controller.waiting) → Somewhere P (unended s)
         before P found = subst (Somewhere P)
             (sym (ap (λ cs. cs ++ s.controller.waiting) ended.1
-            ∙ append_assoc ended.0 (asked_in (controller.hears q.1 now s.controller.session).session.state) s.controller.waiting))
-            (somewhere_rest P ended.0 (asked_in (controller.hears q.1 now s.controller.session).session.state ++ s.controller.waiting) found)
+            ∙ append_assoc ended.0 (option_to_list (outstanding_command (controller.hears q.1 now s.controller.session).session.state)) s.controller.waiting))
+            (somewhere_rest P ended.0 (option_to_list (outstanding_command (controller.hears q.1 now s.controller.session).session.state) ++ s.controller.waiting) found)
 
         -- the session that was begun has opened: its reader is where its controller is
         opens : is_opened (Report s) ≡ true → (notes k).begun ≡ true → Gone k s (gets q.1 now s)
@@ -81,15 +81,15 @@ module _ {H : Type 0} (answer_of : H → Command → Answer) (after : H → Comm
             fresh : IsFresh k s n.to_panel
             fresh = noted.begun begun
 
-            asked_none : asked_in s.controller.session.state ≡ []
+            asked_none : option_to_list (outstanding_command s.controller.session.state) ≡ []
             asked_none = opening_asks_none s.controller.session.state fresh.state
 
             nothing : (xs ys : List Command) → [] ≡ xs ++ ys → ys ≡ []
             nothing [] ys is = sym is
             nothing (x ∷ xs) ys is = absurd cc
 
-            none_asked : asked_in (controller.hears q.1 now s.controller.session).session.state ≡ []
-            none_asked = nothing ended.0 (asked_in (controller.hears q.1 now s.controller.session).session.state) (sym asked_none ∙ ended.1)
+            none_asked : option_to_list (outstanding_command (controller.hears q.1 now s.controller.session).session.state) ≡ []
+            none_asked = nothing ended.0 (option_to_list (outstanding_command (controller.hears q.1 now s.controller.session).session.state)) (sym asked_none ∙ ended.1)
 
             stays : (controller.hears q.1 now s.controller.session).session.config.address ≡ address_of s
             stays = elim (hears_well q.1 now s.controller.session).goes [
@@ -124,7 +124,7 @@ module _ {H : Type 0} (answer_of : H → Command → Answer) (after : H → Comm
             known a (inl is) = inl (sym stays ∙ is)
             known a (inr found) = elim (all_are (address_of s) a s.controller.waiting found) [
               | inl is ↦ inl is
-              | inr asks ↦ inr (noted.asked a (somewhere_rest (AsksFor a) (asked_in s.controller.session.state) s.controller.waiting asks)).0
+              | inr asks ↦ inr (noted.asked a (somewhere_rest (AsksFor a) (option_to_list (outstanding_command s.controller.session.state)) s.controller.waiting asks)).0
             ]
 
         -- .. or it has not: it stays, or goes where its COMSET takes it
@@ -161,19 +161,19 @@ module _ {H : Type 0} (answer_of : H → Command → Answer) (after : H → Comm
             fresh_still b state = let f = noted.begun b in record { state = state; coming = f.coming; said = keeps k s f.said }
 
             -- a COMSET was outstanding, so both its addresses are noted
-            at_new : Somewhere (Sets (controller.hears q.1 now s.controller.session).session.config.address) (asked_in s.controller.session.state)
+            at_new : Somewhere (Sets (controller.hears q.1 now s.controller.session).session.config.address) (option_to_list (outstanding_command s.controller.session.state))
                 → IsIn (controller.hears q.1 now s.controller.session).session.config.address (notes k).addresses × IsIn (address_of s) (notes k).addresses
             at_new found =
                 let to = (controller.hears q.1 now s.controller.session).session.config.address in
-                noted.asked to (somewhere_front (AsksFor to) (asked_in s.controller.session.state) s.controller.waiting
-                (sets_asks to (asked_in s.controller.session.state) found))
+                noted.asked to (somewhere_front (AsksFor to) (option_to_list (outstanding_command s.controller.session.state)) s.controller.waiting
+                (sets_asks to (option_to_list (outstanding_command s.controller.session.state)) found))
 
-            moved : Somewhere (Sets (controller.hears q.1 now s.controller.session).session.config.address) (asked_in s.controller.session.state)
+            moved : Somewhere (Sets (controller.hears q.1 now s.controller.session).session.config.address) (option_to_list (outstanding_command s.controller.session.state))
                 → (a : ℕ) → IsKnown a s (notes k) → IsKnown a (gets q.1 now s) (notes k)
             moved found a (inl is) = inr (subst (λ b. IsIn b (notes k).addresses) is (at_new found).1)
             moved found a (inr is) = inr is
 
-            back : Somewhere (Sets (controller.hears q.1 now s.controller.session).session.config.address) (asked_in s.controller.session.state)
+            back : Somewhere (Sets (controller.hears q.1 now s.controller.session).session.config.address) (option_to_list (outstanding_command s.controller.session.state))
                 → (a : ℕ) → IsKnown a (gets q.1 now s) (notes k) → IsKnown a s (notes k)
             back found a (inl is) = inr (subst (λ b. IsIn b (notes k).addresses) is (at_new found).0)
             back found a (inr is) = inr is
@@ -292,7 +292,7 @@ module _ {H : Type 0} (answer_of : H → Command → Answer) (after : H → Comm
 
       none : (k : ℕ) (s : Site H) → site_at k n.sites ≡ Some s → (b : ℕ) → Somewhere (AsksFor b) (unended s) → ⊥
       none k s at b found = none_of s.controller.waiting (each_of NoComset s.controller.waiting (up.waiting k s at))
-          (subst (λ q. Somewhere (AsksFor b) (asked_in q ++ s.controller.waiting)) (up.begins k s at).quiet.1 found)
+          (subst (λ q. Somewhere (AsksFor b) (option_to_list (outstanding_command q) ++ s.controller.waiting)) (up.begins k s at).quiet.1 found)
         where
           none_of : (cs : List Command) → Each NoComset cs → Somewhere (AsksFor b) cs → ⊥
           none_of [] all found = found

@@ -1,5 +1,5 @@
 -- What a program notes holds after each move.
-use Rattle.osdp_shared_line.proofs.Common.{◌≡◌, ◌≢◌, ◌⊎◌, ℕ, Bool, true, false, cond, List, [], ◌∷◌, ◌++◌, Option, Some, None, refl, sym, subst, ap, ◌∙◌, inl, inr, append_assoc, ◌&&◌, ◌||◌, ◌==◌, is_some, not, Packet, Command, has_comset, comset_of, ControllerFault, State, Closed, Quiet, Idle, Waiting, Pausing, Event, Answer, each_map, each_of, is_false, is_true, IsAsked, IsSaid, IsThere, MayComeTo, Sets, Somewhere, asked_in, unended, Net, NetMove, Reopen, Retarget, Site, Submit, address_of, after_net, calls, is_command_accepted, is_comset_refused, is_retarget_accepted, is_retarget_refused, is_taken_beside, left_by, link_of, site_at, IsKnown, KeepsRule, Note, also_at, note_after, notes_after, two_addresses, IsQuiet}
+use Rattle.osdp_shared_line.proofs.Common.{◌≡◌, ◌≢◌, ◌⊎◌, ℕ, Bool, true, false, cond, List, [], ◌∷◌, ◌++◌, Option, Some, None, refl, sym, subst, ap, ◌∙◌, inl, inr, append_assoc, ◌&&◌, ◌||◌, ◌==◌, is_some, not, Packet, Command, has_comset, comset_of, ControllerFault, State, Closed, Quiet, Idle, Waiting, Pausing, Event, Answer, each_map, each_of, is_false, is_true, IsAsked, IsSaid, IsThere, MayComeTo, Sets, Somewhere, option_to_list, outstanding_command, unended, Net, NetMove, Reopen, Retarget, Site, Submit, address_of, after_net, calls, is_command_accepted, is_comset_refused, is_retarget_accepted, is_retarget_refused, is_taken_beside, left_by, link_of, site_at, IsKnown, KeepsRule, Note, also_at, note_after, notes_after, two_addresses, IsQuiet}
 use Rattle.osdp_controller.specs.Machine as controllers
 use Rattle.osdp_controller.specs.States.{is_closed}
 use Rattle.osdp_link_laws.specs.Link as link
@@ -64,7 +64,7 @@ module _ {H : Type 0} (answer_of : H → Command → Answer) (after : H → Comm
         t = line.keeping r (left_by s (link.submits None c (link_of s [] [])))
 
         longer : unended t ≡ unended s ++ c ∷ []
-        longer = sym (append_assoc (asked_in s.controller.session.state) s.controller.waiting (c ∷ []))
+        longer = sym (append_assoc (option_to_list (outstanding_command s.controller.session.state)) s.controller.waiting (c ∷ []))
 
         new : (a : ℕ) → AsksFor a c → IsIn a (more ++ note.addresses) × IsIn (address_of s) (more ++ note.addresses)
         new a (d, asks, at) =
@@ -170,7 +170,7 @@ module _ {H : Type 0} (answer_of : H → Command → Answer) (after : H → Comm
         set None r s may at given =
             goes s (line.keeping r (left_by s (link.retargets None x (link_of s [] [])))) taken (record {
               may = λ a come. known a (old.may a (before a come));
-              asked = λ a found. absurd (none_asks a s.controller.waiting none (subst (λ q. Somewhere (AsksFor a) (asked_in q ++ s.controller.waiting)) closed found));
+              asked = λ a found. absurd (none_asks a s.controller.waiting none (subst (λ q. Somewhere (AsksFor a) (option_to_list (outstanding_command q) ++ s.controller.waiting)) closed found));
               begun = λ b. let f = old.begun b in record { state = f.state; coming = f.coming; said = f.said };
             }) (λ a is. subst (λ b. IsKnown b s (notes i)) is (rule s at taken))
           where
@@ -222,7 +222,7 @@ module _ {H : Type 0} (answer_of : H → Command → Answer) (after : H → Comm
         by_state s at Closed is = record {
           noted = subst (λ note. IsNoted i u note n.to_panel) (sym noted_begun) (record {
             may = λ a come. old.may a (before a come);
-            asked = λ a found. old.asked a (subst (λ q. Somewhere (AsksFor a) (asked_in q ++ s.controller.waiting)) (sym is) found);
+            asked = λ a found. old.asked a (subst (λ q. Somewhere (AsksFor a) (option_to_list (outstanding_command q) ++ s.controller.waiting)) (sym is) found);
             begun = λ b. record {
               state = tt;
               coming = each_map (λ (q : ℕ × Packet). q.0 ≢ i) (TakesNone i) (λ q other mine. absurd (other mine)) s.coming
@@ -250,4 +250,4 @@ module _ {H : Type 0} (answer_of : H → Command → Answer) (after : H → Comm
             before : (a : ℕ) → MayComeTo a i u → MayComeTo a i s
             before a (IsThere there) = IsThere there
             before a (IsSaid said) = IsSaid said
-            before a (IsAsked found) = IsAsked (subst (λ q. Somewhere (Sets a) (asked_in q ++ s.controller.waiting)) (sym is) found)
+            before a (IsAsked found) = IsAsked (subst (λ q. Somewhere (Sets a) (option_to_list (outstanding_command q) ++ s.controller.waiting)) (sym is) found)

@@ -1,5 +1,5 @@
 -- From the beginning over each list of moves: nobody else hears what a site says, and each site is its link.
-use Rattle.osdp_shared_line.proofs.Common.{◌≡◌, ◌≢◌, ◌⊎◌, ◌+◌, ℕ, zero, suc, true, List, [], ◌∷◌, ◌++◌, Option, Some, None, IfSome, refl, sym, subst, ap, ◌∙◌, inl, inr, arith, Room, Packet, CommandFits, Command, ControllerConfig, Answer, lacks_room, MaySubmit, ReadsWhatIsAsked, NoComset, each_all, each_map, each_of, Each, IsAsked, IsInOrder, IsNameOf, IsSaid, IsSetUp, IsThere, MayComeTo, NetMoveFits, NetMovesFit, NobodyElseHears, NoTwoAreTogether, Sets, Somewhere, asked_in, LoseToPanel, LoseToReader, Net, NetMove, Queue, Reopen, RestartPanel, RestartReader, Retarget, SetBusy, SetHandler, Site, Submit, Tick, ToPanel, ToReader, Withdraw, LapseEvent, WithdrawEvent, address_of, after_net, restarts, run, site_at, HeardByOwn}
+use Rattle.osdp_shared_line.proofs.Common.{◌≡◌, ◌≢◌, ◌⊎◌, ◌+◌, ℕ, zero, suc, true, List, [], ◌∷◌, ◌++◌, Option, Some, None, IfSome, refl, sym, subst, ap, ◌∙◌, inl, inr, arith, Room, Packet, CommandFits, Command, ControllerConfig, Answer, lacks_room, MaySubmit, ReadsWhatIsAsked, NoComset, each_all, each_map, each_of, Each, IsAsked, IsInOrder, IsNameOf, IsSaid, IsSetUp, IsThere, MayComeTo, NetMoveFits, NetMovesFit, NobodyElseHears, NoTwoAreTogether, Sets, Somewhere, option_to_list, outstanding_command, LoseToPanel, LoseToReader, Net, NetMove, Queue, Reopen, RestartPanel, RestartReader, Retarget, SetBusy, SetHandler, Site, Submit, Tick, ToPanel, ToReader, Withdraw, LapseEvent, WithdrawEvent, address_of, after_net, restarts, run, site_at, HeardByOwn}
 use Rattle.osdp_link_laws.specs.Link as link
 use Rattle.osdp_shared_line.specs.Line as line
 use Rattle.osdp_shared_line.proofs.Readers.{IsForAll, IsFrom}
@@ -112,7 +112,7 @@ module _ {H : Type 0} where
         let b = up.begins k s is in
         record {
           device = b.address;
-          fits = subst (λ q. Each CommandFits (asked_in q ++ s.controller.waiting)) (sym b.quiet.1)
+          fits = subst (λ q. Each CommandFits (option_to_list (outstanding_command q) ++ s.controller.waiting)) (sym b.quiet.1)
               (each_map MaySubmit CommandFits (λ c may. may.fits) s.controller.waiting (each_of MaySubmit s.controller.waiting b.waiting));
           devices = subst (Each IsToDevice) (sym (up.coming k s is)) tt;
           away = subst (Each (IsAway k (reader_address s))) (sym (up.coming k s is)) tt;
@@ -128,7 +128,7 @@ module _ {H : Type 0} where
       one_name k s at b (inr (IsSaid found)) = absurd (subst (Somewhere (IsOwnComset k b)) (up.coming k s at) found)
       one_name k s at b (inr (IsAsked found)) =
           absurd (none_sets b s.controller.waiting (each_of NoComset s.controller.waiting (up.waiting k s at))
-          (subst (λ q. Somewhere (Sets b) (asked_in q ++ s.controller.waiting)) (up.begins k s at).quiet.1 found))
+          (subst (λ q. Somewhere (Sets b) (option_to_list (outstanding_command q) ++ s.controller.waiting)) (up.begins k s at).quiet.1 found))
 
   -- ---- nobody else hears
 

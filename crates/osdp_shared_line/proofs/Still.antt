@@ -1,5 +1,5 @@
 -- A link in which no COMSET is under way: both ends stay where they are over a round.
-use Rattle.osdp_shared_line.proofs.Common.{◌≡◌, ℕ, List, [], ◌∷◌, ◌++◌, refl, sym, subst, ap, ◌∙◌, inl, inr, append_assoc, option_to_list, Packet, CommandFits, Command, seen, ticks, Answer, Delivered, Link, ReadsWhatIsAsked, SetsNoAddress, round, each_front, each_map, each_rest, Each, Sets, SetsReader, Somewhere, asked_in}
+use Rattle.osdp_shared_line.proofs.Common.{◌≡◌, ℕ, List, [], ◌∷◌, ◌++◌, refl, sym, subst, ap, ◌∙◌, inl, inr, append_assoc, option_to_list, Packet, CommandFits, Command, seen, ticks, Answer, Delivered, Link, ReadsWhatIsAsked, SetsNoAddress, round, each_front, each_map, each_rest, Each, Sets, SetsReader, Somewhere, outstanding_command, ahead}
 use Rattle.osdp_controller.specs.Hearing as controller
 use Rattle.osdp_link_laws.specs.Link as link
 use Rattle.osdp_shared_line.proofs.Controllers.{IsSent, hears_well, ticks_well}
@@ -16,7 +16,7 @@ IsPlainTo here p = (p.address ≡ here) × ((to : ℕ) → SetsReader to p → �
 
 module _ {H : Type 0} where
   abbrev pub asked_of : Link H → List Command
-  asked_of l = asked_in l.controller.session.state ++ l.controller.waiting
+  asked_of l = ahead l.controller
 
   pub record IsStill (l : Link H) : Type 0 where
     pub together : l.reader.config.address ≡ l.controller.session.config.address
@@ -59,16 +59,16 @@ module _ {H : Type 0} where
     getting (q ∷ qs) now l h =
         let well = hears_well q now l.controller.session in
         let heard = controller.hears q now l.controller.session in
-        let left : asked_of l ≡ well.left.0 ++ (asked_in heard.session.state ++ l.controller.waiting) =
-        ap (λ cs. cs ++ l.controller.waiting) well.left.1 ∙ append_assoc well.left.0 (asked_in heard.session.state) l.controller.waiting in
+        let left : asked_of l ≡ well.left.0 ++ (option_to_list (outstanding_command heard.session.state) ++ l.controller.waiting) =
+        ap (λ cs. cs ++ l.controller.waiting) well.left.1 ∙ append_assoc well.left.0 (option_to_list (outstanding_command heard.session.state)) l.controller.waiting in
         record {
           together = elim well.goes [
             | inl still ↦ h.together ∙ sym still
-            | inr went ↦ absurd (none_sets _ (asked_in l.controller.session.state)
-                (each_front SetsNoAddress (asked_in l.controller.session.state) l.controller.waiting h.none) went.2)
+            | inr went ↦ absurd (none_sets _ (option_to_list (outstanding_command l.controller.session.state))
+                (each_front SetsNoAddress (option_to_list (outstanding_command l.controller.session.state)) l.controller.waiting h.none) went.2)
           ];
-          none = each_rest SetsNoAddress well.left.0 (asked_in heard.session.state ++ l.controller.waiting) (subst (Each SetsNoAddress) left h.none);
-          fits = each_rest CommandFits well.left.0 (asked_in heard.session.state ++ l.controller.waiting) (subst (Each CommandFits) left h.fits);
+          none = each_rest SetsNoAddress well.left.0 (option_to_list (outstanding_command heard.session.state) ++ l.controller.waiting) (subst (Each SetsNoAddress) left h.none);
+          fits = each_rest CommandFits well.left.0 (option_to_list (outstanding_command heard.session.state) ++ l.controller.waiting) (subst (Each CommandFits) left h.fits);
           stored = h.stored;
         }
 

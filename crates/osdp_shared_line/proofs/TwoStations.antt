@@ -47,8 +47,6 @@ module _ {H : Type 0} (handler other : H) where
     waiting = each_all MaySubmit (Cap 0 ∷ []) (record { no_poll = λ e. let is = e in cc; fits = omega arith }, tt);
     to_reader = refl;
     to_controller = refl;
-    account = refl;
-    earlier = refl;
   }
 
   is_set_up : IsSetUp (two_stations handler other)
@@ -160,7 +158,7 @@ module _ {H : Type 0} (answer_of : H → Command → Answer) (after : H → Comm
       site = the_site (site_at 0 (ordered answer_of after handler other).sites) handler;
       last = the_site (site_at 0 later.sites) handler;
       rounds = are_rounds 0 (station_at 3 handler) refl tt refl refl
-          (record { clear = record { to_reader = refl; to_controller = refl; address = refl; ready = refl; issued = both_wait }; unended = both_wait });
+          (record { to_reader = refl; to_controller = refl; address = refl; ready = refl; stays = both_wait });
       range = in_range 3 handler;
       due = (refl, (refl, (refl, tt)));
       late = (omega arith, (omega arith, (omega arith, tt)));
@@ -173,7 +171,7 @@ module _ {H : Type 0} (answer_of : H → Command → Answer) (after : H → Comm
       site = the_site (site_at 1 (ordered answer_of after handler other).sites) handler;
       last = the_site (site_at 1 later.sites) handler;
       rounds = are_rounds 1 (station_at 4 other) refl tt refl refl
-          (record { clear = record { to_reader = refl; to_controller = refl; address = refl; ready = refl; issued = one_waits }; unended = one_waits });
+          (record { to_reader = refl; to_controller = refl; address = refl; ready = refl; stays = one_waits });
       range = in_range 4 other;
       due = (refl, (refl, tt));
       late = (omega arith, (omega arith, tt));

@@ -1,5 +1,5 @@
 -- The addresses of several sites: what their program makes sure of when it gives one, and that nobody else hears what a site says.
-use Rattle.std.specs.Prelude.{◌≡◌, ◌≢◌, ◌⊎◌, ℕ, true, All, List, [], ◌∷◌, ◌++◌, Option, Some, None, Result, Ok, Err}
+use Rattle.std.specs.Prelude.{◌≡◌, ◌≢◌, ◌⊎◌, ℕ, true, All, List, [], ◌∷◌, Option, Some, None, Result, Ok, Err}
 use Rattle.osdp_frame.specs.Packet.{Packet}
 use Rattle.osdp_msg.specs.CommandTable.{CommandFits}
 use Rattle.osdp_msg.specs.declared.command.Command.{Command}
@@ -7,14 +7,11 @@ use Rattle.osdp_msg.specs.declared.command_fields.Communication.{Communication}
 use Rattle.osdp_msg.specs.declared.fault.MsgFault.{MsgFault}
 use Rattle.osdp_controller.specs.Hearing.{comset_of}
 use Rattle.osdp_controller.specs.Machine.{AreSettings}
-use Rattle.osdp_controller.specs.declared.exchange.Exchange.{Exchange}
-use Rattle.osdp_controller.specs.declared.exchange.Exchange.TheVariants.{Asking}
-use Rattle.osdp_controller.specs.declared.state.State.{State}
-use Rattle.osdp_controller.specs.declared.state.State.TheVariants.{Waiting, Pausing}
 use Rattle.osdp_reader.specs.Table.{command_in, new_address}
 use Rattle.osdp_reader.specs.declared.handler.Answer.{Answer}
 use Rattle.osdp_reader_laws.specs.Storing.{StoresItsOwn}
-use Rattle.osdp_link_laws.specs.Headline.{Begins, MoveFits, SaysWhatFitsIf}
+use Rattle.osdp_link_laws.specs.Ahead.{ahead}
+use Rattle.osdp_link_laws.specs.Beginning.{Begins, MoveFits, SaysWhatFitsIf}
 use Rattle.osdp_link_laws.specs.Link as link
 use Rattle.osdp_link_laws.specs.Progress.{NoComset}
 use Rattle.osdp_shared_line.specs.Line.{LoseToPanel, LoseToReader, Net, NetMove, Queue, Reopen, RestartPanel, RestartReader, Retarget, SetBusy, SetHandler, Site, Submit, Tick, ToPanel, ToReader, Withdraw, LapseEvent, WithdrawEvent, address_of, after_net, is_command_accepted, is_retarget_accepted, restarts, run, site_at}
@@ -38,16 +35,6 @@ address_in (Err fault) = None
 abbrev pub SetsReader : ℕ → Packet → Type 0
 SetsReader to p = address_in (command_in p) ≡ Some to
 
--- the command that is outstanding
-abbrev pub asked_by : Exchange → List Command
-asked_by (Asking command) = command ∷ []
-asked_by _ = []
-
-abbrev pub asked_in : State → List Command
-asked_in (Waiting until sends o) = asked_by o.exchange
-asked_in (Pausing until o) = asked_by o.exchange
-asked_in _ = []
-
 -- what takes the reader of this place to another address stands after all that others said to that address: none of them is left once it
 -- is read
 abbrev pub IsInOrder : ℕ → List (ℕ × Packet) → Type 0
@@ -65,7 +52,7 @@ module _ {H : Type 0} where
 
   -- the commands of its user that have not ended: the one that is outstanding, and those that wait
   abbrev pub unended : Site H → List Command
-  unended s = asked_in s.controller.session.state ++ s.controller.waiting
+  unended s = ahead s.controller
 
   -- where its reader is, or where a COMSET that it has not read may take it: one that has not ended, or one that was said
   pub data MayComeTo (address k : ℕ) (s : Site H) : Type 0 where

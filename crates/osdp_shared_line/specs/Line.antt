@@ -21,17 +21,15 @@ use Rattle.osdp_reader.specs.State.{ReaderState}
 use Rattle.osdp_reader.specs.declared.config.ReaderConfig.{ReaderConfig}
 use Rattle.osdp_reader.specs.declared.handler.Answer.{Answer}
 use Rattle.osdp_link_laws.specs.Link as link
-use Rattle.osdp_link_laws.specs.Link.{Account, Delivered, Delivery, Link, Lost, Move, Repeated, after_move, lost_at}
+use Rattle.osdp_link_laws.specs.Link.{Delivered, Delivery, Link, Lost, Move, Repeated, after_move, lost_at}
 
--- A reader and its controller, the address that is kept for a COMSET of theirs, and their accounts. `coming` is what was said to the readers and
+-- A reader and its controller, and the address that is kept for a COMSET of theirs. `coming` is what was said to the readers and
 -- this one has not read yet, the oldest first, each with the place of the site whose controller said it.
 pub record Site (H : Type 0) : Type 0 where
   pub controller : Machine
   pub reserved : Option ℕ
   pub reader : ReaderState H
   pub coming : List (ℕ × Packet)
-  pub account : Account
-  pub earlier : List Account
 
 -- the sites, and what the readers said and the panel has not read yet, the oldest first, each with the place of the site whose reader said it
 pub record Net (H : Type 0) : Type 0 where
@@ -144,10 +142,10 @@ module _ {H : Type 0} where
 
   -- the link of a site, with this on the line, and the site as its link has left it
   abbrev pub link_of : Site H → List Packet → List Packet → Link H
-  link_of s ps qs = record { controller = s.controller; reader = s.reader; to_reader = ps; to_controller = qs; account = s.account; earlier = s.earlier }
+  link_of s ps qs = record { controller = s.controller; reader = s.reader; to_reader = ps; to_controller = qs }
 
   abbrev pub left_by : Site H → Link H → Site H
-  left_by s l = record s { controller = l.controller; reader = l.reader; account = l.account; earlier = l.earlier }
+  left_by s l = record s { controller = l.controller; reader = l.reader }
 
   abbrev pub keeping : Option ℕ → Site H → Site H
   keeping reserved s = record s { reserved = reserved }

@@ -1,14 +1,17 @@
 -- Progress on a line with several readers: what rounds that lose nothing come to for each of them.
-use Rattle.std.specs.Prelude.{◌≡◌, ◌⊎◌, ℕ, zero, suc, ◌==◌, if◌then◌else◌, All, List, [], ◌∷◌, ◌++◌, length, Some, IfSome}
+use Rattle.std.specs.Prelude.{◌≡◌, ◌⊎◌, ◌≤◌, ℕ, ◌-◌, min, zero, suc, ◌==◌, if◌then◌else◌, List, [], ◌∷◌, ◌++◌, length, Some, IfSome}
 use Rattle.osdp_msg.specs.declared.command.Command.{Command}
 use Rattle.osdp_controller.specs.declared.state.State.TheVariants.{Closed}
 use Rattle.osdp_controller_laws.specs.Calls.{IsInRange}
 use Rattle.osdp_reader.specs.declared.handler.Answer.{Answer}
+use Rattle.osdp_link_laws.specs.Ahead.{left}
 use Rattle.osdp_link_laws.specs.Link as link
 use Rattle.osdp_link_laws.specs.Link.{Delivered}
-use Rattle.osdp_link_laws.specs.Progress.{AreDue, AreLate, ComeOn, IsClear, SetsNoAddress, rounds}
-use Rattle.osdp_shared_line.specs.Addresses.{IsSetUp, NetMovesFit, unended}
+use Rattle.osdp_link_laws.specs.Progress.{AreDue, AreLate, IsClear, rounds}
+use Rattle.osdp_link_laws.specs.Reports.{reports, told_in}
+use Rattle.osdp_shared_line.specs.Addresses.{IsSetUp, NetMovesFit}
 use Rattle.osdp_shared_line.specs.Line.{Net, NetMove, Site, Tick, ToPanel, ToReader, run, site_at}
+use Rattle.osdp_shared_line.specs.Runs.{reports_at}
 use Rattle.osdp_shared_line.specs.Views.{view}
 
 -- the moments of the rounds of this site, of rounds of all
@@ -39,10 +42,9 @@ module _ {H : Type 0} where
     pub coming : (k : ℕ) (s : Site H) → site_at k n.sites ≡ Some s → s.coming ≡ []
     pub to_panel : n.to_panel ≡ []
 
-  -- its ends are at one address, its reader isn't busy, and no COMSET to a device's address was issued, waits or is outstanding
-  pub record IsReady (k : ℕ) (s : Site H) (n : Net H) : Type 0 where
-    pub clear : IsClear (view k s n)
-    pub unended : All SetsNoAddress (unended s)
+  -- its ends are at one address, its reader isn't busy, and no COMSET to a device's address waits or is outstanding
+  abbrev pub IsReady : ℕ → Site H → Net H → Type 0
+  IsReady k s n = IsClear (view k s n)
 
   module _ (answer_of : H → Command → Answer) (after : H → Command → H) where
     -- After any moves that leave nothing on the line come rounds, each of some site, and this site was there before, between and after. What
@@ -59,24 +61,31 @@ module _ {H : Type 0} where
           ≡ Some last
       pub ready : IsReady k s (run answer_of after moves n)
 
-    -- the rounds of all are for this site its own rounds, and nothing else
+    -- the rounds of all are for this site its own rounds, and nothing else: they leave it as those do, and tell of it what those tell
     abbrev pub RoundsAreItsOwn : Type 0
     RoundsAreItsOwn = (n : Net H) (moves : List (NetMove H)) (turns : List (ℕ × ℕ)) (k : ℕ) (first s last : Site H)
         → AreRounds n moves turns k first s last
         → let later = run answer_of after moves n in
-        view k last (run answer_of after (net_rounds (length later.sites) turns) later)
-        ≡ link.run answer_of after (rounds (moments_of k turns)) (view k s later)
+        let all = net_rounds (length later.sites) turns in
+        (view k last (run answer_of after all later) ≡ link.run answer_of after (rounds (moments_of k turns)) (view k s later))
+        × (reports_at answer_of after k all s later ≡ reports answer_of after (rounds (moments_of k turns)) (view k s later))
 
-    -- as many rounds of its own as it has, as many more of its commands and events but one come through, or all
+    -- over the rounds of all, as many of this site's commands and events as it has rounds of its own, but one, are told settled or reported, or all that
+    -- were left
+    abbrev pub ComesOn : ℕ → List (ℕ × ℕ) → Site H → Net H → Type 0
+    ComesOn k turns s n = min (length (moments_of k turns) - 1) (left (view k s n))
+        ≤ told_in (reports_at answer_of after k (net_rounds (length n.sites) turns) s n)
+
+    -- so it is where each tick of its own is due ..
     abbrev pub EachComesThrough : Type 0
     EachComesThrough = (n : Net H) (moves : List (NetMove H)) (turns : List (ℕ × ℕ)) (k : ℕ) (first s last : Site H)
         → AreRounds n moves turns k first s last
-        → AreDue answer_of after (moments_of k turns) (view k s (run answer_of after moves n))
-        → ComeOn (moments_of k turns) s.account last.account
+        → let later = run answer_of after moves n in
+        AreDue answer_of after (moments_of k turns) (view k s later) → ComesOn k turns s later
 
-    -- .. where its rounds are as long as the longest of its controller's waits, or its session has ended
+    -- .. or where its rounds are as long as the longest of its controller's waits, or its session has ended
     abbrev pub EachComesThroughInTime : Type 0
     EachComesThroughInTime = (n : Net H) (moves : List (NetMove H)) (turns : List (ℕ × ℕ)) (k : ℕ) (first s last : Site H)
         → AreRounds n moves turns k first s last → IsInRange first.controller.session
-        → AreLate answer_of after (moments_of k turns) (view k s (run answer_of after moves n))
-        → (last.controller.session.state ≡ Closed) ⊎ ComeOn (moments_of k turns) s.account last.account
+        → let later = run answer_of after moves n in
+        AreLate answer_of after (moments_of k turns) (view k s later) → (last.controller.session.state ≡ Closed) ⊎ ComesOn k turns s later

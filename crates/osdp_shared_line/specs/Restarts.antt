@@ -2,7 +2,8 @@
 use Rattle.std.specs.Prelude.{◌≡◌, ◌≢◌, ℕ, All, List, Some}
 use Rattle.osdp_msg.specs.declared.command.Command.{Command}
 use Rattle.osdp_reader.specs.declared.handler.Answer.{Answer}
-use Rattle.osdp_link_laws.specs.Refusals.{IsNoRefusal, reports}
+use Rattle.osdp_link_laws.specs.Refusals.{IsNoRefusal}
+use Rattle.osdp_link_laws.specs.Reports.{reports}
 use Rattle.osdp_shared_line.specs.Addresses.{IsSetUp, NetMovesFit}
 use Rattle.osdp_shared_line.specs.Line.{Net, NetMove, RestartPanel, RestartReader, SetHandler, Site, Withdraw, LapseEvent, WithdrawEvent, site_at}
 use Rattle.osdp_shared_line.specs.Runs.{moves_of}

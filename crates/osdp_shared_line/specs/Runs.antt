@@ -1,10 +1,13 @@
 -- A run of several sites from their first sessions on, and what it comes to for each of them.
 use Rattle.std.specs.Prelude.{◌≡◌, ℕ, List, [], ◌∷◌, ◌++◌, IfSome, Option, Some, None}
 use Rattle.osdp_msg.specs.declared.command.Command.{Command}
+use Rattle.osdp_controller.specs.declared.report.Report.{Report}
 use Rattle.osdp_reader.specs.declared.handler.Answer.{Answer}
-use Rattle.osdp_link_laws.specs.Headline.{MovesFit}
+use Rattle.osdp_link_laws.specs.Beginning.{MovesFit}
 use Rattle.osdp_link_laws.specs.Link.{Move}
-use Rattle.osdp_link_laws.specs.Refusals.{IsNoRefusal, told_by}
+use Rattle.osdp_link_laws.specs.Refusals.{IsNoRefusal}
+use Rattle.osdp_link_laws.specs.Reports.{reports, told_by}
+use Rattle.osdp_link_laws.specs.Sessions.{restarts_in_session}
 use Rattle.osdp_shared_line.specs.Addresses.{IsSetUp, NetMovesFit}
 use Rattle.osdp_shared_line.specs.Line.{Net, NetMove, Site, after_net, run, site_at}
 use Rattle.osdp_shared_line.specs.Views.{IsMoved, move_of, view}
@@ -19,6 +22,10 @@ module _ {H : Type 0} (answer_of : H → Command → Answer) (after : H → Comm
   abbrev pub moves_of : ℕ → List (NetMove H) → Net H → List (Move H)
   moves_of k [] n = []
   moves_of k (move ∷ moves) n = moves_at k (site_at k n.sites) move n ++ moves_of k moves (after_net answer_of after move n)
+
+  -- what this site's controller tells the panel's program over these moves
+  abbrev pub reports_at : ℕ → List (NetMove H) → Site H → Net H → List Report
+  reports_at k moves s n = reports answer_of after (moves_of k moves n) (view k s n)
 
   -- its view is its link after these moves, which are moves as a link has them
   pub record IsItsLink (k : ℕ) (s : Site H) (moves : List (NetMove H)) (n : Net H) : Type 0 where
@@ -35,4 +42,4 @@ module _ {H : Type 0} (answer_of : H → Command → Answer) (after : H → Comm
   abbrev pub EachRefusesNoNumber : Type 0
   EachRefusesNoNumber = (n : Net H) (moves : List (NetMove H)) → IsSetUp n → NetMovesFit answer_of after moves n
       → (k : ℕ) (first last : Site H) → site_at k n.sites ≡ Some first → site_at k (run answer_of after moves n).sites ≡ Some last
-      → last.account.restarts ≡ 0 → (move : Move H) → IfSome (told_by move (view k last (run answer_of after moves n))) IsNoRefusal
+      → restarts_in_session answer_of after (moves_of k moves n) (view k first n) 0 ≡ 0 → (move : Move H) → IfSome (told_by move (view k last (run answer_of after moves n))) IsNoRefusal

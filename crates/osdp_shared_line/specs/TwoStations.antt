@@ -10,7 +10,6 @@ use Rattle.osdp_controller_laws.specs.Calls.{IsInRange}
 use Rattle.osdp_reader.specs.State.{new_reader}
 use Rattle.osdp_reader.specs.declared.config.ReaderConfig.{ReaderConfig}
 use Rattle.osdp_reader.specs.declared.handler.Answer.{Answer}
-use Rattle.osdp_link_laws.specs.Link.{new_account}
 use Rattle.osdp_link_laws.specs.Progress.{AreDue, AreLate}
 use Rattle.osdp_shared_line.specs.Line.{Net, NetMove, Site, Submit, run}
 use Rattle.osdp_shared_line.specs.Progress.{AreRounds, moments_of}
@@ -33,8 +32,6 @@ module _ {H : Type 0} where
     reserved = None;
     reader = new_reader (device_at address) handler (record { messages = 1; bytes = 100 });
     coming = [];
-    account = new_account (Cap 0 ∷ []) [];
-    earlier = [];
   }
 
   abbrev pub two_stations : H → H → Net H

@@ -1,5 +1,5 @@
 -- The line on which the first sessions of a bus's readers begin, as sites: it is set up, and the simulation begins as these.
-use Rattle.osdp_sim_bus_laws.proofs.Common.{◌≡◌, ◌≢◌, ◌<◌, ◌&&◌, ◌||◌, not, ℕ, zero, suc, Bool, true, false, All, List, [], ◌∷◌, length, map, Some, None, refl, sym, subst, ap, ◌∙◌, arith, leb-true, nat_le, slice_get, list_all, list_any, new_reader, most_entries, BusConfig, Begins, new_account, Each, is_true, Net, site_at, IsSetUp, view, device_of, NothingIsKept, AreSettings, are_apart, is_at, is_reader_in_range, Given, address_of, begun_device, new_site, set_up, begins, tells_nothing, FollowsSites, SitesOf}
+use Rattle.osdp_sim_bus_laws.proofs.Common.{◌≡◌, ◌≢◌, ◌<◌, ◌&&◌, ◌||◌, not, ℕ, zero, suc, Bool, true, false, All, List, [], ◌∷◌, length, map, Some, None, refl, sym, subst, ap, ◌∙◌, arith, leb-true, nat_le, slice_get, list_all, list_any, new_reader, most_entries, BusConfig, Begins, Each, is_true, Net, site_at, IsSetUp, view, device_of, NothingIsKept, AreSettings, are_apart, is_at, is_reader_in_range, Given, address_of, begun_device, new_site, set_up, begins, FollowsSites, SitesOf}
 use Rattle.osdp_bus.specs.Settings.{controller_config}
 use Rattle.osdp_link_laws.specs.Progress.{NoComset}
 use Rattle.osdp_shared_line.specs.Line as line
@@ -65,8 +65,6 @@ module _ {H : Type 0} where
     reserved = None;
     reader = new_reader given.0 given.2 (room_for given.1);
     coming = [];
-    account = new_account [] [];
-    earlier = [];
   }
 
   abbrev pub first_sites : BusConfig → List (Given H) → List (line.Site H)
@@ -118,8 +116,6 @@ module _ {H : Type 0} where
           waiting = alone.waiting;
           to_reader = alone.to_reader;
           to_controller = alone.to_controller;
-          account = alone.account;
-          earlier = alone.earlier;
         });
     together = each_first (λ (s : line.Site H). s.reader.config.address ≡ line.address_of s) config readers (λ given. refl);
     stored = each_first (λ (s : line.Site H). StoresItsOwn s.reader) config readers (λ given. tt);
@@ -150,7 +146,7 @@ module _ {H : Type 0} where
   sites_are : (config : BusConfig) (readers : List (Given H)) → SitesOf (map new_site readers) (first_sites config readers)
   sites_are config [] = tt
   sites_are config (g ∷ readers) =
-      (record { reader = refl; tells = tells_nothing; ended = refl; causes = tt }, sites_are config readers)
+      (record { reader = refl; ended = refl; causes = tt }, sites_are config readers)
 
   none_come : (config : BusConfig) (readers : List (Given H)) → Each (λ (s : line.Site H). s.coming ≡ []) (first_sites config readers)
   none_come config [] = tt

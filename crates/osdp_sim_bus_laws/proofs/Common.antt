@@ -29,16 +29,16 @@ pub use Rattle.osdp_sim_laws.proofs.Accepting.{accepted, Accepts, counts, IsNoOr
 pub use Rattle.osdp_sim_laws.proofs.Room.{commands_stay_short, events_stay_short, FewCommands, fewer_commands, fewer_events, FewEvents, no_room_for_command, no_room_for_event, one_more_command, one_more_event, OrderFits, orders_fit, same_commands, same_events, ShortCommands, ShortEvents, tick_few}
 pub use Rattle.osdp_sim_bus_laws.specs.Accepted.{AcceptsFor, EachAccepts, IsNoComset}
 pub use Rattle.osdp_reader.specs.State.{new_reader, ReaderState}
-pub use Rattle.osdp_link_laws.specs.Headline.{Begins, EachIsOnce, HoldsOnce, SaysWhatFitsIf}
-pub use Rattle.osdp_link_laws.specs.Link.{Delivered, Delivery, Lost, new_account, Repeated}
+pub use Rattle.osdp_link_laws.specs.Beginning.{Begins, SaysWhatFitsIf}
+pub use Rattle.osdp_link_laws.specs.Link.{Delivered, Delivery, Lost, Repeated}
 pub use Rattle.osdp_link_laws.proofs.Numbers.{is_false, is_true}
 pub use Rattle.osdp_shared_line.specs.Line.{changed, first_gets, Net, NetMove, run, Site, site_at, tagged, ToPanel}
 pub use Rattle.osdp_shared_line.specs.Addresses.{in_front, IsSetUp, NobodyElseHears}
 pub use Rattle.osdp_shared_line.specs.Views.{EachMoveIsItsOwn, IsQuiet, own, view}
-pub use Rattle.osdp_bus_links.specs.Links.{device_of, HearsAsAMove, IsBusOf, IsNoRefusalOf, IsSubmitted, IsTold, one_ticks, packets_on, report_for, SubmitsAsAMove, TellsEach, TellsFrom, tick_moves, TicksAsAMove, who_ticks}
+pub use Rattle.osdp_bus_links.specs.Links.{device_of, HearsAsAMove, IsBusOf, IsNoRefusalOf, IsSubmitted, IsTold, one_ticks, packets_on, report_for, SubmitsAsAMove, told_by_first, TellsEach, TellsFrom, tick_moves, TicksAsAMove, who_ticks}
 pub use Rattle.osdp_bus_links.specs.Premises.{AllOthersFit, BusSuffices, IsScheduled, NothingIsKept, OthersFit}
 pub use Rattle.osdp_sim_bus.specs.Runs.{are_apart, AreSettings, FitAlong, is_at, is_reader_in_range, is_well, lists_of_all, steps_done, Stops}
-pub use Rattle.osdp_sim_laws.proofs.Holding.{begins, HasSessions, last_one, of_one, tells_nothing}
+pub use Rattle.osdp_sim_laws.proofs.Holding.{begins, last_one}
 pub use Rattle.osdp_sim_bus_laws.specs.Moves.{AreItsMoves, count, each_reads, FollowsSites, for_reader, IsKnown, IsSiteOf, moment_of, moves_for, moves_of, OneBus, SchedulesAreMoves, SitesOf, SpellsBytes, StepsAreMoves}
 pub use Rattle.osdp_frame.specs.Items.{items, packets_in, reading}
 pub use Rattle.osdp_frame.specs.Packet.{IsPacket, Packet}
@@ -46,14 +46,12 @@ pub use Rattle.osdp_controller.specs.declared.report.Report.{Report}
 pub use Rattle.osdp_sim.specs.Line.{handed, left, sent}
 pub use Rattle.osdp_sim.specs.Steps.{damage_fault, moment_after, SaysFit}
 pub use Rattle.osdp_sim.proofs.Schedules.{first_well, holds_on}
-pub use Rattle.osdp_sim_laws.specs.Accounts.{SessionsEndOnce, IsNoRefusal, IsOf, reopens_in}
+pub use Rattle.osdp_sim_laws.specs.Accounts.{SessionsEndOnce, IsNoRefusal, reopens_in}
 pub use Rattle.osdp_frame.specs.Spelling.{spelling}
 pub use Rattle.osdp_bus.specs.Buses.{BusState}
 pub use Rattle.osdp_link_laws.specs.Peers.{IsPlainlySaid}
 pub use Rattle.osdp_bus.specs.Ticking.{bus_ticks}
-pub use Rattle.osdp_sim_laws.proofs.Accounts.{causes_of, report_leaves, tells_issued, tells_queued, tells_report, tells_session, tells_taken}
+pub use Rattle.osdp_sim_laws.proofs.Accounts.{report_leaves}
 pub use Rattle.osdp_sim_bus_laws.specs.Accounts.{accounts_in, AccountsAreOnce, AccountsEndOnce, BusAnswer, IsAnswer, IsOneSession, IsRun, OfEach, WasSetUp}
 pub use Rattle.osdp_controller.specs.States.{is_closed}
-pub use Rattle.osdp_link_laws.specs.Ordinary.{AreUndisturbed, IsOrdinary, OrdinaryIsUndisturbed}
-pub use Rattle.osdp_link_laws.proofs.OrdinaryRuns.{steady_handler, steady_ordinary}
 pub use Rattle.osdp_bus_links.proofs.Names.{are_steady}

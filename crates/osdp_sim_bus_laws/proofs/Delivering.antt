@@ -1,5 +1,5 @@
 -- What the line does with a burst, where the packets of several sites go over it in bytes.
-use Rattle.osdp_sim_bus_laws.proofs.Common.{◌≡◌, ℕ, suc, max, List, [], ◌∷◌, ◌++◌, length, map, All, Option, Some, None, IfSome, refl, sym, subst, ap, ◌∙◌, append-nil, map-append, flat_map, option_to_list, packets_in, reading, IsPacket, Packet, spelling, Command, ReaderState, Answer, BusState, after_next_report, SaysWhatFitsIf, Delivered, Delivery, Lost, Repeated, IsPlainlySaid, each_all, each_append, each_map, Each, Net, ToPanel, first_gets, tagged, HearsAsAMove, IsBusOf, IsNoRefusalOf, TellsEach, device_of, packets_on, handed, left, SaysFit, damage_fault, LineState, ReaderSite, DamageIsBytes, all_hear, all_hear_each, hears_run, takes_report, FollowsSites, SitesOf, SpellsBytes, each_reads, moment_of}
+use Rattle.osdp_sim_bus_laws.proofs.Common.{◌≡◌, ℕ, suc, max, List, [], ◌∷◌, ◌++◌, length, map, All, Option, Some, None, IfSome, refl, sym, subst, ap, ◌∙◌, append-nil, map-append, flat_map, option_to_list, packets_in, reading, IsPacket, Packet, spelling, Command, ReaderState, Answer, Report, BusState, after_next_report, SaysWhatFitsIf, Delivered, Delivery, Lost, Repeated, IsPlainlySaid, each_all, each_append, each_map, Each, Net, ToPanel, first_gets, tagged, HearsAsAMove, IsBusOf, IsNoRefusalOf, TellsEach, device_of, packets_on, told_by_first, handed, left, SaysFit, damage_fault, LineState, ReaderSite, DamageIsBytes, all_hear, all_hear_each, hears_run, takes_report, FollowsSites, SitesOf, SpellsBytes, each_reads, moment_of}
 use Rattle.osdp_frame.specs.Bytes.{AreBytes}
 use Rattle.osdp_reader.specs.Table as reader
 use Rattle.osdp_shared_line.specs.Line as line
@@ -11,6 +11,7 @@ use Rattle.osdp_sim_bus.specs.Steps as steps
 use Rattle.osdp_sim_laws.specs.Moves.{delivery}
 use Rattle.osdp_sim_laws.specs.OneLink.{ReadsPackets}
 use Rattle.osdp_sim_bus_laws.proofs.Following.{Comes, reported}
+use Rattle.osdp_sim_bus_laws.proofs.Own.{told_by_burst}
 use Rattle.osdp_sim_bus_laws.proofs.Reading.{AllRead, all_read, hearing, none_read, read_by, reads_scheduled, said_from}
 use Rattle.osdp_sim_bus_laws.proofs.Sites.{all_heard, all_said, both_on, none_heard, same_count}
 
@@ -216,33 +217,36 @@ module _ {H : Type 0} (answer_of : H → Command → Answer) (after : H → Comm
 
   -- ---- to the bus
 
-  -- a run of bytes, or none
-  pub record CameToBus (bytes : List ℕ) (b : BusState) (ss next : List (line.Site H)) : Type 0 where
+  -- a run of bytes, or none, by which this is told
+  pub record CameToBus (bytes : List ℕ) (report : Option (ℕ × Report)) (b : BusState) (ss next : List (line.Site H)) : Type 0 where
     pub bus : IsBusOf (after_next_report b) next
     pub told : TellsEach b.devices.report [] ss next
+    pub report_is : b.devices.report ≡ report
     pub plain : All IsPlainlySaid (packets_in bytes) → IsNoRefusalOf b.devices.report
 
-  pub none_comes : HearsAsAMove H → ReadsPackets → (bytes : List ℕ) (now : ℕ) (b : BusState) (ss : List (line.Site H)) → IsBusOf b ss → AreBytes bytes
-      → packets_in bytes ≡ [] → CameToBus bytes (hears_run bytes now b) ss ss
-  none_comes hears reads [] now b ss h fits none = record {
+  pub none_comes : HearsAsAMove H → (bytes : List ℕ) (now : ℕ) (b : BusState) (ss : List (line.Site H)) → IsBusOf b ss → AreBytes bytes
+      → packets_in bytes ≡ [] → CameToBus bytes None (hears_run bytes now b) ss ss
+  none_comes hears [] now b ss h fits none = record {
     bus = record { entries = h.entries; held = h.held; report = refl };
     told = subst (λ o. TellsEach o [] ss ss) (sym h.report) (told_nothing ss);
+    report_is = h.report;
     plain = λ said. subst IsNoRefusalOf (sym h.report) tt;
   }
-  none_comes hears reads (byte ∷ bytes) now b ss h fits none =
-      let is = (hears b ss now (byte ∷ bytes) h fits).0 none in record { bus = is.bus; told = is.told; plain = is.plain }
+  none_comes hears (byte ∷ bytes) now b ss h fits none =
+      let is = (hears b ss now (byte ∷ bytes) h fits).0 none in record { bus = is.bus; told = is.told; report_is = is.report_is; plain = is.plain }
 
   pub one_comes : HearsAsAMove H → ReadsPackets → (bytes : List ℕ) (now : ℕ) (b : BusState) (ss : List (line.Site H)) (p : Packet) → IsBusOf b ss → AreBytes bytes
-      → packets_in bytes ≡ p ∷ [] → CameToBus bytes (hears_run bytes now b) ss (first_gets p (max b.greatest now) ss)
+      → packets_in bytes ≡ p ∷ []
+      → let g = max b.greatest now in CameToBus bytes (told_by_first 0 p g ss) (hears_run bytes now b) ss (first_gets p g ss)
   one_comes hears reads [] now b ss p h fits one = absurd (let none = reads.none in cc)
   one_comes hears reads (byte ∷ bytes) now b ss p h fits one =
-      let is = (hears b ss now (byte ∷ bytes) h fits).1 p one in record { bus = is.bus; told = is.told; plain = is.plain }
+      let is = (hears b ss now (byte ∷ bytes) h fits).1 p one in record { bus = is.bus; told = is.told; report_is = is.report_is; plain = is.plain }
 
-  pub came : (bytes : List ℕ) (s : LineState H) (n : Net H) (bursts : List (List ℕ)) (qs : List (ℕ × Packet)) (next : List (line.Site H))
-      → CameToBus bytes (hears_run bytes s.clock s.bus) n.sites next → All IsPlainlySaid (packets_in bytes) → bursts ≡ map spelling (packets_on qs)
+  pub came : (bytes : List ℕ) (report : Option (ℕ × Report)) (s : LineState H) (n : Net H) (bursts : List (List ℕ)) (qs : List (ℕ × Packet)) (next : List (line.Site H))
+      → CameToBus bytes report (hears_run bytes s.clock s.bus) n.sites next → All IsPlainlySaid (packets_in bytes) → bursts ≡ map spelling (packets_on qs)
       → Each IsPacket (packets_on qs) → FollowsSites s n
       → FollowsSites (takes_report (record s { bus = hears_run bytes s.clock s.bus; to_bus = bursts })) (record n { sites = next; to_panel = qs })
-  came bytes s n bursts qs next comes plainly is answered h =
+  came bytes report s n bursts qs next comes plainly is answered h =
       let nothing : h.said ++ [] ≡ h.said = append-nil h.said in
       reported (record s { bus = hears_run bytes s.clock s.bus; to_bus = bursts }) n (record n { sites = next; to_panel = qs }) h.said []
       comes.bus (comes.plain plainly) h.sites comes.told h.coming
@@ -276,14 +280,14 @@ module _ {H : Type 0} (answer_of : H → Command → Answer) (after : H → Comm
       lost : (bytes : List ℕ) (rest : List (ℕ × Packet)) → packets_in bytes ≡ [] → AreBytes bytes → Each IsPacket (packets_on rest)
           → FollowsSites (takes_report (record s { bus = hears_run bytes s.clock s.bus; to_bus = map spelling (packets_on rest) })) (record n { to_panel = rest })
       lost bytes rest none fits answered =
-          came bytes s n (map spelling (packets_on rest)) rest n.sites (none_comes hears reads bytes s.clock s.bus n.sites h.bus fits none)
+          came bytes None s n (map spelling (packets_on rest)) rest n.sites (none_comes hears bytes s.clock s.bus n.sites h.bus fits none)
           (none_plain bytes none) refl answered h
 
       through : (q : ℕ × Packet) (rest : List (ℕ × Packet)) → IsPacket q.1 → IsPlainlySaid q.1 → Each IsPacket (packets_on rest)
           → FollowsSites (takes_report (record s { bus = hears_run (spelling q.1) s.clock s.bus; to_bus = map spelling (packets_on rest) }))
           (record n { sites = first_gets q.1 g n.sites; to_panel = rest })
       through q rest packet plain answered =
-          came (spelling q.1) s n (map spelling (packets_on rest)) rest (first_gets q.1 g n.sites)
+          came (spelling q.1) (told_by_first 0 q.1 g n.sites) s n (map spelling (packets_on rest)) rest (first_gets q.1 g n.sites)
           (one_comes hears reads (spelling q.1) s.clock s.bus n.sites q.1 h.bus (spells q.1 packet) (reads.one q.1 packet))
           (subst (All IsPlainlySaid) (sym (reads.one q.1 packet)) (each_all IsPlainlySaid (q.1 ∷ []) (plain, tt))) refl answered h
 
@@ -302,3 +306,28 @@ module _ {H : Type 0} (answer_of : H → Command → Answer) (after : H → Comm
           subst (λ l. FollowsSites (takes_report (record s { bus = hears_run (spelling q.1) s.clock s.bus; to_bus = map spelling (packets_on (q ∷ rest)) }))
           (record n { sites = first_gets q.1 g n.sites; to_panel = l })) (sym is) (through q (q ∷ rest) answered.0 plainly.0 answered)
       by_front (q ∷ rest) (Damage bytes) is well damage answered plainly = lost bytes.items rest (no_packets (reading bytes.items) well) damage answered.1
+
+  -- what is told then is what the front of the line tells
+  pub burst_tells : HearsAsAMove H → ReadsPackets → SpellsBytes → (qs : List (ℕ × Packet)) (move : way.Move) (s : LineState H) (n : Net H) → n.to_panel ≡ qs
+      → damage_fault move ≡ None → DamageIsBytes move → AreBytes [] → FollowsSites s n
+      → (hears_run (handed move s.to_bus) s.clock s.bus).devices.report ≡ told_by_burst n (delivery move) qs (moment_of s)
+  burst_tells hears reads spells qs move s n is well damage no_bytes h =
+      ap (λ l. (hears_run (handed move l) s.clock s.bus).devices.report) (h.to_bus ∙ ap (λ l. map spelling (packets_on l)) is)
+      ∙ by_front qs move well damage (subst (λ l. Each IsPacket (packets_on l)) is h.answered)
+    where
+      nothing : (bytes : List ℕ) → packets_in bytes ≡ [] → AreBytes bytes → (hears_run bytes s.clock s.bus).devices.report ≡ None
+      nothing bytes none fits = (none_comes hears bytes s.clock s.bus n.sites h.bus fits none).report_is
+
+      through : (q : ℕ × Packet) → IsPacket q.1 → (hears_run (spelling q.1) s.clock s.bus).devices.report ≡ told_by_first 0 q.1 (moment_of s) n.sites
+      through q packet = (one_comes hears reads (spelling q.1) s.clock s.bus n.sites q.1 h.bus (spells q.1 packet) (reads.one q.1 packet)).report_is
+
+      by_front : (qs : List (ℕ × Packet)) (move : way.Move) → damage_fault move ≡ None → DamageIsBytes move → Each IsPacket (packets_on qs)
+          → (hears_run (handed move (map spelling (packets_on qs))) s.clock s.bus).devices.report ≡ told_by_burst n (delivery move) qs (moment_of s)
+      by_front [] Deliver well damage packets = nothing [] reads.none no_bytes
+      by_front [] Drop well damage packets = nothing [] reads.none no_bytes
+      by_front [] Repeat well damage packets = nothing [] reads.none no_bytes
+      by_front [] (Damage bytes) well damage packets = nothing [] reads.none no_bytes
+      by_front (q ∷ rest) Deliver well damage packets = through q packets.0
+      by_front (q ∷ rest) Drop well damage packets = nothing [] reads.none no_bytes
+      by_front (q ∷ rest) Repeat well damage packets = through q packets.0
+      by_front (q ∷ rest) (Damage bytes) well damage packets = nothing bytes.items (no_packets (reading bytes.items) well) damage

@@ -1,10 +1,10 @@
 -- What the steps of a schedule are to the sites whose controllers a bus has: calls, moments and sessions.
-use Rattle.osdp_sim_bus_laws.proofs.Common.{◌≡◌, ◌-◌, ◌||◌, ℕ, zero, suc, max, not, Bool, true, false, if◌then◌else◌, List, [], ◌∷◌, ◌++◌, map, Option, Some, None, IfSome, refl, sym, subst, ap, ◌∙◌, arith, map-append, is_some, option_to_list, IsPacket, Packet, spelling, CommandFits, Command, Event, Report, ReaderState, Answer, lacks_room, after_next_report, submit_refusal_at, bus_ticks, BusFault, Each, ControllerFault, IsBusOf, IsNoRefusalOf, IsSubmitted, SubmitsAsAMove, TellsEach, TicksAsAMove, device_of, one_ticks, packets_on, tick_moves, who_ticks, AllOthersFit, IsScheduled, OthersFit, sent, LineState, ReaderSite, changes_site, is_there, issued, site_is_busy, site_issues, site_queues, site_queues_unless, takes_report, waited, where_there, tells_issued, tells_queued, comset_of, FollowsSites, IsSiteOf, SitesOf, for_reader}
+use Rattle.osdp_sim_bus_laws.proofs.Common.{◌≡◌, ◌-◌, ◌||◌, ℕ, zero, suc, max, not, Bool, true, false, if◌then◌else◌, List, [], ◌∷◌, ◌++◌, map, Option, Some, None, IfSome, refl, sym, subst, ap, ◌∙◌, arith, map-append, is_some, option_to_list, IsPacket, Packet, spelling, CommandFits, Command, Event, Report, ReaderState, Answer, lacks_room, after_next_report, submit_refusal_at, bus_ticks, BusFault, Each, ControllerFault, IsBusOf, IsNoRefusalOf, IsSubmitted, SubmitsAsAMove, TellsEach, TicksAsAMove, device_of, one_ticks, packets_on, tick_moves, who_ticks, AllOthersFit, IsScheduled, OthersFit, sent, LineState, ReaderSite, changes_site, is_there, issued, site_is_busy, site_issues, site_queues, site_queues_unless, takes_report, waited, where_there, comset_of, FollowsSites, IsSiteOf, SitesOf, for_reader}
 use Rattle.osdp_reader.specs.State as readers
 use Rattle.osdp_controller.specs.Machine as controllers
 use Rattle.osdp_link_laws.specs.Link as link
 use Rattle.osdp_shared_line.specs.Line as line
-use Rattle.osdp_shared_line.specs.Line.{Net, NetMove, Queue, Reopen, SetBusy, Submit, Tick, changed, is_command_accepted, is_comset_refused, run, site_at, submits}
+use Rattle.osdp_shared_line.specs.Line.{Net, NetMove, Queue, SetBusy, Submit, changed, is_comset_refused, run, site_at, submits}
 use Rattle.osdp_sim_bus.specs.Steps as steps
 use Rattle.osdp_sim_laws.proofs.Carrying.{packets_after, sent_after}
 use Rattle.osdp_sim_bus_laws.proofs.Sites.{all_coming, all_told, none_changes, none_told, one_changes, told_from, told_sites}
@@ -17,7 +17,7 @@ module _ {H : Type 0} where
       let here : v ≡ t = cc in ap (λ d. d ∷ map device_of ts) (ap device_of here ∙ sym same)
   kept_devices (suc k) t next (v ∷ ts) at same = ap (λ ds. device_of v ∷ ds) (kept_devices k t next ts at same)
 
-  told_is : (r : Option (ℕ × Report)) (w : LineState H) → steps.report_told r w ≡ record w { sites = told_sites 0 r w.sites }
+  pub told_is : (r : Option (ℕ × Report)) (w : LineState H) → steps.report_told r w ≡ record w { sites = told_sites 0 r w.sites }
   told_is None w = ap (λ us. record w { sites = us }) (sym (none_told 0 w.sites))
   told_is (Some (entry, r)) w = ap (λ us. record w { sites = us }) (told_from 0 entry entry r w.sites (omega arith))
 
@@ -73,7 +73,6 @@ module _ {H : Type 0} (answer_of : H → Command → Answer) (after : H → Comm
       → IsSiteOf (site_issues c u) (submits answer_of after c t)
   submitted_as c u t none is = subst (λ fault. IsSiteOf (site_issues c u) (submits_by c t fault)) (sym none) (record {
     reader = is.reader;
-    tells = tells_issued c u.account t.account t.earlier is.tells;
     ended = is.ended;
     causes = is.causes;
   })
@@ -149,10 +148,9 @@ module _ {H : Type 0} (answer_of : H → Command → Answer) (after : H → Comm
   queues_by full e t = line.left_by t (link.queues full e (line.link_of t [] []))
 
   queued_as : (full : Bool) (e : Event) (u : ReaderSite H) (t : line.Site H) → IsSiteOf u t → IsSiteOf (site_queues_unless full e u) (queues_by full e t)
-  queued_as true e u t is = record { reader = is.reader; tells = is.tells; ended = is.ended; causes = is.causes }
+  queued_as true e u t is = record { reader = is.reader; ended = is.ended; causes = is.causes }
   queued_as false e u t is = record {
     reader = ap (readers.after_submit e) is.reader;
-    tells = tells_queued e u.account t.account t.earlier is.tells;
     ended = is.ended;
     causes = is.causes;
   }
@@ -177,7 +175,7 @@ module _ {H : Type 0} (answer_of : H → Command → Answer) (after : H → Comm
       where_is (is_there number s) (SetBusy (number - 1) busy ∷ []) (changes_site (number - 1) (site_is_busy busy) s) s n
       (one_reader (number - 1) (SetBusy (number - 1) busy) (site_is_busy busy) (line.calls answer_of after (link.SetBusy busy)) s n
       tt tt refl (λ t. refl) (λ t. refl)
-      (λ u t is. record { reader = ap (readers.after_set_busy busy) is.reader; tells = is.tells; ended = is.ended; causes = is.causes }) h) (nothing s n h)
+      (λ u t is. record { reader = ap (readers.after_set_busy busy) is.reader; ended = is.ended; causes = is.causes }) h) (nothing s n h)
 
   -- ---- a moment
 

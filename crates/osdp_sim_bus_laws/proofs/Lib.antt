@@ -4,7 +4,10 @@ pub mod Sites
 pub mod Following
 pub mod Delivering
 pub mod Stepping
+pub mod Own
+pub mod Adding
 pub mod Scheduling
+pub mod Telling
 pub mod Beginning
 pub mod Rows
 pub mod OneSession

@@ -1,24 +1,24 @@
 -- Each reader's account has an end for each session that is over, and is that of one session where no step begins it again.
-use Rattle.osdp_sim_bus_laws.proofs.Common.{◌≡◌, ◌+◌, suc, List, length, sym, ap, ◌∙◌, arith, Command, Answer, BusConfig, Account, SimStep, steps_done, Given, ReaderSite, set_up, SessionsEndOnce, reopens_in, HasSessions, of_one, AccountsAreOnce, AccountsEndOnce, IsOneSession, IsRun, OfEach}
+use Rattle.osdp_sim_bus_laws.proofs.Common.{◌≡◌, ◌+◌, suc, List, length, sym, ap, ◌∙◌, arith, Command, Answer, BusConfig, Account, SimStep, steps_done, Given, ReaderSite, set_up, SessionsEndOnce, reopens_in, AccountsAreOnce, AccountsEndOnce, IsOneSession, IsRun, OfEach}
 use Rattle.osdp_sim_bus.specs.Runs as simulation
 use Rattle.osdp_sim_bus_laws.proofs.Begun.{sessions_counted}
 use Rattle.osdp_sim_bus_laws.proofs.Places.{unmapped}
-use Rattle.osdp_sim_bus_laws.proofs.Rows.{answers, told_by}
+use Rattle.osdp_sim_bus_laws.proofs.Rows.{IsRow, answers, told_by}
 
 module _ {H : Type 0} (answer_of : H → Command → Answer) (after : H → Command → H) where
-  -- each run has these sessions
-  abbrev HaveSessions : Type 0
-  HaveSessions = (config : BusConfig) (readers : List (Given H)) (steps : List SimStep) → IsRun answer_of after config readers steps
-      → OfEach (λ k given. HasSessions answer_of after given.0 given.2) readers (told_by answer_of after config readers steps)
+  -- each run has these accounts
+  abbrev HaveRows : Type 0
+  HaveRows = (config : BusConfig) (readers : List (Given H)) (steps : List SimStep) → IsRun answer_of after config readers steps
+      → OfEach (λ k given. IsRow answer_of after given) readers (told_by answer_of after config readers steps)
 
-  pub all_end : HaveSessions → AccountsEndOnce answer_of after
+  pub all_end : HaveRows → AccountsEndOnce answer_of after
   all_end rows config readers steps answer is was =
       answers answer_of after (OfEach (λ k given a. SessionsEndOnce a) readers) config readers steps answer is was
       (λ so.
       let row = rows config readers (steps_done steps answer) so in
-      record { count = row.count; each = λ k given at. let mine = row.each k given at in (mine.0, mine.1, mine.2.ends) })
+      record { count = row.count; each = λ k given at. let mine = row.each k given at in (mine.0, mine.1, mine.2.0) })
 
-  pub all_once : HaveSessions → AccountsAreOnce answer_of after
+  pub all_once : HaveRows → AccountsAreOnce answer_of after
   all_once rows config readers steps answer is was =
       let done = steps_done steps answer in
       answers answer_of after (OfEach (IsOneSession answer_of after done) readers) config readers steps answer is was
@@ -33,6 +33,6 @@ module _ {H : Type 0} (answer_of : H → Command → Answer) (after : H → Comm
             let counted : length mine.0.sessions ≡ 1 + reopens_in (suc k) done = ap (λ (a : Account). length a.sessions) (sym u.2) ∙ many in (
               mine.0,
               mine.1,
-              λ none. of_one answer_of after given.0 given.2 mine.0 mine.2 (omega (arith, counted, none)),
+              λ none. mine.2.1 (omega (arith, counted, none)),
             );
       })

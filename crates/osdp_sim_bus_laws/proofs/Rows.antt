@@ -1,10 +1,5 @@
--- Each reader's account is that of sessions of its link.
-use Rattle.osdp_sim_bus_laws.proofs.Common.{◌≡◌, ◌+◌, ◌-◌, ◌≤◌, ℕ, zero, suc, List, ◌∷◌, length, map, take, Some, Ok, Err, sym, subst, ap, ◌∙◌, arith, slice_get-map, slice_get, option_map, Command, is_closed, Answer, BusConfig, EachIsOnce, HoldsOnce, AreUndisturbed, IsOrdinary, OrdinaryIsUndisturbed, each_all, each_of, steady_handler, steady_ordinary, IsSetUp, Net, NetMove, run, view, IsScheduled, are_steady, Account, SimStep, AreSettings, FitAlong, Stops, is_well, lists_of_all, steps_done, Given, LineState, ReaderSite, accounts, set_up, IsNoRefusal, HasSessions, last_one, BusAnswer, IsAnswer, IsRun, OfEach, WasSetUp, accounts_in, AreItsMoves, IsSiteOf, SchedulesAreMoves, moves_of}
-use Rattle.osdp_reader.specs.declared.config.ReaderConfig.{ReaderConfig}
-use Rattle.osdp_link_laws.specs.Link as link
-use Rattle.osdp_link_ledger.specs.Accounts.{LedgerTellsAccounts}
-use Rattle.osdp_link_ledger.specs.Answers.{ActsHaveAnswersOfOneHandler}
-use Rattle.osdp_link_ledger.proofs.Answered.{HaveAnswers, sessions_have_answers}
+-- Each reader's account is that of a run of its link.
+use Rattle.osdp_sim_bus_laws.proofs.Common.{◌≡◌, ◌+◌, ◌-◌, ◌≤◌, ℕ, zero, suc, List, length, map, take, Some, Ok, Err, refl, sym, subst, ap, ◌∙◌, arith, slice_get-map, slice_get, option_map, Command, is_closed, Answer, BusConfig, each_all, each_of, IsSetUp, Net, NetMove, run, view, IsScheduled, are_steady, Account, SimStep, FitAlong, Stops, lists_of_all, new_site, steps_done, Given, LineState, ReaderSite, accounts, set_up, SessionsEndOnce, IsNoRefusal, last_one, BusAnswer, IsAnswer, IsRun, OfEach, WasSetUp, accounts_in, AreItsMoves, IsSiteOf, SchedulesAreMoves, moves_of}
 use Rattle.osdp_shared_line.specs.Line as line
 use Rattle.osdp_shared_line.specs.Runs.{EachIsALink}
 use Rattle.osdp_shared_line.specs.Runs as runs
@@ -12,6 +7,9 @@ use Rattle.osdp_bus_links.proofs.Keeping.{moves_usual}
 use Rattle.osdp_sim.specs.declared.fault.Cause.{Cause}
 use Rattle.osdp_sim_bus.specs.Laws.{HasAnAccountEach}
 use Rattle.osdp_sim_bus.specs.Runs as simulation
+use Rattle.osdp_sim_laws.specs.Accounts.{HoldsInOneSession}
+use Rattle.osdp_sim_laws.specs.OneLink.{KeepsLedger}
+use Rattle.osdp_sim_laws.proofs.Ledger.{IsRunOf, of_one}
 use Rattle.osdp_sim_bus_laws.proofs.Beginning.{first_net, first_site, follows_first, has_site, is_set_up, nothing_is_kept}
 use Rattle.osdp_sim_bus_laws.proofs.Sites.{counts_alike, get_site}
 
@@ -22,24 +20,6 @@ module _ {H : Type 0} where
       slice_get-map (λ (site : ReaderSite H). site.account) us k ∙ ap (option_map (λ (site : ReaderSite H). site.account)) is
 
   module _ (answer_of : H → Command → Answer) (after : H → Command → H) where
-    -- the account of a reader, from what holds of its site
-    site_has_sessions : (config : ReaderConfig) (handler : H) (u : ReaderSite H) (t : line.Site H) → IsSiteOf u t
-        → EachIsOnce (t.account ∷ t.earlier) → HaveAnswers answer_of after config handler (t.account ∷ t.earlier) → AreUndisturbed (t.account ∷ t.earlier)
-        → HasSessions answer_of after config handler u.account
-    site_has_sessions config handler u t is once its so =
-        let a = u.account in
-        let closed = is_closed t.controller.session.state in
-        let ended = subst (λ m. length a.ends + 1 ≡ length a.sessions + m) (counts_alike closed) is.ended in
-        record {
-          last = t.account;
-          earlier = t.earlier;
-          lists = is.tells;
-          undisturbed = so;
-          once = once;
-          answers = its;
-          ends = record { count = last_one answer_of after closed a ended; causes = each_all IsNoRefusal a.ends is.causes };
-        }
-
     -- ---- a run
 
     abbrev pub told_by : BusConfig → List (Given H) → List SimStep → List Account
@@ -61,11 +41,22 @@ module _ {H : Type 0} where
         by_step (suc before) why lists stops fits was holds =
             subst P (sym stops.1.account) (holds (record { settings = stops.0; well = stops.1.well; fits = fits }))
 
-    module _ (schedules : SchedulesAreMoves answer_of after) (links : EachIsALink answer_of after) (once : HoldsOnce answer_of after) (tells : LedgerTellsAccounts answer_of after)
-        (acts : ActsHaveAnswersOfOneHandler answer_of after) (so : OrdinaryIsUndisturbed answer_of after) (counts : HasAnAccountEach answer_of after) where
-      pub each_has_sessions : (config : BusConfig) (readers : List (Given H)) (steps : List SimStep) → IsRun answer_of after config readers steps
-          → OfEach (λ k given. HasSessions answer_of after given.0 given.2) readers (told_by config readers steps)
-      each_has_sessions config readers steps is = record { count = counts config readers steps; each = each }
+    -- of the account of a reader: its sessions have ended, and hold where one has begun
+    abbrev pub IsRow : Given H → Account → Type 0
+    IsRow given a = SessionsEndOnce a × (length a.sessions ≡ 1 → HoldsInOneSession answer_of after given.0 given.2 a)
+
+    site_ends : (u : ReaderSite H) (t : line.Site H) → IsSiteOf u t → SessionsEndOnce u.account
+    site_ends u t is =
+        let a = u.account in
+        let closed = is_closed t.controller.session.state in
+        let ended = subst (λ m. length a.ends + 1 ≡ length a.sessions + m) (counts_alike closed) is.ended in
+        record { count = last_one closed a ended; causes = each_all IsNoRefusal a.ends is.causes }
+
+    module _ (schedules : SchedulesAreMoves answer_of after) (links : EachIsALink answer_of after) (ledger : KeepsLedger answer_of after)
+        (counts : HasAnAccountEach answer_of after) where
+      pub each_row : (config : BusConfig) (readers : List (Given H)) (steps : List SimStep) → IsRun answer_of after config readers steps
+          → OfEach (λ k given. IsRow given) readers (told_by config readers steps)
+      each_row config readers steps is = record { count = counts config readers steps; each = each }
         where
           first : Net H
           first = first_net config readers
@@ -82,26 +73,28 @@ module _ {H : Type 0} where
           done : AreItsMoves answer_of after steps (set_up config readers) first
           done = schedules steps (set_up config readers) first up (nothing_is_kept config readers) (follows_first config readers) is.well is.fits
 
-          each : (k : ℕ) (given : Given H) → slice_get readers k ≡ Some given
-              → (a : Account) × (slice_get (accounts s) k ≡ Some a) × HasSessions answer_of after given.0 given.2 a
+          each : (k : ℕ) (given : Given H) → slice_get readers k ≡ Some given → (a : Account) × (slice_get (accounts s) k ≡ Some a) × IsRow given a
           each k given at =
               let site = first_site config given in
               let there = has_site config k given readers at in
               let its = links first moves up done.fits k site there in
-              let t = its.moved.site in
-              let last = run answer_of after moves first in
-              let mine = get_site k t s.sites last.sites done.follows.sites its.moved.there in
-              let l = view k site first in
-              let its_moves = runs.moves_of answer_of after k moves first in
-              let begins = up.begins k site there in
-              let steady = are_steady its_moves (moves_usual answer_of after moves k first (each_of IsScheduled moves done.scheduled)) in
-              let same = sym its.moved.moved in (
-                mine.0.account,
-                account_at k mine.0 s.sites mine.1,
-                site_has_sessions given.0 given.2 mine.0 t mine.2
-                    (subst (λ (v : link.Link H). EachIsOnce (v.account ∷ v.earlier)) same (once l its_moves begins its.fits))
-                    (subst (λ (v : link.Link H). HaveAnswers answer_of after given.0 given.2 (v.account ∷ v.earlier)) same
-                    (sessions_have_answers answer_of after once tells acts l its_moves begins its.fits (steady_handler answer_of after its_moves l steady)))
-                    (subst (λ (v : link.Link H). AreUndisturbed (v.account ∷ v.earlier)) same
-                    (so l its_moves begins (each_all IsOrdinary its_moves (steady_ordinary its_moves steady)))),
+              let new = slice_get-map new_site readers k ∙ ap (option_map new_site) at in
+              let (u, here, tells) = done.tells k (new_site given) site new refl there in
+              let mine = get_site k its.moved.site s.sites (run answer_of after moves first).sites done.follows.sites its.moved.there in
+              let own = runs.moves_of answer_of after k moves first in
+              let same : mine.0 ≡ u = one_site (sym mine.1 ∙ here) in
+              let ends = subst (λ v. SessionsEndOnce v.account) same (site_ends mine.0 its.moved.site mine.2) in
+              let run_of : IsRunOf answer_of after own (view k site first) = record {
+                begins = up.begins k site there;
+                commands = refl;
+                events = refl;
+                fits = its.fits;
+                steady = are_steady own (moves_usual answer_of after moves k first (each_of IsScheduled moves done.scheduled));
+              } in (
+                u.account,
+                account_at k u s.sites here,
+                (ends, of_one answer_of after ledger own (view k site first) u.account run_of tells ends),
               )
+            where
+              one_site : {v w : ReaderSite H} → Some v ≡ Some w → v ≡ w
+              one_site is = cc

@@ -1,31 +1,28 @@
 -- Each schedule is a list of moves of the sites: what each step asks of them is known of sites after any moves.
-use Rattle.osdp_sim_bus_laws.proofs.Common.{◌≡◌, ℕ, true, List, [], ◌∷◌, ◌++◌, All, Some, refl, sym, subst, ap, ◌∙◌, append_assoc, Packet, Command, Answer, IsPlainlySaid, AreUndisturbed, IsOrdinary, OrdinaryIsUndisturbed, each_all, each_append, each_of, steady_ordinary, Each, IsSetUp, NobodyElseHears, Net, NetMove, Site, run, site_at, EachMoveIsItsOwn, own, AllOthersFit, BusSuffices, IsScheduled, NothingIsKept, are_steady, SimStep, FitAlong, LineState, after_step, fault_of, first_well, FollowsSites, IsKnown, SchedulesAreMoves, StepsAreMoves, moves_for, moves_of}
+use Rattle.osdp_sim_bus_laws.proofs.Common.{◌≡◌, ℕ, true, List, [], ◌∷◌, ◌++◌, All, Some, refl, sym, subst, ap, ◌∙◌, append_assoc, Packet, Command, Answer, IsPlainlySaid, each_all, each_append, each_of, Each, IsSetUp, Net, NetMove, Site, run, site_at, own, AllOthersFit, BusSuffices, IsScheduled, NothingIsKept, are_steady, SimStep, FitAlong, LineState, after_step, fault_of, first_well, FollowsSites, IsKnown, StepsAreMoves, moves_for, moves_of}
 use Rattle.osdp_link_laws.specs.Link as link
-use Rattle.osdp_link_laws.specs.Refusals.{SaysAllPlainly}
-use Rattle.osdp_bus_links.proofs.Linked.{AreLinked, IsLinked, OfALink}
+use Rattle.osdp_link_laws.specs.Refusals.{KeepsReader, SaysAllPlainly}
+use Rattle.osdp_link_laws.proofs.Counting.{none_in_session}
+use Rattle.osdp_link_laws.proofs.OrdinaryRuns.{keep_reader}
+use Rattle.osdp_bus_links.proofs.Linked.{AreLinked}
 use Rattle.osdp_bus_links.proofs.Sited.{IsSited, all_sited, each_own}
-use Rattle.osdp_bus_links.proofs.Sufficing.{all_linked, others_more}
+use Rattle.osdp_bus_links.proofs.Sufficing.{others_more}
 use Rattle.osdp_sim_bus.specs.Runs as simulation
 use Rattle.osdp_shared_line.proofs.Rounds.{net_more}
 
 module _ {H : Type 0} (answer_of : H → Command → Answer) (after : H → Command → H) where
   -- ---- what is known after any moves
 
-  module _ (plainly : SaysAllPlainly answer_of after) (so : OrdinaryIsUndisturbed answer_of after) where
-    undisturbed : (k : ℕ) (t : Site H) (n : Net H) → IsLinked answer_of after k t n → AreUndisturbed (t.account ∷ t.earlier)
-    undisturbed k t n h =
-        subst (λ (l : link.Link H). AreUndisturbed (l.account ∷ l.earlier)) (sym h.led.leads)
-        (so h.first h.moves h.led.begins (each_all IsOrdinary h.moves (steady_ordinary h.moves (are_steady h.moves h.led.usual))))
-
-    known : (n : Net H) → AreLinked answer_of after n → Each (λ (q : ℕ × Packet). IsSited n.sites q.0) n.to_panel → IsKnown n
-    known n linked sited = each_all (λ (q : ℕ × Packet). IsPlainlySaid q.1) n.to_panel (each_own IsPlainlySaid n.sites n.to_panel sited own_are)
-      where
-        own_are : (k : ℕ) (t : Site H) → site_at k n.sites ≡ Some t → Each IsPlainlySaid (own k n.to_panel)
-        own_are k t is =
-            let h = linked k t is in
-            each_of IsPlainlySaid (own k n.to_panel) (subst (λ (l : link.Link H). All IsPlainlySaid l.to_controller) (sym h.led.leads)
-            (plainly h.first h.moves h.led.begins h.led.fits
-            (ap (λ (l : link.Link H). l.account.restarts) (sym h.led.leads) ∙ (undisturbed k t n h).0.restarts)))
+  pub known : SaysAllPlainly answer_of after → (n : Net H) → AreLinked answer_of after n → Each (λ (q : ℕ × Packet). IsSited n.sites q.0) n.to_panel → IsKnown n
+  known plainly n linked sited = each_all (λ (q : ℕ × Packet). IsPlainlySaid q.1) n.to_panel (each_own IsPlainlySaid n.sites n.to_panel sited own_are)
+    where
+      own_are : (k : ℕ) (t : Site H) → site_at k n.sites ≡ Some t → Each IsPlainlySaid (own k n.to_panel)
+      own_are k t is =
+          let h = linked k t is in
+          let led = h.led in
+          let keep = keep_reader h.moves (are_steady h.moves led.usual) in
+          each_of IsPlainlySaid (own k n.to_panel) (subst (λ (l : link.Link H). All IsPlainlySaid l.to_controller) (sym led.leads)
+          (plainly h.first h.moves led.begins led.fits (none_in_session answer_of after h.moves h.first (each_of KeepsReader h.moves keep))))
 
   -- ---- the moves of one list of steps after another
 
@@ -38,16 +35,16 @@ module _ {H : Type 0} (answer_of : H → Command → Answer) (after : H → Comm
       ∙ sym (append_assoc (moves_for step s) (moves_of answer_of after steps next) (moves_of answer_of after more (simulation.run answer_of after steps next)))
 
   -- what a schedule comes to from a state on
-  record Goes (steps : List SimStep) (s : LineState H) (n : Net H) : Type 0 where
-    scheduled : Each IsScheduled (moves_of answer_of after steps s)
-    others : AllOthersFit answer_of after (moves_of answer_of after steps s) n
-    follows : FollowsSites (simulation.run answer_of after steps s) (run answer_of after (moves_of answer_of after steps s) n)
+  pub record Goes (steps : List SimStep) (s : LineState H) (n : Net H) : Type 0 where
+    pub scheduled : Each IsScheduled (moves_of answer_of after steps s)
+    pub others : AllOthersFit answer_of after (moves_of answer_of after steps s) n
+    pub follows : FollowsSites (simulation.run answer_of after steps s) (run answer_of after (moves_of answer_of after steps s) n)
 
   module _ (steps_move : StepsAreMoves answer_of after) (suffices : BusSuffices answer_of after)
       (always : (n : Net H) → AreLinked answer_of after n → Each (λ (q : ℕ × Packet). IsSited n.sites q.0) n.to_panel → IsKnown n)
       (links : (first : Net H) (moves : List (NetMove H)) → IsSetUp first → NothingIsKept first → Each IsScheduled moves
       → AllOthersFit answer_of after moves first → AreLinked answer_of after (run answer_of after moves first)) where
-    goes : (steps : List SimStep) (s : LineState H) (first : Net H) (ms : List (NetMove H)) → IsSetUp first → NothingIsKept first → Each IsScheduled ms
+    pub goes : (steps : List SimStep) (s : LineState H) (first : Net H) (ms : List (NetMove H)) → IsSetUp first → NothingIsKept first → Each IsScheduled ms
         → AllOthersFit answer_of after ms first → FollowsSites s (run answer_of after ms first) → simulation.is_well answer_of after steps s ≡ true
         → FitAlong answer_of after steps s → Goes steps s (run answer_of after ms first)
     goes [] s first ms up none scheduled others h well along = record { scheduled = tt; others = tt; follows = h }
@@ -69,22 +66,3 @@ module _ {H : Type 0} (answer_of : H → Command → Answer) (after : H → Comm
           follows = subst (FollowsSites (simulation.run answer_of after steps next)) (sym (net_more answer_of after moves rest n))
               (subst (λ m. FollowsSites (simulation.run answer_of after steps next) (run answer_of after rest m)) same later.follows);
         }
-
-    pub schedules_so : SchedulesAreMoves answer_of after
-    schedules_so steps s first up none h well along =
-        let g = goes steps s first [] up none tt tt h well along in
-        let scheduled = each_all IsScheduled (moves_of answer_of after steps s) g.scheduled in
-        record {
-          scheduled = scheduled;
-          fits = suffices first (moves_of answer_of after steps s) up none scheduled g.others;
-          follows = g.follows;
-        }
-
-  pub schedules_are_moves : StepsAreMoves answer_of after → BusSuffices answer_of after → OfALink answer_of after → EachMoveIsItsOwn answer_of after
-      → NobodyElseHears answer_of after → SaysAllPlainly answer_of after → OrdinaryIsUndisturbed answer_of after
-      → SchedulesAreMoves answer_of after
-  schedules_are_moves steps_move suffices given its_own nobody plainly so =
-      schedules_so steps_move suffices (known plainly so)
-      (λ first moves up none scheduled others.
-      all_linked answer_of after given its_own nobody first moves up none scheduled
-      (suffices first moves up none (each_all IsScheduled moves scheduled) others))

@@ -1,12 +1,12 @@
 -- The readers of a simulated line and the sites whose readers they are, place by place.
-use Rattle.osdp_sim_bus_laws.proofs.Common.{◌≡◌, ◌<◌, ◌+◌, ℕ, zero, suc, Bool, true, false, cond, List, [], ◌∷◌, ◌++◌, length, map, Option, Some, None, refl, sym, subst, ap, ◌∙◌, arith, map-append, option_map_or, flat_map, Packet, spelling, Command, is_closed, Report, ReaderState, Answer, Delivered, is_false, is_true, Each, changed, site_at, tagged, IsNoRefusalOf, IsTold, TellsFrom, packets_on, report_for, with_report, sent, ReaderSite, changed_site, site_hears, site_is_told, site_says, IsOf, IsSiteOf, SitesOf, count, causes_of, tells_report, tells_taken}
+use Rattle.osdp_sim_bus_laws.proofs.Common.{◌≡◌, ◌<◌, ◌+◌, ℕ, zero, suc, Bool, true, false, cond, List, [], ◌∷◌, ◌++◌, length, map, Option, Some, None, refl, sym, subst, ap, ◌∙◌, arith, map-append, option_map_or, flat_map, Packet, spelling, Command, is_closed, Report, ReaderState, Answer, Delivered, is_false, is_true, Each, changed, site_at, tagged, IsNoRefusalOf, IsTold, TellsFrom, packets_on, report_for, with_report, sent, ReaderSite, changed_site, site_hears, site_is_told, site_says, IsSiteOf, SitesOf, count}
 use Rattle.std.specs.Prelude.{slice_get, slice_set, option_to_list, ◌==◌}
 use Rattle.osdp_reader.specs.Table as reader
-use Rattle.osdp_link_laws.specs.Link as link
 use Rattle.osdp_link_laws.specs.Refusals as refusals
 use Rattle.osdp_link_laws.specs.Ends as ends
 use Rattle.osdp_shared_line.specs.Line as line
 use Rattle.osdp_sim_bus_laws.proofs.Reading.{hearing, said_from}
+use Rattle.osdp_sim_laws.proofs.Accounts.{adds_report}
 use Rattle.osdp_sim_laws.proofs.Ends.{ends_after}
 
 -- ---- reports and ends
@@ -15,11 +15,11 @@ pub counts_alike : (closed : Bool) → count closed ≡ ends.count closed
 counts_alike true = refl
 counts_alike false = refl
 
-plain_for : (k : ℕ) (r : Option (ℕ × Report)) → IsNoRefusalOf r → Each refusals.IsNoRefusal (option_to_list (report_for k r) ++ [])
+plain_for : (k : ℕ) (r : Option (ℕ × Report)) → IsNoRefusalOf r → Each refusals.IsNoRefusal (option_to_list (report_for k r))
 plain_for k None plain = tt
 plain_for k (Some (entry, r)) plain = by_test (entry == k)
   where
-    by_test : (b : Bool) → Each refusals.IsNoRefusal (option_to_list (cond b (Some r) None) ++ [])
+    by_test : (b : Bool) → Each refusals.IsNoRefusal (option_to_list (cond b (Some r) None))
     by_test true = (plain, tt)
     by_test false = tt
 
@@ -68,12 +68,10 @@ module _ {H : Type 0} where
   told_sites k r [] = []
   told_sites k r (u ∷ us) = told_as (report_for k r) u ∷ told_sites (suc k) r us
 
-  site_told : (r : Option Report) (said : List (ℕ × Packet)) (u : ReaderSite H) (s t : line.Site H) → IsTold r said s t → Each refusals.IsNoRefusal (option_to_list r ++ []) → IsSiteOf u s
+  site_told : (r : Option Report) (said : List (ℕ × Packet)) (u : ReaderSite H) (s t : line.Site H) → IsTold r said s t → Each refusals.IsNoRefusal (option_to_list r) → IsSiteOf u s
       → IsSiteOf (told_as r u) t
   site_told r said u s t is plain h = record {
     reader = h.reader ∙ sym is.reader;
-    tells = subst (λ a. IsOf (with_report r u.account) a t.earlier) (sym is.account)
-        (subst (λ e. IsOf (with_report r u.account) (link.after_report r s.account) e) (sym is.earlier) (tells_report r u.account s.account s.earlier h.tells));
     ended =
         let was = counts_alike (is_closed s.controller.session.state) in
         let now = counts_alike (is_closed t.controller.session.state) in
@@ -81,7 +79,7 @@ module _ {H : Type 0} where
         let later = ends_after r u.account (is_closed s.controller.session.state) (is_closed t.controller.session.state) is.closes is.once
         (omega (arith, before, was)) in
         omega (arith, later, now);
-    causes = causes_of r u.account plain h.causes;
+    causes = (adds_report r u.account).causes plain h.causes;
   }
 
   pub all_told : (k : ℕ) (r : Option (ℕ × Report)) (said : List (ℕ × Packet)) (us : List (ReaderSite H)) (ss ts : List (line.Site H)) → IsNoRefusalOf r
@@ -154,16 +152,14 @@ module _ {H : Type 0} where
   none_heard rest [] (t ∷ ts) all = absurd all
   none_heard rest (u ∷ us) [] all = absurd all
   none_heard rest (u ∷ us) (t ∷ ts) all =
-      (record { reader = all.0.reader; tells = all.0.tells; ended = all.0.ended; causes = all.0.causes }, none_heard rest us ts all.1)
+      (record { reader = all.0.reader; ended = all.0.ended; causes = all.0.causes }, none_heard rest us ts all.1)
 
 module _ {H : Type 0} (answer_of : H → Command → Answer) (after : H → Command → H) where
   site_heard : (p : Packet) (rest : List (ℕ × Packet)) (u : ReaderSite H) (t : line.Site H) → IsSiteOf u t
       → IsSiteOf (site_hears answer_of after p u) (hearing answer_of after p rest t)
   site_heard p rest u t h =
-      let o = reader.hears answer_of after t.reader p in
       subst (λ r. IsSiteOf (site_hears answer_of after p (record { reader = r; account = u.account })) (hearing answer_of after p rest t)) (sym h.reader) (record {
         reader = refl;
-        tells = tells_taken (reader.kind_of t.reader p) o.command o.said (link.front_of t.reader) u.account t.account t.earlier h.tells;
         ended = h.ended;
         causes = h.causes;
       })

@@ -1,5 +1,5 @@
 -- Each step of a schedule is a list of moves of the sites.
-use Rattle.osdp_sim_bus_laws.proofs.Common.{◌≡◌, ◌≢◌, ◌-◌, ◌&&◌, ◌==◌, not, ℕ, zero, suc, Bool, true, false, if◌then◌else◌, List, [], ◌∷◌, length, map, Option, Some, None, refl, sym, subst, ap, ◌∙◌, arith, ne_eqb, length-append, slice_get, packets_in, Packet, spelling, Command, is_closed, ControllerFault, Answer, begin_refusal_of, begin_refusal_at, bus_fault, Entry, IsPlainlySaid, each_all, each_of, Each, IsQuiet, IsBusOf, device_of, packets_on, IsScheduled, lengths_of, handed, SaysFit, moment_after, SimStep, LineState, ReaderSite, StepFits, after_step, fault_of, is_quiet, is_there, reopened, site_begins, tells_session, FollowsSites, IsKnown, IsSiteOf, OneBus, StepsAreMoves, count, moment_of, moves_for}
+use Rattle.osdp_sim_bus_laws.proofs.Common.{◌≡◌, ◌≢◌, ◌-◌, ◌&&◌, ◌==◌, not, ℕ, zero, suc, Bool, true, false, if◌then◌else◌, List, [], ◌∷◌, length, map, Option, Some, None, refl, sym, subst, ap, ◌∙◌, arith, ne_eqb, length-append, slice_get, packets_in, Packet, spelling, Command, is_closed, ControllerFault, Answer, begin_refusal_of, begin_refusal_at, bus_fault, Entry, IsPlainlySaid, each_all, each_of, Each, IsQuiet, IsBusOf, device_of, packets_on, IsScheduled, lengths_of, handed, SaysFit, moment_after, SimStep, LineState, ReaderSite, StepFits, after_step, fault_of, is_quiet, is_there, reopened, site_begins, FollowsSites, IsKnown, IsSiteOf, OneBus, StepsAreMoves, count, moment_of, moves_for}
 use Rattle.std.specs.Option.{option_map, option_map_or}
 use Rattle.osdp_controller.specs.Machine as controllers
 use Rattle.osdp_controller_laws.proofs.Closed.{may_begin}
@@ -55,7 +55,6 @@ module _ {H : Type 0} (answer_of : H → Command → Answer) (after : H → Comm
       let more = length-append u.account.sessions (lengths_of u.account ∷ []) in
       record {
         reader = is.reader;
-        tells = tells_session u.account t.account t.controller.waiting t.reader.queue.events t.earlier is.tells;
         ended = omega (arith, ended, more);
         causes = is.causes;
       }
@@ -68,20 +67,29 @@ module _ {H : Type 0} (answer_of : H → Command → Answer) (after : H → Comm
         (subst (Each (λ (q : ℕ × Packet). (q.0 ≢ k) × (q.1.address ≢ line.address_of t))) (sym back) tt);
   }
 
-  coming_at : (k : ℕ) (t : line.Site H) (ts : List (line.Site H)) (said : List (ℕ × Packet)) → Each (λ (u : line.Site H). u.coming ≡ said) ts
+  pub coming_at : (k : ℕ) (t : line.Site H) (ts : List (line.Site H)) (said : List (ℕ × Packet)) → Each (λ (u : line.Site H). u.coming ≡ said) ts
       → site_at k ts ≡ Some t → t.coming ≡ said
   coming_at k t [] said all at = absurd cc
   coming_at zero t (u ∷ ts) said all at = let same : u ≡ t = cc in subst (λ (v : line.Site H). v.coming ≡ said) same all.0
   coming_at (suc k) t (u ∷ ts) said all at = coming_at k t ts said all.1 at
+
+  -- nothing is on the line, and the session of this site is over
+  pub is_quiet_line : (place : ℕ) (s : LineState H) (n : Net H) → is_quiet place s ≡ true → (h : FollowsSites s n)
+      → (h.said ≡ []) × (n.to_panel ≡ []) × ((t : line.Site H) → site_at place n.sites ≡ Some t → is_closed t.controller.session.state ≡ true)
+  is_quiet_line place s n quiet h =
+      let all = all_true (length s.to_readers == 0) (length s.to_bus == 0) (steps.is_ended place s.bus) quiet in (
+        none_on h.said (subst (λ l. (length l == 0) ≡ true) h.to_readers all.0),
+        none_on n.to_panel (subst (λ l. (length l == 0) ≡ true) h.to_bus all.1),
+        λ t at. ended_closed (slice_get s.bus.devices.entries place) (device_of t) (ap (λ ds. slice_get ds place) h.bus.entries ∙ get_device place t n.sites at) all.2,
+      )
 
   module _ (given : OneBus answer_of after) where
     reopening : (place : ℕ) (s : LineState H) (n : Net H) → is_quiet place s ≡ true → FollowsSites s n
         → Comes answer_of after (Reopen place (moment_of s) ∷ []) (reopened place s) n
     reopening place s n quiet h =
         let all = all_true (length s.to_readers == 0) (length s.to_bus == 0) (steps.is_ended place s.bus) quiet in
-        let said : h.said ≡ [] = none_on h.said (subst (λ l. (length l == 0) ≡ true) h.to_readers all.0) in
-        let back : n.to_panel ≡ [] = none_on n.to_panel (subst (λ l. (length l == 0) ≡ true) h.to_bus all.1) in
-        by_site (site_at place n.sites) refl said back all.2
+        let line = is_quiet_line place s n quiet h in
+        by_site (site_at place n.sites) refl line.0 line.1 all.2
       where
         by_site : (o : Option (line.Site H)) → site_at place n.sites ≡ o → h.said ≡ [] → n.to_panel ≡ [] → steps.is_ended place s.bus ≡ true
             → Comes answer_of after (Reopen place (moment_of s) ∷ []) (reopened place s) n

@@ -1,6 +1,6 @@
 -- What the steps of a schedule are to several links: a simulated line with a bus, seen as sites on a line of packets.
 use Rattle.std.specs.List.{AllByRecursion}
-use Rattle.std.specs.Prelude.{◌≡◌, ◌+◌, ◌-◌, ℕ, zero, suc, Bool, true, false, All, if◌then◌else◌, List, [], ◌∷◌, ◌++◌, length, map, max, None}
+use Rattle.std.specs.Prelude.{◌≡◌, ◌+◌, ◌-◌, ℕ, zero, suc, Bool, true, false, All, if◌then◌else◌, List, [], ◌∷◌, ◌++◌, length, map, max, None, Some, slice_get}
 use Rattle.osdp_frame.specs.Bytes.{AreBytes}
 use Rattle.osdp_frame.specs.Packet.{IsPacket, Packet}
 use Rattle.osdp_frame.specs.Spelling.{spelling}
@@ -12,9 +12,12 @@ use Rattle.osdp_link_laws.specs.Peers.{IsPlainlySaid}
 use Rattle.osdp_shared_line.specs.Addresses.{IsSetUp, NetMovesFit}
 use Rattle.osdp_shared_line.specs.Line as line
 use Rattle.osdp_shared_line.specs.Line.{Net, NetMove, run, site_at}
+use Rattle.osdp_shared_line.specs.Runs as links
+use Rattle.osdp_shared_line.specs.Views.{view}
 use Rattle.osdp_bus.specs.declared.config.BusConfig.{BusConfig}
 use Rattle.osdp_bus_links.specs.Links.{CallsAreMoves, IsBusOf, packets_on, tick_moves}
 use Rattle.osdp_bus_links.specs.Premises.{AllOthersFit, BusSuffices, IsScheduled, NothingIsKept}
+use Rattle.osdp_sim.specs.Account.{empty_account, with_session}
 use Rattle.osdp_sim.specs.Steps.{moment_after}
 use Rattle.osdp_sim.specs.declared.step.SimStep.{SimStep}
 use Rattle.osdp_sim.specs.declared.step.SimStep.TheVariants.{Issue, Queue, Busy, Wait, ToReader, ToController, Reopen}
@@ -22,8 +25,8 @@ use Rattle.osdp_sim_bus.specs.Runs as simulation
 use Rattle.osdp_sim_bus.specs.Runs.{AreSettings, FitAlong}
 use Rattle.osdp_sim_bus.specs.State.{Given, LineState, ReaderSite, set_up}
 use Rattle.osdp_sim_bus.specs.Steps.{StepFits, after_step, fault_of, is_there}
-use Rattle.osdp_sim_laws.specs.Accounts.{IsNoRefusal, IsOf}
-use Rattle.osdp_sim_laws.specs.Moves.{delivery}
+use Rattle.osdp_sim_laws.specs.Accounts.{IsNoRefusal}
+use Rattle.osdp_sim_laws.specs.Moves.{TellsOfMoves, delivery}
 use Rattle.osdp_sim_laws.specs.OneLink.{ReadsPackets}
 
 abbrev pub count : Bool → ℕ
@@ -61,10 +64,9 @@ module _ {H : Type 0} where
 
   -- ---- a simulation and its sites
 
-  -- a reader is that of a site, and its account holds what the sessions of the site came to: each has ended once, or each but the last
+  -- a reader is that of a site, and of the sessions in its account each has ended once, or each but the last
   pub record IsSiteOf (u : ReaderSite H) (t : line.Site H) : Type 0 where
     pub reader : u.reader ≡ t.reader
-    pub tells : IsOf u.account t.account t.earlier
     pub ended : length u.account.ends + 1 ≡ length u.account.sessions + count (is_closed t.controller.session.state)
     pub causes : AllByRecursion IsNoRefusal u.account.ends
 
@@ -115,11 +117,20 @@ module _ {H : Type 0} where
     moves_of [] s = []
     moves_of (step ∷ steps) s = moves_for step s ++ moves_of steps (after_step answer_of after step s)
 
+    -- the account of the reader at this place, where a first session has begun in it and nothing else has happened, tells of the moves that all these are
+    -- to the link of this reader
+    abbrev pub TellsOfLink : List SimStep → LineState H → Net H → Type 0
+    TellsOfLink steps s first = (k : ℕ) (old : ReaderSite H) (t : line.Site H) → slice_get s.sites k ≡ Some old → old.account ≡ with_session empty_account
+        → site_at k first.sites ≡ Some t
+        → (u : ReaderSite H) × (slice_get (simulation.run answer_of after steps s).sites k ≡ Some u)
+        × TellsOfMoves answer_of after u.account (links.moves_of answer_of after k (moves_of steps s) first) (view k t first)
+
     -- the run of a schedule is the run of these moves: the premises of the line hold of them, that on addresses too
     pub record AreItsMoves (steps : List SimStep) (s : LineState H) (first : Net H) : Type 0 where
       pub scheduled : All IsScheduled (moves_of steps s)
       pub fits : NetMovesFit answer_of after (moves_of steps s) first
       pub follows : FollowsSites (simulation.run answer_of after steps s) (run answer_of after (moves_of steps s) first)
+      pub tells : TellsOfLink steps s first
 
     -- so is each schedule, as far as it isn't refused, from a line on which the first sessions begin
     abbrev pub SchedulesAreMoves : Type 0

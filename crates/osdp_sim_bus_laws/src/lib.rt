@@ -12,9 +12,10 @@ use osdp_reader::Handler;
 /// The calls of a bus are moves, and a packet is read as it is spelled.
 ///
 /// So each step of a schedule that isn't refused is its moves of several links, at the state before it: the simulated line follows them, with
-/// the bus as their controllers, their packets as bytes, and each reader's account as what the sessions of its site come to. So the run of a
-/// schedule, as far as it isn't refused, is the run of the moves of its steps, from a line on which the first sessions begin: all premises of
-/// the line hold of them, that on addresses too. The line that is set up is one, where the settings are in their ranges.
+/// the bus as their controllers and their packets as bytes. So the run of a schedule, as far as it isn't refused, is the run of the moves of its
+/// steps, from a line on which the first sessions begin: all premises of the line hold of them, that on addresses too, and the account of each
+/// reader that was new at first tells of the moves that they are to its link. The line that is set up is one, where the settings are in their
+/// ranges.
 pub fn schedules_are_moves<H: Handler>()
     ensures bus { OneBus H.answer_of H.after }
     ensures steps { StepsAreMoves H.answer_of H.after }
@@ -28,10 +29,10 @@ pub fn schedules_are_moves<H: Handler>()
     osdp_bus_links::bus_suffices::<H>();
     osdp_link_laws::read_each_other::<H>();
     osdp_link_laws::refuses_no_number::<H>();
-    osdp_link_laws::ordinary_runs_are_undisturbed::<H>();
     osdp_link_laws::names::name_one_device::<H>();
     osdp_shared_line::each_move_is_its_own::<H>();
     osdp_shared_line::nobody_else_hears::<H>();
+    osdp_shared_line::each_is_a_link::<H>();
 }
 
 /// Whatever a schedule over a bus says, once the line was set up, for each reader: each session has ended once, or each but the last, and none because this
@@ -47,10 +48,7 @@ pub fn each_account_holds_once<H: Handler>()
 {
     schedules_are_moves::<H>();
     osdp_shared_line::each_is_a_link::<H>();
-    osdp_link_laws::holds_once::<H>();
-    osdp_link_ledger::ledger_tells_accounts::<H>();
-    osdp_link_ledger::acts_have_answers_of_one_handler::<H>();
-    osdp_link_laws::ordinary_runs_are_undisturbed::<H>();
+    osdp_sim_laws::keeps_ledger::<H>();
     osdp_sim_bus::laws::has_an_account_each::<H>();
 }
 

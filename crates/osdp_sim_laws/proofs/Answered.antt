@@ -1,7 +1,6 @@
 -- What `run_session` answers after a line that was cleared and rounds that lose nothing.
-use Rattle.osdp_sim_laws.proofs.Common.{◌≡◌, ◌≤◌, ◌+◌, ◌++◌, ℕ, suc, All, List, [], ◌∷◌, length, Ok, refl, sym, subst, ap, ◌∙◌, arith, append-nil, length-append, Command, ReaderConfig, Answer, with_answers, SetsNoAddress, each_append, each_of, Account, lists_of, rounds, SimStep, AnswersHoldOnce, IsInSession, HoldsInOneSession, reopens_in, AnswerRecovers, IsDone, Recovers, clear, done}
+use Rattle.osdp_sim_laws.proofs.Common.{◌≡◌, ◌≤◌, ◌+◌, ◌++◌, ℕ, All, List, [], ◌∷◌, length, Ok, refl, sym, subst, ap, ◌∙◌, arith, append-nil, length-append, Command, ReaderConfig, Answer, with_answers, SetsNoAddress, each_append, each_of, Account, lists_of, rounds, SimStep, AnswersHoldOnce, IsInSession, HoldsInOneSession, reopens_in, AnswerRecovers, IsDone, Recovers, clear, done}
 use Rattle.std.specs.Prelude.{◌-◌, min}
-use Rattle.osdp_reader.specs.Table.{answer_to}
 use Rattle.osdp_sim_laws.proofs.Begun.{none_reopen}
 use Rattle.osdp_sim_laws.proofs.Clearing.{losses_within}
 use Rattle.osdp_sim_laws.proofs.Coming.{rounds_within}

@@ -1,20 +1,20 @@
 -- Schedules without losses, over bytes: which commands are settled and which events are reported.
-use Rattle.osdp_sim_laws.proofs.Common.{◌≡◌, ◌≤◌, ◌<◌, ◌+◌, ◌-◌, ◌*◌, ℕ, zero, suc, arith, Bool, true, false, ◌==◌, if◌then◌else◌, All, List, [], ◌∷◌, ◌++◌, length, take, drop, Option, Some, None, Ok, Err, inl, inr, refl, sym, subst, ap, ◌∙◌, append-nil, length-append, length-take, most_data, Command, Event, is_closed, ControllerFault, Full, longest_wait, bytes_waiting, lacks_room, Answer, Delivered, Link, with_answers, SetsNoAddress, all_submitted, each_all, each_append, each_front, each_of, Each, count, Account, lists_of, clean_rounds, rounds, AreSettings, FitAlong, Stops, is_well, run, first_fault, SimState, room_for, set_up, StepFits, after_step, fault_of, moment_after, SimConfig, Cause, HoldsPacket, NoMemory, NotQuiet, OutOfRange, SimStep, Issue, Queue, commands_of, events_of, IsInSession, IsOf, clock_after, first_link, in_bytes, moves_of, OneLink, IsRun, holds_on, runs_on, well_on}
+use Rattle.osdp_sim_laws.proofs.Common.{◌≡◌, ◌≤◌, ◌<◌, ◌+◌, ◌-◌, ◌*◌, ℕ, zero, suc, arith, Bool, true, false, ◌==◌, if◌then◌else◌, All, List, [], ◌∷◌, ◌++◌, length, take, drop, Option, Some, None, Ok, Err, inl, inr, refl, sym, subst, ap, ◌∙◌, append-nil, length-append, length-take, most_data, Command, Event, is_closed, ControllerFault, Full, longest_wait, bytes_waiting, lacks_room, Answer, MovesFit, Delivered, Link, with_answers, SetsNoAddress, all_queued, all_submitted, reports, each_all, each_append, each_of, Each, count, Account, lists_of, clean_rounds, rounds, AreSettings, Stops, run, first_fault, SimState, room_for, set_up, after_step, fault_of, moment_after, SimConfig, Cause, HoldsPacket, NoMemory, NotQuiet, OutOfRange, SimStep, Issue, Queue, commands_of, events_of, IsInSession, told_of, clock_after, first_link, moves_of, OneLink, IsRun, runs_on}
 use Rattle.osdp_controller.specs.Machine as controllers
 use Rattle.osdp_link_laws.specs.Clean as clean
 use Rattle.osdp_link_laws.specs.Link as link
 use Rattle.osdp_link_laws.specs.Progress as progress
-use Rattle.osdp_link_laws.specs.Headline as headline
+use Rattle.osdp_link_laws.specs.Reports.{Told, all_taken, nothing_told, with_reports}
 use Rattle.osdp_sim.specs.Steps as steps
 use Rattle.osdp_sim_laws.specs.Clean.{GoesInTurn, IsInTurn, IsOrder}
 use Rattle.osdp_sim_laws.proofs.Accepting.{Accepts, among_few, accepts_commands, accepts_events, each_order_fits, none_commands, none_events, submit_is}
-use Rattle.osdp_sim_laws.proofs.Accounts.{none_earlier}
-use Rattle.osdp_sim_laws.proofs.Coming.{count_of, moments_of, one_session, round_in_time, rounds_are, rounds_within, steps_in_time}
+use Rattle.osdp_sim_laws.proofs.Accounts.{Added, all_added, and_then}
+use Rattle.osdp_sim_laws.proofs.Coming.{added, count_of, issued_before, its_account, joined, link_after, moments_of, next_fit, one_session, round_in_time, rounds_are, rounds_within, run_first, state_is, steps_in_time}
 use Rattle.osdp_sim_laws.proofs.Ends.{HaveEnded, run_ended}
-use Rattle.osdp_sim_laws.proofs.Holding.{begins, goes_from_first, no_account}
+use Rattle.osdp_sim_laws.proofs.Holding.{run_of}
+use Rattle.osdp_sim_laws.proofs.Left.{order_nothing}
 use Rattle.osdp_sim_laws.proofs.Moments.{LinkInTime, clock_on, last_moment}
 use Rattle.osdp_sim_laws.proofs.Room.{OrderFits, ShortCommands, ShortEvents, place_for_command, place_for_event}
-use Rattle.osdp_sim_laws.proofs.Schedules.{Follows, goes_from, goes_on, run_both, schedule_follows}
 
 -- ---- orders
 
@@ -112,8 +112,8 @@ module _ {H : Type 0} (answer_of : H → Command → Answer) (after : H → Comm
     pub events : s.reader.queue.capacity ≡ config.events
     pub command_room : s.controller.room ≡ (room_for config.commands).bytes
     pub event_room : s.reader.queue.room ≡ (room_for config.events).bytes
-    pub waiting : length s.account.issued ≡ length s.controller.waiting
-    pub queue : length s.account.queued ≡ length s.reader.queue.events
+    pub waiting : s.account.issued ≡ s.controller.waiting
+    pub queue : s.account.queued ≡ s.reader.queue.events
     pub issued : length s.account.issued ≤ config.commands
     pub queued : length s.account.queued ≤ config.events
 
@@ -127,9 +127,9 @@ module _ {H : Type 0} (answer_of : H → Command → Answer) (after : H → Comm
         events = h.events;
         command_room = h.command_room;
         event_room = h.event_room;
-        waiting = omega (arith, h.waiting, length-append s.account.issued (c ∷ []), length-append s.controller.waiting (c ∷ []));
+        waiting = ap (λ cs. cs ++ c ∷ []) h.waiting;
         queue = h.queue;
-        issued = omega (arith, h.waiting, h.commands, less, length-append s.account.issued (c ∷ []));
+        issued = omega (arith, ap length h.waiting, h.commands, less, length-append s.account.issued (c ∷ []));
         queued = h.queued;
       }
 
@@ -144,9 +144,9 @@ module _ {H : Type 0} (answer_of : H → Command → Answer) (after : H → Comm
         command_room = h.command_room;
         event_room = h.event_room;
         waiting = h.waiting;
-        queue = omega (arith, h.queue, length-append s.account.queued (e ∷ []), length-append s.reader.queue.events (e ∷ []));
+        queue = ap (λ es. es ++ e ∷ []) h.queue;
         issued = h.issued;
-        queued = omega (arith, h.queue, h.events, less, length-append s.account.queued (e ∷ []));
+        queued = omega (arith, ap length h.queue, h.events, less, length-append s.account.queued (e ∷ []));
       }
 
   has_room : (c : Command) (s : SimState H) → controllers.submit_refusal c s.controller ≡ None → length s.controller.waiting < s.controller.capacity
@@ -249,16 +249,6 @@ module _ {H : Type 0} (answer_of : H → Command → Answer) (after : H → Comm
             (accepts_events answer_of after (clean_rounds n) j s events (clean_fit n)) (rounds_order n 50).1 ∙ first.1,
       )
 
-  -- ---- the lists of one session
-
-  same_lists : (config : SimConfig) (handler : H) (s : SimState H) (ms : List (link.Move H)) (clock : ℕ)
-      → Follows answer_of after s ms (first_link config handler) clock no_account → length s.account.sessions ≡ 1
-      → IsOf s.account (link.run answer_of after ms (first_link config handler)).account []
-  same_lists config handler s ms clock follows one =
-      let later = link.run answer_of after ms (first_link config handler) in
-      let tells = follows.carried.tells in
-      subst (IsOf s.account later.account) (none_earlier s.account later.account later.earlier tells one) tells
-
   -- ---- the rounds
 
   -- each comes so much later than the greatest moment seen
@@ -277,6 +267,36 @@ module _ {H : Type 0} (answer_of : H → Command → Answer) (after : H → Comm
   no_end s lasts ended one =
       no_more s.account.ends (omega (arith, ended ∙ ap (λ b. length s.account.sessions + count b) lasts, one))
 
+  -- orders take nothing, and tell nothing
+  orders_tell : (ms : List (link.Move H)) (l : Link H) → Each clean.IsOrder ms → (all_taken answer_of after ms l ≡ []) × (reports answer_of after ms l ≡ [])
+  orders_tell [] l are = (refl, refl)
+  orders_tell (link.Submit c ∷ ms) l are = orders_tell ms (link.after_move answer_of after (link.Submit c) l) are.1
+  orders_tell (link.Queue e ∷ ms) l are = orders_tell ms (link.after_move answer_of after (link.Queue e) l) are.1
+  orders_tell (m ∷ ms) l are = absurd are.0
+
+  -- what the account has after the orders and the rounds
+  record HasTold (commands : List Command) (events : List Event) (acted : List Command) (t : Told) (a : Account) : Type 0 where
+    pub issued : a.issued ≡ commands
+    pub queued : a.queued ≡ events
+    pub taken : a.taken ≡ acted
+    pub told : told_of a ≡ t
+
+  in_turn : (config : SimConfig) (handler : H) (orders : List SimStep) (n m : ℕ) (commands : List Command) (events : List Event) (acted : List Command) (t : Told)
+      (a : Account) → m ≡ n → AreIssued config orders a → HasTold commands events acted t a
+      → clean.IsInTurn answer_of after config.reader handler m commands events acted t → a.ends ≡ [] → IsInTurn answer_of after config handler orders n a
+  in_turn config handler orders n m commands events acted t a many accepted has turn none = record {
+    issued = accepted.0;
+    queued = accepted.1;
+    taken = has.taken ∙ turn.acted ∙ ap (λ k. take k commands) many ∙ ap (take n) (sym has.issued);
+    settled = ap (λ (y : Told). y.settled) has.told ∙ turn.settled ∙ ap (λ k. with_answers answer_of after config.reader handler (take k commands)) many
+        ∙ ap (λ cs. with_answers answer_of after config.reader handler (take n cs)) (sym has.issued);
+    reported = ap (λ (y : Told). y.reported) has.told ∙ turn.reported ∙ ap (λ k. take (k - length t.settled) events) many
+        ∙ ap (λ (y : Told). take (n - length y.settled) events) (sym has.told)
+        ∙ ap (take (n - length a.settled)) (sym has.queued);
+    unsettled = ap (λ (y : Told). y.in_doubt) has.told ∙ turn.in_doubt;
+    ends = none;
+  }
+
   goes : OneLink answer_of after → clean.GoesInTurn answer_of after → (config : SimConfig) (handler : H) (orders : List SimStep) (n : ℕ)
       → IsRun answer_of after config handler (orders ++ clean_rounds n) → Each IsOrder orders → config.reader.address ≡ config.controller.address
       → config.controller.quiet_wait ≤ 400 → config.controller.poll_interval ≤ 50
@@ -286,66 +306,54 @@ module _ {H : Type 0} (answer_of : H → Command → Answer) (after : H → Comm
       let l = first_link config handler in
       let start = set_up config handler in
       let more = clean_rounds n in
-      let well = well_on (after_step answer_of after) fault_of orders more start is.well in
-      let fits = holds_on (after_step answer_of after) (StepFits answer_of after) orders more start is.fits in
-      let device = is.settings.controller.config_in_range.address in
-      let first = schedule_follows answer_of after given.reads orders l 0 no_account (goes_from_first answer_of after config handler) well.0 fits.0 in
-      let ms = moves_of orders 0 in
+      let ms : List (link.Move H) = moves_of orders 0 in
       let are_moves = orders_are H orders 0 are in
-      let later = link.run answer_of after ms l in
-      let before = run answer_of after orders start in
-      let there : before ≡ in_bytes later 0 before.account = first.carried.state ∙ ap (λ c. in_bytes later c before.account) are_moves.1 in
-      let then_ = schedule_follows answer_of after given.reads more later 0 before.account (goes_from answer_of after before ms l (clock_after orders 0) no_account first)
-      (subst (λ s. is_well answer_of after more s ≡ true) there well.1) (subst (FitAlong answer_of after more) there fits.1) in
-      let ns = moves_of more 0 in
-      let end = run answer_of after more before in
-      let next = subst (λ s. Follows answer_of after (run answer_of after more s) ns later (clock_after more 0) before.account) (sym there) then_ in
-      let whole = goes_on answer_of after before end ms ns l (clock_after orders 0) (clock_after more 0) no_account first next in
-      let begun = begins config handler device in
-      let inside = orders_within orders are in
-      let ended : run answer_of after (orders ++ more) start ≡ end = runs_on (after_step answer_of after) orders more start in
-      let one = subst (λ (s : SimState H). length s.account.sessions ≡ 1) ended
-      (one_session answer_of after config handler (orders ++ more) (each_append IsInSession orders more inside (clean_within n))) in
-      let all_none = subst (λ s. Each SetsNoAddress s.account.issued) ended none in
-      let first_lists = same_lists config handler before ms (clock_after orders 0) first (one_session answer_of after config handler orders inside) in
-      let none_before = subst (Each SetsNoAddress) (first_lists.issued refl)
-      (each_front SetsNoAddress before.account.issued (all_submitted answer_of after ns later) (subst (Each SetsNoAddress) next.carried.issued all_none)) in
+      let first = run_first answer_of after config handler orders more is in
+      let its = run_of answer_of after given config handler orders first in
+      let later = link_after answer_of after config handler orders in
       let opening = moment_after 400 0 in
       let moments = moments_of n 50 opening in
+      let ns : List (link.Move H) = progress.rounds (opening ∷ moments) in
+      let clean_moves : moves_of more (clock_after orders 0) ≡ ns = ap (λ c. moves_of more c) are_moves.1 ∙ clean_are n in
+      let there = state_is answer_of after given config handler orders first in
+      let filled = all_filled config handler orders are in
+      let waiting = filled.waiting ∙ ap (λ (s : SimState H). s.controller.waiting) there in
+      let none_before = subst (Each SetsNoAddress) waiting (issued_before answer_of after given config handler orders more is SetsNoAddress none) in
       let longest = longest_wait config.controller in
       let timely = steps_in_time answer_of after longest orders 0 l (omega arith) (omega arith, omega arith) in
       let in_time = subst (λ c. LinkInTime c longest later) are_moves.1 timely.1 in
       let on = clock_on 400 0 (omega arith) in
       let spaced = are_spaced n 50 opening longest (link.run answer_of after (progress.round opening) later) on.1 (round_in_time answer_of after 0 opening longest later on.0 in_time) in
-      let moves = subst (λ list. headline.MovesFit answer_of after list later) (clean_are n) then_.moves in
-      let found = law l ms opening 50 moments begun (each_all clean.IsOrder ms are_moves.0) first.moves same refl (omega (arith, quiet)) poll
-      (each_all SetsNoAddress later.account.issued none_before) spaced moves in
-      let joined : link.run answer_of after (progress.rounds (opening ∷ moments)) later ≡ link.run answer_of after (ms ++ ns) l =
-      ap (λ list. link.run answer_of after list later) (sym (clean_are n)) ∙ sym (run_both answer_of after ms ns l) in
-      let last = link.run answer_of after (ms ++ ns) l in
-      let turn = subst (λ k. clean.IsInTurn answer_of after config.reader handler (length moments) k.account) joined found.0 in
-      let lists = same_lists config handler end (ms ++ ns) (clock_after more 0) whole one in
-      let lasts : is_closed end.controller.session.state ≡ false =
-      ap (λ (s : SimState H). is_closed s.controller.session.state) whole.carried.state ∙ subst (λ k. is_closed k.controller.session.state ≡ false) joined found.1 in
-      let over = subst HaveEnded ended (run_ended answer_of after given.told (orders ++ more) start is.well refl) in
-      let accepted = clean_issued config handler orders n are (each_order_fits answer_of after orders start fits.0) in
-      subst (λ s. IsInTurn answer_of after config handler orders n s.account) (sym ended)
-      (in_turn config handler orders n end.account last.account (length moments) (count_of n 50 opening) accepted lists turn (no_end end lasts over one))
-    where
-      in_turn : (config : SimConfig) (handler : H) (orders : List SimStep) (n : ℕ) (a : Account) (t : link.Account) (m : ℕ) → m ≡ n → AreIssued config orders a → IsOf a t []
-          → clean.IsInTurn answer_of after config.reader handler m t → a.ends ≡ [] → IsInTurn answer_of after config handler orders n a
-      in_turn config handler orders n a t m many accepted lists turn none = record {
-        issued = accepted.0;
-        queued = accepted.1;
-        taken = lists.taken ∙ turn.taken ∙ ap (λ k. take k t.issued) many ∙ ap (take n) (sym (lists.issued refl));
-        settled = lists.settled ∙ turn.settled ∙ ap (λ k. with_answers answer_of after config.reader handler (take k t.issued)) many
-            ∙ ap (λ cs. with_answers answer_of after config.reader handler (take n cs)) (sym (lists.issued refl));
-        reported = lists.reported ∙ turn.reported ∙ ap (λ k. take (k - length t.settled) t.queued) many
-            ∙ ap (λ ps. take (n - length ps) t.queued) (sym lists.settled)
-            ∙ ap (take (n - length a.settled)) (sym (lists.queued refl));
-        unsettled = lists.unsettled ∙ turn.unsettled;
-        ends = none;
-      }
+      let moves = subst (λ list. MovesFit answer_of after list later) clean_moves (next_fit answer_of after given config handler orders more is) in
+      let found = law l ms opening 50 moments its.begins (each_all clean.IsOrder ms are_moves.0) its.fits same refl (omega (arith, quiet)) poll
+      (each_all SetsNoAddress later.controller.waiting none_before) spaced moves in
+      let end = run answer_of after (orders ++ more) start in
+      let before = its_account answer_of after given config handler orders first in
+      let whole = its_account answer_of after given config handler (orders ++ more) is in
+      let both = added answer_of after given config handler orders more is ∙ ap (λ list. and_then (all_added answer_of after ms l) (all_added answer_of after list later)) clean_moves in
+      let nothing = order_nothing answer_of after (opening ∷ moments) later in
+      let untold = orders_tell ms l are_moves.0 in
+      let has : HasTold later.controller.waiting later.reader.queue.events (all_taken answer_of after ns later)
+      (with_reports (reports answer_of after ns later) nothing_told) end.account = record {
+        issued = whole.issued ∙ ap (λ (x : Added). x.submitted) both ∙ ap (λ cs. all_submitted answer_of after ms l ++ cs) nothing.submitted
+            ∙ append-nil (all_submitted answer_of after ms l) ∙ sym before.issued ∙ waiting;
+        queued = whole.queued ∙ ap (λ (x : Added). x.queued) both ∙ ap (λ es. all_queued answer_of after ms l ++ es) nothing.queued
+            ∙ append-nil (all_queued answer_of after ms l) ∙ sym before.queued ∙ filled.queue ∙ ap (λ (s : SimState H). s.reader.queue.events) there;
+        taken = whole.taken ∙ ap (λ (x : Added). x.taken) both ∙ ap (λ cs. cs ++ all_taken answer_of after ns later) untold.0;
+        told = whole.told ∙ ap (λ (x : Added). with_reports x.told nothing_told) both
+            ∙ ap (λ rs. with_reports (rs ++ reports answer_of after ns later) nothing_told) untold.1;
+      } in
+      let ended : link_after answer_of after config handler (orders ++ more) ≡ link.run answer_of after ns later =
+      joined answer_of after given config handler orders more is ∙ ap (λ list. link.run answer_of after list later) clean_moves in
+      let lasts = ap (λ (s : SimState H). is_closed s.controller.session.state) (state_is answer_of after given config handler (orders ++ more) is)
+      ∙ ap (λ (k : Link H). is_closed k.controller.session.state) ended ∙ found.1 in
+      let one = one_session answer_of after config handler (orders ++ more)
+      (each_append IsInSession orders more (orders_within orders are) (clean_within n)) in
+      let accepted = subst (λ (s : SimState H). AreIssued config orders s.account) (sym (runs_on (after_step answer_of after) orders more start))
+      (clean_issued config handler orders n are (each_order_fits answer_of after orders start first.fits)) in
+      in_turn config handler orders n (length moments) later.controller.waiting later.reader.queue.events (all_taken answer_of after ns later)
+      (with_reports (reports answer_of after ns later) nothing_told) end.account (count_of n 50 opening) accepted has found.0
+      (no_end end lasts (run_ended answer_of after given.told (orders ++ more) start is.well refl) one)
 
   pub goes_in_turn : OneLink answer_of after → clean.GoesInTurn answer_of after → GoesInTurn answer_of after
   goes_in_turn given law config handler orders n (Ok account) is are settings same quiet poll none =

@@ -1,17 +1,20 @@
 -- Rounds that lose nothing, over bytes.
-use Rattle.osdp_sim_laws.proofs.Common.{◌≡◌, ◌≤◌, ◌<◌, ◌+◌, ℕ, zero, suc, Bool, true, false, ◌==◌, if◌then◌else◌, arith, List, [], ◌∷◌, ◌++◌, length, All, inl, inr, refl, sym, subst, ap, ◌∙◌, append_assoc, map, Packet, spelling, Command, Closed, is_closed, IsInRange, StaysInRange, Begin, new_machine, Answer, lacks_room, Delivered, Link, SetsNoAddress, all_submitted, each_all, each_append, each_front, each_of, moves_so, begins_so, set_no_other, steady_ordinary, Each, count, Account, rounds, FitAlong, is_well, run, SimState, room_for, set_up, StepFits, after_step, fault_of, moment_after, SimConfig, SimStep, Issue, Queue, Busy, Wait, ToReader, ToController, Reopen, IsInSession, IsOf, clock_after, step_clock, delivery, first_link, in_bytes, move_of, moves_of, OneLink, ComesOn, ComesThrough, IsClear, IsRun, Recovers, clear, holds_on, runs_on, well_on}
-use Rattle.osdp_link_laws.specs.Headline as headline
+use Rattle.osdp_sim_laws.proofs.Common.{◌≡◌, ◌≤◌, ◌+◌, ℕ, zero, suc, Bool, true, false, ◌==◌, if◌then◌else◌, arith, List, [], ◌∷◌, ◌++◌, length, inl, inr, refl, sym, subst, ap, ◌∙◌, append_assoc, append-nil, map, Packet, spelling, Command, is_closed, IsInRange, StaysInRange, Begin, new_machine, Answer, lacks_room, MovesFit, Delivered, Link, Move, after_move, SetsNoAddress, all_queued, all_submitted, reports, each_all, each_append, each_front, each_of, set_no_other, Each, count, rounds, run, SimState, room_for, set_up, StepFits, after_step, fault_of, moment_after, SimConfig, SimStep, Issue, Queue, Busy, Wait, ToReader, ToController, Reopen, IsInSession, clock_after, step_clock, delivery, first_link, in_bytes, move_of, moves_of, OneLink, ComesThrough, IsClear, IsRun, Recovers, TellsOfMoves, clear, holds_on, well_on}
+use Rattle.osdp_controller.specs.Machine as controllers
+use Rattle.osdp_link_laws.specs.Addresses.{StayWhereTheyAre}
+use Rattle.osdp_link_laws.specs.Ahead.{ahead, left}
 use Rattle.osdp_link_laws.specs.Link as link
 use Rattle.osdp_link_laws.specs.Progress as progress
-use Rattle.osdp_link_laws.specs.Addresses.{StayWhereTheyAre}
-use Rattle.osdp_sim_laws.proofs.Clearing.{AtMost, Cleared, clears, losses_within, steps_few}
-use Rattle.osdp_sim_laws.proofs.Accounts.{none_earlier, some_begun}
+use Rattle.osdp_link_laws.specs.Reports.{told_in}
+use Rattle.osdp_sim_laws.proofs.Accounts.{Added, added_both, all_added, and_then}
 use Rattle.osdp_sim_laws.proofs.Begun.{none_reopen, sessions_counted}
-use Rattle.osdp_sim_laws.proofs.Ends.{HaveEnded, run_ended}
-use Rattle.osdp_sim_laws.proofs.Holding.{begins, goes_from_first, no_account}
+use Rattle.osdp_sim_laws.proofs.Clearing.{AtMost, Cleared, clears, losses_within, steps_few}
+use Rattle.osdp_sim_laws.proofs.Ends.{run_ended}
+use Rattle.osdp_sim_laws.proofs.Holding.{follows_all, run_of, schedule_is_moves}
+use Rattle.osdp_sim_laws.proofs.Ledger.{ahead_among}
+use Rattle.osdp_sim_laws.proofs.Left.{Brings, OrdersNothing, brings, order_nothing}
 use Rattle.osdp_sim_laws.proofs.Moments.{LinkInTime, begins_in_time, clock_on, controller_in_time, last_moment, queues_in_time, reader_in_time, submits_in_time, tick_in_time}
-use Rattle.osdp_sim_laws.proofs.Schedules.{Follows, goes_from, goes_on, run_both, schedule_follows}
-use Rattle.osdp_controller.specs.Machine as controllers
+use Rattle.osdp_sim_laws.proofs.Schedules.{run_both}
 
 -- the moments of so many rounds
 abbrev pub moments_of : ℕ → ℕ → ℕ → List ℕ
@@ -90,33 +93,7 @@ module _ {H : Type 0} (answer_of : H → Command → Answer) (after : H → Comm
         are_late m wait now (link.run answer_of after (progress.round now) l) on.1 (round_in_time clock now wait l on.0 is),
       )
 
-  -- ---- the lists of one session
-
-  -- as long as those of the link's account
-  pub record AsLong (a : Account) (t : link.Account) : Type 0 where
-    pub settled : length a.settled ≡ length t.settled
-    pub reported : length a.reported ≡ length t.reported
-    pub issued : a.issued ≡ t.issued
-    pub queued : length a.queued ≡ length t.queued
-    pub kept : t.kept ≡ t.queued
-
-  pub as_long : (config : SimConfig) (handler : H) (device : config.controller.address < 127) (s : SimState H) (ms : List (link.Move H)) (clock : ℕ)
-      → Follows answer_of after s ms (first_link config handler) clock no_account → length s.account.sessions ≡ 1
-      → AsLong s.account (link.run answer_of after ms (first_link config handler)).account
-  as_long config handler device s ms clock follows one =
-      let l = first_link config handler in
-      let later = link.run answer_of after ms l in
-      let tells = follows.carried.tells in
-      let none = none_earlier s.account later.account later.earlier tells one in
-      let so = moves_so answer_of after ms l (steady_ordinary ms follows.ordinary) (begins_so l (begins config handler device)) in
-      let only : IsOf s.account later.account [] = subst (IsOf s.account later.account) none tells in
-      record {
-        settled = ap length only.settled;
-        reported = ap length only.reported;
-        issued = only.issued refl;
-        queued = ap length (only.queued refl);
-        kept = so.0.kept;
-      }
+  -- ---- a run
 
   -- where no session begins again one has begun
   pub one_session : (config : SimConfig) (handler : H) (steps : List SimStep) → Each IsInSession steps
@@ -126,109 +103,8 @@ module _ {H : Type 0} (answer_of : H → Command → Answer) (after : H → Comm
 
   -- ---- steps, and more of them, as moves of the link
 
-  pub record InTwo (config : SimConfig) (handler : H) (steps more : List SimStep) : Type 0 where
-    pub first : Follows answer_of after (run answer_of after steps (set_up config handler)) (moves_of steps 0) (first_link config handler)
-        (clock_after steps 0) no_account
-    pub next : let later = link.run answer_of after (moves_of steps 0) (first_link config handler) in
-        let clock = clock_after steps 0 in
-        let a = (run answer_of after steps (set_up config handler)).account in
-        Follows answer_of after (run answer_of after more (in_bytes later clock a)) (moves_of more clock) later (clock_after more clock) a
-
-  pub in_two : OneLink answer_of after → (config : SimConfig) (handler : H) (steps more : List SimStep) → IsRun answer_of after config handler (steps ++ more)
-      → InTwo config handler steps more
-  in_two given config handler steps more is =
-      let l = first_link config handler in
-      let start = set_up config handler in
-      let well = well_on (after_step answer_of after) fault_of steps more start is.well in
-      let fits = holds_on (after_step answer_of after) (StepFits answer_of after) steps more start is.fits in
-      let first = schedule_follows answer_of after given.reads steps l 0 no_account (goes_from_first answer_of after config handler) well.0 fits.0 in
-      let ms = moves_of steps 0 in
-      let clock = clock_after steps 0 in
-      let before = run answer_of after steps start in
-      let there : before ≡ in_bytes (link.run answer_of after ms l) clock before.account = first.carried.state in
-      record {
-        first = first;
-        next = schedule_follows answer_of after given.reads more (link.run answer_of after ms l) clock before.account
-            (goes_from answer_of after before ms l clock no_account first)
-            (subst (λ s. is_well answer_of after more s ≡ true) there well.1) (subst (FitAlong answer_of after more) there fits.1);
-      }
-
-  -- where the simulation is clear its link is
-  pub clear_link : (given : OneLink answer_of after) (config : SimConfig) (handler : H) (steps more : List SimStep) → IsRun answer_of after config handler (steps ++ more)
-      → All IsInSession steps → IsClear (run answer_of after steps (set_up config handler))
-      → progress.IsClear (link.run answer_of after (moves_of steps 0) (first_link config handler))
-  clear_link given config handler steps more is within clear =
-      let first = (in_two given config handler steps more is).first in
-      let later = link.run answer_of after (moves_of steps 0) (first_link config handler) in
-      let before = run answer_of after steps (set_up config handler) in
-      let clock = clock_after steps 0 in
-      let there : before ≡ in_bytes later clock before.account = first.carried.state in
-      let lists = as_long config handler is.settings.controller.config_in_range.address before (moves_of steps 0) clock first
-      (one_session config handler steps (each_of IsInSession steps within)) in
-      record {
-        to_reader = none_on later.to_reader (sym (ap (λ (s : SimState H). s.to_reader) there) ∙ clear.to_reader);
-        to_controller = none_on later.to_controller (sym (ap (λ (s : SimState H). s.to_controller) there) ∙ clear.to_controller);
-        address = sym (ap (λ (s : SimState H). s.reader.config.address) there) ∙ clear.address ∙ ap (λ (s : SimState H). s.controller.session.config.address) there;
-        ready = sym (ap (λ (s : SimState H). s.reader.busy) there) ∙ clear.ready;
-        issued = subst (All SetsNoAddress) lists.issued clear.issued;
-      }
-
-  -- ---- something comes through
-
-  -- a session that is over has an end
-  pub not_over : (s : SimState H) → s.controller.session.state ≡ Closed → HaveEnded s → 0 < length s.account.sessions → s.account.ends ≡ [] → ⊥
-  not_over s shut ended some none =
-      let closed : is_closed s.controller.session.state ≡ true = ap is_closed shut in
-      let counted : length s.account.ends + 1 ≡ length s.account.sessions + 1 = ended ∙ ap (λ b. length s.account.sessions + count b) closed in
-      let no_end : length s.account.ends ≡ 0 = ap (λ l. length l) none in
-      absurd (omega (arith, counted, no_end, some))
-
-  pub comes : OneLink answer_of after → progress.ComesThroughInTime answer_of after → StaysInRange → ComesThrough answer_of after
-  comes given in_time ranges config handler steps m wait is within long clear =
-      let l = first_link config handler in
-      let start = set_up config handler in
-      let more = rounds m wait in
-      let two = in_two given config handler steps more is in
-      let first = two.first in
-      let ms = moves_of steps 0 in
-      let clock = clock_after steps 0 in
-      let later = link.run answer_of after ms l in
-      let before = run answer_of after steps start in
-      let there : before ≡ in_bytes later clock before.account = first.carried.state in
-      let ns = moves_of more clock in
-      let last = link.run answer_of after ns later in
-      let end = run answer_of after more before in
-      let next = subst (λ s. Follows answer_of after (run answer_of after more s) ns later (clock_after more clock) before.account) (sym there) two.next in
-      let whole = goes_on answer_of after before end ms ns l clock (clock_after more clock) no_account first next in
-      let device = is.settings.controller.config_in_range.address in
-      let begun = begins config handler device in
-      let inside = each_of IsInSession steps within in
-      let both = one_session config handler (steps ++ more) (each_append IsInSession steps more inside (rounds_within m wait)) in
-      let ended : run answer_of after (steps ++ more) start ≡ end = runs_on (after_step answer_of after) steps more start in
-      let first_lists = as_long config handler device before ms clock first (one_session config handler steps inside) in
-      let last_lists = as_long config handler device end (ms ++ ns) (clock_after more clock) whole (subst (λ (s : SimState H). length s.account.sessions ≡ 1) ended both) in
-      let timely = steps_in_time wait steps 0 l (omega arith) (omega arith, long) in
-      let range : IsInRange l.controller.session = ranges.later (new_machine config.controller config.commands (room_for config.commands).bytes) (Begin 0 ∷ []) (ranges.new config.controller config.commands (room_for config.commands).bytes) in
-      let quiet = clear_link given config handler steps more is within clear in
-      let moves = subst (λ list. headline.MovesFit answer_of after list later) (rounds_are m wait clock) two.next.moves in
-      let found = in_time l ms (moments_of m wait clock) begun range first.moves quiet (are_late m wait clock later timely.0 timely.1) moves in
-      let same : link.run answer_of after (progress.rounds (moments_of m wait clock)) later ≡ last =
-      ap (λ list. link.run answer_of after list later) (sym (rounds_are m wait clock)) in
-      let joined : link.run answer_of after (ms ++ ns) l ≡ last = run_both answer_of after ms ns l in
-      let long_list : AsLong end.account last.account = subst (λ k. AsLong end.account k.account) joined last_lists in
-      let all_ended = run_ended answer_of after given.told (steps ++ more) start is.well refl in
-      subst (λ s. s.account.ends ≡ [] → ComesOn m before.account s.account) (sym ended)
-      (λ none. elim found [
-        | inl closed ↦ absurd (
-            let shut = ap (λ (s : SimState H). s.controller.session.state) next.carried.state ∙ subst (λ k. k.controller.session.state ≡ Closed) same closed in
-            not_over end shut (subst HaveEnded ended all_ended)
-            (some_begun end.account (link.run answer_of after (ms ++ ns) l).account (link.run answer_of after (ms ++ ns) l).earlier whole.carried.tells) none)
-        | inr on ↦ (
-            let counted = subst (λ k. progress.ComeOn (moments_of m wait clock) later.account k.account) same on in
-            omega (arith, counted, count_of m wait clock, first_lists.settled, first_lists.reported, long_list.settled, long_list.reported, ap length long_list.issued, long_list.queued, ap length long_list.kept))
-      ])
-
-  -- ---- whatever was before
+  abbrev pub link_after : SimConfig → H → List SimStep → Link H
+  link_after config handler steps = link.run answer_of after (moves_of steps 0) (first_link config handler)
 
   pub moves_on : (xs ys : List SimStep) (clock : ℕ) → moves_of {H = H} (xs ++ ys) clock ≡ moves_of xs clock ++ moves_of ys (clock_after xs clock)
   moves_on [] ys clock = refl
@@ -236,6 +112,158 @@ module _ {H : Type 0} (answer_of : H → Command → Answer) (after : H → Comm
       let now = step_clock x clock in
       ap (λ ms. move_of x clock ++ ms) (moves_on xs ys now)
       ∙ sym (append_assoc (move_of x clock) (moves_of xs now) (moves_of ys (clock_after xs now)))
+
+  moves_then : (ms ns : List (Move H)) (l : Link H) → MovesFit answer_of after (ms ++ ns) l → MovesFit answer_of after ns (link.run answer_of after ms l)
+  moves_then [] ns l fits = fits
+  moves_then (m ∷ ms) ns l fits = moves_then ms ns (after_move answer_of after m l) fits.1
+
+  -- the steps before
+  pub run_first : (config : SimConfig) (handler : H) (steps more : List SimStep) → IsRun answer_of after config handler (steps ++ more)
+      → IsRun answer_of after config handler steps
+  run_first config handler steps more is = record {
+    settings = is.settings;
+    well = (well_on (after_step answer_of after) fault_of steps more (set_up config handler) is.well).0;
+    fits = (holds_on (after_step answer_of after) (StepFits answer_of after) steps more (set_up config handler) is.fits).0;
+  }
+
+  module _ (given : OneLink answer_of after) (config : SimConfig) (handler : H) where
+    abbrev start : SimState H
+    start = set_up config handler
+
+    abbrev l : Link H
+    l = first_link config handler
+
+    -- the account tells of the moves
+    pub its_account : (steps : List SimStep) → IsRun answer_of after config handler steps
+        → TellsOfMoves answer_of after (run answer_of after steps start).account (moves_of steps 0) l
+    its_account steps is = (schedule_is_moves answer_of after given config handler steps is.settings is.well is.fits).tells
+
+    pub state_is : (steps : List SimStep) → IsRun answer_of after config handler steps
+        → run answer_of after steps start ≡ in_bytes (link_after config handler steps) (clock_after steps 0) (run answer_of after steps start).account
+    state_is steps is = (follows_all answer_of after given config handler steps is).carried.state
+
+    -- a session that has ended has an end in the account
+    pub lasts_at : (steps : List SimStep) → IsRun answer_of after config handler steps → (run answer_of after steps start).account.ends ≡ []
+        → is_closed (link_after config handler steps).controller.session.state ≡ false
+    lasts_at steps is none = by_state (is_closed (link_after config handler steps).controller.session.state) refl
+      where
+        by_state : (b : Bool) → is_closed (link_after config handler steps).controller.session.state ≡ b
+            → is_closed (link_after config handler steps).controller.session.state ≡ false
+        by_state false lasts = lasts
+        by_state true shut =
+            let a = (run answer_of after steps start).account in
+            let closed = ap (λ (s : SimState H). is_closed s.controller.session.state) (state_is steps is) ∙ shut in
+            let ended : length a.ends + 1 ≡ length a.sessions + 1 =
+            run_ended answer_of after given.told steps start is.well refl ∙ ap (λ b. length a.sessions + count b) closed in
+            absurd (omega (arith, ended, ap (λ l. length l) none, sessions_counted answer_of after config handler steps))
+
+    module _ (steps more : List SimStep) (is : IsRun answer_of after config handler (steps ++ more)) where
+      pub joined : link_after config handler (steps ++ more) ≡ link.run answer_of after (moves_of more (clock_after steps 0)) (link_after config handler steps)
+      joined =
+          ap (λ ms. link.run answer_of after ms l) (moves_on steps more 0)
+          ∙ run_both answer_of after (moves_of steps 0) (moves_of more (clock_after steps 0)) l
+
+      pub next_fit : MovesFit answer_of after (moves_of more (clock_after steps 0)) (link_after config handler steps)
+      next_fit =
+          moves_then (moves_of steps 0) (moves_of more (clock_after steps 0)) l
+          (subst (λ ms. MovesFit answer_of after ms l) (moves_on steps more 0) (follows_all answer_of after given config handler (steps ++ more) is).moves)
+
+      -- what they submit and queue is what these steps do, and then the others
+      pub added : all_added answer_of after (moves_of (steps ++ more) 0) l
+          ≡ and_then (all_added answer_of after (moves_of steps 0) l) (all_added answer_of after (moves_of more (clock_after steps 0)) (link_after config handler steps))
+      added =
+          ap (λ ms. all_added answer_of after ms l) (moves_on steps more 0)
+          ∙ added_both answer_of after (moves_of steps 0) (moves_of more (clock_after steps 0)) l
+
+      pub issued_before : (P : Command → Type 0) → Each P (run answer_of after (steps ++ more) start).account.issued
+          → Each P (run answer_of after steps start).account.issued
+      issued_before P all =
+          subst (Each P) (sym (its_account steps (run_first config handler steps more is)).issued)
+          (each_front P (all_submitted answer_of after (moves_of steps 0) l)
+          (all_submitted answer_of after (moves_of more (clock_after steps 0)) (link_after config handler steps))
+          (subst (Each P) ((its_account (steps ++ more) is).issued ∙ ap (λ (x : Added). x.submitted) added) all))
+
+      -- where the simulation is clear its link is
+      pub clear_link : IsClear (run answer_of after steps start) → progress.IsClear (link_after config handler steps)
+      clear_link clear =
+          let first = run_first config handler steps more is in
+          let a = (run answer_of after steps start).account in
+          let later = link_after config handler steps in
+          let there = state_is steps first in
+          record {
+            to_reader = none_on later.to_reader (sym (ap (λ (s : SimState H). s.to_reader) there) ∙ clear.to_reader);
+            to_controller = none_on later.to_controller (sym (ap (λ (s : SimState H). s.to_controller) there) ∙ clear.to_controller);
+            address = sym (ap (λ (s : SimState H). s.reader.config.address) there) ∙ clear.address ∙ ap (λ (s : SimState H). s.controller.session.config.address) there;
+            ready = sym (ap (λ (s : SimState H). s.reader.busy) there) ∙ clear.ready;
+            stays = each_all SetsNoAddress (ahead later.controller) (ahead_among answer_of after given.ledger SetsNoAddress (moves_of steps 0) l a
+                (run_of answer_of after given config handler steps first) (its_account steps first) (each_of SetsNoAddress a.issued clear.stays));
+          }
+
+    -- ---- rounds that lose nothing
+
+    module _ (steps : List SimStep) (m wait : ℕ) (is : IsRun answer_of after config handler (steps ++ rounds m wait)) where
+      abbrev moments : List ℕ
+      moments = moments_of m wait (clock_after steps 0)
+
+      abbrev later : Link H
+      later = link_after config handler steps
+
+      pub rounds_joined : link_after config handler (steps ++ rounds m wait) ≡ link.run answer_of after (progress.rounds moments) later
+      rounds_joined = joined steps (rounds m wait) is ∙ ap (λ ms. link.run answer_of after ms later) (rounds_are m wait (clock_after steps 0))
+
+      pub rounds_fit : MovesFit answer_of after (progress.rounds moments) later
+      rounds_fit = subst (λ ms. MovesFit answer_of after ms later) (rounds_are m wait (clock_after steps 0)) (next_fit steps (rounds m wait) is)
+
+      -- what they bring to the account
+      pub rounds_bring : StaysInRange → progress.ForgetsNone answer_of after → Each IsInSession steps
+          → let last = (run answer_of after (steps ++ rounds m wait) start).account in last.ends ≡ []
+          → Brings (run answer_of after steps start).account last (told_in (reports answer_of after (progress.rounds moments) later)) (left later)
+      rounds_bring ranges forgets inside none =
+          let more = rounds m wait in
+          let ms = moves_of steps 0 in
+          let all = steps ++ more in
+          let first = run_first config handler steps more is in
+          let before = (run answer_of after steps start).account in
+          let last = (run answer_of after all start).account in
+          let tells = its_account steps first in
+          let whole = its_account all is in
+          let nothing = subst (λ ns. OrdersNothing answer_of after ns later) (sym (rounds_are m wait (clock_after steps 0))) (order_nothing answer_of after moments later) in
+          let issued : last.issued ≡ before.issued =
+          whole.issued ∙ ap (λ (x : Added). x.submitted) (added steps more is) ∙ ap (λ cs. all_submitted answer_of after ms l ++ cs) nothing.submitted
+          ∙ append-nil (all_submitted answer_of after ms l) ∙ sym tells.issued in
+          let queued : last.queued ≡ before.queued =
+          whole.queued ∙ ap (λ (x : Added). x.queued) (added steps more is) ∙ ap (λ es. all_queued answer_of after ms l ++ es) nothing.queued
+          ∙ append-nil (all_queued answer_of after ms l) ∙ sym tells.queued in
+          brings answer_of after ranges forgets ms (moves_of all 0) moments l before last (run_of answer_of after given config handler steps first)
+          (run_of answer_of after given config handler all is) tells whole (one_session config handler steps inside)
+          (one_session config handler all (each_append IsInSession steps more inside (rounds_within m wait))) rounds_joined rounds_fit
+          (subst (λ (k : Link H). is_closed k.controller.session.state ≡ false) rounds_joined (lasts_at all is none)) (ap length issued) (ap length queued)
+
+  -- ---- something comes through
+
+  pub comes : OneLink answer_of after → progress.ComesThroughInTime answer_of after → progress.ForgetsNone answer_of after → StaysInRange → ComesThrough answer_of after
+  comes given in_time forgets ranges config handler steps m wait is within long clear none =
+      let l = first_link config handler in
+      let more = rounds m wait in
+      let later = link_after config handler steps in
+      let clock = clock_after steps 0 in
+      let its = run_of answer_of after given config handler steps (run_first config handler steps more is) in
+      let timely = steps_in_time wait steps 0 l (omega arith) (omega arith, long) in
+      let range : IsInRange l.controller.session = ranges.later (new_machine config.controller config.commands (room_for config.commands).bytes) (Begin 0 ∷ []) (ranges.new config.controller config.commands (room_for config.commands).bytes) in
+      let found = in_time l (moves_of steps 0) (moments_of m wait clock) its.begins range its.fits (clear_link given config handler steps more is clear)
+      (are_late m wait clock later timely.0 timely.1) (rounds_fit given config handler steps m wait is) in
+      elim found [
+        | inl closed ↦ absurd (
+            let shut = ap is_closed closed in
+            let lasts = subst (λ (k : Link H). is_closed k.controller.session.state ≡ false) (rounds_joined given config handler steps m wait is)
+            (lasts_at given config handler (steps ++ more) is none) in
+            let both : true ≡ false = sym shut ∙ lasts in cc)
+        | inr on ↦
+            let brought = rounds_bring given config handler steps m wait is ranges forgets (each_of IsInSession steps within) none in
+            omega (arith, on, count_of m wait clock, brought.more, brought.all)
+      ]
+
+  -- ---- whatever was before
 
   -- the link after a line that was cleared
   pub is_cleared : (config : SimConfig) (handler : H) (steps : List SimStep)
@@ -250,30 +278,22 @@ module _ {H : Type 0} (answer_of : H → Command → Answer) (after : H → Comm
       (sym (ap (λ list. link.run answer_of after list l) (moves_on steps (clear steps) 0) ∙ run_both answer_of after (moves_of steps 0) (moves_of (clear steps) clock) l))
       (clears answer_of after steps clock middle few)
 
-  pub recovers : OneLink answer_of after → progress.ComesThroughInTime answer_of after → StaysInRange → StayWhereTheyAre answer_of after
+  pub recovers : OneLink answer_of after → progress.ComesThroughInTime answer_of after → progress.ForgetsNone answer_of after → StaysInRange → StayWhereTheyAre answer_of after
       → Recovers answer_of after
-  recovers given in_time ranges stays config handler steps m wait is within same long none lasts =
+  recovers given in_time forgets ranges stays config handler steps m wait is within same long none lasts =
       let l = first_link config handler in
-      let start = set_up config handler in
       let all_steps = steps ++ clear steps in
       let more = rounds m wait in
-      let before = run answer_of after all_steps start in
-      let two = in_two given config handler all_steps more is in
-      let first = two.first in
       let ms = moves_of all_steps 0 in
-      let clock = clock_after all_steps 0 in
-      let later = link.run answer_of after ms l in
-      let there : before ≡ in_bytes later clock before.account = first.carried.state in
-      let ended : run answer_of after (all_steps ++ more) start ≡ run answer_of after more (in_bytes later clock before.account) =
-      runs_on (after_step answer_of after) all_steps more start ∙ ap (run answer_of after more) there in
-      let issued = ap (λ (s : SimState H). s.account.issued) ended ∙ two.next.carried.issued in
-      let none_before : Each SetsNoAddress before.account.issued =
-      each_front SetsNoAddress before.account.issued (all_submitted answer_of after (moves_of more clock) later)
-      (subst (Each SetsNoAddress) issued (each_of SetsNoAddress (run answer_of after (all_steps ++ more) start).account.issued none)) in
-      let device = is.settings.controller.config_in_range.address in
-      let begun = begins config handler device in
-      let kept = stays l ms begun first.moves (each_all SetsNoAddress (all_submitted answer_of after ms l) (subst (Each SetsNoAddress) first.carried.issued none_before))
-      (set_no_other l.reader.config.address l.controller.session.config.address ms first.ordinary) in
+      let first = run_first config handler all_steps more is in
+      let before = run answer_of after all_steps (set_up config handler) in
+      let issued = (run answer_of after (all_steps ++ more) (set_up config handler)).account.issued in
+      let none_before = issued_before given config handler all_steps more is SetsNoAddress (each_of SetsNoAddress issued none) in
+      let there = state_is given config handler all_steps first in
+      let its = run_of answer_of after given config handler all_steps first in
+      let kept = stays l ms its.begins its.fits
+      (each_all SetsNoAddress (all_submitted answer_of after ms l) (subst (Each SetsNoAddress) (its_account given config handler all_steps first).issued none_before))
+      (set_no_other l.reader.config.address l.controller.session.config.address ms its.steady) in
       let quiet = is_cleared config handler steps in
       let is_clear : IsClear before = record {
         to_reader = ap (λ (s : SimState H). s.to_reader) there ∙ ap (map spelling) quiet.to_reader;
@@ -281,8 +301,8 @@ module _ {H : Type 0} (answer_of : H → Command → Answer) (after : H → Comm
         address = ap (λ (s : SimState H). s.reader.config.address) there ∙ kept.0 ∙ same ∙ sym kept.1
             ∙ sym (ap (λ (s : SimState H). s.controller.session.config.address) there);
         ready = ap (λ (s : SimState H). s.reader.busy) there ∙ quiet.ready;
-        issued = each_all SetsNoAddress before.account.issued none_before;
+        stays = each_all SetsNoAddress before.account.issued none_before;
       } in
       let all_within = each_all IsInSession all_steps (each_append IsInSession steps (clear steps) (each_of IsInSession steps within) (tt, losses_within steps)) in
-      let on = comes given in_time ranges config handler all_steps m wait is all_within long is_clear lasts in
+      let on = comes given in_time forgets ranges config handler all_steps m wait is all_within long is_clear lasts in
       omega (arith, on)

@@ -9,7 +9,10 @@ pub mod Coming
 pub mod Delivering
 pub mod Ends
 pub mod Holding
+pub mod Ledger
+pub mod Left
 pub mod Moments
+pub mod Opening
 pub mod Schedules
 pub mod Answered
 pub mod Resting

@@ -1,14 +1,13 @@
--- What the account of a schedule is to the sessions of a link, and what holds of it.
+-- What holds of the account of a schedule.
 use Rattle.std.specs.Prelude.{◌≡◌, ◌≤◌, ℕ, ◌==◌, if◌then◌else◌, All, List, [], ◌∷◌, ◌++◌, length, Result, Ok, Err, ◌⊎◌, ◌+◌}
 use Rattle.osdp_msg.specs.declared.command.Command.{Command}
 use Rattle.osdp_msg.specs.declared.reply.Reply.{Reply}
 use Rattle.osdp_reader.specs.declared.config.ReaderConfig.{ReaderConfig}
 use Rattle.osdp_reader.specs.declared.handler.Answer.{Answer}
-use Rattle.osdp_link_laws.specs.Headline.{IsBeginning}
-use Rattle.osdp_link_laws.specs.Link as link
+use Rattle.osdp_link_laws.specs.Sessions.{IsBeginning}
 use Rattle.osdp_link_laws.specs.OneHandler.{with_answers}
 use Rattle.osdp_link_laws.specs.Refusals.{IsOtherCause}
-use Rattle.osdp_link_laws.specs.Sessions.{in_all}
+use Rattle.osdp_link_laws.specs.Reports.{Told}
 use Rattle.osdp_sim.specs.Account.{Account, lists_of}
 use Rattle.osdp_sim.specs.Runs.{FitAlong, RunEnds, steps_done}
 use Rattle.osdp_sim.specs.State.{set_up}
@@ -25,16 +24,9 @@ use Rattle.osdp_sim.specs.declared.step.SimStep.TheVariants.{Reopen}
 abbrev pub no_lengths : Lengths
 no_lengths = record { issued = 0; taken = 0; settled = 0; unsettled = 0; queued = 0; reported = 0; ends = 0 }
 
--- the account holds what these sessions came to, the last of them first: as many have begun; the commands and events of an only session are those
--- issued and queued
-pub record IsOf (a : Account) (t : link.Account) (earlier : List link.Account) : Type 0 where
-  pub sessions : length a.sessions ≡ length earlier + 1
-  pub issued : earlier ≡ [] → a.issued ≡ t.issued
-  pub queued : earlier ≡ [] → a.queued ≡ t.queued
-  pub taken : a.taken ≡ in_all (λ t. t.taken) (t ∷ earlier)
-  pub settled : a.settled ≡ in_all (λ t. t.settled) (t ∷ earlier)
-  pub unsettled : a.unsettled ≡ in_all (λ t. t.unsettled) (t ∷ earlier)
-  pub reported : a.reported ≡ in_all (λ t. t.reported) (t ∷ earlier)
+-- what the account says that was told
+abbrev pub told_of : Account → Told
+told_of a = record { settled = a.settled; in_doubt = a.unsettled; reported = a.reported }
 
 -- the reader has refused no number
 abbrev pub IsNoRefusal : End → Type 0

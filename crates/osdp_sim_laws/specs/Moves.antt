@@ -1,14 +1,15 @@
 -- What the steps of a schedule are to the link.
-use Rattle.std.specs.Prelude.{◌≡◌, ℕ, true, ◌==◌, if◌then◌else◌, List, [], ◌∷◌, ◌++◌, map}
+use Rattle.std.specs.Prelude.{◌≡◌, ℕ, ◌+◌, true, ◌==◌, if◌then◌else◌, List, [], ◌∷◌, ◌++◌, length, map}
 use Rattle.osdp_msg.specs.declared.command.Command.{Command}
 use Rattle.osdp_controller.specs.Machine.{after_begin, new_machine}
 use Rattle.osdp_frame.specs.Spelling.{spelling}
 use Rattle.osdp_reader.specs.State.{new_reader}
 use Rattle.osdp_reader.specs.declared.handler.Answer.{Answer}
-use Rattle.osdp_link_laws.specs.Headline.{Begins, MovesFit}
+use Rattle.osdp_link_laws.specs.Beginning.{Begins, MovesFit}
 use Rattle.osdp_link_laws.specs.Link as link
-use Rattle.osdp_link_laws.specs.Link.{Delivered, Delivery, Link, Lost, Repeated, new_account}
-use Rattle.osdp_link_laws.specs.Sessions.{all_queued, all_submitted}
+use Rattle.osdp_link_laws.specs.Link.{Delivered, Delivery, Link, Lost, Repeated}
+use Rattle.osdp_link_laws.specs.Reports.{all_taken, nothing_told, reports, with_reports}
+use Rattle.osdp_link_laws.specs.Sessions.{all_begun, all_queued, all_submitted}
 use Rattle.osdp_sim.specs.Account.{Account}
 use Rattle.osdp_sim.specs.Runs.{AreSettings, FitAlong, is_well, run}
 use Rattle.osdp_sim.specs.State.{SimState, room_for, set_up}
@@ -18,7 +19,7 @@ use Rattle.osdp_sim.specs.declared.step.Move as way
 use Rattle.osdp_sim.specs.declared.step.Move.TheVariants.{Deliver, Drop, Repeat, Damage}
 use Rattle.osdp_sim.specs.declared.step.SimStep.{SimStep}
 use Rattle.osdp_sim.specs.declared.step.SimStep.TheVariants.{Issue, Queue, Busy, Wait, ToReader, ToController, Reopen}
-use Rattle.osdp_sim_laws.specs.Accounts.{IsOf}
+use Rattle.osdp_sim_laws.specs.Accounts.{told_of}
 
 -- damage that holds no packet is a loss
 abbrev pub delivery : way.Move → Delivery
@@ -72,25 +73,29 @@ module _ {H : Type 0} where
     reader = new_reader config.reader handler (room_for config.events);
     to_reader = [];
     to_controller = [];
-    account = new_account [] [];
-    earlier = [];
   }
 
-  -- the simulation is this link, with its packets as bytes, and its account holds what the link's sessions came to
-  pub record FollowsLink (s : SimState H) (l : Link H) (clock : ℕ) : Type 0 where
-    pub state : s ≡ in_bytes l clock s.account
-    pub tells : IsOf s.account l.account l.earlier
+  -- the simulation is this link, with its packets as bytes
+  abbrev pub FollowsLink : SimState H → Link H → ℕ → Type 0
+  FollowsLink s l clock = s ≡ in_bytes l clock s.account
 
   module _ (answer_of : H → Command → Answer) (after : H → Command → H) where
+    -- an account has the commands that moves submit, those of them that the reader takes, and the events that they queue; what they tell; and their sessions
+    pub record TellsOfMoves (a : Account) (moves : List (link.Move H)) (l : Link H) : Type 0 where
+      pub issued : a.issued ≡ all_submitted answer_of after moves l
+      pub taken : a.taken ≡ all_taken answer_of after moves l
+      pub queued : a.queued ≡ all_queued answer_of after moves l
+      pub told : told_of a ≡ with_reports (reports answer_of after moves l) nothing_told
+      pub sessions : length a.sessions ≡ all_begun answer_of after moves l + 1
+
     -- a schedule is the moves that its steps are: from a link on which the first session begins they lead to where the simulation comes to
     pub record IsMoves (config : SimConfig) (handler : H) (steps : List SimStep) : Type 0 where
       pub begins : Begins (first_link config handler)
       pub fit : MovesFit answer_of after (moves_of steps 0) (first_link config handler)
       pub follows : FollowsLink (run answer_of after steps (set_up config handler))
           (link.run answer_of after (moves_of steps 0) (first_link config handler)) (clock_after steps 0)
-      -- its account has the commands that these moves submit, and the events that they queue
-      pub issued : (run answer_of after steps (set_up config handler)).account.issued ≡ all_submitted answer_of after (moves_of steps 0) (first_link config handler)
-      pub queued : (run answer_of after steps (set_up config handler)).account.queued ≡ all_queued answer_of after (moves_of steps 0) (first_link config handler)
+      -- its account tells of these moves
+      pub tells : TellsOfMoves (run answer_of after steps (set_up config handler)).account (moves_of steps 0) (first_link config handler)
 
     -- each schedule is so of which no step is refused, where the settings are in their ranges and what goes over the line fits
     abbrev pub ScheduleIsMoves : Type 0

@@ -6,11 +6,23 @@ ghost use Rattle.osdp_sim_laws.specs.Accounts.{AnswersEndOnce, AnswersHoldOnce};
 ghost use Rattle.osdp_sim_laws.specs.Begun.{BeginsByReopens};
 ghost use Rattle.osdp_sim_laws.specs.Clean.{GoesInTurn};
 ghost use Rattle.osdp_sim_laws.specs.Moves.{ScheduleIsMoves};
-ghost use Rattle.osdp_sim_laws.specs.OneLink.{OneLink};
+ghost use Rattle.osdp_sim_laws.specs.OneLink.{KeepsLedger, OneLink};
 ghost use Rattle.osdp_sim_laws.specs.Progress.{AnswerRecovers, ComesThrough, Recovers};
 ghost use Rattle.osdp_sim_laws.specs.Resting.{ClearsTheLine, EachRoundBringsOneMore, EachRoundRests};
 
 use osdp_reader::Handler;
+
+/// What the laws of accounts stand on of the ledger of a link: its steps are allowed, what they come to is what the moves tell, and one session of them
+/// holds.
+pub fn keeps_ledger<H: Handler>()
+    ensures { KeepsLedger H.answer_of H.after }
+{
+    osdp_link_ledger::link_keeps_ledger::<H>();
+    osdp_link_ledger::holds_by_ledger::<H>();
+    osdp_link_ledger::ledger_tells_moves::<H>();
+    osdp_link_ledger::acts_have_answers_of_one_handler::<H>();
+    osdp_ledger::one_session_holds();
+}
 
 /// What the laws of accounts stand on: a packet is read as it is spelled, the theory of one link, and its ledger.
 fn stands_on_one_link<H: Handler>()
@@ -18,15 +30,14 @@ fn stands_on_one_link<H: Handler>()
 {
     osdp_frame_laws::reads_packets();
     osdp_frame_laws::one_spelling();
-    osdp_link_laws::holds_once::<H>();
-    osdp_link_ledger::ledger_tells_accounts::<H>();
-    osdp_link_ledger::acts_have_answers_of_one_handler::<H>();
+    keeps_ledger::<H>();
     osdp_link_laws::refuses_no_number::<H>();
     osdp_controller_laws::endings_are_told();
 }
 
 /// Each schedule, as far as it isn't refused, is the list of moves that its steps are: from a link on which the first session begins they lead to
-/// the link that the simulated line has come to, with its packets as bytes and its account as what the sessions of the link come to.
+/// the link that the simulated line has come to, with its packets as bytes. Its account has what these moves submit, what the reader takes, what they
+/// queue and what they tell.
 pub fn schedule_is_moves<H: Handler>()
     ensures { ScheduleIsMoves H.answer_of H.after }
 {

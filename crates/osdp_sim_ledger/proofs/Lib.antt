@@ -1,5 +1,4 @@
 pub mod Common
 mod Telling
-mod SeveralAccepted
 mod OneReader
 mod SeveralReaders

@@ -1,7 +1,6 @@
 -- The run over a line with one reader.
-use Rattle.osdp_sim_ledger.proofs.Common.{◌≡◌, ◌==◌, ℕ, Bool, true, false, if◌then◌else◌, List, [], ◌∷◌, ◌++◌, subst, Command, Answer, TellsInTurn, HoldsOnce, Move, IsOrdinary, IsSteady, all_queued, all_submitted, each_all, each_append, steady_handler, steady_ordinary, Each, LedgerTellsAccounts, ActsHaveAnswersOfOneHandler, OrdinaryMovesEndTold, SimStep, Busy, Issue, Queue, Reopen, holds_on, well_on, TellsByLedger}
+use Rattle.osdp_sim_ledger.proofs.Common.{◌≡◌, ◌==◌, ℕ, Bool, true, false, if◌then◌else◌, List, [], ◌∷◌, ◌++◌, refl, subst, Command, Answer, TellsInTurn, Move, IsSteady, each_append, Each, OrdinaryMovesEndTold, SimStep, Busy, Issue, Queue, Reopen, holds_on, well_on, KeepsLedger, TellsByLedger}
 use Rattle.osdp_link_laws.specs.Link as link
-use Rattle.osdp_link_ledger.specs.Laws.{HoldsByLedger, LinkKeepsLedger}
 use Rattle.osdp_sim.specs.Runs.{FitAlong, is_well, run, steps_done}
 use Rattle.osdp_sim.specs.State.{set_up}
 use Rattle.osdp_sim.specs.Steps.{StepFits, after_step, fault_of}
@@ -10,7 +9,7 @@ use Rattle.osdp_sim_laws.specs.Moves.{ScheduleIsMoves, first_link, move_of, move
 use Rattle.osdp_sim_laws.specs.Progress.{IsRun}
 use Rattle.osdp_sim_laws.proofs.Holding.{answers}
 use Rattle.osdp_sim_ledger.specs.OneReader.{RunTellsLedger, RunKeepsLedger, steps_of_run}
-use Rattle.osdp_sim_ledger.proofs.Telling.{tells_once}
+use Rattle.osdp_sim_ledger.proofs.Telling.{tells_by_ledger}
 
 module _ {H : Type 0} where
   one_steady : (there : Bool) (m : Move H) → IsSteady m → Each IsSteady (if there then m ∷ [] else [])
@@ -41,31 +40,12 @@ module _ {H : Type 0} (answer_of : H → Command → Answer) (after : H → Comm
         fits = (holds_on (after_step answer_of after) (StepFits answer_of after) before later s (subst (λ xs. FitAlong answer_of after xs s) same is.fits)).0;
       }
 
-  module _ (moves : ScheduleIsMoves answer_of after) (once : HoldsOnce answer_of after) (acts : ActsHaveAnswersOfOneHandler answer_of after) (told : OrdinaryMovesEndTold answer_of after)
-      (keeps : LinkKeepsLedger answer_of after) (tells : LedgerTellsAccounts answer_of after)
-      (holds : HoldsByLedger answer_of after) (in_turn : TellsInTurn) where
+  module _ (moves : ScheduleIsMoves answer_of after) (ledger : KeepsLedger answer_of after) (told : OrdinaryMovesEndTold answer_of after) (in_turn : TellsInTurn) where
     one_run : (config : SimConfig) (handler : H) (steps : List SimStep) → IsRun answer_of after config handler steps → RunTellsLedger answer_of after config handler steps
     one_run config handler steps is =
-        let l = first_link config handler in
-        let ms = moves_of steps 0 in
         let m = moves config handler steps is.settings is.well is.fits in
-        let held = holds l ms m.begins m.fit in
-        let steady = steps_steady H steps 0 in
-        tells_once answer_of after in_turn config.reader handler (run answer_of after steps (set_up config handler)).account
-        (l.controller.waiting ++ all_submitted answer_of after ms l) (l.reader.queue.events ++ all_queued answer_of after ms l)
-        (link.run answer_of after ms l) (steps_of_run answer_of after config handler steps)
-        (record {
-          allowed = (keeps l ms m.begins m.fit).0;
-          accounts = tells l ms m.begins m.fit;
-          orders = held.0;
-          events = held.1;
-          told = told l ms (each_all IsOrdinary ms (steady_ordinary ms steady));
-          once = once l ms m.begins m.fit;
-          answers = acts l ms (steady_handler answer_of after ms l steady);
-          lists = m.follows.tells;
-          issued = m.issued;
-          queued_so = m.queued;
-        })
+        tells_by_ledger answer_of after ledger told in_turn (moves_of steps 0) (first_link config handler) (run answer_of after steps (set_up config handler)).account
+        (record { begins = m.begins; commands = refl; events = refl; fits = m.fit; steady = steps_steady H steps 0 }) m.tells
 
     pub run_keeps_ledger : RunKeepsLedger answer_of after
     run_keeps_ledger config handler steps answer is was = record {

@@ -6,7 +6,6 @@ use Rattle.osdp_reader.specs.State.{new_reader}
 use Rattle.osdp_reader.specs.declared.handler.Answer.{Answer}
 use Rattle.osdp_ledger.specs.Ledger.{Step}
 use Rattle.osdp_line_ledger.specs.Laws.{steps_at}
-use Rattle.osdp_link_laws.specs.Link.{new_account}
 use Rattle.osdp_shared_line.specs.Line.{Net, Site}
 use Rattle.osdp_sim.specs.Account.{Account}
 use Rattle.osdp_sim.specs.State.{room_for}
@@ -25,8 +24,6 @@ module _ {H : Type 0} where
     reserved = None;
     reader = new_reader given.0 given.2 (room_for given.1);
     coming = [];
-    account = new_account [] [];
-    earlier = [];
   }
 
   abbrev pub first_net : BusConfig → List (Given H) → Net H

@@ -8,7 +8,7 @@ use Rattle.osdp_ledger.specs.History.{AreAllowed, End, History, new_history, run
 use Rattle.osdp_ledger.specs.Laws.{EventsHold, IsOneUntold, OrdersHold}
 use Rattle.osdp_ledger.specs.Ledger.{Card, Order, Step}
 use Rattle.osdp_ledger.specs.Plain.{AllTold}
-use Rattle.osdp_link_ledger.specs.Accounts.{doubted_as, settled_as}
+use Rattle.osdp_link_ledger.specs.Telling.{doubted_as, settled_as}
 use Rattle.osdp_link_ledger.specs.Answers.{HasAnswersOf}
 use Rattle.osdp_sim.specs.Account.{Account}
 

@@ -17,11 +17,7 @@ pub fn run_keeps_ledger<H: Handler>()
     ensures { RunKeepsLedger H.answer_of H.after }
 {
     osdp_sim_laws::schedule_is_moves::<H>();
-    osdp_link_laws::holds_once::<H>();
-    osdp_link_ledger::link_keeps_ledger::<H>();
-    osdp_link_ledger::ledger_tells_accounts::<H>();
-    osdp_link_ledger::holds_by_ledger::<H>();
-    osdp_link_ledger::acts_have_answers_of_one_handler::<H>();
+    osdp_sim_laws::keeps_ledger::<H>();
     osdp_link_ledger::ordinary_moves_end_told::<H>();
     osdp_ledger::tells_in_turn();
 }
@@ -32,12 +28,8 @@ pub fn bus_run_keeps_ledgers<H: Handler>()
     ensures { BusRunKeepsLedgers H.answer_of H.after }
 {
     osdp_sim_bus_laws::schedules_are_moves::<H>();
-    osdp_shared_line::each_move_is_its_own::<H>();
     osdp_shared_line::each_is_a_link::<H>();
-    osdp_link_ledger::acts_have_answers_of_one_handler::<H>();
+    osdp_sim_laws::keeps_ledger::<H>();
     osdp_link_ledger::ordinary_moves_end_told::<H>();
-    osdp_shared_line::nobody_else_hears::<H>();
-    osdp_link_laws::holds_once::<H>();
-    osdp_line_ledger::each_keeps_ledger::<H>();
     osdp_ledger::tells_in_turn();
 }

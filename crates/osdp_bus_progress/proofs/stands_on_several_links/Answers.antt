@@ -11,8 +11,10 @@ returns g c = record {
     rests = c.comes_through.ensures.rest;
     in_time = c.comes_through.ensures.in_time;
     from_rest = c.comes_through.ensures.from_rest;
+    forgets = c.comes_through.ensures.none_forgotten;
     stays = c.stay_where_they_are.ensures;
   };
+  ledger = c.keeps_ledger.ensures;
   ranges = c.stays_in_range.ensures;
   comes = c.ticks_come_due.ensures;
 }

@@ -7,8 +7,7 @@ use osdp_door::Door;
 #[test]
 fn a_session_holds_with_a_door(_rt: HostRuntime) {
     cites!(osdp_link_laws, Door:
-        holds_once ordinary_runs_are_undisturbed refuses_no_number
-        stay_where_they_are comes_through goes_in_turn);
+        refuses_no_number stay_where_they_are comes_through goes_in_turn);
 }
 
 /// What each move does to a link with a door.

@@ -1,6 +1,6 @@
 use Rattle.osdp_sim_bus_laws.proofs.Common.{refl, arith, spelling}
 use Rattle.osdp_sim_bus_laws.proofs.Beginning.{first_net, follows_first, is_set_up, nothing_is_kept}
-use Rattle.osdp_sim_bus_laws.proofs.Scheduling.{schedules_are_moves}
+use Rattle.osdp_sim_bus_laws.proofs.Telling.{schedules_are_moves}
 use Rattle.osdp_sim_bus_laws.proofs.Stepping.{steps_are_moves}
 use Rattle.osdp_sim_bus_laws.proofs.schedules_are_moves.Goals as goal
 
@@ -21,10 +21,9 @@ returns-clause-steps g c = steps_are_moves g.H.Handler.answer_of g.H.Handler.aft
 
 pub returns-clause-schedules : goal.returns-clause-schedules
 returns-clause-schedules g c =
-    schedules_are_moves g.H.Handler.answer_of g.H.Handler.after (returns-clause-steps g c) c.bus_suffices.ensures
+    schedules_are_moves g.H.Handler.answer_of g.H.Handler.after (returns-clause-bus g c) (returns-clause-steps g c)
     (record { peers = c.read_each_other.ensures; device = c.name_one_device.ensures.device; told = c.name_one_device.ensures.told })
-    c.each_move_is_its_own.ensures c.nobody_else_hears.ensures.hears c.refuses_no_number.ensures.packets
-    c.ordinary_runs_are_undisturbed.ensures
+    c.each_move_is_its_own.ensures c.nobody_else_hears.ensures.hears c.each_is_a_link.ensures c.refuses_no_number.ensures.packets
 
 pub returns-clause-set_up : goal.returns-clause-set_up
 returns-clause-set_up g c config readers settings =

@@ -10,5 +10,5 @@ returns g c =
     record {
       cleared = clears_the_line g.H.Handler.answer_of g.H.Handler.after stands;
       rest = each_round_rests g.H.Handler.answer_of g.H.Handler.after stands rests ranges comes;
-      more = each_round_brings_one_more g.H.Handler.answer_of g.H.Handler.after stands rests ranges comes c.comes_through.ensures.from_rest;
+      more = each_round_brings_one_more g.H.Handler.answer_of g.H.Handler.after stands rests ranges comes c.comes_through.ensures.none_forgotten c.comes_through.ensures.from_rest;
     }

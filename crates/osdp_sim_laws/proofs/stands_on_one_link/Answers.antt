@@ -7,9 +7,7 @@ returns g c = record {
     one = λ p packet. c.reads_packets.ensures.one p (spelling p) ((c.one_spelling.ensures p (spelling p)).1 (packet, refl));
     none = c.reads_packets.ensures.none;
   };
-  once = c.holds_once.ensures;
-  tells = c.ledger_tells_accounts.ensures;
-  acts = c.acts_have_answers_of_one_handler.ensures;
+  ledger = c.keeps_ledger.ensures;
   causes = c.refuses_no_number.ensures.never;
   told = c.endings_are_told.ensures;
 }

@@ -3,5 +3,5 @@ use Rattle.osdp_sim_ledger.proofs.run_keeps_ledger.Goals as goal
 
 pub returns : goal.returns
 returns g c =
-    run_keeps_ledger g.H.Handler.answer_of g.H.Handler.after c.schedule_is_moves.ensures c.holds_once.ensures c.acts_have_answers_of_one_handler.ensures c.ordinary_moves_end_told.ensures
-    c.link_keeps_ledger.ensures c.ledger_tells_accounts.ensures c.holds_by_ledger.ensures c.tells_in_turn.ensures
+    run_keeps_ledger g.H.Handler.answer_of g.H.Handler.after c.schedule_is_moves.ensures c.keeps_ledger.ensures c.ordinary_moves_end_told.ensures
+    c.tells_in_turn.ensures
