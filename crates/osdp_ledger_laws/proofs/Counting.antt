@@ -1,11 +1,16 @@
 -- The counts of one session.
-use Rattle.std.proofs.Common.{ap, arith, length, map, ℕ}
+use Rattle.std.proofs.Common.{◌≡◌, ◌≤◌, ◌+◌, ◌⊎◌, ◌∙◌, ap, arith, inl, inr, length, map, suc, zero, ℕ}
 use Rattle.std.proofs.lemmas.List.{length-append, length-map}
 use Rattle.osdp_msg.specs.declared.reply.Reply.{Reply}
 use Rattle.osdp_ledger.specs.History.{new_history, runs}
 use Rattle.osdp_ledger.specs.Ledger.{Card, Order}
 use Rattle.osdp_ledger.specs.OneSession.{OneSessionHolds, settled_in}
 use Rattle.osdp_ledger_laws.specs.Sessions.{OneSessionCounts}
+
+one_more : (all some more : ℕ) → all ≡ some + more → more ≤ 1 → (all ≡ some) ⊎ (all ≡ some + 1)
+one_more all some zero is few = inl (omega (arith, is))
+one_more all some (suc zero) is few = inr (omega (arith, is))
+one_more all some (suc (suc more)) is few = absurd (omega (arith, few))
 
 pub counts : OneSessionHolds → OneSessionCounts
 counts holds steps plain may few =
@@ -20,8 +25,7 @@ counts holds steps plain may few =
     let front = length-append (map (λ (told : ℕ × Card). told.1) h.reports) is.reported.0 in
     let each = length-map h.reports (λ (told : ℕ × Card). told.1) in
     record {
-      settled = omega (arith, done, more);
-      acted = omega (arith, done, more, is.settled.2);
+      acted = one_more (length h.acted) (length (settled_in h.ended)) (length is.settled.0) (done ∙ more) is.settled.2;
       accepted = omega (arith, all, first, as_many);
       reported = omega (arith, told, front, each);
     }

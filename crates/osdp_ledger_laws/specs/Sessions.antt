@@ -1,5 +1,5 @@
 -- What each session comes to for orders, whatever happens in it: also where either end loses power, or orders are taken back once it is over.
-use Rattle.std.specs.Prelude.{◌≡◌, ◌≤◌, ◌+◌, All, List, ◌∷◌, ◌++◌, length, map}
+use Rattle.std.specs.Prelude.{◌≡◌, ◌≤◌, ◌+◌, ◌⊎◌, All, List, ◌∷◌, ◌++◌, length, map}
 use Rattle.osdp_msg.specs.declared.reply.Reply.{Reply}
 use Rattle.osdp_ledger.specs.History.{AreAllowed, End, History, new_history, runs}
 use Rattle.osdp_ledger.specs.Ledger.{Open, Order, Step}
@@ -31,8 +31,7 @@ EachSessionHolds = (before since : List Step) → AreAllowed (before ++ Open ∷
 
 -- how many commands and events there are of each kind
 pub record CountsInOneSession (h : History) : Type 0 where
-  pub settled : length (settled_in h.ended) ≤ length h.acted
-  pub acted : length h.acted ≤ length (settled_in h.ended) + 1
+  pub acted : (length h.acted ≡ length (settled_in h.ended)) ⊎ (length h.acted ≡ length (settled_in h.ended) + 1)
   pub accepted : length h.acted ≤ length h.accepted
   pub reported : length h.reports ≤ length h.queued
 
