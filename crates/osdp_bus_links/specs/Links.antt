@@ -55,9 +55,11 @@ module _ {H : Type 0} where
   one_ticks None now = []
   one_ticks (Some entry) now = Tick entry now ∷ []
 
+  -- the moves that a tick of the bus is
   abbrev pub tick_moves : ℕ → BusState → List (NetMove H)
   tick_moves now b = one_ticks (who_ticks now b) (max b.greatest now)
 
+  -- the device of the bus whose controller is this site's
   abbrev pub device_of : Site H → Entry
   device_of s = record { controller = s.controller; reserved = s.reserved }
 
@@ -72,6 +74,7 @@ module _ {H : Type 0} where
   told_by_one k now None = None
   told_by_one k now (Some s) = waiting_after k (ticks now s.controller.session s.controller.waiting).step.report None
 
+  -- what a tick tells, where the controller at this place ticks or none does
   abbrev pub told_by_tick : Option ℕ → ℕ → List (Site H) → Option (ℕ × Report)
   told_by_tick None now ss = None
   told_by_tick (Some entry) now ss = told_by_one entry now (site_at entry ss)
@@ -95,6 +98,7 @@ module _ {H : Type 0} where
   TellsFrom k report said (s ∷ ss) (t ∷ ts) = IsTold (report_for k report) said s t × TellsFrom (suc k) report said ss ts
   TellsFrom k report said _ _ = ⊥
 
+  -- the same of the sites of a whole line, whose first is at place 0
   abbrev pub TellsEach : Option (ℕ × Report) → List (ℕ × Packet) → List (Site H) → List (Site H) → Type 0
   TellsEach report said ss next = TellsFrom 0 report said ss next
 
@@ -107,6 +111,7 @@ module _ {H : Type 0} where
         × ((s : Site H) × (site_at k n.sites ≡ Some s) × (is_command_accepted k command s n.sites ≡ true)
         × (after_net answer_of after (Submit k command) n ≡ record n { sites = changed k (submits answer_of after command s) n.sites }))
 
+    -- so it is of each command, by what the bus refuses
     abbrev pub SubmitsAsAMove : Type 0
     SubmitsAsAMove = (b : BusState) (n : Net H) (k : ℕ) (command : Command) → IsBusOf b n.sites
         → IsSubmitted (submit_refusal_at k command b) k command b n
@@ -126,6 +131,7 @@ module _ {H : Type 0} where
       pub back : next.to_panel ≡ n.to_panel
       pub plain : IsNoRefusalOf (bus_ticks now b).bus.devices.report
 
+    -- so it is of each tick, whatever the moment
     abbrev pub TicksAsAMove : Type 0
     TicksAsAMove = (b : BusState) (n : Net H) (now : ℕ) → IsBusOf b n.sites → IsTicked b now n (run answer_of after (tick_moves now b) n)
 
@@ -137,6 +143,7 @@ module _ {H : Type 0} where
     pub report_is : (heard bytes now b).devices.report ≡ report
     pub plain : All IsPlainlySaid (packets_in bytes) → IsNoRefusalOf (heard bytes now b).devices.report
 
+-- so it is of each run of bytes that holds no packet or one
 abbrev pub HearsAsAMove : Type 0 → Type 0
 HearsAsAMove H = (b : BusState) (ss : List (Site H)) (now : ℕ) (bytes : List ℕ) → IsBusOf b ss → AreBytes bytes
     → (packets_in bytes ≡ [] → IsHeard b now bytes None ss ss)

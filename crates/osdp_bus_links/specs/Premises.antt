@@ -43,10 +43,12 @@ module _ {H : Type 0} where
         (s : Site H) → site_at k n.sites ≡ Some s → SaysWhatFitsIf answer_of after how (in_front s.coming) s.reader
     OthersFit move n = OpensQuietly move n
 
+    -- this is so of each of these moves, at the line that the moves before it have come to
     abbrev pub AllOthersFit : List (NetMove H) → Net H → Type 0
     AllOthersFit [] n = Unit {0}
     AllOthersFit (move ∷ moves) n = OthersFit move n × AllOthersFit moves (after_net answer_of after move n)
 
+    -- where it is so of moves of a schedule, from a line that is set up, all premises of the line hold of them
     abbrev pub BusSuffices : Type 0
     BusSuffices = (n : Net H) (moves : List (NetMove H)) → IsSetUp n → NothingIsKept n → All IsScheduled moves → AllOthersFit moves n
         → NetMovesFit answer_of after moves n

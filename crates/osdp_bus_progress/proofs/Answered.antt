@@ -1,5 +1,5 @@
 -- What `run_bus` answers after a line that was cleared and rounds that lose nothing.
-use Rattle.osdp_bus_progress.proofs.Common.{◌≡◌, ◌≤◌, ◌<◌, ◌++◌, ℕ, zero, suc, false, All, List, [], ◌∷◌, length, Some, Ok, refl, sym, subst, ap, ◌∙◌, arith, Command, Answer, SetsNoAddress, each_all, each_append, each_of, Each, runs_on, Account, rounds, SimStep, Busy, HasAnAccountEach, lists_of_all, LineState, ReaderSite, accounts, set_up, after_step, IsInSession, done, losses, IsNoOrder, none_reopen, rounds_within, AccountsAreOnce, SameIssued, issued_idle, unmapped, get_within, ComesOn, EachAnswerRecovers, EachRecovers, NoneMoves, all_ready, clear}
+use Rattle.osdp_bus_progress.proofs.Common.{◌≡◌, ◌≤◌, ◌<◌, ◌++◌, ℕ, zero, suc, false, All, List, [], ◌∷◌, length, Some, Ok, refl, sym, subst, ap, ◌∙◌, arith, Command, Answer, SetsNoAddress, each_all, each_append, each_of, Each, runs_on, Account, rounds, SimStep, Busy, HasAnAccountEach, lists_of_all, LineState, ReaderSite, accounts, set_up, after_step, IsInSession, done, losses, IsNoOrder, none_reopen, rounds_within, AccountsAreOnce, SameOrders, orders_idle, unmapped, get_within, ComesOn, EachAnswerRecovers, EachRecovers, NoneMoves, all_ready, clear}
 use Rattle.std.proofs.lemmas.Option.{slice_get-map}
 use Rattle.std.specs.Prelude.{◌/◌, ◌-◌, ◌+◌, min, option_map, slice_get}
 use Rattle.osdp_sim_bus.specs.Runs as simulation
@@ -41,11 +41,11 @@ module _ {H : Type 0} (answer_of : H → Command → Answer) (after : H → Comm
       at_place : (k : ℕ) (a : Account) → slice_get (accounts s) k ≡ Some a → Moves a
       at_place k a at =
           let u = unmapped (λ (site : ReaderSite H). site.account) k a s.sites at in
-          let v = idle_run answer_of after (SameIssued answer_of after) (issued_idle answer_of after) k steps s idles u.0 u.1 in
+          let v = idle_run answer_of after (SameOrders answer_of after) (orders_idle answer_of after) k steps s idles u.0 u.1 in
           let there : slice_get (accounts later) k ≡ Some v.0.account =
           slice_get-map (λ (site : ReaderSite H). site.account) later.sites k ∙ ap (option_map (λ (site : ReaderSite H). site.account)) v.1 in
           let moves = get_each Moves k v.0.account (accounts later) (each_of Moves (accounts later) none) there in
-          subst Moves u.2 (subst (All SetsNoAddress) v.2 moves)
+          subst Moves u.2 (subst (All SetsNoAddress) v.2.0 moves)
 
   -- ---- the answer
 

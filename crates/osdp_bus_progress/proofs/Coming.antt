@@ -1,30 +1,22 @@
 -- Something comes through for each of several readers.
-use Rattle.osdp_bus_progress.proofs.Common.{◌≡◌, ◌≤◌, ◌<◌, ◌+◌, ◌++◌, ℕ, zero, suc, false, All, List, [], ◌∷◌, length, map, Some, inl, inr, refl, sym, subst, ap, ◌∙◌, arith, append_assoc, length-map, Packet, spelling, Command, new_machine, IsInRange, longest_wait, Begin, Answer, controller_config, BusConfig, MovesFit, Link, SetsNoAddress, each_all, each_append, each_of, set_no_other, Each, IsSetUp, NetMovesFit, Net, NetMove, run, site_at, IsEmpty, own, view, apart_all, apart_first, some_same, device_of, packets_on, Account, round, rounds, SimStep, Given, LineState, ReaderSite, accounts, set_up, StepFits, after_step, fault_of, IsInSession, none_reopen, rounds_within, holds_on, runs_on, well_on, AreItsMoves, FollowsSites, moves_of, IsRun, first_net, first_site, follows_first, has_site, is_set_up, nothing_is_kept, SameIssued, issued_idle, unmapped, get_within, get_site, same_count, ComesOn, EachComesThrough, IsClear, IsReady, EachRoundRests, IsAtRest, SeveralLinks, at_length, fits_then, net_more, keeps_own}
+use Rattle.osdp_bus_progress.proofs.Common.{◌≡◌, ◌≤◌, ◌<◌, ◌+◌, ◌++◌, ℕ, zero, suc, false, All, List, [], ◌∷◌, length, map, Some, inl, inr, refl, sym, subst, ap, ◌∙◌, arith, append_assoc, length-map, Packet, spelling, Command, new_machine, IsInRange, longest_wait, Begin, Answer, controller_config, BusConfig, MovesFit, Link, SetsNoAddress, each_all, each_append, each_of, set_no_other, Each, IsSetUp, NetMovesFit, Net, NetMove, run, site_at, IsEmpty, own, view, apart_all, apart_first, some_same, device_of, packets_on, Account, round, rounds, SimStep, Given, LineState, ReaderSite, accounts, set_up, after_step, IsInSession, none_reopen, rounds_within, runs_on, AreItsMoves, FollowsSites, moves_of, IsRun, first_net, first_site, follows_first, has_site, is_set_up, nothing_is_kept, SameOrders, orders_idle, unmapped, get_within, get_site, same_count, ComesOn, EachComesThrough, IsClear, IsReady, EachRoundRests, IsAtRest, SeveralLinks, at_length, fits_then, net_more, keeps_own}
 use Rattle.std.proofs.Math.Nat.{div-mul-le_self, suc-mul}
-use Rattle.std.proofs.lemmas.Option.{slice_get-map}
-use Rattle.std.specs.Prelude.{◌/◌, ◌*◌, ◌-◌, option_map, slice_get}
+use Rattle.std.specs.Prelude.{◌/◌, ◌*◌, ◌-◌, slice_get}
 use Rattle.osdp_controller.specs.States.{is_closed}
-use Rattle.osdp_link_laws.specs.Ahead.{ahead, left}
+use Rattle.osdp_link_laws.specs.Ahead.{ahead, count_ahead}
 use Rattle.osdp_link_laws.specs.Link as link
 use Rattle.osdp_link_laws.specs.Link.{Move}
 use Rattle.osdp_link_laws.specs.Progress as progress
 use Rattle.osdp_link_laws.specs.Reports.{reports, told_in}
 use Rattle.osdp_link_laws.specs.Sessions.{all_submitted}
 use Rattle.osdp_shared_line.specs.Line as line
-use Rattle.osdp_shared_line.specs.Runs.{IsItsLink}
-use Rattle.osdp_shared_line.specs.Runs as runs
 use Rattle.osdp_shared_line.proofs.Linking.{viewed}
-use Rattle.osdp_bus_links.specs.Premises.{IsScheduled}
-use Rattle.osdp_bus_links.proofs.Keeping.{moves_usual}
-use Rattle.osdp_bus_links.proofs.Names.{are_steady}
 use Rattle.osdp_sim_bus.specs.Runs as simulation
-use Rattle.osdp_sim_bus.specs.State.{new_site}
-use Rattle.osdp_sim_laws.specs.Moves.{TellsOfMoves}
-use Rattle.osdp_sim_laws.proofs.Ledger.{IsRunOf, ahead_among}
+use Rattle.osdp_sim_laws.proofs.Ledger.{ahead_among}
 use Rattle.osdp_sim_laws.proofs.Left.{Brings, brings, open_is}
 use Rattle.osdp_sim_bus_laws.proofs.Begun.{sessions_counted}
-use Rattle.osdp_sim_bus_laws.proofs.Idling.{NoneQueued, events_idle}
 use Rattle.osdp_sim_bus_laws.proofs.Scheduling.{moves_more}
+use Rattle.osdp_sim_bus_laws.proofs.Rows.{ItsLink, its_first, its_link, own_moves, run_first, tells_at}
 use Rattle.osdp_bus_progress.proofs.Along.{first_at, run_at_all}
 use Rattle.osdp_bus_progress.proofs.Bursts.{at_each}
 use Rattle.osdp_bus_progress.proofs.Ends.{HasBegun, NoEnd, idle_run, lasts_there, none_before_rounds, rounds_idle}
@@ -91,19 +83,11 @@ module _ {H : Type 0} (answer_of : H → Command → Answer) (after : H → Comm
       pub fewer : (r : ℕ) → r ≤ m → IsRun answer_of after config readers (steps ++ rounds r wait)
       fewer r few =
           let all = subst (λ l. IsRun answer_of after config readers (steps ++ l)) (split_rounds r m wait few) is in
-          let before = subst (IsRun answer_of after config readers) (sym (append_assoc steps (rounds r wait) (rounds (m - r) wait))) all in
-          record {
-            settings = before.settings;
-            well = (well_on (after_step answer_of after) fault_of (steps ++ rounds r wait) (rounds (m - r) wait) start before.well).0;
-            fits = (holds_on (after_step answer_of after) (StepFits answer_of after) (steps ++ rounds r wait) (rounds (m - r) wait) start before.fits).0;
-          }
+          run_first answer_of after config readers (steps ++ rounds r wait) (rounds (m - r) wait)
+          (subst (IsRun answer_of after config readers) (sym (append_assoc steps (rounds r wait) (rounds (m - r) wait))) all)
 
       so_far : IsRun answer_of after config readers steps
-      so_far = record {
-        settings = is.settings;
-        well = (well_on (after_step answer_of after) fault_of steps (rounds m wait) start is.well).0;
-        fits = (holds_on (after_step answer_of after) (StepFits answer_of after) steps (rounds m wait) start is.fits).0;
-      }
+      so_far = run_first answer_of after config readers steps (rounds m wait) is
 
       -- steps are moves of all sites
       done_by : (list : List SimStep) → IsRun answer_of after config readers list → AreItsMoves answer_of after list start first
@@ -140,54 +124,24 @@ module _ {H : Type 0} (answer_of : H → Command → Answer) (after : H → Comm
 
       -- each reader has its site from the beginning on
       pub counted : length s.sites ≡ length readers
-      counted = sym (mapped_count (λ (site : ReaderSite H). site.account) s.sites) ∙ counts config readers steps
-        where
-          mapped_count : {A B : Type 0} (f : A → B) (xs : List A) → length (map f xs) ≡ length xs
-          mapped_count f [] = refl
-          mapped_count f (x ∷ xs) = ap suc (mapped_count f xs)
+      counted = sym (length-map s.sites (λ (site : ReaderSite H). site.account)) ∙ counts config readers steps
 
       pub sites_count : length n.sites ≡ length readers
       sites_count = sym (same_count s.sites n.sites follows.sites) ∙ counted
 
       -- the moves of a reader's link in these steps, from the link on which its first session begins
       abbrev pub moves_in : List SimStep → ℕ → List (Move H)
-      moves_in list k = runs.moves_of answer_of after k (moves_of answer_of after list start) first
+      moves_in list k = own_moves answer_of after config readers list k
 
       abbrev pub link_of : ℕ → Given H → Link H
-      link_of k given = view k (first_site config given) first
-
-      pub record ItsLink (list : List SimStep) (k : ℕ) (given : Given H) : Type 0 where
-        pub its : IsItsLink answer_of after k (first_site config given) (moves_of answer_of after list start) first
-        pub run_of : IsRunOf answer_of after (moves_in list k) (link_of k given)
-        pub tells : (u : ReaderSite H) → slice_get (simulation.run answer_of after list start).sites k ≡ Some u
-            → TellsOfMoves answer_of after u.account (moves_in list k) (link_of k given)
-
-      its_link : (list : List SimStep) → IsRun answer_of after config readers list → (k : ℕ) (given : Given H) → slice_get readers k ≡ Some given → ItsLink list k given
-      its_link list run k given at =
-          let done = done_by list run in
-          let ms = moves_of answer_of after list start in
-          let begins = has_site config k given readers at in
-          let its = links first ms up done.fits k (first_site config given) begins in
-          let told = done.tells k (new_site given) (first_site config given) (slice_get-map new_site readers k ∙ ap (option_map new_site) at) refl begins in
-          record {
-            its = its;
-            run_of = record {
-              begins = up.begins k (first_site config given) begins;
-              commands = refl;
-              events = refl;
-              fits = its.fits;
-              steady = are_steady (moves_in list k) (moves_usual answer_of after ms k first (each_of IsScheduled ms done.scheduled));
-            };
-            tells = λ u there.
-                subst (λ (v : ReaderSite H). TellsOfMoves answer_of after v.account (moves_in list k) (link_of k given)) (some_same told.0 u (sym told.1 ∙ there)) told.2;
-          }
+      link_of k given = its_first config readers k given
 
       -- its link so far
       pub record HasLink (k : ℕ) (t : line.Site H) : Type 0 where
         pub given : Given H
         pub there : slice_get readers k ≡ Some given
         pub begins : site_at k first.sites ≡ Some (first_site config given)
-        pub link_is : ItsLink steps k given
+        pub link_is : ItsLink answer_of after config readers steps k given
         pub moved : view k t n ≡ link.run answer_of after (moves_in steps k) (link_of k given)
 
       pub link_at : (k : ℕ) (t : line.Site H) → site_at k n.sites ≡ Some t → HasLink k t
@@ -195,7 +149,7 @@ module _ {H : Type 0} (answer_of : H → Command → Answer) (after : H → Comm
           let few = at_length k t n.sites at in
           let same = sites_count in
           let given = there_is k readers (omega (arith, few, same)) in
-          let its = its_link steps so_far k given.0 given.1 in
+          let its = its_link answer_of after schedules links config readers steps so_far k given.0 given.1 in
           record {
             given = given.0;
             there = given.1;
@@ -228,11 +182,11 @@ module _ {H : Type 0} (answer_of : H → Command → Answer) (after : H → Comm
           → view k last last_net ≡ link.run answer_of after (progress.rounds moments) (view k t n) → MovesFit answer_of after (progress.rounds moments) (view k t n)
           → (u v : ReaderSite H) → slice_get s.sites k ≡ Some u → slice_get later.sites k ≡ Some v → v.account.ends ≡ []
           → let mid = link.run answer_of after (moves_in steps k) (link_of k (link_at k t at).given) in
-          Brings u.account v.account (told_in (reports answer_of after (progress.rounds moments) mid)) (left mid)
+          Brings u.account v.account (told_in (reports answer_of after (progress.rounds moments) mid)) (count_ahead mid)
       rounds_bring k t last at moments there seen fits u v was is_later none =
           let l = link_at k t at in
           let all = steps ++ rounds m wait in
-          let whole = its_link all is k l.given l.there in
+          let whole = its_link answer_of after schedules links config readers all is k l.given l.there in
           let last_net = run answer_of after (round_moves m) n in
           let mid = link.run answer_of after (moves_in steps k) (link_of k l.given) in
           let few = get_within k l.given readers l.there in
@@ -249,13 +203,11 @@ module _ {H : Type 0} (answer_of : H → Command → Answer) (after : H → Comm
           let no_end : NoEnd k later = λ w here. subst (λ (x : ReaderSite H). x.account.ends ≡ []) (some_same v w (sym is_later ∙ here)) none in
           let lasts = subst (λ (x : Link H). is_closed x.controller.session.state ≡ false) through
           (open_is last.controller.session.state (lasts_there k later last_net (goes m (omega arith)) begun no_end last there)) in
-          let issued = idle_run answer_of after (SameIssued answer_of after) (issued_idle answer_of after) k (rounds m wait) s (rounds_idle answer_of after m wait) u was in
-          let events = idle_run answer_of after (NoneQueued answer_of after) (events_idle answer_of after) k (rounds m wait) s (rounds_idle answer_of after m wait) u was in
-          let same_issued = subst (λ (w : ReaderSite H). w.account.issued ≡ u.account.issued) (some_same issued.0 v (sym issued.1 ∙ is_later)) issued.2 in
-          let same_queued = subst (λ (w : ReaderSite H). w.account.queued ≡ u.account.queued) (some_same events.0 v (sym events.1 ∙ is_later)) events.2.queued in
+          let orders = idle_run answer_of after (SameOrders answer_of after) (orders_idle answer_of after) k (rounds m wait) s (rounds_idle answer_of after m wait) u was in
+          let same = subst (SameOrders answer_of after u) (some_same orders.0 v (sym orders.1 ∙ is_later)) orders.2 in
           brings answer_of after ranges forgets (moves_in steps k) (moves_in all k) moments (link_of k l.given) u.account v.account l.link_is.run_of whole.run_of
-          (l.link_is.tells u was) (whole.tells v v_there) one both joined (subst (MovesFit answer_of after (progress.rounds moments)) l.moved fits) lasts
-          (ap length same_issued) (ap length same_queued)
+          (tells_at answer_of after config readers steps k l.given l.link_is u was) (tells_at answer_of after config readers all k l.given whole v v_there) one both joined (subst (MovesFit answer_of after (progress.rounds moments)) l.moved fits) lasts
+          (ap length same.0) (ap length same.1)
 
       module _ (long : longest_wait (controller_config 0 config) ≤ wait)
           (clear : IsClear (simulation.run answer_of after steps (set_up config readers))) where
@@ -276,7 +228,7 @@ module _ {H : Type 0} (answer_of : H → Command → Answer) (after : H → Comm
             let ms = moves_in steps k in
             let old = link_of k l.given in
             let its = l.link_is.run_of in
-            let tells = l.link_is.tells u.0 u.1 in
+            let tells = tells_at answer_of after config readers steps k l.given l.link_is u.0 u.1 in
             let issued = each_of SetsNoAddress u.0.account.issued ready.issued in
             let stay = stays old ms its.begins its.fits (each_all SetsNoAddress (all_submitted answer_of after ms old) (subst (Each SetsNoAddress) tells.issued issued))
             (set_no_other old.reader.config.address old.controller.session.config.address ms its.steady) in

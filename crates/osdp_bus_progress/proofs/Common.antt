@@ -45,7 +45,7 @@ pub use Rattle.osdp_sim_laws.proofs.Accepting.{IsNoOrder}
 pub use Rattle.osdp_sim_laws.proofs.Begun.{none_reopen}
 pub use Rattle.osdp_sim_laws.proofs.Coming.{rounds_within}
 pub use Rattle.osdp_sim_bus_laws.specs.Accounts.{AccountsAreOnce, IsRun}
-pub use Rattle.osdp_sim_bus_laws.proofs.Idling.{idle_sites, IsIdle, issued_idle, SameIssued}
+pub use Rattle.osdp_sim_bus_laws.proofs.Idling.{idle_sites, IsIdle, orders_idle, SameOrders}
 pub use Rattle.osdp_sim_bus_laws.proofs.Places.{stays_all, stays_then, StaysAt, unmapped, within as get_within}
 pub use Rattle.osdp_bus_progress.specs.Progress.{all_ready, clear, ComesOn, EachAnswerRecovers, EachComesOn, EachComesThrough, EachRecovers, HasItsShare, IsClear, IsReady, NoneMoves}
 pub use Rattle.osdp_frame.specs.Spelling.{spelling}
@@ -56,8 +56,9 @@ pub use Rattle.osdp_shared_line.proofs.Running.{apart_all, apart_first, by_own}
 pub use Rattle.osdp_shared_line.proofs.Sites.{some_same}
 pub use Rattle.osdp_bus_links.specs.Links.{device_of, due_by, one_ticks, packets_on, who_ticks}
 pub use Rattle.osdp_sim.specs.declared.step.Move.TheVariants.{Damage, Deliver, Drop, Repeat}
-pub use Rattle.osdp_sim_bus_laws.specs.Moves.{AreItsMoves, count, each_reads, FollowsSites, moment_of, moves_for, moves_of, SchedulesAreMoves, SitesOf}
-pub use Rattle.osdp_sim_bus_laws.proofs.Beginning.{first_net, first_site, follows_first, has_site, is_set_up, nothing_is_kept}
+pub use Rattle.osdp_link_laws.specs.Ends.{count}
+pub use Rattle.osdp_sim_bus_laws.specs.Moves.{AreItsMoves, each_reads, first_net, first_site, FollowsSites, moment_of, moves_for, moves_of, SchedulesAreMoves, SitesOf}
+pub use Rattle.osdp_sim_bus_laws.proofs.Beginning.{follows_first, has_site, is_set_up, nothing_is_kept}
 pub use Rattle.osdp_bus_progress.specs.SeveralLinks.{LinkLaws, SeveralLinks}
 pub use Rattle.osdp_bus_progress.specs.Resting.{after_rounds, AreRounds, ClearsTheLine, EachHasItsRound, EachIsIdle, EachRoundBringsOneMore, EachRoundRests, HasNotEnded, IsAtRest, IsItsRound}
 pub use Rattle.osdp_controller_laws.specs.Runs.{Begin}

@@ -76,10 +76,11 @@ module _ {H : Type 0} where
         → let last = run answer_of after ((steps ++ clear (length readers) steps) ++ rounds m wait) (set_up config readers) in
         EachComesOn m (length readers) (accounts before) (accounts last)
 
-    -- so it is of what `run_bus` answers: a reader whose session has not ended has its share of the rounds
+    -- a reader whose session has not ended has its share of the rounds
     abbrev pub HasItsShare : ℕ → ℕ → Given H → Account → Type 0
     HasItsShare count k given a = a.ends ≡ [] → HasComeThrough answer_of after count given.0 given.2 a
 
+    -- so it is of what `run_bus` answers, where no COMSET to a device's address was issued
     abbrev pub EachAnswerRecovers : Type 0
     EachAnswerRecovers = (config : BusConfig) (readers : List (Given H)) (steps : List SimStep) (m wait : ℕ) (told : Vec declared.Account)
         → IsAnswer answer_of after config readers ((steps ++ clear (length readers) steps) ++ rounds m wait) (Ok told)

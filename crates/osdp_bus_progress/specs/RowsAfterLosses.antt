@@ -42,10 +42,11 @@ FourRoundsBringThree = (account : declared.Account)
 
 -- ---- two readers
 
--- `check crc`, `reader 5 4`, `reader 6 4`
+-- the settings of `check crc`, `reader 5 4`, `reader 6 4`: those by default, and room for 64 commands
 abbrev pub bus : BusConfig
 bus = default_config Crc (room_for 64)
 
+-- the readers of the row, at 5 and 6, each with room for 4 events
 abbrev pub readers : List (Given ScriptReader)
 readers = (script_config 1 5, 4, new_handler) ∷ (script_config 2 6, 4, new_handler) ∷ []
 
@@ -53,13 +54,14 @@ readers = (script_config 1 5, 4, new_handler) ∷ (script_config 2 6, 4, new_han
 abbrev pub both_lost : List SimStep
 both_lost = Issue 1 out ∷ Issue 2 buz ∷ Queue 2 first_key ∷ Wait 400 ∷ ToReader Drop ∷ []
 
--- what the row prints of the first reader, and of the second
+-- what the row prints of the first reader
 pub record IsOfFirst (a : Account) : Type 0 where
   pub issued : a.issued ≡ out ∷ []
   pub settled : a.settled ≡ (out, Ack) ∷ []
   pub queued : a.queued ≡ []
   pub reported : a.reported ≡ []
 
+-- what the row prints of the second reader
 pub record IsOfSecond (a : Account) : Type 0 where
   pub issued : a.issued ≡ buz ∷ []
   pub settled : a.settled ≡ (buz, Ack) ∷ []

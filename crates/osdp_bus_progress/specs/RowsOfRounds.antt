@@ -21,20 +21,23 @@ use Rattle.osdp_sim_laws.specs.Accounts.{IsAnswer}
 abbrev pub config : SimConfig
 config = record { reader = script_config 1 5; events = 4; controller = default_config 5 Crc; commands = 64 }
 
--- OUT 0:2:0, BUZ 0 2 5 5 1
+-- OUT 0:2:0
 abbrev pub out : Command
 out = Output (record { output = 0; control = 2; timer = 0 } ∷ [])
 
+-- BUZ 0 2 5 5 1
 abbrev pub buz : Command
 buz = Buzzer (record { reader = 0; tone = 2; on_time = 5; off_time = 5; count = 1 })
 
--- KEYPAD 0 31, KEYPAD 0 32
+-- KEYPAD 0 31
 abbrev pub first_key : Event
 first_key = Keypad (record { reader = 0; digits = record { items = 0x31 ∷ [] } })
 
+-- KEYPAD 0 32
 abbrev pub second_key : Event
 second_key = Keypad (record { reader = 0; digits = record { items = 0x32 ∷ [] } })
 
+-- two commands and two events, in this order
 abbrev pub orders : List SimStep
 orders = Issue 1 out ∷ Issue 1 buz ∷ Queue 1 first_key ∷ Queue 1 second_key ∷ []
 
@@ -48,6 +51,7 @@ pub record IsTheRow (account : declared.Account) : Type 0 where
   pub reported : (lists_of account).reported ≡ first_key ∷ []
   pub ends : (lists_of account).ends ≡ []
 
+-- three rounds without losses after these orders: the account is the row
 abbrev pub ThreeRoundsSettleTwoAndReportOne : Type 0
 ThreeRoundsSettleTwoAndReportOne = (account : declared.Account)
     → IsAnswer handler_answer handler_after config new_handler (orders ++ clean 3) (Ok account) → IsTheRow account

@@ -18,6 +18,7 @@ both_issued = Issue 1 out ∷ Issue 2 buz ∷ []
 abbrev pub AreTheRounds : ℕ → Type 0
 AreTheRounds m = AreRounds handler_answer handler_after bus readers both_issued m 400
 
+-- the line after both commands and so many rounds of 400 ms
 abbrev pub line_after : ℕ → LineState ScriptReader
 line_after m = after_rounds handler_answer handler_after bus readers both_issued m 400
 

@@ -20,6 +20,7 @@ module _ {H : Type 0} (answer_of : H → Command → Answer) (after : H → Comm
     pub forgets : ForgetsNone answer_of after
     pub stays : StayWhereTheyAre answer_of after
 
+  -- of several links, with the premises on what one link does
   pub record SeveralLinks : Type 0 where
     pub reads : ReadsPackets
     pub schedules : SchedulesAreMoves answer_of after

@@ -10,7 +10,6 @@ use Rattle.osdp_shared_line.specs.Programs as programs
 use Rattle.osdp_calls.proofs.Agreeing.{AllAgree, at_entry}
 use Rattle.osdp_calls.proofs.Along.{Path, next_fits}
 use Rattle.osdp_calls.proofs.Controllers.{closed_of, config_same, waiting_same}
-use Rattle.osdp_calls.proofs.Matching.{FoundAt, Nobody, Somebody, found}
 use Rattle.osdp_calls.proofs.Nexts.{each_at}
 use Rattle.osdp_calls.proofs.Noticing.{Agrees}
 use Rattle.osdp_calls.proofs.Orders.{asked_same, beside_free, no_device_none, not_begun, or_parts, or_taken_none, refused_free, refusal_same, unrefused}
@@ -111,23 +110,16 @@ module _ {H : Type 0} where
     pub submit_premise : (k : ℕ) (command : Command) → CommandFits command → PanelKeepsRule (panel.Submit k command) l.bus notes
         → (u : Station H) → site_at k l.stations ≡ Some u → bus.submit_refusal_at k command l.bus ≡ None → (asked : Communication) → comset_of command ≡ Some asked → IsNoOthers k asked.address l
     submit_premise k command range rule u there none asked asks =
-        by_found (found (Sites l) k l.bus.devices.entries l.stations n.sites h.sites)
-      where
-        by_found : FoundAt (Sites l) k k l.bus.devices.entries l.stations n.sites → IsNoOthers k asked.address l
-        by_found (Nobody o a b c) = absurd (let e = sym b ∙ there in cc)
-        by_found (Somebody d t s a b c has) =
-            let fits = next_fits answer_of after suffices n0 up n noted path (Submit k command) range (submit_rule k command l n notes noted h agree rule none) in
-            no_others k asked.address l n h (fits.1 s asked c (command_accepted answer_of after k command d t s l n h a has none) asks)
+        let it = of_station k u l n h there in
+        let fits = next_fits answer_of after suffices n0 up n noted path (Submit k command) range (submit_rule k command l n notes noted h agree rule none) in
+        no_others k asked.address l n h (fits.1 it.site asked it.at (command_accepted answer_of after k command it.device u it.site l n h it.entry it.is none) asks)
 
     pub retarget_premise : (k address : ℕ) → PanelKeepsRule (panel.Retarget k address) l.bus notes
         → (u : Station H) → site_at k l.stations ≡ Some u → bus.retarget_refusal_at k address l.bus ≡ None → IsNoOthers k address l
-    retarget_premise k address rule u there none = by_found (found (Sites l) k l.bus.devices.entries l.stations n.sites h.sites)
-      where
-        by_found : FoundAt (Sites l) k k l.bus.devices.entries l.stations n.sites → IsNoOthers k address l
-        by_found (Nobody o a b c) = absurd (let e = sym b ∙ there in cc)
-        by_found (Somebody d t s a b c has) =
-            let fits = next_fits answer_of after suffices n0 up n noted path (Retarget k address) tt (retarget_rule k address l n notes noted h agree rule none) in
-            no_others k address l n h (fits s c (retarget_accepted answer_of after k address d t s l n h a has none))
+    retarget_premise k address rule u there none =
+        let it = of_station k u l n h there in
+        let fits = next_fits answer_of after suffices n0 up n noted path (Retarget k address) tt (retarget_rule k address l n notes noted h agree rule none) in
+        no_others k address l n h (fits it.site it.at (retarget_accepted answer_of after k address it.device u it.site l n h it.entry it.is none))
 
     panel_fits : (config : BusConfig) (xs : List ℕ) → IsBusConfig config × All (λ a. a < 127) xs × (length l.stations ≤ length xs)
         → KeepsRule (NewPanel config xs) l notes → NetMoveFits answer_of after (RestartPanel (settings_of config xs)) n

@@ -29,7 +29,7 @@ pub use Rattle.osdp_shared_line.proofs.Sites.{at_changed, at_other, some_same}
 pub use Rattle.osdp_calls.specs.Lines.{ahead_of_device, ahead_of_panel, Burst, bus_with, concerns, InUse, is_ahead_of_device, is_ahead_of_panel, is_before, is_past_for_device, is_past_for_panel, Opening, Station, those}
 pub use Rattle.osdp_calls.specs.Premises.{Addresses, AreInOrder, InOrder, InRange, IsAsked, IsFreeFor, IsNoOthers, IsOfOthers, IsSaid, IsThere, Keeps, MayBeAt, NextInOrder, NextInRange, PanelAddresses, PanelIsApart, QuietOpening}
 pub use Rattle.osdp_calls.specs.Programs.{AllKeepRule, CallsRuleSuffices, first_note, first_notes, IsKnown, KeepsRule, noted_of, noted_report, noted_reports, notes_after, PanelKeepsRule}
-pub use Rattle.osdp_calls.specs.Calls.{after_call, after_calls, after_next, after_panel, all_forget, asked_at, asked_by_holder, begins_session, begins_with, begun_of, by_device, Call, change_at, changes_at, first_answered, forgets, is_to_begin, last_of, made_anew, NewDevice, NewPanel, Next, nexts, noted, OfPanel, on_station, panel_made_anew, panel_says, Pending, queues, read_at_end, read_at_silence, read_at_tick, read_by, read_by_holder, read_of_bytes, read_up_to, reply_to, said_at, said_for, SetBusy, SetHandler, Silence, Step, SubmitEvent, Take, TickDevice, LapseEvent, WithdrawEvent, withdrawn, lapses_event, withdraws_event}
+pub use Rattle.osdp_calls.specs.Calls.{after_call, after_calls, after_next, after_panel, all_forget, asked_at, asked_by_holder, begins_session, begins_with, begun_of, by_device, Call, change_at, changes_at, first_answered, forgets, is_to_begin, last_of, NewDevice, NewPanel, Next, nexts, noted, OfPanel, on_station, panel_made_anew, panel_says, Pending, read_at_end, read_at_silence, read_at_tick, read_by, read_by_holder, read_of_bytes, read_up_to, reply_to, said_at, said_for, SetBusy, SetHandler, Silence, Step, SubmitEvent, Take, TickDevice, LapseEvent, WithdrawEvent, withdrawn, device_after, Held, held_by, takes_event, device_called, does, on_called}
 pub use Rattle.osdp_shared_line.proofs.Rounds.{at_length, fits_both, fits_first, fits_then, net_more}
 pub use Rattle.osdp_controller.specs.States.{is_closed}
 pub use Rattle.osdp_controller.specs.declared.report.Report.{Report}
@@ -56,7 +56,7 @@ pub use Rattle.osdp_frame.specs.Receiving.{after_silence, after_take, after_tick
 pub use Rattle.osdp_device.specs.Telling.{items_of, next_told, Told, told_by, told_or}
 pub use Rattle.osdp_reader.specs.Queue.{event_for, lacks_room, offering, released, unoffered}
 pub use Rattle.osdp_device.specs.Deciding.{passed, pending_of, settles, turned_by}
-pub use Rattle.osdp_calls.specs.Ends.{BusIsReached, CanStand, device_after, device_after_all, GoByTheirOwn, Held, held_by, is_of_device, IsThatOfABus, KeepsPanel, one_panel_call, OneExchange, panel_calls, takes_event}
+pub use Rattle.osdp_calls.specs.Ends.{BusIsReached, CanStand, device_after_all, GoByTheirOwn, is_called, is_of_device, IsThatOfABus, KeepsPanel, one_panel_call, OneExchange, panel_calls}
 pub use Rattle.osdp_calls.specs.Turning.{asks, IsTurned, panel_turn_calls, PanelTurnsByCalls, settle_calls, settles_by, TurnsByCalls}
 pub use Rattle.osdp_frame.specs.Items.{items, left_over, whole_packets}
 pub use Rattle.osdp_bus_laws.specs.Turns.{judged}

@@ -1,77 +1,37 @@
 -- Each call of a device is a list of moves of its site.
-use Rattle.osdp_calls.proofs.Common.{◌≡◌, ◌≤◌, ℕ, Bool, true, false, List, [], ◌∷◌, ◌++◌, length, All, Option, Some, None, IfSome, refl, sym, subst, ap, ◌∙◌, ReplyFits, Command, Event, Entry, Received, items_of, next_told, Repeated, each_append, each_map, each_of, Each, Answer, lacks_room, Net, NetMove, Queue, Site, ToReader, changed, left_by, link_of, site_at, at_changed, some_same, SubmitEvent, after_next, by_device, changes_at, first_answered, last_of, on_station, queues, read_up_to, reply_to, lapses_event, withdraws_event, Burst, InUse, Station, is_past_for_device, NextInOrder, NextInRange}
+use Rattle.osdp_calls.proofs.Common.{◌≡◌, ◌≤◌, ℕ, Bool, true, false, List, [], ◌∷◌, ◌++◌, length, All, Option, Some, None, IfSome, refl, sym, subst, ap, ◌∙◌, ReplyFits, Command, Event, Entry, Received, items_of, next_told, Repeated, each_append, each_map, each_of, Each, Answer, Net, NetMove, Site, ToReader, changed, left_by, link_of, site_at, at_changed, after_next, by_device, changes_at, first_answered, last_of, on_station, read_up_to, reply_to, Burst, InUse, Station, is_past_for_device, NextInOrder, NextInRange, on_called, held_by, takes_event}
 use Rattle.osdp_link_laws.specs.Link as link
-use Rattle.osdp_reader.specs.State.{ReaderState, after_lapse_event, after_set_handler, after_submit, after_withdraw_event}
+use Rattle.osdp_reader.specs.State.{after_submit}
 use Rattle.osdp_reader.specs.Table.{hears}
-use Rattle.osdp_shared_line.specs.Line as line
-use Rattle.osdp_calls.specs.Calls as calls
 use Rattle.osdp_calls.proofs.Losing.{IsLoss, IsStill, changed_twice, loss_still}
-use Rattle.osdp_calls.proofs.Matching.{FoundAt, Nobody, Somebody, found}
 use Rattle.osdp_calls.proofs.Nexts.{IsAnswered, IsNext, IsPassed, read_to, reads_all}
 use Rattle.osdp_calls.proofs.Replying.{told_first, reader_with}
 use Rattle.osdp_calls.proofs.Same.{IsNetOf, read_so}
-use Rattle.osdp_calls.proofs.Stations.{Makes, Sites, both_change, make_none, makes_is, station_changes}
+use Rattle.osdp_calls.proofs.Stations.{Makes, make_none, makes_is, of_station, station_changes, Sites}
 use Rattle.osdp_calls.proofs.Strangers.{order_for_device}
-use Rattle.osdp_calls.proofs.Steps.{StepsTo, by_own}
 
 module _ {H : Type 0} (answer_of : H → Command → Answer) (after : H → Command → H) where
-  -- ---- events, and another handler
-
-  queued_so : (full : Bool) (event : Event) (l : InUse H) (k : ℕ) (d : Entry) (t : Station H) (s : Site H) → Sites l k d t s
-      → Sites l k d (queues full event t) (left_by s (link.queues full event (link_of s [] [])))
+  -- an event is queued in both, unless the queue is full
+  pub queued_so : (full : Bool) (event : Event) (l : InUse H) (k : ℕ) (d : Entry) (t : Station H) (s : Site H) → Sites l k d t s
+      → Sites l k d (record t { reader = (takes_event full event (held_by t)).reader; line = (takes_event full event (held_by t)).line })
+      (left_by s (link.queues full event (link_of s [] [])))
   queued_so true event l k d t s is = is
   queued_so false event l k d t s is =
       read_so is (ap (after_submit event) is.reader) is.stored
-
-  pub queueing : (k : ℕ) (event : Event) (l : InUse H) (n : Net H) → IsNetOf l n
-      → StepsTo answer_of after (SubmitEvent k event) l n (on_station k (λ t. queues (lacks_room event t.reader.queue) event t) l)
-  queueing k event l n h =
-      by_own answer_of after (SubmitEvent k event) (Queue k event) l n (on_station k (λ t. queues (lacks_room event t.reader.queue) event t) l) refl refl tt
-      (both_change k (λ t. queues (lacks_room event t.reader.queue) event t) (line.calls answer_of after (link.Queue event)) l n h
-      (λ d t s is. subst (λ b. Sites l k d (queues b event t) (line.calls answer_of after (link.Queue event) s))
-      (ap (λ (r : ReaderState H). lacks_room event r.queue) is.reader)
-      (queued_so (lacks_room event s.reader.queue) event l k d t s is)))
-
-  pub handling : (k : ℕ) (handler : H) (l : InUse H) (n : Net H) → IsNetOf l n
-      → StepsTo answer_of after (calls.SetHandler k handler) l n (on_station k (λ t. record t { reader = after_set_handler handler t.reader }) l)
-  handling k handler l n h =
-      by_own answer_of after (calls.SetHandler k handler) (line.SetHandler k handler) l n
-      (on_station k (λ t. record t { reader = after_set_handler handler t.reader }) l) refl refl tt
-      (both_change k (λ t. record t { reader = after_set_handler handler t.reader }) (line.calls answer_of after (link.SetHandler handler)) l n h
-      (λ d t s is. read_so is (ap (after_set_handler handler) is.reader) is.stored))
-
-  -- the oldest event that was never offered is taken back
-  pub withdrawing_event : (k : ℕ) (l : InUse H) (n : Net H) → IsNetOf l n
-      → StepsTo answer_of after (calls.WithdrawEvent k) l n (on_station k withdraws_event l)
-  withdrawing_event k l n h =
-      by_own answer_of after (calls.WithdrawEvent k) (line.WithdrawEvent k) l n (on_station k withdraws_event l) refl refl tt
-      (both_change k withdraws_event (line.calls answer_of after link.WithdrawEvent) l n h
-      (λ d t s is. read_so is (ap after_withdraw_event is.reader) is.stored))
-
-  -- the front lapses, where it was ever offered
-  pub lapsing_event : (k : ℕ) (l : InUse H) (n : Net H) → IsNetOf l n
-      → StepsTo answer_of after (calls.LapseEvent k) l n (on_station k lapses_event l)
-  lapsing_event k l n h =
-      by_own answer_of after (calls.LapseEvent k) (line.LapseEvent k) l n (on_station k lapses_event l) refl refl tt
-      (both_change k lapses_event (line.calls answer_of after link.LapseEvent) l n h
-      (λ d t s is. read_so is (ap after_lapse_event is.reader) is.stored))
 
   -- what has come on a line is nothing to the net
   line_is : (k : ℕ) (change : Station H → Received) (l : InUse H) (n : Net H) → IsNetOf l n → IsNetOf (on_station k (λ t. record t { line = change t }) l) n
   line_is k change l n h =
       station_changes k (λ t. record t { line = change t }) l n h (λ d t s is. read_so is is.reader is.stored)
 
-  pub lines_change : (k : ℕ) (change : Station H → Received) (l : InUse H) (n : Net H) → IsNetOf l n
-      → Makes answer_of after (λ moves. moves ≡ []) n (on_station k (λ t. record t { line = change t }) l)
-  lines_change k change l n h =
+  pub lines_change : (o : Option ℕ) (change : Station H → Received) (l : InUse H) (n : Net H) → IsNetOf l n
+      → Makes answer_of after (λ moves. moves ≡ []) n (on_called o (λ t. record t { line = change t }) l)
+  lines_change None change l n h = make_none answer_of after (λ moves. moves ≡ []) l n refl h
+  lines_change (Some k) change l n h =
       make_none answer_of after (λ moves. moves ≡ []) (on_station k (λ t. record t { line = change t }) l) n refl (line_is k change l n h)
 
   pub place_of : (k : ℕ) (t : Station H) (l : InUse H) (n : Net H) → IsNetOf l n → site_at k l.stations ≡ Some t → t.place ≤ length l.said
-  place_of k t l n h is = by_found (found (Sites l) k l.bus.devices.entries l.stations n.sites h.sites)
-    where
-      by_found : FoundAt (Sites l) k k l.bus.devices.entries l.stations n.sites → t.place ≤ length l.said
-      by_found (Nobody o a none c) = absurd (let e = sym none ∙ is in cc)
-      by_found (Somebody d t1 s a there c here) = subst (λ (u : Station H). u.place ≤ length l.said) (some_same t1 t (sym there ∙ is)) here.place
+  place_of k t l n h is = (of_station k t l n h is).is.place
 
   -- what a `next` of this station comes to
   abbrev pub IsNextOf : ℕ → Option (Station H) → Net H → List (NetMove H) → Type 0

@@ -1,5 +1,5 @@
 -- A call of one end leaves the others as they are.
-use Rattle.osdp_calls.proofs.Common.{◌≡◌, ℕ, zero, suc, Bool, true, false, cond, List, [], ◌∷◌, ◌++◌, map, Option, Some, None, refl, sym, subst, ap, ◌∙◌, ◌==◌, Command, Event, Packet, BusState, new_bus, bus_ticks, Entry, each_of, Each, passed, after_silence, after_take, after_tick, after_set_busy, after_set_handler, Answer, lacks_room, site_at, some_same, Call, NewDevice, NewPanel, Next, OfPanel, Pending, SetBusy, SetHandler, Silence, Step, SubmitEvent, Take, TickDevice, after_call, after_calls, after_next, all_forget, asked_at, begins_with, begun_of, change_at, changes_at, forgets, last_of, made_anew, nexts, noted, panel_says, queues, said_at, LapseEvent, WithdrawEvent, lapses_event, withdraws_event, BusIsReached, CanStand, GoByTheirOwn, IsThatOfABus, OneExchange, Held, KeepsPanel, device_after, device_after_all, held_by, is_of_device, one_panel_call, panel_calls, takes_event, InUse, Station, PanelTurnsByCalls, panel_turn_calls}
+use Rattle.osdp_calls.proofs.Common.{◌≡◌, ℕ, zero, suc, cond, List, [], ◌∷◌, ◌++◌, map, Option, Some, None, refl, sym, subst, ap, ◌∙◌, ◌==◌, Command, Packet, BusState, new_bus, bus_ticks, Entry, each_of, Each, Answer, site_at, some_same, Call, NewPanel, Next, OfPanel, Step, after_call, after_calls, after_next, all_forget, asked_at, begins_with, begun_of, change_at, changes_at, forgets, last_of, nexts, noted, panel_says, said_at, BusIsReached, CanStand, GoByTheirOwn, IsThatOfABus, OneExchange, Held, KeepsPanel, device_after, device_after_all, held_by, is_of_device, one_panel_call, panel_calls, InUse, Station, PanelTurnsByCalls, panel_turn_calls, device_called, does, on_called, is_called}
 use Rattle.osdp_bus_laws.specs.Calls as bus
 use Rattle.osdp_bus_laws.specs.Exchanges.{HasOneExchange}
 use Rattle.osdp_calls.proofs.Places.{Stays, panel_so, station_so}
@@ -32,10 +32,6 @@ module _ {H : Type 0} where
   device_keeps k i change f d ts keeps is =
       station_so (λ b t. held_by t ≡ cond b (f d) d) k i change ts (λ t at same. keeps t ∙ ap f same) is
 
-  pub queue_held : (full : Bool) (event : Event) (t : Station H) → held_by (queues full event t) ≡ takes_event full event (held_by t)
-  queue_held true event t = refl
-  queue_held false event t = refl
-
   -- what is said is nothing to the bus
   begins_bus : (entry : ℕ) (p : Packet) (o : Option ℕ) (l : InUse H) → (begins_with entry p o l).bus ≡ l.bus
   begins_bus entry p None l = refl
@@ -52,39 +48,24 @@ module _ {H : Type 0} where
 
   module _ (answer_of : H → Command → Answer) (after : H → Command → H) where
     pub next_stations : (i : ℕ) (places : List ℕ) (o : Option (Station H)) (l : InUse H)
-        → changes_at i (nexts answer_of after places) o l.stations ≡ (after_next answer_of after i places o l).stations
+        → changes_at i (nexts answer_of after i places) o l.stations ≡ (after_next answer_of after i places o l).stations
     next_stations i places None l = refl
     next_stations i places (Some t) l = refl
+
+    called_keeps : (k : ℕ) (o : Option ℕ) (call : Call H) (d : Held H) (l : InUse H) → IsHeld k d l.stations
+        → IsHeld k (cond (is_called k o) (device_after answer_of after call d) d) (on_called o (does answer_of after call) l).stations
+    called_keeps k None call d l is = is
+    called_keeps k (Some i) call d l is =
+        device_keeps k i (does answer_of after call) (device_after answer_of after call) d l.stations (λ t. refl) is
 
     step_keeps : (k : ℕ) (call : Call H) (places : List ℕ) (d : Held H) (l : InUse H) → IsHeld k d l.stations
         → IsHeld k (cond (is_of_device k call) (device_after answer_of after call d) d) (after_call answer_of after call places l).stations
     step_keeps k (OfPanel call) places d l is = panel_so {H = H} (λ t. held_by t ≡ d) (stays_held d) k call places l is
-    step_keeps k (SubmitEvent i event) places d l is =
-        device_keeps k i (λ t. queues (lacks_room event t.reader.queue) event t) (device_after answer_of after (SubmitEvent i event)) d
-        l.stations (λ t. queue_held (lacks_room event t.reader.queue) event t) is
-    step_keeps k (SetBusy i busy) places d l is =
-        device_keeps k i (λ t. record t { reader = after_set_busy busy t.reader }) (device_after answer_of after (SetBusy i busy)) d l.stations (λ t. refl) is
-    step_keeps k (SetHandler i handler) places d l is =
-        device_keeps k i (λ t. record t { reader = after_set_handler handler t.reader }) (device_after answer_of after (SetHandler i handler)) d l.stations (λ t. refl) is
-    step_keeps k (WithdrawEvent i) places d l is =
-        device_keeps k i withdraws_event (device_after answer_of after (WithdrawEvent i)) d l.stations (λ t. refl) is
-    step_keeps k (LapseEvent i) places d l is =
-        device_keeps k i lapses_event (device_after answer_of after (LapseEvent i)) d l.stations (λ t. refl) is
-    step_keeps k (Take i bytes now) places d l is =
-        device_keeps k i (λ t. record t { line = after_take bytes now t.line }) (device_after answer_of after (Take i bytes now)) d l.stations (λ t. refl) is
-    step_keeps k (TickDevice i now) places d l is =
-        device_keeps k i (λ t. record t { line = after_tick now t.line }) (device_after answer_of after (TickDevice i now)) d l.stations (λ t. refl) is
-    step_keeps k (Silence i now) places d l is =
-        device_keeps k i (λ t. record t { line = after_silence now t.line }) (device_after answer_of after (Silence i now)) d l.stations (λ t. refl) is
+    step_keeps k (NewPanel config addresses) places d l is = forget_keeps k d l.bus.devices.entries l.stations is
     step_keeps k (Next i) places d l is =
         subst (IsHeld k (cond (i == k) (device_after answer_of after (Next i) d) d)) (next_stations i places (site_at i l.stations) l)
-        (device_keeps k i (nexts answer_of after places) (device_after answer_of after (Next i)) d l.stations (λ t. refl) is)
-    step_keeps k (Pending i) places d l is =
-        device_keeps k i (λ t. record t { line = record t.line { held = passed t.reader t.line.held } }) (device_after answer_of after (Pending i)) d l.stations
-        (λ t. refl) is
-    step_keeps k (NewDevice i config handler room gap) places d l is =
-        device_keeps k i (made_anew config handler room gap) (device_after answer_of after (NewDevice i config handler room gap)) d l.stations (λ t. refl) is
-    step_keeps k (NewPanel config addresses) places d l is = forget_keeps k d l.bus.devices.entries l.stations is
+        (device_keeps k i (nexts answer_of after i places) (device_after answer_of after (Next i)) d l.stations (λ t. refl) is)
+    step_keeps k call places d l is = called_keeps k (device_called call) call d l is
 
     all_keep : (k : ℕ) (steps : List (Step H)) (d : Held H) (l : InUse H) → IsHeld k d l.stations
         → IsHeld k (device_after_all answer_of after k steps d) (after_calls answer_of after steps l).stations

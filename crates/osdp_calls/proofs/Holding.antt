@@ -1,18 +1,21 @@
 -- Every list of calls that keep the premises is a list of moves of a net, so what holds of each site holds of each entry.
-use Rattle.osdp_calls.proofs.Common.{◌≡◌, ℕ, List, [], ◌∷◌, ◌++◌, Some, refl, sym, subst, ap, ◌∙◌, inl, inr, Command, device_of, Entry, passed, after_silence, after_take, after_tick, each_append, each_map, each_of, Each, ReaderState, Answer, NetMovesFit, NoTwoAreTogether, Net, NetMove, RestartPanel, Site, after_net, run, site_at, Call, Next, NewDevice, NewPanel, OfPanel, Pending, SetBusy, SetHandler, Silence, Step, SubmitEvent, Take, TickDevice, after_call, after_calls, read_by, LapseEvent, WithdrawEvent, InUse, Station, fits_both, net_more}
+use Rattle.osdp_calls.proofs.Common.{◌≡◌, ℕ, List, [], ◌∷◌, ◌++◌, Some, refl, sym, subst, ap, ◌∙◌, inl, inr, Command, device_of, Entry, each_append, each_map, each_of, Each, ReaderState, Answer, NetMovesFit, NoTwoAreTogether, Net, NetMove, RestartPanel, Site, after_net, run, site_at, Call, Next, NewDevice, NewPanel, OfPanel, SetBusy, SetHandler, Step, SubmitEvent, after_call, after_calls, read_by, LapseEvent, WithdrawEvent, InUse, Station, fits_both, net_more, device_called, does, held_by, takes_event, lacks_room}
 use Rattle.osdp_bus_laws.specs.Calls as bus
+use Rattle.osdp_link_laws.specs.Link as link
+use Rattle.osdp_reader.specs.State as readers
+use Rattle.osdp_shared_line.specs.Line as line
 use Rattle.osdp_calls.specs.Premises.{Addresses, AllKeep, InOrder, InRange, IsSetUp, QuietOpening}
 use Rattle.osdp_calls.specs.Promises.{CallsKeepApart}
-use Rattle.osdp_calls.proofs.Devices.{handling, lapsing_event, lines_change, next_still, nexting, queueing, withdrawing_event}
+use Rattle.osdp_calls.proofs.Devices.{lines_change, next_still, nexting, queued_so}
 use Rattle.osdp_calls.proofs.Orders.{beginning, retargeting, submitting, withdrawing}
 use Rattle.osdp_calls.proofs.Panel.{at_seen}
 use Rattle.osdp_calls.proofs.Powers.{device_anew, panel_anew}
 use Rattle.osdp_calls.proofs.Runs.{NotPast, reads_bytes, reads_end}
-use Rattle.osdp_calls.proofs.Same.{Controls, IsNetOf}
+use Rattle.osdp_calls.proofs.Same.{Controls, IsNetOf, read_so}
 use Rattle.osdp_calls.proofs.Setting.{Starts, first_net, starts}
-use Rattle.osdp_calls.proofs.Stations.{Makes, busying, make_none, of_station}
+use Rattle.osdp_calls.proofs.Stations.{Makes, Sites, both_change, make_none, of_station}
 use Rattle.osdp_calls.proofs.Strangers.{ordered}
-use Rattle.osdp_calls.proofs.Steps.{IsOf, IsOfOne, Made, StepsTo, by_plain}
+use Rattle.osdp_calls.proofs.Steps.{IsOf, IsOfOne, Made, StepsTo, by_own, by_plain}
 use Rattle.osdp_calls.proofs.Ticks.{ticking}
 
 module _ {H : Type 0} (answer_of : H → Command → Answer) (after : H → Command → H) where
@@ -58,31 +61,37 @@ module _ {H : Type 0} (answer_of : H → Command → Answer) (after : H → Comm
       → Addresses call l → InRange answer_of after call l → StepsTo answer_of after call l n (after_call answer_of after call places l)
   one_call (OfPanel call) places l n h order quiet addresses range =
       panel_call call places l n h order (each_of (NotPast l) places quiet) addresses range
-  one_call (SubmitEvent k event) places l n h order quiet addresses range = queueing answer_of after k event l n h
+  one_call (SubmitEvent k event) places l n h order quiet addresses range =
+      by_own answer_of after (SubmitEvent k event) (line.Queue k event) l n (after_call answer_of after (SubmitEvent k event) places l) refl refl tt
+      (both_change k (does answer_of after (SubmitEvent k event)) (line.calls answer_of after (link.Queue event)) l n h (λ d t s is.
+      subst (λ full. Sites l k d (record t { reader = (takes_event full event (held_by t)).reader; line = (takes_event full event (held_by t)).line })
+      (line.calls answer_of after (link.Queue event) s))
+      (ap (λ (r : ReaderState H). lacks_room event r.queue) is.reader) (queued_so answer_of after (lacks_room event s.reader.queue) event l k d t s is)))
   one_call (SetBusy k busy) places l n h order quiet addresses range =
-      reads (SetBusy k busy) places l n (busying answer_of after k busy l n h)
-  one_call (SetHandler k handler) places l n h order quiet addresses range = handling answer_of after k handler l n h
-  one_call (WithdrawEvent k) places l n h order quiet addresses range = withdrawing_event answer_of after k l n h
-  one_call (LapseEvent k) places l n h order quiet addresses range = lapsing_event answer_of after k l n h
-  one_call (Take k bytes now) places l n h order quiet addresses range =
-      reads (Take k bytes now) places l n
-      (lines_change answer_of after k (λ t. after_take bytes now t.line) l n h)
-  one_call (TickDevice k now) places l n h order quiet addresses range =
-      reads (TickDevice k now) places l n
-      (lines_change answer_of after k (λ t. after_tick now t.line) l n h)
-  one_call (Silence k now) places l n h order quiet addresses range =
-      reads (Silence k now) places l n
-      (lines_change answer_of after k (λ t. after_silence now t.line) l n h)
+      by_own answer_of after (SetBusy k busy) (line.SetBusy k busy) l n (after_call answer_of after (SetBusy k busy) places l) tt refl tt
+      (both_change k (does answer_of after (SetBusy k busy)) (line.calls answer_of after (link.SetBusy busy)) l n h
+      (λ d t s is. read_so is (ap (readers.after_set_busy busy) is.reader) is.stored))
+  one_call (SetHandler k handler) places l n h order quiet addresses range =
+      by_own answer_of after (SetHandler k handler) (line.SetHandler k handler) l n (after_call answer_of after (SetHandler k handler) places l) refl refl tt
+      (both_change k (does answer_of after (SetHandler k handler)) (line.calls answer_of after (link.SetHandler handler)) l n h
+      (λ d t s is. read_so is (ap (readers.after_set_handler handler) is.reader) is.stored))
+  one_call (WithdrawEvent k) places l n h order quiet addresses range =
+      by_own answer_of after (WithdrawEvent k) (line.WithdrawEvent k) l n (after_call answer_of after (WithdrawEvent k) places l) refl refl tt
+      (both_change k (does answer_of after (WithdrawEvent k)) (line.calls answer_of after link.WithdrawEvent) l n h
+      (λ d t s is. read_so is (ap readers.after_withdraw_event is.reader) is.stored))
+  one_call (LapseEvent k) places l n h order quiet addresses range =
+      by_own answer_of after (LapseEvent k) (line.LapseEvent k) l n (after_call answer_of after (LapseEvent k) places l) refl refl tt
+      (both_change k (does answer_of after (LapseEvent k)) (line.calls answer_of after link.LapseEvent) l n h
+      (λ d t s is. read_so is (ap readers.after_lapse_event is.reader) is.stored))
   one_call (Next k) places l n h order quiet addresses range =
       let x = nexting answer_of after k places l n h order quiet range in
       reads (Next k) places l n
       (record { refines = x.refines; made = next_still answer_of after k (site_at k l.stations) n x.refines.reached.moves x.made })
-  one_call (Pending k) places l n h order quiet addresses range =
-      reads (Pending k) places l n
-      (lines_change answer_of after k (λ t. record t.line { held = passed t.reader t.line.held }) l n h)
   one_call (NewDevice k config handler room gap) places l n h order quiet addresses range =
       device_anew answer_of after k config handler room gap l n h addresses range
   one_call (NewPanel config xs) places l n h order quiet addresses range = panel_anew answer_of after config xs l n h addresses range
+  one_call call places l n h order quiet addresses range =
+      reads call places l n (lines_change answer_of after (device_called call) (λ t. (does answer_of after call t).line) l n h)
 
   -- ---- a list of calls
 

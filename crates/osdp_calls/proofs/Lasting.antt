@@ -1,5 +1,5 @@
 -- Stations stay, whatever is called.
-use Rattle.osdp_calls.proofs.Common.{◌≡◌, ℕ, zero, suc, List, [], ◌∷◌, Option, Some, None, refl, ◌∙◌, is_some, Packet, Command, BusState, begin_refusal_at, changed_unless, bus_ticks, Entry, BusFault, Answer, site_at, Call, NewDevice, NewPanel, Next, OfPanel, Pending, SetBusy, SetHandler, Silence, SubmitEvent, Take, TickDevice, LapseEvent, WithdrawEvent, after_call, after_next, all_forget, asked_at, begins_session, begins_with, begun_of, change_at, changes_at, last_of, nexts, noted, panel_says, said_at, Step, after_calls, InUse, Station}
+use Rattle.osdp_calls.proofs.Common.{◌≡◌, ℕ, zero, suc, List, [], ◌∷◌, Option, Some, None, refl, ◌∙◌, is_some, Packet, Command, BusState, begin_refusal_at, changed_unless, bus_ticks, Entry, BusFault, Answer, site_at, Call, NewPanel, Next, OfPanel, after_call, after_next, all_forget, asked_at, begins_session, begins_with, begun_of, change_at, changes_at, last_of, nexts, noted, panel_says, said_at, Step, after_calls, InUse, Station, device_called, does, on_called}
 use Rattle.osdp_bus_laws.specs.Calls as bus
 use Rattle.osdp_calls.proofs.Matching.{changed_some}
 
@@ -47,24 +47,19 @@ module _ {H : Type 0} (k : ℕ) where
   module _ (answer_of : H → Command → Answer) (after : H → Command → H) where
     next_keeps : (i : ℕ) (places : List ℕ) (o : Option (Station H)) (l : InUse H) → Same (after_next answer_of after i places o l).stations l.stations
     next_keeps i places None l = refl
-    next_keeps i places (Some t) l = changed_some k i (nexts answer_of after places t) l.stations
+    next_keeps i places (Some t) l = changed_some k i (nexts answer_of after i places t) l.stations
+
+    called_keeps : (o : Option ℕ) (change : Station H → Station H) (l : InUse H) → Same (on_called o change l).stations l.stations
+    called_keeps None change l = refl
+    called_keeps (Some i) change l = change_keeps i change l.stations
 
     pub call_keeps : (call : Call H) (places : List ℕ) (l : InUse H) → Same (after_call answer_of after call places l).stations l.stations
     call_keeps (OfPanel call) places l =
         said_keeps call l.bus (record l { bus = bus.after_call call l.bus; stations = noted call l.bus l.stations; place = last_of places l.place })
         ∙ noted_keeps call l.bus l.stations
-    call_keeps (SubmitEvent i event) places l = change_keeps i _ l.stations
-    call_keeps (SetBusy i busy) places l = change_keeps i _ l.stations
-    call_keeps (SetHandler i handler) places l = change_keeps i _ l.stations
-    call_keeps (WithdrawEvent i) places l = change_keeps i _ l.stations
-    call_keeps (LapseEvent i) places l = change_keeps i _ l.stations
-    call_keeps (Take i bytes now) places l = change_keeps i _ l.stations
-    call_keeps (TickDevice i now) places l = change_keeps i _ l.stations
-    call_keeps (Silence i now) places l = change_keeps i _ l.stations
     call_keeps (Next i) places l = next_keeps i places (site_at i l.stations) l
-    call_keeps (Pending i) places l = change_keeps i _ l.stations
-    call_keeps (NewDevice i config handler room gap) places l = change_keeps i _ l.stations
     call_keeps (NewPanel config addresses) places l = forget_keeps l.bus.devices.entries l.stations
+    call_keeps call places l = called_keeps (device_called call) (does answer_of after call) l
 
     pub calls_keep : (steps : List (Step H)) (l : InUse H) → Same (after_calls answer_of after steps l).stations l.stations
     calls_keep [] l = refl

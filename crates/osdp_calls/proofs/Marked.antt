@@ -1,5 +1,5 @@
 -- Call by call, what is told of an entry's events, each with its session.
-use Rattle.osdp_calls.proofs.Common.{◌≡◌, ◌≢◌, ℕ, zero, suc, ◌+◌, max, Bool, true, false, cond, List, [], ◌∷◌, ◌++◌, Option, Some, None, refl, sym, subst, ap, ◌∙◌, arith, inl, inr, eqb_tells, ◌==◌, slice_get, slice_set, option_map_or, is_false, is_true, Packet, Command, Event, Report, BusState, Devices, device_of, seen, passed, after_silence, after_take, after_tick, after_set_busy, after_set_handler, lacks_room, Answer, entry_hears, entry_ticks, first_from, is_at, step_of, told_of, hears_at, hears_packet, hears_with, add_refusal, after_add, after_begin_at, begin_refusal_at, begin_refusal_of, changed_unless, changes_entry, entry_begins, entry_retargets, entry_submits, entry_withdraws, new_device, retarget_refusal_at, submit_refusal_at, ticks_at, ticks_with, Entry, BusFault, told_at, told_by_device, told_by_entry, told_by_ticking, told_in, told_with, site_at, at_changed, some_same, Call, NewDevice, NewPanel, Next, OfPanel, Pending, SetBusy, SetHandler, Silence, SubmitEvent, Take, TickDevice, LapseEvent, WithdrawEvent, after_call, after_next, after_panel, asked_at, begins_session, begins_with, begun_of, change_at, changes_at, is_to_begin, last_of, lapses_event, made_anew, nexts, noted, on_station, panel_says, queues, read_by, withdraws_event, heard, hears_all, told_by_all, KeepsPanel, InUse, Station, sessions_of}
+use Rattle.osdp_calls.proofs.Common.{◌≡◌, ◌≢◌, ℕ, zero, suc, ◌+◌, max, Bool, true, false, cond, List, [], ◌∷◌, ◌++◌, Option, Some, None, refl, sym, subst, ap, ◌∙◌, arith, inl, inr, eqb_tells, ◌==◌, slice_get, slice_set, option_map_or, is_false, is_true, Packet, Command, Event, Report, BusState, Devices, device_of, seen, Answer, entry_hears, entry_ticks, first_from, is_at, step_of, told_of, hears_at, hears_packet, hears_with, add_refusal, after_add, after_begin_at, begin_refusal_at, begin_refusal_of, changed_unless, changes_entry, entry_begins, entry_retargets, entry_submits, entry_withdraws, new_device, retarget_refusal_at, submit_refusal_at, ticks_at, ticks_with, Entry, BusFault, told_at, told_by_device, told_by_entry, told_by_ticking, told_in, told_with, site_at, at_changed, some_same, Call, NewPanel, Next, OfPanel, after_call, after_next, after_panel, asked_at, begins_session, begins_with, begun_of, change_at, changes_at, is_to_begin, last_of, nexts, noted, on_station, panel_says, read_by, heard, hears_all, told_by_all, KeepsPanel, InUse, Station, sessions_of, device_called, does, on_called}
 use Rattle.osdp_bus_laws.specs.Calls as bus
 use Rattle.osdp_calls.specs.Told.{told_by}
 use Rattle.osdp_calls.proofs.Ends.{next_bus, next_stations, said_bus}
@@ -332,13 +332,10 @@ module _ (k : ℕ) where
               (λ j. (sessions_of k (sym openings j), sym t.2 j, sym bus_same j)) is.tells;
         }
 
-    still : (i : ℕ) (change : Station H → Station H) (l : InUse H) (all : List (ℕ × Event)) (x : Told) → ((t : Station H) → (change t).begun ≡ t.begun)
-        → Line l.bus.devices.entries l all x → Line l.bus.devices.entries (on_station i change l) all x
-    still i change l all x keeps is = of_device i change l (on_station i change l) all x keeps refl refl refl is
-
-    queues_same : (full : Bool) (event : Event) (t : Station H) → (queues full event t).begun ≡ t.begun
-    queues_same true event t = refl
-    queues_same false event t = refl
+    still : (o : Option ℕ) (change : Station H → Station H) (l : InUse H) (all : List (ℕ × Event)) (x : Told) → ((t : Station H) → (change t).begun ≡ t.begun)
+        → Line l.bus.devices.entries l all x → Line (on_called o change l).bus.devices.entries (on_called o change l) all x
+    still None change l all x keeps is = is
+    still (Some i) change l all x keeps is = of_device i change l (on_station i change l) all x keeps refl refl refl is
 
     module _ (answer_of : H → Command → Answer) (after : H → Command → H) where
       next_openings : (i : ℕ) (places : List ℕ) (o : Option (Station H)) (l : InUse H) → (after_next answer_of after i places o l).openings ≡ l.openings
@@ -353,20 +350,9 @@ module _ (k : ℕ) where
           (those next k (told_in call l.bus) x))
           (sym (said_bus call l.bus (record l { bus = bus.after_call call l.bus; stations = noted call l.bus l.stations; place = last_of places l.place })))
           (call_tells call places l all x is)
-      step_tells (SubmitEvent i event) places l all x keeps is =
-          still i (λ t. queues (lacks_room event t.reader.queue) event t) l all x (λ t. queues_same (lacks_room event t.reader.queue) event t) is
-      step_tells (SetBusy i busy) places l all x keeps is = still i (λ t. record t { reader = after_set_busy busy t.reader }) l all x (λ t. refl) is
-      step_tells (SetHandler i handler) places l all x keeps is = still i (λ t. record t { reader = after_set_handler handler t.reader }) l all x (λ t. refl) is
-      step_tells (WithdrawEvent i) places l all x keeps is = still i withdraws_event l all x (λ t. refl) is
-      step_tells (LapseEvent i) places l all x keeps is = still i lapses_event l all x (λ t. refl) is
-      step_tells (Take i bytes now) places l all x keeps is = still i (λ t. record t { line = after_take bytes now t.line }) l all x (λ t. refl) is
-      step_tells (TickDevice i now) places l all x keeps is = still i (λ t. record t { line = after_tick now t.line }) l all x (λ t. refl) is
-      step_tells (Silence i now) places l all x keeps is = still i (λ t. record t { line = after_silence now t.line }) l all x (λ t. refl) is
       step_tells (Next i) places l all x keeps is =
-          of_device i (nexts answer_of after places) l (after_next answer_of after i places (site_at i l.stations) l) all x (λ t. refl)
+          of_device i (nexts answer_of after i places) l (after_next answer_of after i places (site_at i l.stations) l) all x (λ t. refl)
           (next_bus answer_of after i places (site_at i l.stations) l) (sym (next_stations answer_of after i places (site_at i l.stations) l))
           (next_openings i places (site_at i l.stations) l) is
-      step_tells (Pending i) places l all x keeps is =
-          still i (λ t. record t { line = record t.line { held = passed t.reader t.line.held } }) l all x (λ t. refl) is
-      step_tells (NewDevice i config handler room gap) places l all x keeps is = still i (made_anew config handler room gap) l all x (λ t. refl) is
       step_tells (NewPanel config addresses) places l all x keeps is = absurd keeps
+      step_tells call places l all x keeps is = still (device_called call) (does answer_of after call) l all x (λ t. refl) is

@@ -1,6 +1,6 @@
 -- The calls of a panel's program that read nothing: sessions, commands and addresses.
 use Rattle.std.proofs.Common.{◌≡◌, ◌||◌, ◌&&◌, ◌-◌, ◌*◌, ℕ, zero, suc, ◌+◌, max, Bool, true, false, cond, List, [], ◌++◌, length, take, drop, Option, Some, None, refl, sym, subst, ap, ◌∙◌, arith, inl, inr}
-use Rattle.osdp_calls.proofs.Common.{option_map_or, is_some, nat_le, nat_lt, option_map, option_to_list, slice_get, slice_set, Packet, CommandFits, most_data, Command, Poll, Communication, has_comset, comset_of, Machine, begin_refusal, bytes_waiting, command_size, retarget_refusal, submit_refusal, Closed, BusState, seen, reserved_for, after_begin_at, after_submit_at, begin_refusal_at, bus_fault, changed_unless, changes_entry, entry_begins, submit_refusal_at, Entry, BusFault, Answer, HasNoOther, Sets, Somewhere, outstanding_command, Net, NetMove, Retarget, Site, Submit, Withdraw, after_net, changed, site_at, some_same, OfPanel, begun_of, change_at, changes_at, is_to_begin, withdrawn, InUse, Station, IsAsked, IsNoOthers, IsSaid, IsThere, MayBeAt}
+use Rattle.osdp_calls.proofs.Common.{option_map_or, is_some, nat_le, nat_lt, option_map, option_to_list, slice_get, slice_set, Packet, CommandFits, most_data, Command, Poll, Communication, has_comset, comset_of, Machine, begin_refusal, bytes_waiting, command_size, retarget_refusal, submit_refusal, Closed, BusState, seen, reserved_for, after_begin_at, after_submit_at, begin_refusal_at, bus_fault, changed_unless, changes_entry, entry_begins, submit_refusal_at, Entry, BusFault, Answer, HasNoOther, Sets, Somewhere, outstanding_command, Net, NetMove, Retarget, Site, Submit, Withdraw, after_net, changed, site_at, OfPanel, begun_of, change_at, changes_at, is_to_begin, withdrawn, InUse, Station, IsAsked, IsNoOthers, IsSaid, IsThere, MayBeAt}
 use Rattle.osdp_controller.specs.Machine as controllers
 use Rattle.osdp_controller.specs.Held.{on_its_way}
 use Rattle.osdp_controller.specs.declared.fault.ControllerFault.{ControllerFault}
@@ -16,7 +16,7 @@ use Rattle.osdp_calls.proofs.Controllers.{closed_of, config_same, is_to_open, re
 use Rattle.osdp_calls.proofs.Matching.{And, Done, FoundAt, Match, Nobody, Somebody, changed_same, found, set, set_other, set_same}
 use Rattle.osdp_calls.proofs.Panel.{at_seen}
 use Rattle.osdp_calls.proofs.Same.{Controls, IsNetOf, IsSame, IsToOpen, controlled_so, sites_so}
-use Rattle.osdp_calls.proofs.Stations.{Makes, Sites, make_move, make_none}
+use Rattle.osdp_calls.proofs.Stations.{Makes, OfSite, Sites, make_move, make_none, of_site}
 use Rattle.osdp_calls.proofs.Steps.{Made, MadeByPanel, StepsTo, by_other, by_own, by_plain, by_refusal}
 use Rattle.osdp_bus_laws.proofs.Calling.{map_none}
 
@@ -106,26 +106,17 @@ module _ {H : Type 0} where
   -- ---- no other device is there
 
   pub no_other : (k address : ℕ) (l : InUse H) (n : Net H) → IsNetOf l n → IsNoOthers k address l → HasNoOther k address n
-  no_other k address l n h none j s other at may = by_found (found (Sites l) j l.bus.devices.entries l.stations n.sites h.sites)
+  no_other k address l n h none j s other at may = none j other (by_may (of_site j s l n h at) may)
     where
-      by_found : FoundAt (Sites l) j j l.bus.devices.entries l.stations n.sites → ⊥
-      by_found (Nobody o a b c) = absurd (let e = sym c ∙ at in cc)
-      by_found (Somebody d t s1 a b c has) = none j other (by_may may)
-        where
-          is : Sites l j d t s
-          is = subst (λ u. Sites l j d t u) (some_same s1 s (sym c ∙ at)) has
-
-          by_may : addresses.MayComeTo address j s → MayBeAt address j l
-          by_may (addresses.IsThere there) =
-              let mine = subst (λ u. Sites l j d t u) (some_same s1 s (sym c ∙ at)) has in
-              IsThere t b (sym (ap (λ (r : _). r.config.address) mine.reader) ∙ there)
-          by_may (addresses.IsAsked asked) =
-              let mine = subst (λ u. Sites l j d t u) (some_same s1 s (sym c ∙ at)) has in
-              IsAsked t d b a (subst (Somewhere (Sets address))
-              (λ i. asked_same t.begun l.bus.greatest d.controller s.controller mine.controller i ++ waiting_same t.begun l.bus.greatest d.controller s.controller mine.controller i) asked)
-          by_may (addresses.IsSaid said) =
-              let mine = subst (λ u. Sites l j d t u) (some_same s1 s (sym c ∙ at)) has in
-              IsSaid t b (subst (Somewhere (λ (q : ℕ × Packet). (q.0 ≡ j) × addresses.SetsReader address q.1)) mine.coming said)
+      by_may : OfSite j s l → addresses.MayComeTo address j s → MayBeAt address j l
+      by_may it (addresses.IsThere there) = IsThere it.station it.there (sym (ap (λ (r : _). r.config.address) it.is.reader) ∙ there)
+      by_may it (addresses.IsAsked asked) =
+          let control = it.is.controller in
+          IsAsked it.station it.device it.there it.entry (subst (Somewhere (Sets address))
+          (λ i. asked_same it.station.begun l.bus.greatest it.device.controller s.controller control i
+          ++ waiting_same it.station.begun l.bus.greatest it.device.controller s.controller control i) asked)
+      by_may it (addresses.IsSaid said) =
+          IsSaid it.station it.there (subst (Somewhere (λ (q : ℕ × Packet). (q.0 ≡ j) × addresses.SetsReader address q.1)) it.is.coming said)
 
   module _ (answer_of : H → Command → Answer) (after : H → Command → H) where
     -- ---- a session is to begin

@@ -1,14 +1,14 @@
 -- Restarts: a device made anew, and the panel made anew with its devices at their addresses.
-use Rattle.osdp_calls.proofs.Common.{◌≡◌, ◌≢◌, ◌<◌, ◌≤◌, ◌⊎◌, ℕ, zero, suc, ◌+◌, List, [], ◌∷◌, length, map, All, Option, Some, None, refl, sym, subst, ap, ◌∙◌, arith, inl, inr, Room, Packet, AreRoom, Command, AreSettings, Machine, new_machine, ControllerConfig, new_device, IsBusConfig, controller_config, BusConfig, Entry, each_of, ReaderState, ReaderConfig, Answer, IsNameOf, Somewhere, Net, RestartPanel, RestartReader, Site, address_of, after_net, all_restart, restarts, site_at, some_same, NewDevice, NewPanel, all_forget, made_anew, on_station, panel_made_anew, InUse, Station, IsFreeFor, PanelIsApart, at_length, forgets}
+use Rattle.osdp_calls.proofs.Common.{◌≡◌, ◌≢◌, ◌<◌, ◌≤◌, ◌⊎◌, ℕ, zero, suc, ◌+◌, List, [], ◌∷◌, length, map, All, Option, Some, None, refl, sym, subst, ap, ◌∙◌, arith, inl, inr, Room, Packet, AreRoom, Command, AreSettings, Machine, new_machine, ControllerConfig, new_device, IsBusConfig, controller_config, BusConfig, Entry, each_of, ReaderState, ReaderConfig, Answer, IsNameOf, Somewhere, Net, RestartPanel, RestartReader, Site, after_net, all_restart, restarts, site_at, some_same, NewDevice, NewPanel, all_forget, on_station, panel_made_anew, InUse, Station, IsFreeFor, PanelIsApart, at_length, forgets, does}
 use Rattle.osdp_link_laws.specs.Link as link
 use Rattle.osdp_shared_line.specs.Addresses as addresses
 use Rattle.osdp_shared_line.specs.Line as line
 use Rattle.osdp_calls.proofs.Controllers.{config_same, equal_same}
-use Rattle.osdp_calls.proofs.Matching.{And, Done, FoundAt, Match, Nobody, Somebody, found}
+use Rattle.osdp_calls.proofs.Matching.{And, Done, Match}
 use Rattle.osdp_calls.proofs.Nexts.{each_at}
 use Rattle.osdp_calls.proofs.Orders.{no_other}
 use Rattle.osdp_calls.proofs.Same.{Controls, IsNetOf, IsSiteOf, controlled_so, read_so, sites_so}
-use Rattle.osdp_calls.proofs.Stations.{Sites, both_change, of_site}
+use Rattle.osdp_calls.proofs.Stations.{OfSite, Sites, both_change, of_site}
 use Rattle.osdp_calls.proofs.Steps.{StepsTo, by_own}
 
 -- the settings of the controllers of a bus with these addresses
@@ -60,43 +60,38 @@ module _ {H : Type 0} where
     -- ---- a device
 
     pub new_device_is : (k : ℕ) (config : ReaderConfig) (handler : H) (room : Room) (gap : ℕ) (l : InUse H) (n : Net H) → IsNetOf l n
-        → IsNetOf (on_station k (made_anew config handler room gap) l) (after_net answer_of after (RestartReader k config handler room) n)
+        → IsNetOf (on_station k (does answer_of after (NewDevice k config handler room gap)) l) (after_net answer_of after (RestartReader k config handler room) n)
     new_device_is k config handler room gap l n h =
-        both_change k (made_anew config handler room gap) (line.calls answer_of after (link.RestartReader config handler room)) l n h (λ d t s is.
+        both_change k (does answer_of after (NewDevice k config handler room gap)) (line.calls answer_of after (link.RestartReader config handler room)) l n h (λ d t s is.
         read_so is refl tt)
 
     pub new_device_fits : (k : ℕ) (config : ReaderConfig) (handler : H) (room : Room) (l : InUse H) (n : Net H) → IsNetOf l n
         → ((t : Station H) → site_at k l.stations ≡ Some t → (t.reader.config.address ≡ config.address) ⊎ IsFreeFor k config.address t l)
         → (config.address < 127) × AreRoom room.messages room.bytes → addresses.NetMoveFits answer_of after (RestartReader k config handler room) n
     new_device_fits k config handler room l n h free fits =
-        λ s at. (fits, by_found s at (found (Sites l) k l.bus.devices.entries l.stations n.sites h.sites))
+        λ s at. (fits, by_site s (of_site k s l n h at))
       where
-        by_found : (s : Site H) → site_at k n.sites ≡ Some s → FoundAt (Sites l) k k l.bus.devices.entries l.stations n.sites
-            → (s.reader.config.address ≡ config.address) ⊎ addresses.IsFreeFor k config.address s n
-        by_found s at (Nobody o a b c) = absurd (let e = sym c ∙ at in cc)
-        by_found s at (Somebody d t s1 a b c has) =
-            let is : Sites l k d t s = subst (λ u. Sites l k d t u) (some_same s1 s (sym c ∙ at)) has in
-            elim (free t b) [
-              | inl here ↦ inl (ap (λ (r : ReaderState H). r.config.address) is.reader ∙ here)
-              | inr frees ↦ inr (record {
-                others = λ j u other there name. by_name frees j u other there (found (Sites l) j l.bus.devices.entries l.stations n.sites h.sites) name;
-                coming = subst (λ qs. All (λ (q : ℕ × Packet). q.0 ≢ k → q.1.address ≢ config.address) qs) (sym is.coming) frees.said;
-              })
-            ]
+        by_site : (s : Site H) → OfSite k s l → (s.reader.config.address ≡ config.address) ⊎ addresses.IsFreeFor k config.address s n
+        by_site s it = elim (free it.station it.there) [
+          | inl here ↦ inl (ap (λ (r : ReaderState H). r.config.address) it.is.reader ∙ here)
+          | inr frees ↦ inr (record {
+            others = λ j u other there name. by_name frees j u other there (of_site j u l n h there) name;
+            coming = subst (λ qs. All (λ (q : ℕ × Packet). q.0 ≢ k → q.1.address ≢ config.address) qs) (sym it.is.coming) frees.said;
+          })
+        ]
           where
             by_name : {t : Station H} → IsFreeFor k config.address t l → (j : ℕ) (u : Site H) → j ≢ k → site_at j n.sites ≡ Some u
-                → FoundAt (Sites l) j j l.bus.devices.entries l.stations n.sites → IsNameOf config.address j u → ⊥
-            by_name frees j u other there (Nobody o a b c) name = absurd (let e = sym c ∙ there in cc)
-            by_name frees j u other there (Somebody d1 t1 s2 a b c has) (inl is) =
-                frees.entries j t1 d1 other b a (sym (ap (λ (x : _). x.address) (config_same t1.begun l.bus.greatest d1.controller s2.controller has.controller))
-                ∙ ap address_of (some_same s2 u (sym c ∙ there)) ∙ is)
-            by_name frees j u other there (Somebody d1 t1 s2 a b c has) (inr may) = no_other k config.address l n h frees.devices j u other there may
+                → OfSite j u l → IsNameOf config.address j u → ⊥
+            by_name frees j u other there of_it (inl is) =
+                frees.entries j of_it.station of_it.device other of_it.there of_it.entry
+                (sym (ap (λ (x : _). x.address) (config_same of_it.station.begun l.bus.greatest of_it.device.controller u.controller of_it.is.controller)) ∙ is)
+            by_name frees j u other there of_it (inr may) = no_other k config.address l n h frees.devices j u other there may
 
     pub device_anew : (k : ℕ) (config : ReaderConfig) (handler : H) (room : Room) (gap : ℕ) (l : InUse H) (n : Net H) → IsNetOf l n
         → ((t : Station H) → site_at k l.stations ≡ Some t → (t.reader.config.address ≡ config.address) ⊎ IsFreeFor k config.address t l)
-        → (config.address < 127) × AreRoom room.messages room.bytes → StepsTo answer_of after (NewDevice k config handler room gap) l n (on_station k (made_anew config handler room gap) l)
+        → (config.address < 127) × AreRoom room.messages room.bytes → StepsTo answer_of after (NewDevice k config handler room gap) l n (on_station k (does answer_of after (NewDevice k config handler room gap)) l)
     device_anew k config handler room gap l n h free fits =
-        by_own answer_of after (NewDevice k config handler room gap) (RestartReader k config handler room) l n (on_station k (made_anew config handler room gap) l)
+        by_own answer_of after (NewDevice k config handler room gap) (RestartReader k config handler room) l n (on_station k (does answer_of after (NewDevice k config handler room gap)) l)
         (gap, refl) refl (new_device_fits k config handler room l n h free fits) (new_device_is k config handler room gap l n h)
 
     -- ---- the panel
@@ -131,7 +126,7 @@ module _ {H : Type 0} where
         (settings_of config xs, refl, λ k a is. some_same (address_at k xs) a (sym (there_is k xs (at_length k a xs is)) ∙ is))
         (λ k s at. (
           are_settings config (address_at k xs) fits.0 (each_at (λ a. a < 127) k (address_at k xs) xs (each_of (λ a. a < 127) xs fits.1) (there_is k xs (count k s at))),
-          λ j t other there. by_name k j (of_site k s l n h at).station (of_site k s l n h at).there other (there_is k xs (count k s at)) t there (found (Sites l) j l.bus.devices.entries l.stations n.sites h.sites),
+          λ j t other there. by_name k j (of_site k s l n h at).station (of_site k s l n h at).there other (there_is k xs (count k s at)) t there (of_site j t l n h there),
         ))
         (sites_so h (each_made config (settings_of config xs) l 0 xs l.bus.devices.entries l.stations n.sites fits.2 (set_at config [] xs) h.sites))
       where
@@ -143,18 +138,12 @@ module _ {H : Type 0} where
             omega (arith, less, many, same)
 
         by_name : (k j : ℕ) (u : Station H) → site_at k l.stations ≡ Some u → j ≢ k → site_at k xs ≡ Some (address_at k xs) → (t : Site H) → site_at j n.sites ≡ Some t
-            → FoundAt (Sites l) j j l.bus.devices.entries l.stations n.sites → IsNameOf (address_at k xs) j (restarts answer_of after (settings_of config xs j) t) → ⊥
-        by_name k j u mine other here t there (Nobody o a b c) name = absurd (let e = sym c ∙ there in cc)
-        by_name k j u mine other here t there (Somebody d t1 s2 a b c has) (inl is) =
-            let less = at_length j t n.sites there in
-            let many = as_many (Sites l) 0 l.bus.devices.entries l.stations n.sites h.sites in
-            let same = fits.2 in
-            apart.own j k (address_at j xs) (address_at k xs) t1 u other (there_is j xs (omega (arith, less, many, same))) here b mine is
-        by_name k j u mine other here t there (Somebody d t1 s2 a b c has) (inr (addresses.IsThere is)) =
-            apart.there j k (address_at k xs) t1 u other here b mine
-            (sym (ap (λ (r : ReaderState H). r.config.address) (sym (ap (λ (s : Site H). s.reader) (some_same s2 t (sym c ∙ there))) ∙ has.reader)) ∙ is)
-        by_name k j u mine other here t there (Somebody d t1 s2 a b c has) (inr (addresses.IsAsked none)) = absurd none
-        by_name k j u mine other here t there (Somebody d t1 s2 a b c has) (inr (addresses.IsSaid is)) =
-            apart.said j k (address_at k xs) t1 u other here b mine
-            (subst (Somewhere (λ (q : ℕ × Packet). (q.0 ≡ j) × addresses.SetsReader (address_at k xs) q.1))
-            (sym (ap (λ (s : Site H). s.coming) (some_same s2 t (sym c ∙ there))) ∙ has.coming) is)
+            → OfSite j t l → IsNameOf (address_at k xs) j (restarts answer_of after (settings_of config xs j) t) → ⊥
+        by_name k j u mine other here t there it (inl is) =
+            apart.own j k (address_at j xs) (address_at k xs) it.station u other (there_is j xs (count j t there)) here it.there mine is
+        by_name k j u mine other here t there it (inr (addresses.IsThere is)) =
+            apart.there j k (address_at k xs) it.station u other here it.there mine (sym (ap (λ (r : ReaderState H). r.config.address) it.is.reader) ∙ is)
+        by_name k j u mine other here t there it (inr (addresses.IsAsked none)) = absurd none
+        by_name k j u mine other here t there it (inr (addresses.IsSaid is)) =
+            apart.said j k (address_at k xs) it.station u other here it.there mine
+            (subst (Somewhere (λ (q : ℕ × Packet). (q.0 ≡ j) × addresses.SetsReader (address_at k xs) q.1)) it.is.coming is)

@@ -1,6 +1,6 @@
 -- So programs that keep to the rule keep the premise on addresses, over every list of calls.
-use Rattle.std.proofs.Common.{◌≡◌, ℕ, zero, suc, Bool, true, false, List, [], ◌∷◌, length, map, Option, Some, None, refl, sym, subst, ap, ◌∙◌, inl, inr, ◌++◌, is_some, ◌≤◌}
-use Rattle.osdp_calls.proofs.Common.{Command, Event, Room, State, Closed, device_of, BusConfig, Entry, passed, Received, after_silence, after_take, after_tick, ReadsWhatIsAsked, Each, ReaderState, after_set_busy, after_set_handler, ReaderConfig, Answer, lacks_room, IsSetUp, NetMovesFit, NobodyElseHears, Net, NetMove, RestartPanel, RestartReader, after_net, site_at, KeepRule, Note, RuleSuffices, no_notes, noted_at, Call, Next, NewDevice, NewPanel, OfPanel, Pending, SetBusy, SetHandler, Silence, Step, SubmitEvent, Take, TickDevice, after_call, after_next, begun_of, made_anew, nexts, on_station, queues, LapseEvent, WithdrawEvent, lapses_event, withdraws_event, InUse, Station, InOrder, InRange, QuietOpening, AllKeepRule, CallsRuleSuffices, KeepsRule, first_note, first_notes, noted_of, notes_after, some_same, each_map}
+use Rattle.std.proofs.Common.{◌≡◌, ℕ, zero, suc, List, [], ◌∷◌, length, map, Option, Some, None, refl, sym, subst, ap, ◌∙◌, inl, inr, ◌++◌, is_some, ◌≤◌}
+use Rattle.osdp_calls.proofs.Common.{Command, Room, State, Closed, device_of, BusConfig, Entry, ReadsWhatIsAsked, Each, ReaderState, ReaderConfig, Answer, IsSetUp, NetMovesFit, NobodyElseHears, Net, NetMove, RestartPanel, RestartReader, after_net, site_at, KeepRule, Note, RuleSuffices, no_notes, noted_at, Call, Next, NewDevice, NewPanel, OfPanel, SetBusy, SetHandler, Step, SubmitEvent, after_call, after_next, begun_of, nexts, on_station, LapseEvent, WithdrawEvent, InUse, Station, InOrder, InRange, QuietOpening, AllKeepRule, CallsRuleSuffices, KeepsRule, first_note, first_notes, noted_of, notes_after, some_same, each_map, device_called, does, on_called}
 use Rattle.osdp_bus.specs.Entries as devices
 use Rattle.osdp_bus_laws.specs.Calls as panel
 use Rattle.osdp_shared_line.specs.Line as line
@@ -18,7 +18,7 @@ use Rattle.osdp_calls.proofs.Same.{IsNetOf}
 use Rattle.osdp_calls.proofs.Setting.{Starts, first_from, first_net, first_site, first_there, starts}
 use Rattle.osdp_calls.proofs.Setting as setting
 use Rattle.osdp_calls.proofs.Stations.{of_site, of_station}
-use Rattle.osdp_calls.proofs.Steps.{StepsTo}
+use Rattle.osdp_calls.proofs.Steps.{StepsTo, device_moves}
 use Rattle.osdp_calls.proofs.Lasting.{change_keeps, call_keeps}
 use Rattle.osdp_calls.proofs.Matching.{is_there}
 
@@ -28,16 +28,21 @@ mapped_front f others zero x (y ∷ ys) is = ap (λ z. Some (f z)) (some_same y 
 mapped_front f others (suc k) x (y ∷ ys) is = mapped_front f others k x ys is
 
 module _ {H : Type 0} where
-  pub queues_begun : (full : Bool) (event : Event) (t : Station H) → (queues full event t).begun ≡ t.begun
-  queues_begun true event t = refl
-  queues_begun false event t = refl
+  -- a call of a device comes to still moves, unless it is made anew
+  stills : (call : Call H) → Each IsStill (device_moves call)
+  stills (SubmitEvent k event) = (tt, tt)
+  stills (SetBusy k busy) = (tt, tt)
+  stills (SetHandler k handler) = (tt, tt)
+  stills (WithdrawEvent k) = (tt, tt)
+  stills (LapseEvent k) = (tt, tt)
+  stills _ = tt
 
   module _ (answer_of : H → Command → Answer) (after : H → Command → H) where
     next_begun : (j k : ℕ) (places : List ℕ) (o : Option (Station H)) (l : InUse H) → site_at k l.stations ≡ o
         → begun_of (site_at j (after_next answer_of after k places o l).stations) ≡ begun_of (site_at j l.stations)
     next_begun j k places None l is = refl
     next_begun j k places (Some t) l is =
-        begun_changed j k (nexts answer_of after places t) t l.stations is refl
+        begun_changed j k (nexts answer_of after k places t) t l.stations is refl
 
     next_entries : (k : ℕ) (places : List ℕ) (o : Option (Station H)) (l : InUse H)
         → (after_next answer_of after k places o l).bus.devices.entries ≡ l.bus.devices.entries
@@ -60,29 +65,12 @@ module _ {H : Type 0} where
           by_rest answer_of after suffices nobody reads n0 up l n notes noted h path agree call next s still entries begun mine keeps
 
       -- a call that changes a station alone, and not the moment at which its session was to begin
-      station_ruled : (call : Call H) (k : ℕ) (change : Station H → Station H) → ((t : Station H) → (change t).begun ≡ t.begun)
-          → ((j : ℕ) (d : Entry) → noted_of j (Some d) call l (notes j) ≡ notes j) → (s : StepsTo answer_of after call l n (on_station k change l))
-          → ((made : StepsTo answer_of after call l n (on_station k change l)) → Each IsStill made.moves)
-          → Ruled answer_of after n0 (on_station k change l) (notes_after call l notes)
-      station_ruled call k change begun mine s still =
-          rests call (on_station k change l) s (still s) refl (λ j. begun_change j k change l.stations begun) mine (λ j. change_keeps j k change l.stations)
-
-      -- .. where its reader alone changes, or what it has received
-      reader_ruled : (call : Call H) (k : ℕ) (change : ReaderState H → ReaderState H) → ((j : ℕ) (d : Entry) → noted_of j (Some d) call l (notes j) ≡ notes j)
-          → (s : StepsTo answer_of after call l n (on_station k (λ t. record t { reader = change t.reader }) l)) → Each IsStill s.moves
-          → Ruled answer_of after n0 (on_station k (λ t. record t { reader = change t.reader }) l) (notes_after call l notes)
-      reader_ruled call k change mine s still =
-          rests call (on_station k (λ t. record t { reader = change t.reader }) l) s still refl
-          (λ j. begun_change j k (λ t. record t { reader = change t.reader }) l.stations (λ t. refl)) mine
-          (λ j. change_keeps j k (λ t. record t { reader = change t.reader }) l.stations)
-
-      line_ruled : (call : Call H) (k : ℕ) (change : Received → Received) → ((j : ℕ) (d : Entry) → noted_of j (Some d) call l (notes j) ≡ notes j)
-          → (s : StepsTo answer_of after call l n (on_station k (λ t. record t { line = change t.line }) l)) → Each IsStill s.moves
-          → Ruled answer_of after n0 (on_station k (λ t. record t { line = change t.line }) l) (notes_after call l notes)
-      line_ruled call k change mine s still =
-          rests call (on_station k (λ t. record t { line = change t.line }) l) s still refl
-          (λ j. begun_change j k (λ t. record t { line = change t.line }) l.stations (λ t. refl)) mine
-          (λ j. change_keeps j k (λ t. record t { line = change t.line }) l.stations)
+      station_ruled : (call : Call H) (o : Option ℕ) (change : Station H → Station H) → ((t : Station H) → (change t).begun ≡ t.begun)
+          → ((j : ℕ) (d : Entry) → noted_of j (Some d) call l (notes j) ≡ notes j) → (s : StepsTo answer_of after call l n (on_called o change l))
+          → Each IsStill s.moves → Ruled answer_of after n0 (on_called o change l) (notes_after call l notes)
+      station_ruled call None change begun mine s still = rests call l s still refl (λ j. refl) mine (λ j. refl)
+      station_ruled call (Some k) change begun mine s still =
+          rests call (on_station k change l) s still refl (λ j. begun_change j k change l.stations begun) mine (λ j. change_keeps j k change l.stations)
 
       panel_ruled : (call : panel.Call) (places : List ℕ) → InOrder (OfPanel call) places l → QuietOpening (OfPanel call) places l
           → KeepsRule (OfPanel call) l notes → InRange answer_of after (OfPanel call) l
@@ -139,9 +127,9 @@ module _ {H : Type 0} where
           ))
           (subst (λ ms. AllAgree next (notes_after call l notes) (notes_along answer_of after ms n noted)) (sym made)
           (all_carried call l next notes noted (notes_along answer_of after (RestartReader k config handler room ∷ []) n noted) agree
-          (λ j. change_keeps j k (made_anew config handler room gap) l.stations) (λ j e own at.
+          (λ j. change_keeps j k (does answer_of after (NewDevice k config handler room gap)) l.stations) (λ j e own at.
           as_it_was call l next notes noted (notes_along answer_of after (RestartReader k config handler room ∷ []) n noted) j e e at refl
-          (begun_change j k (made_anew config handler room gap) l.stations (λ t. refl)) refl (unnoted j (site_at j n.sites)))))
+          (begun_change j k (does answer_of after (NewDevice k config handler room gap)) l.stations (λ t. refl)) refl (unnoted j (site_at j n.sites)))))
         where
           unnoted : (j : ℕ) (o : Option (line.Site H)) → noted_at j o (RestartReader k config handler room) n (noted j) ≡ noted j
           unnoted j None = refl
@@ -170,34 +158,17 @@ module _ {H : Type 0} where
       call_ruled : (call : Call H) (places : List ℕ) → InOrder call places l → QuietOpening call places l → KeepsRule call l notes → InRange answer_of after call l
           → Ruled answer_of after n0 (after_call answer_of after call places l) (notes_after call l notes)
       call_ruled (OfPanel call) places order quiet rule range = panel_ruled call places order quiet rule range
-      call_ruled (SubmitEvent k event) places order quiet rule range =
-          station_ruled (SubmitEvent k event) k (λ t. queues (lacks_room event t.reader.queue) event t) (λ t. queues_begun (lacks_room event t.reader.queue) event t) (λ j d. refl)
-          (steps_to (SubmitEvent k event) places order quiet rule range) (λ s. subst (Each IsStill) (sym s.made) (tt, tt))
-      call_ruled (SetBusy k busy) places order quiet rule range =
-          let s = steps_to (SetBusy k busy) places order quiet rule range in reader_ruled (SetBusy k busy) k (after_set_busy busy) (λ j d. refl) s (subst (Each IsStill) (sym s.made) (tt, tt))
-      call_ruled (SetHandler k handler) places order quiet rule range =
-          let s = steps_to (SetHandler k handler) places order quiet rule range in reader_ruled (SetHandler k handler) k (after_set_handler handler) (λ j d. refl) s (subst (Each IsStill) (sym s.made) (tt, tt))
-      call_ruled (WithdrawEvent k) places order quiet rule range =
-          station_ruled (WithdrawEvent k) k withdraws_event (λ t. refl) (λ j d. refl) (steps_to (WithdrawEvent k) places order quiet rule range) (λ s. subst (Each IsStill) (sym s.made) (tt, tt))
-      call_ruled (LapseEvent k) places order quiet rule range =
-          station_ruled (LapseEvent k) k lapses_event (λ t. refl) (λ j d. refl) (steps_to (LapseEvent k) places order quiet rule range) (λ s. subst (Each IsStill) (sym s.made) (tt, tt))
-      call_ruled (Take k bytes now) places order quiet rule range =
-          let s = steps_to (Take k bytes now) places order quiet rule range in line_ruled (Take k bytes now) k (after_take bytes now) (λ j d. refl) s (subst (Each IsStill) (sym s.made) tt)
-      call_ruled (TickDevice k now) places order quiet rule range =
-          let s = steps_to (TickDevice k now) places order quiet rule range in line_ruled (TickDevice k now) k (after_tick now) (λ j d. refl) s (subst (Each IsStill) (sym s.made) tt)
-      call_ruled (Silence k now) places order quiet rule range =
-          let s = steps_to (Silence k now) places order quiet rule range in line_ruled (Silence k now) k (after_silence now) (λ j d. refl) s (subst (Each IsStill) (sym s.made) tt)
       call_ruled (Next k) places order quiet rule range =
           let s = steps_to (Next k) places order quiet rule range in
           rests (Next k) (after_call answer_of after (Next k) places l) s s.made (next_entries k places (site_at k l.stations) l)
           (λ j. next_begun j k places (site_at k l.stations) l refl) (λ j d. refl) (λ j. call_keeps j answer_of after (Next k) places l)
-      call_ruled (Pending k) places order quiet rule range =
-          station_ruled (Pending k) k (λ t. record t { line = record t.line { held = passed t.reader t.line.held } }) (λ t. refl) (λ j d. refl)
-          (steps_to (Pending k) places order quiet rule range) (λ s. subst (Each IsStill) (sym s.made) tt)
       call_ruled (NewDevice k config handler room gap) places order quiet rule range =
           device_ruled k config handler room gap places rule (steps_to (NewDevice k config handler room gap) places order quiet rule range)
       call_ruled (NewPanel config xs) places order quiet rule range =
           new_panel_ruled config xs places rule range (steps_to (NewPanel config xs) places order quiet rule range)
+      call_ruled call places order quiet rule range =
+          let s = steps_to call places order quiet rule range in
+          station_ruled call (device_called call) (does answer_of after call) (λ t. refl) (λ j d. refl) s (subst (Each IsStill) (sym s.made) (stills call))
 
     -- ---- a list of calls
 

@@ -1,11 +1,10 @@
 -- What changes a station and its site alone, and what calls come to.
-use Rattle.osdp_calls.proofs.Common.{◌≡◌, ℕ, Bool, List, [], ◌∷◌, Some, refl, sym, subst, ap, ◌∙◌, Command, device_of, Entry, Each, after_set_busy, Answer, NetMoveFits, some_same, changes_at, on_station, InUse, Station}
-use Rattle.osdp_link_laws.specs.Link as link
+use Rattle.osdp_calls.proofs.Common.{◌≡◌, ℕ, List, [], ◌∷◌, Some, refl, sym, subst, ◌∙◌, Command, device_of, Entry, Each, Answer, NetMoveFits, some_same, changes_at, on_station, InUse, Station}
 use Rattle.osdp_shared_line.specs.Line as line
-use Rattle.osdp_shared_line.specs.Line.{Net, NetMove, SetBusy, Site, after_net, changed, site_at}
+use Rattle.osdp_shared_line.specs.Line.{Net, NetMove, Site, after_net, changed, site_at}
 use Rattle.osdp_calls.proofs.Losing.{IsLoss, IsPlain, Reaches, stays}
 use Rattle.osdp_calls.proofs.Matching.{FoundAt, Match, Nobody, Somebody, changed_same, found, set_station}
-use Rattle.osdp_calls.proofs.Same.{IsNetOf, IsSiteOf, read_so, sites_so}
+use Rattle.osdp_calls.proofs.Same.{IsNetOf, IsSiteOf, sites_so}
 
 module _ {H : Type 0} where
   -- the sites of a line in use
@@ -113,10 +112,3 @@ module _ {H : Type 0} where
       refines = record { net = n; reached = record { moves = []; fit = tt; run = refl; plain = tt }; same = same };
       made = made;
     }
-
-    pub busying : (k : ℕ) (busy : Bool) (l : InUse H) (n : Net H) → IsNetOf l n
-        → Makes (λ moves. moves ≡ SetBusy k busy ∷ []) n (on_station k (λ t. record t { reader = after_set_busy busy t.reader }) l)
-    busying k busy l n h =
-        make_move (λ moves. moves ≡ SetBusy k busy ∷ []) (SetBusy k busy) (on_station k (λ t. record t { reader = after_set_busy busy t.reader }) l) n refl tt tt
-        (both_change k (λ t. record t { reader = after_set_busy busy t.reader }) (line.calls answer_of after (link.SetBusy busy)) l n h
-        (λ d t s is. read_so is (ap (after_set_busy busy) is.reader) is.stored))

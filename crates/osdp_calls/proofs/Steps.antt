@@ -47,7 +47,6 @@ module _ {H : Type 0} where
   device_moves (calls.SetHandler k handler) = line.SetHandler k handler ∷ []
   device_moves (calls.WithdrawEvent k) = line.WithdrawEvent k ∷ []
   device_moves (calls.LapseEvent k) = line.LapseEvent k ∷ []
-  device_moves (NewDevice k config handler room gap) = RestartReader k config handler room ∷ []
   device_moves _ = []
 
   -- a `next` that answers comes to still ones
@@ -57,6 +56,7 @@ module _ {H : Type 0} where
       (settings : ℕ → ControllerConfig × Room) × (moves ≡ RestartPanel settings ∷ [])
       × ((k a : ℕ) → site_at k addresses ≡ Some a → (settings k).0.address ≡ a)
   Made (calls.Next k) l moves = Each IsStill moves
+  Made (NewDevice k config handler room gap) l moves = moves ≡ RestartReader k config handler room ∷ []
   Made call l moves = moves ≡ device_moves call
 
   pub plain_of : (call : Call H) (move : NetMove H) → IsPlain move → IsOf call move

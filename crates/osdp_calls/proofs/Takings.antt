@@ -1,5 +1,5 @@
 -- What a panel's program takes of an entry's events, each with its mark, is what was told of the entry, and that is marked where it is told again.
-use Rattle.osdp_calls.proofs.Common.{◌≡◌, ◌≢◌, ◌⊎◌, ℕ, Bool, true, false, cond, List, [], ◌∷◌, ◌++◌, map, not, ◌&&◌, Option, Some, None, refl, sym, subst, ap, ◌∙◌, inl, inr, append-nil, append_assoc, eqb_tells, ◌==◌, option_to_list, Command, Event, Report, BusState, device_of, is_told_maybe_again, new_bus, bytes_eq, event_bytes, Remembered, may_be_again, memory_at, nothing_yet, remembers, IsBusConfig, BusConfig, Entry, TellsEachOnce, taken_along, told_along, told_in, each_of, is_false, is_true, Each, Answer, site_at, Call, NewDevice, NewPanel, Next, OfPanel, Pending, SetBusy, SetHandler, Silence, Step, SubmitEvent, Take, TickDevice, LapseEvent, WithdrawEvent, after_call, after_calls, KeepsPanel, one_panel_call, panel_calls, InUse, Station, bus_with, CallsMarkRepeats, MarksWhatIsToldAgain, all_handed, event_of, event_waiting, events_of, events_told, handed_in, is_told_again, marked, sessions_of, NoneRefused}
+use Rattle.osdp_calls.proofs.Common.{◌≡◌, ◌≢◌, ◌⊎◌, ℕ, Bool, true, false, cond, List, [], ◌∷◌, ◌++◌, map, not, ◌&&◌, Option, Some, None, refl, sym, subst, ap, ◌∙◌, inl, inr, append-nil, append_assoc, eqb_tells, ◌==◌, option_to_list, Command, Event, Report, BusState, device_of, is_told_maybe_again, new_bus, bytes_eq, event_bytes, Remembered, may_be_again, memory_at, nothing_yet, remembers, IsBusConfig, BusConfig, Entry, TellsEachOnce, taken_along, told_along, told_in, each_of, is_false, is_true, Each, Answer, site_at, Call, OfPanel, Step, after_call, after_calls, KeepsPanel, one_panel_call, panel_calls, InUse, Station, bus_with, CallsMarkRepeats, MarksWhatIsToldAgain, all_handed, event_of, event_waiting, events_of, events_told, handed_in, is_told_again, marked, sessions_of, NoneRefused}
 use Rattle.osdp_controller.specs.declared.report.Report.TheVariants as report
 use Rattle.std.proofs.lemmas.Slice.Eq.{bytes_eq-Decides}
 use Rattle.osdp_bus_laws.specs.Calls as bus
@@ -75,12 +75,7 @@ module _ (k : ℕ) where
       of_it (report.Event e) mine is =
           ap (λ m. x.marks ++ (e, may_be_again (report.Event e) m) ∷ []) (same ∙ ap (λ j. memory_at j remembered) (sym is))
           ∙ ap (λ b. x.marks ++ cond b ((e, may_be_again (report.Event e) (memory_at entry remembered)) ∷ []) []) (sym mine)
-      of_it (report.Opened id) mine is = sym (append-nil x.marks)
-      of_it (report.Settled command answer) mine is = sym (append-nil x.marks)
-      of_it (report.Moved command answered) mine is = sym (append-nil x.marks)
-      of_it (report.PollAnswered answer) mine is = sym (append-nil x.marks)
-      of_it (report.Unread command code) mine is = sym (append-nil x.marks)
-      of_it (report.Lost cause command) mine is = sym (append-nil x.marks)
+      of_it _ mine is = sym (append-nil x.marks)
 
       of_other : (r : Report) → (entry == k) ≡ false → event_of k (Some (entry, r)) (may_be_again r (memory_at entry remembered)) ≡ []
       of_other (report.Event e) other = ap (λ b. cond b ((e, may_be_again (report.Event e) (memory_at entry remembered)) ∷ []) []) other
@@ -146,26 +141,7 @@ module _ {H : Type 0} (answer_of : H → Command → Answer) (after : H → Comm
   one_taken (OfPanel bus.NextReport) l x same =
       ap (λ told. (those next k told x).marks) (append-nil (option_to_list l.bus.devices.report))
       ∙ waits_with k l.bus.devices.report l.bus.remembered x same
-  one_taken (OfPanel (bus.Add address)) l x same = sym (append-nil x.marks)
-  one_taken (OfPanel (bus.Begin entry now)) l x same = sym (append-nil x.marks)
-  one_taken (OfPanel (bus.Submit entry command)) l x same = sym (append-nil x.marks)
-  one_taken (OfPanel (bus.Withdraw entry)) l x same = sym (append-nil x.marks)
-  one_taken (OfPanel (bus.Retarget entry address)) l x same = sym (append-nil x.marks)
-  one_taken (OfPanel (bus.OnBytes bytes now)) l x same = sym (append-nil x.marks)
-  one_taken (OfPanel (bus.OnSilence now)) l x same = sym (append-nil x.marks)
-  one_taken (OfPanel (bus.Tick now)) l x same = sym (append-nil x.marks)
-  one_taken (SubmitEvent i event) l x same = sym (append-nil x.marks)
-  one_taken (SetBusy i busy) l x same = sym (append-nil x.marks)
-  one_taken (SetHandler i handler) l x same = sym (append-nil x.marks)
-  one_taken (WithdrawEvent i) l x same = sym (append-nil x.marks)
-  one_taken (LapseEvent i) l x same = sym (append-nil x.marks)
-  one_taken (Take i bytes now) l x same = sym (append-nil x.marks)
-  one_taken (TickDevice i now) l x same = sym (append-nil x.marks)
-  one_taken (Silence i now) l x same = sym (append-nil x.marks)
-  one_taken (Next i) l x same = sym (append-nil x.marks)
-  one_taken (Pending i) l x same = sym (append-nil x.marks)
-  one_taken (NewDevice i config handler room gap) l x same = sym (append-nil x.marks)
-  one_taken (NewPanel config addresses) l x same = sym (append-nil x.marks)
+  one_taken _ l x same = sym (append-nil x.marks)
 
   -- with what waits at the end
   steps_take : (steps : List (Step H)) (l : InUse H) (taken : List (ℕ × Report)) → Each (λ (step : Step H). KeepsPanel step.call) steps

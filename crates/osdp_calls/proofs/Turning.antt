@@ -1,9 +1,9 @@
 -- What a turn does is what its calls do.
-use Rattle.osdp_calls.proofs.Common.{◌≡◌, ℕ, List, [], ◌∷◌, Option, Some, None, refl, ap, ◌∙◌, Command, passed, pending_of, settles, turned_by, after_take, next_told, site_at, at_changed, after_set_handler, Answer, Next, after_call, after_calls, after_next, changes_at, nexts, on_station, InUse, Station, IsTurned, TurnsByCalls, asks, settle_calls, settles_by}
+use Rattle.osdp_calls.proofs.Common.{◌≡◌, ℕ, List, Option, Some, refl, ap, ◌∙◌, Command, passed, pending_of, turned_by, after_take, next_told, site_at, at_changed, after_set_handler, Answer, Next, after_call, after_calls, after_next, changes_at, nexts, on_station, InUse, Station, IsTurned, TurnsByCalls, settle_calls, settles_by}
 use Rattle.osdp_device.specs.Program.{program_after, program_answer}
 use Rattle.osdp_device.specs.declared.program.ProgramAnswers.{ProgramAnswers}
 use Rattle.osdp_device.specs.declared.question.Question.{Question}
-use Rattle.osdp_device.specs.declared.question.Question.TheVariants.{Answered, Asked, NotAsked}
+use Rattle.osdp_device.specs.declared.question.Question.TheVariants.{Asked, NotAsked}
 
 -- a station after a call that changes it alone
 at_station : {H : Type 0} (k : ℕ) (change : Station H → Station H) (t : Station H) (l : InUse H) → site_at k l.stations ≡ Some t
@@ -14,10 +14,10 @@ at_station k change t l is =
 -- .. and after a `next`
 at_next : {H : Type 0} (answer_of : H → Command → Answer) (after : H → Command → H) (k : ℕ) (places : List ℕ)
     (t : Station H) (l : InUse H) → site_at k l.stations ≡ Some t
-    → site_at k (after_call answer_of after (Next k) places l).stations ≡ Some (nexts answer_of after places t)
+    → site_at k (after_call answer_of after (Next k) places l).stations ≡ Some (nexts answer_of after k places t)
 at_next answer_of after k places t l is =
     ap (λ o. site_at k (after_next answer_of after k places o l).stations) is
-    ∙ at_changed k (nexts answer_of after places t) t l.stations is
+    ∙ at_changed k (nexts answer_of after k places t) t l.stations is
 
 record IsTurnedBy (k : ℕ) (places : List ℕ) (t : Station ProgramAnswers) (l : InUse ProgramAnswers) (question : Question) (pending : Option Command) : Type 0 where
   station : Station ProgramAnswers
@@ -39,37 +39,21 @@ stops_so k places command t l is =
       line = refl;
     }
 
--- the next packet is answered
-record IsAnswered (k : ℕ) (places : List ℕ) (t : Station ProgramAnswers) (l : InUse ProgramAnswers) : Type 0 where
-  station : Station ProgramAnswers
-  there : site_at k (after_calls program_answer program_after
-      (record { call = Next k; places = places }
-      ∷ asks k NotAsked (next_told program_answer program_after t.reader t.line.held).reader.handler ∷ []) l).stations ≡ Some station
-  reader : station.reader ≡ (settles (next_told program_answer program_after t.reader t.line.held)).reader
-  line : station.line ≡ record t.line { held = (next_told program_answer program_after t.reader t.line.held).held }
-
-answers_so : (k : ℕ) (places : List ℕ) (t : Station ProgramAnswers) (l : InUse ProgramAnswers) → site_at k l.stations ≡ Some t → IsAnswered k places t l
-answers_so k places t l is =
+-- .. or the next packet is answered
+settles_so : (k : ℕ) (places : List ℕ) (t : Station ProgramAnswers) (l : InUse ProgramAnswers) → site_at k l.stations ≡ Some t
+    → (question : Question) (pending : Option Command) → IsTurnedBy k places t l question pending
+settles_so k places t l is NotAsked (Some command) = stops_so k places command t l is
+settles_so k places t l is _ _ =
     let told = next_told program_answer program_after t.reader t.line.held in
     let asked : ProgramAnswers = record told.reader.handler { question = NotAsked } in
     let sets : Station ProgramAnswers → Station ProgramAnswers = λ u. record u { reader = after_set_handler asked u.reader } in
-    let u : Station ProgramAnswers = nexts program_answer program_after places t in
+    let u : Station ProgramAnswers = nexts program_answer program_after k places t in
     record {
       station = sets u;
       there = at_station k sets u (after_call program_answer program_after (Next k) places l) (at_next program_answer program_after k places t l is);
       reader = refl;
       line = refl;
     }
-
-settles_so : (k : ℕ) (places : List ℕ) (t : Station ProgramAnswers) (l : InUse ProgramAnswers) → site_at k l.stations ≡ Some t
-    → (question : Question) (pending : Option Command) → IsTurnedBy k places t l question pending
-settles_so k places t l is NotAsked (Some command) = stops_so k places command t l is
-settles_so k places t l is NotAsked None =
-    let a = answers_so k places t l is in record { station = a.station; there = a.there; reader = a.reader; line = a.line }
-settles_so k places t l is Asked pending =
-    let a = answers_so k places t l is in record { station = a.station; there = a.there; reader = a.reader; line = a.line }
-settles_so k places t l is (Answered answer) pending =
-    let a = answers_so k places t l is in record { station = a.station; there = a.there; reader = a.reader; line = a.line }
 
 settled : (k : ℕ) (places : List ℕ) (t : Station ProgramAnswers) (l : InUse ProgramAnswers) → site_at k l.stations ≡ Some t
     → IsTurned k (settle_calls k places t) t t.line l

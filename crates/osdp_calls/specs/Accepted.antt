@@ -12,6 +12,7 @@ use Rattle.osdp_shared_line.specs.Line.{site_at}
 use Rattle.osdp_calls.specs.Calls.{Call, OfPanel, Step, SubmitEvent, after_call}
 use Rattle.osdp_calls.specs.Lines.{InUse, Station}
 
+-- the command that a call of the panel has accepted for the entry at this place
 abbrev pub accepted_by_panel : ℕ → bus.Call → BusState → List Command
 accepted_by_panel k (bus.Submit entry command) b = if entry == k then changed_unless (submit_refusal_at entry command b) [] (command ∷ []) else []
 accepted_by_panel k _ b = []
@@ -38,6 +39,7 @@ module _ {H : Type 0} where
     all_accepted k [] l = []
     all_accepted k (step ∷ steps) l = accepted_by k step.call l ++ all_accepted k steps (after_call answer_of after step.call step.places l)
 
+    -- .. and the events of a list of calls
     abbrev pub all_queued : ℕ → List (Step H) → InUse H → List Event
     all_queued k [] l = []
     all_queued k (step ∷ steps) l = queued_by k step.call l ++ all_queued k steps (after_call answer_of after step.call step.places l)

@@ -57,6 +57,7 @@ is_before o place b = nat_lt place o.place && concerns o b
 abbrev pub is_past_for_panel : List Opening → ℕ → Burst → Bool
 is_past_for_panel openings place b = list_any (λ o. is_before o place b) openings
 
+-- .. by the device of this entry, where the opening is of its own
 abbrev pub is_past_for_device : ℕ → List Opening → ℕ → Burst → Bool
 is_past_for_device k openings place b = list_any (λ o. (o.entry == k) && is_before o place b) openings
 
@@ -69,6 +70,7 @@ those test place (b ∷ bs) = if test place b then (b.entry, b.packet) ∷ those
 abbrev pub is_ahead_of_device : ℕ → ℕ → List Opening → ℕ → Burst → Bool
 is_ahead_of_device k from openings place b = b.by_panel && (nat_le from place && not (is_past_for_device k openings place b))
 
+-- .. each packet with the entry that it was said for
 abbrev pub ahead_of_device : ℕ → ℕ → List Opening → List Burst → List (ℕ × Packet)
 ahead_of_device k from openings said = those (is_ahead_of_device k from openings) 0 said
 
@@ -76,5 +78,6 @@ ahead_of_device k from openings said = those (is_ahead_of_device k from openings
 abbrev pub is_ahead_of_panel : ℕ → List Opening → ℕ → Burst → Bool
 is_ahead_of_panel from openings place b = not b.by_panel && (nat_le from place && not (is_past_for_panel openings place b))
 
+-- .. each packet with the entry whose device said it
 abbrev pub ahead_of_panel : ℕ → List Opening → List Burst → List (ℕ × Packet)
 ahead_of_panel from openings said = those (is_ahead_of_panel from openings) 0 said

@@ -69,11 +69,13 @@ handed_by_panel k bus.NextReport b = event_waiting k b
 handed_by_panel k _ b = []
 
 module _ {H : Type 0} where
+  -- .. a call of the line
   abbrev pub handed_in : ℕ → Call H → InUse H → List (Event × Bool)
   handed_in k (OfPanel call) l = handed_by_panel k call l.bus
   handed_in k _ l = []
 
   module _ (answer_of : H → Command → Answer) (after : H → Command → H) where
+    -- .. and a list of calls hands over these, in their order
     abbrev pub all_handed : ℕ → List (Step H) → InUse H → List (Event × Bool)
     all_handed k [] l = []
     all_handed k (step ∷ steps) l = handed_in k step.call l ++ all_handed k steps (after_call answer_of after step.call step.places l)

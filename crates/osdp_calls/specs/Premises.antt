@@ -67,6 +67,7 @@ module _ {H : Type 0} where
   NextInOrder l places None = Unit {0}
   NextInOrder l places (Some t) = AreInOrder (IsOfOthers l) l.said (read_up_to t.reader (items_of t.line.held)) places t.place
 
+  -- .. so of each call. Only calls of the panel and `next` of a device read packets.
   abbrev pub InOrder : Call H → List ℕ → InUse H → Type 0
   InOrder (OfPanel call) places l = AreInOrder (IsOfOthers l) l.said (read_by call l.bus) places l.place
   InOrder (Next k) places l = NextInOrder l places (site_at k l.stations)
@@ -145,11 +146,13 @@ module _ {H : Type 0} where
     NextInRange None = Unit {0}
     NextInRange (Some t) = All (λ p. IfSome (hears answer_of after t.reader p).said ReplyFits) (read_up_to t.reader (items_of t.line.held))
 
+    -- .. of a call of the panel
     abbrev pub PanelInRange : bus.Call → Type 0
     PanelInRange (bus.Submit k command) = CommandFits command
     PanelInRange (bus.Add address) = ⊥
     PanelInRange _ = Unit {0}
 
+    -- .. of any call. A panel that is made anew has as many entries as there are devices of ours, at least.
     abbrev pub InRange : Call H → InUse H → Type 0
     InRange (OfPanel call) l = PanelInRange call
     InRange (Next k) l = NextInRange (site_at k l.stations)
@@ -165,6 +168,7 @@ module _ {H : Type 0} where
       pub addresses : Addresses step.call l
       pub in_range : InRange step.call l
 
+    -- .. each where the calls before it have brought the line
     abbrev pub AllKeep : List (Step H) → InUse H → Type 0
     AllKeep [] l = Unit {0}
     AllKeep (step ∷ steps) l = Keeps step l × AllKeep steps (after_call answer_of after step.call step.places l)

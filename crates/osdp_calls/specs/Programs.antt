@@ -62,6 +62,7 @@ PanelKeepsRule (bus.Retarget k address) b notes =
 PanelKeepsRule _ b notes = Unit {0}
 
 module _ {H : Type 0} where
+  -- what is noted of each entry at first
   abbrev pub first_notes : InUse H → ℕ → Note
   first_notes l k = first_note (device_of k l.bus)
 
@@ -72,6 +73,7 @@ module _ {H : Type 0} where
   noted_of k (Some d) (NewPanel config addresses) l note = also_at (address_of d ∷ []) note
   noted_of k (Some d) _ l note = note
 
+  -- .. of each entry
   abbrev pub notes_after : Call H → InUse H → (ℕ → Note) → ℕ → Note
   notes_after call l notes k = noted_of k (device_of k l.bus) call l (notes k)
 
@@ -91,6 +93,7 @@ module _ {H : Type 0} where
       pub rule : KeepsRule step.call l notes
       pub in_range : InRange answer_of after step.call l
 
+    -- .. each call of a list, with what was noted by the calls before it
     abbrev pub AllKeepRule : List (Step H) → InUse H → (ℕ → Note) → Type 0
     AllKeepRule [] l notes = Unit {0}
     AllKeepRule (step ∷ steps) l notes =

@@ -77,6 +77,7 @@ module _ {H : Type 0} (answer_of : H → Command → Answer) (after : H → Comm
     pub response : (next_told answer_of after t.reader t.line.held).said ≡ option_map (said_to answer_of after t.reader) answered
     pub said : IsSaid (ByDevice k) (reply_to answer_of after answered t.reader) l.said (after_call answer_of after (Next k) places l).said
 
+  -- What is said at a tick is the frame that goes out, where it is for an entry of ours. What is said at a `next` is as `NextSays` has it.
   pub record SaysWhatGoesOut (l : InUse H) : Type 0 where
     pub panel : (now : ℕ) (places : List ℕ)
         → IsSaid (ByPanel now l.bus) (for_ours (asked_at now l.bus) (bus_ticks now l.bus).sent l) l.said (after_call answer_of after (OfPanel (bus.Tick now)) places l).said

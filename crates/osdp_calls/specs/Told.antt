@@ -32,6 +32,7 @@ module _ {H : Type 0} where
     taken_at None = []
     taken_at (Some t) = acted_on (next_told answer_of after t.reader t.line.held).said
 
+    -- .. where the call is a `next` of that device
     abbrev pub taken_by : ℕ → Call H → InUse H → List Command
     taken_by k (Next entry) l = if entry == k then taken_at (site_at entry l.stations) else []
     taken_by k _ l = []

@@ -28,6 +28,7 @@ settles_by k places _ _ t =
     record { call = Next k; places = places }
     ∷ asks k NotAsked (next_told program_answer program_after t.reader t.line.held).reader.handler ∷ []
 
+-- .. with the question that the program has had and the command that is pending
 abbrev pub settle_calls : ℕ → List ℕ → Station ProgramAnswers → List (Step ProgramAnswers)
 settle_calls k places t = settles_by k places t.reader.handler.question (pending_of t.reader t.line.held) t
 
@@ -43,6 +44,7 @@ pub record IsTurned (k : ℕ) (calls : List (Step ProgramAnswers)) (t : Station 
   pub reader : station.reader ≡ (turned t.reader received.held).reader
   pub line : station.line ≡ record received { held = (turned t.reader received.held).held }
 
+-- what `settle` and `turn` make of a device is what their calls make of it
 pub record TurnsByCalls (l : InUse ProgramAnswers) : Type 0 where
   pub settle : (k : ℕ) (places : List ℕ) (t : Station ProgramAnswers) → site_at k l.stations ≡ Some t
       → IsTurned k (settle_calls k places t) t t.line l

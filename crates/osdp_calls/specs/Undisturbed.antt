@@ -3,6 +3,7 @@ use Rattle.std.specs.Prelude.{◌≢◌, ℕ}
 use Rattle.osdp_bus_laws.specs.Calls as bus
 use Rattle.osdp_calls.specs.Calls.{Call, NewDevice, NewPanel, OfPanel, LapseEvent, WithdrawEvent}
 
+-- a call of the panel takes back no command of this entry
 abbrev pub LeavesCommandsOf : ℕ → bus.Call → Type 0
 LeavesCommandsOf k (bus.Withdraw entry) = entry ≢ k
 LeavesCommandsOf k _ = Unit {0}

@@ -21,8 +21,8 @@ pub use Rattle.osdp_link_laws.proofs.Stages.{Each}
 pub use Rattle.osdp_reader.specs.Queue.{has_room, lacks_room}
 pub use Rattle.osdp_reader.specs.State.{after_lapse_event, after_set_busy, after_submit, after_submit_if, after_withdraw_event, new_reader, ReaderState}
 pub use Rattle.osdp_reader.specs.declared.handler.Answer.{Answer}
-pub use Rattle.osdp_calls.specs.Calls.{after_call, after_calls, after_panel, asked_at, begins_session, begins_with, begun_of, by_device, Call, change_at, changes_at, first_answered, is_to_begin, last_of, NewDevice, NewPanel, Next, OfPanel, panel_says, Pending, read_by as panel_reads, read_up_to, reply_to, said_for, SetBusy, SetHandler, Silence, Step, SubmitEvent, Take, TickDevice, LapseEvent, WithdrawEvent}
-pub use Rattle.osdp_calls.specs.Ends.{device_after, device_after_all, GoByTheirOwn, Held, held_by, is_of_device, KeepsPanel, one_panel_call, panel_calls, takes_event}
+pub use Rattle.osdp_calls.specs.Calls.{after_call, after_calls, after_panel, asked_at, begins_session, begins_with, begun_of, by_device, Call, change_at, changes_at, first_answered, is_to_begin, last_of, NewDevice, NewPanel, Next, OfPanel, panel_says, Pending, read_by as panel_reads, read_up_to, reply_to, said_for, SetBusy, SetHandler, Silence, Step, SubmitEvent, Take, TickDevice, LapseEvent, WithdrawEvent, device_after, Held, held_by, takes_event}
+pub use Rattle.osdp_calls.specs.Ends.{device_after_all, GoByTheirOwn, is_of_device, KeepsPanel, one_panel_call, panel_calls}
 pub use Rattle.osdp_calls.specs.Sayings.{acted_on, AddsMakeTheBus, after_hearing, NoneRefused}
 pub use Rattle.osdp_calls_instance.specs.OwnCalls.{after_each, after_own, all_calls, AllFit, AreDeviceCalls, ArePanelCalls, AtDevice, AtPanel, bus_after, bus_after_each, calls_at, calls_by, CallTheLine, device_after_each, DeviceKind, devices_after, FitsAt, IsLineOf, IsOfDevice, IsOfPanel, OwnCall, OwnFits, PanelKind, Programs}
 pub use Rattle.osdp_device.specs.declared.events.Expired.{Expired}
@@ -58,7 +58,8 @@ pub use Rattle.osdp_msg.specs.declared.command_fields.Communication.{Communicati
 pub use Rattle.osdp_shared_line.specs.Addresses.{Sets, SetsReader, Somewhere}
 pub use Rattle.osdp_shared_line.specs.Programs.{Note}
 pub use Rattle.osdp_calls.specs.Programs.{AllKeepRule, CallsRuleSuffices, first_notes, IsKnown, KeepsRule, notes_after}
-pub use Rattle.osdp_calls_instance.specs.Instance.{away, four, settings, station_at}
+pub use Rattle.osdp_premises.specs.LongDay.{away, four, station_at}
+pub use Rattle.osdp_calls_instance.specs.Instance.{settings}
 pub use Rattle.osdp_calls_instance.specs.TwoEntries.{once, two_after, two_calls, two_set_up, TwoCallsKeep}
 pub use Rattle.osdp_sim_bus.specs.Runs.{are_apart, AreSettings, FitAlong, is_at, is_reader_in_range, is_well, run}
 pub use Rattle.osdp_calls_instance.specs.SimulatedBus.{after_device_step, all_hear, AreItsCalls, begin_calls, Begins, burst_calls, BurstFits, device_step_calls, DeviceStep, HandsBytes, hears_burst, HearsBurst, HearsRun, IsBusy, line_at_first, new_held, new_station, panel_step_calls, PanelStep, programs_at_first, Queues, run_calls, run_over, RunIsCalls, RunsFromASetUp, schedule_calls, sim_device, sim_panel, SimCall, step_calls, Submits, Waits}

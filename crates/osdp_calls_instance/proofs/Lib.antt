@@ -1,7 +1,5 @@
 pub mod Common
 mod Keeping
-mod TwoCalls
-mod RuleKept
 pub mod OwnCalls
 pub mod LinePrograms
 pub mod CPrograms

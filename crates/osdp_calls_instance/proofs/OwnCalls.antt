@@ -1,5 +1,7 @@
 -- Whatever programs call by calls of their own, the line in use goes where they go.
-use Rattle.osdp_calls_instance.proofs.Common.{◌≡◌, ◌≢◌, ◌⊎◌, ℕ, true, false, cond, List, [], ◌∷◌, ◌++◌, map, Option, Some, None, refl, sym, subst, ap, ◌∙◌, inl, inr, ◌==◌, eqb_tells, Command, BusState, each_all, each_of, Each, Answer, changed, site_at, at_changed, at_other, some_same, Call, NewDevice, NewPanel, Next, OfPanel, Pending, SetBusy, SetHandler, Silence, Step, SubmitEvent, Take, TickDevice, after_call, after_calls, LapseEvent, WithdrawEvent, GoByTheirOwn, Held, KeepsPanel, device_after, device_after_all, held_by, is_of_device, panel_calls, InUse, AreDeviceCalls, ArePanelCalls, AtDevice, AtPanel, CallTheLine, DeviceKind, FitsAt, IsLineOf, IsOfDevice, IsOfPanel, OwnCall, OwnFits, PanelKind, Programs, after_each, after_own, all_calls, bus_after, bus_after_each, calls_at, calls_by, device_after_each, devices_after}
+use Rattle.osdp_calls_instance.proofs.Common.{◌≡◌, ◌≢◌, ◌⊎◌, ℕ, true, false, cond, List, [], ◌∷◌, ◌++◌, map, Option, Some, None, refl, sym, subst, ap, ◌∙◌, inl, inr, ◌==◌, eqb_tells, Command, BusState, each_all, each_of, Each, Answer, changed, site_at, at_changed, at_other, some_same, Call, NewPanel, OfPanel, Step, after_call, after_calls, GoByTheirOwn, Held, KeepsPanel, device_after, device_after_all, held_by, is_of_device, panel_calls, InUse, AreDeviceCalls, ArePanelCalls, AtDevice, AtPanel, CallTheLine, DeviceKind, FitsAt, IsLineOf, IsOfDevice, IsOfPanel, OwnCall, OwnFits, PanelKind, Programs, after_each, after_own, all_calls, bus_after, bus_after_each, calls_at, calls_by, device_after_each, devices_after}
+use Rattle.osdp_calls.specs.Calls.{device_called}
+use Rattle.osdp_calls.specs.Ends.{is_called}
 use Rattle.osdp_bus_laws.specs.Calls as bus
 
 -- ---- lists of steps
@@ -57,19 +59,8 @@ module _ {H : Type 0} where
 
       -- the bus after a call
       bus_is : (call : Call H) (places : List ℕ) (l : InUse H) → (after_call answer_of after call places l).bus ≡ bus_after call l.bus
-      bus_is (OfPanel call) places l = keeps_bus (OfPanel call) places l tt
       bus_is (NewPanel config addresses) places l = refl
-      bus_is (SubmitEvent i event) places l = keeps_bus (SubmitEvent i event) places l tt
-      bus_is (SetBusy i busy) places l = keeps_bus (SetBusy i busy) places l tt
-      bus_is (SetHandler i handler) places l = keeps_bus (SetHandler i handler) places l tt
-      bus_is (WithdrawEvent i) places l = keeps_bus (WithdrawEvent i) places l tt
-      bus_is (LapseEvent i) places l = keeps_bus (LapseEvent i) places l tt
-      bus_is (Take i bytes now) places l = keeps_bus (Take i bytes now) places l tt
-      bus_is (TickDevice i now) places l = keeps_bus (TickDevice i now) places l tt
-      bus_is (Silence i now) places l = keeps_bus (Silence i now) places l tt
-      bus_is (Next i) places l = keeps_bus (Next i) places l tt
-      bus_is (Pending i) places l = keeps_bus (Pending i) places l tt
-      bus_is (NewDevice i config handler room gap) places l = keeps_bus (NewDevice i config handler room gap) places l tt
+      bus_is call places l = keeps_bus call places l tt
 
       -- the bus after a list of steps
       pub each_bus : (steps : List (Step H)) (l : InUse H) → (after_calls answer_of after steps l).bus ≡ bus_after_each (map call_of steps) l.bus
@@ -81,19 +72,11 @@ module _ {H : Type 0} where
   -- ---- whose calls they are
 
   other_device : (k j : ℕ) (call : Call H) → j ≢ k → IsOfDevice k call → is_of_device j call ≡ false
-  other_device k j (OfPanel call) differ is = refl
-  other_device k j (SubmitEvent i event) differ is = is_other i k j is differ
-  other_device k j (SetBusy i busy) differ is = is_other i k j is differ
-  other_device k j (SetHandler i handler) differ is = is_other i k j is differ
-  other_device k j (WithdrawEvent i) differ is = is_other i k j is differ
-  other_device k j (LapseEvent i) differ is = is_other i k j is differ
-  other_device k j (Take i bytes now) differ is = is_other i k j is differ
-  other_device k j (TickDevice i now) differ is = is_other i k j is differ
-  other_device k j (Silence i now) differ is = is_other i k j is differ
-  other_device k j (Next i) differ is = is_other i k j is differ
-  other_device k j (Pending i) differ is = is_other i k j is differ
-  other_device k j (NewDevice i config handler room gap) differ is = is_other i k j is differ
-  other_device k j (NewPanel config addresses) differ is = refl
+  other_device k j call differ is = by_entry (device_called call) is
+    where
+      by_entry : (o : Option ℕ) → is_called k o ≡ true → is_called j o ≡ false
+      by_entry None none = refl
+      by_entry (Some i) mine = is_other i k j mine differ
 
   no_device : (k : ℕ) (call : Call H) → IsOfPanel call → is_of_device k call ≡ false
   no_device k (OfPanel call) is = refl

@@ -165,7 +165,7 @@ module _ {H : Type 0} where
     device_calls : (k : ℕ) (own : DeviceStep) (w : Here answer_of after) → Each (IsOfDevice k) (calls_at sim_panel (sim_device answer_of after) k own (site_at k w.devices))
     device_calls k own w = by_device (site_at k w.devices)
       where
-        by_device : (o : Option (Rattle.osdp_calls.specs.Ends.Held H)) → Each (IsOfDevice k) (calls_at sim_panel (sim_device answer_of after) k own o)
+        by_device : (o : Option (Rattle.osdp_calls.specs.Calls.Held H)) → Each (IsOfDevice k) (calls_at sim_panel (sim_device answer_of after) k own o)
         by_device None = tt
         by_device (Some d) =
             each_of (IsOfDevice k) (calls_at sim_panel (sim_device answer_of after) k own (Some d)) ((sim_devices_are answer_of after).end k own d)

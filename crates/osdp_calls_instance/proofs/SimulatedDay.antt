@@ -1,25 +1,18 @@
 -- The schedules are taken, step by step.
-use Rattle.osdp_calls_instance.proofs.Common.{◌≡◌, ◌<◌, ◌≤◌, ℕ, zero, suc, Bool, true, false, List, [], ◌∷◌, ◌++◌, length, refl, arith, and_parts, ltb-true, nat_lt, slice_index, take, AreBytes, packed, IsPacket, largest, packet_length, Sum, KeypadFits, Command, bus_in_range, each_all, Answer, handed, SaysFit, Move, Deliver, Drop, SimStep, AreSettings, run, LineState, ReaderSite, set_up, first_notes, four, all_calls, begin_calls, line_at_first, programs_at_first, schedule_calls, sim_device, sim_panel, IsTaken, OrdersNoComset, once}
+use Rattle.osdp_calls_instance.proofs.Common.{◌≡◌, ◌<◌, ◌≤◌, ℕ, zero, suc, Bool, true, false, List, [], ◌∷◌, ◌++◌, length, refl, arith, and_parts, ltb-true, nat_lt, take, AreBytes, packed, IsPacket, largest, packet_length, Sum, Command, bus_in_range, each_all, Answer, handed, SaysFit, Move, Deliver, Drop, SimStep, AreSettings, run, LineState, ReaderSite, set_up, first_notes, four, all_calls, begin_calls, line_at_first, programs_at_first, schedule_calls, sim_device, sim_panel, IsTaken, OrdersNoComset, once}
 use Rattle.osdp_frame.specs.Held.{decided}
 use Rattle.osdp_frame.specs.Items.{items, left_over, packets_in}
 use Rattle.osdp_msg.specs.CommandTable.{command_at, command_fault, command_of}
 use Rattle.osdp_msg.specs.ReplyTable.{reply_at, reply_fault, reply_of}
 use Rattle.osdp_premises.specs.Deciding.{each_of}
 use Rattle.osdp_calls_instance.specs.SimulatedDay.{SomeSchedulesAreTaken, moving_steps, some_steps, two_given}
-use Rattle.osdp_calls_instance.proofs.Keeping.{id_fits}
+use Rattle.osdp_premises.proofs.LongDay.{id_fits, key_fits}
 use Rattle.osdp_calls_instance.proofs.SimulatedRule.{ruled_anywhere}
 
 are_bytes : (xs : List ℕ) → each_of (λ b. nat_lt b 256) xs ≡ true → AreBytes xs
 are_bytes [] is place = omega arith
 are_bytes (x ∷ xs) is zero = ltb-true x 256 (and_parts (nat_lt x 256) (each_of (λ b. nat_lt b 256) xs) is).0
 are_bytes (x ∷ xs) is (suc place) = are_bytes xs (and_parts (nat_lt x 256) (each_of (λ b. nat_lt b 256) xs) is).1 place
-
-key_bytes : (i : ℕ) → slice_index (49 ∷ []) i < 256
-key_bytes zero = omega arith
-key_bytes (suc i) = omega arith
-
-key_fits : KeypadFits (record { reader = 0; digits = record { items = 49 ∷ [] } })
-key_fits = record { reader = omega arith; room = omega arith; digits = key_bytes }
 
 packet_fits : (reply : Bool) (address number : ℕ) (body : List ℕ) → address < 128 → number < 4 → each_of (λ b. nat_lt b 256) body ≡ true → 0 < length body
     → packet_length (packed reply address number Sum false 0 body) ≤ largest → IsPacket (packed reply address number Sum false 0 body)
@@ -55,7 +48,7 @@ module _ {H : Type 0} (answer_of : H → Command → Answer) (after : H → Comm
   abbrev Says : Move → LineState H → ReaderSite H → Type 0
   Says move s site = SaysFit answer_of after (packets_in (handed move s.to_readers)) site.reader
 
-  settings : (handler : H) → AreSettings once (two_given handler)
+  pub settings : (handler : H) → AreSettings once (two_given handler)
   settings handler = record { each = refl; bus = bus_in_range Sum four 1 ((omega arith, omega arith), omega arith, omega arith) (omega arith, omega arith) }
 
   some_is_taken : (handler : H) → IsTaken answer_of after once (two_given handler) some_steps

@@ -1,13 +1,13 @@
 -- Calls of a device that reads one burst, and calls of the panel: where each packet that they read is a copy of the burst at a place, they keep
 -- order and quiet openings with that place.
-use Rattle.osdp_calls_instance.proofs.Common.{◌≡◌, ◌≢◌, ◌⊎◌, ◌≤◌, ℕ, zero, suc, Bool, true, false, List, [], ◌∷◌, ◌++◌, map, Option, Some, None, refl, sym, subst, ap, ◌∙◌, arith, append_assoc, append-nil, inl, inr, ◌==◌, ◌&&◌, ◌||◌, Command, Event, Packet, items_of, each_all, Each, ReaderState, Answer, lacks_room, site_at, at_changed, at_other, some_same, GoByTheirOwn, Held, device_after, held_by, Burst, InUse, Opening, Station, is_before, is_past_for_device, is_past_for_panel, AreInOrder, AreNotPast, InOrder, IsOfOthers, NextInOrder, QuietOpening, IsOfDevice, AllOrdered, IsOrdered}
+use Rattle.osdp_calls_instance.proofs.Common.{◌≡◌, ◌≢◌, ◌⊎◌, ◌≤◌, ℕ, zero, suc, Bool, true, false, List, [], ◌∷◌, ◌++◌, map, Option, Some, None, refl, sym, subst, ap, ◌∙◌, arith, append_assoc, append-nil, inl, inr, ◌==◌, ◌&&◌, ◌||◌, Command, Packet, items_of, each_all, Each, ReaderState, Answer, site_at, at_changed, at_other, some_same, GoByTheirOwn, Held, device_after, held_by, Burst, InUse, Opening, Station, is_before, is_past_for_device, is_past_for_panel, AreInOrder, AreNotPast, InOrder, IsOfOthers, NextInOrder, QuietOpening, IsOfDevice, AllOrdered, IsOrdered}
 use Rattle.osdp_bus_laws.specs.Calls as bus
-use Rattle.osdp_calls.specs.Calls.{Call, Next, OfPanel, Pending, SetBusy, SetHandler, Silence, Step, SubmitEvent, Take, TickDevice, after_call, after_calls, after_next, by_device, changes_at, last_of, nexts, on_station, queues, read_by, read_up_to, LapseEvent, WithdrawEvent}
+use Rattle.osdp_calls.specs.Calls.{Call, NewDevice, NewPanel, Next, OfPanel, Step, after_call, after_calls, after_next, by_device, changes_at, device_called, does, last_of, nexts, on_called, on_station, read_by, read_up_to}
 use Rattle.osdp_calls_instance.proofs.OwnCalls.{of_device}
 use Rattle.osdp_calls_instance.proofs.SimulatedLists.{place_then, same_number}
 use Rattle.osdp_calls_instance.proofs.SimulatedReads.{CallGood, CallsGood, reads_good}
 use Rattle.osdp_calls_instance.proofs.SimulatedReplies.{replies_by, replies_each}
-use Rattle.osdp_calls.proofs.Ruling.{queues_begun}
+use Rattle.osdp_calls.specs.Ends.{is_called}
 
 -- ---- places
 
@@ -184,9 +184,12 @@ module _ {H : Type 0} where
       other_at None j other = refl
       other_at (Some u) j other = at_other j k (change u) l.stations other
 
-  queue_place : (full : Bool) (event : Event) (t : Station H) → (queues full event t).place ≡ t.place
-  queue_place true event t = refl
-  queue_place false event t = refl
+  -- .. where it is the device that is called
+  on_that : (k i : ℕ) (o : Option ℕ) (change : Station H → Station H) (l : InUse H) (t : Station H) → is_called k o ≡ true → site_at k l.stations ≡ Some t
+      → (change t).begun ≡ t.begun → (change t).place ≡ t.place → SpokeBy k i [] l (on_called o change l)
+  on_that k i None change l t none at begun place = absurd (let e = none in cc)
+  on_that k i (Some j) change l t mine at begun place =
+      subst (λ (m : ℕ). SpokeBy k i [] l (on_station m change l)) (sym (same_number j k mine)) (on_one k i change l t at begun place)
 
   module _ (answer_of : H → Command → Answer) (after : H → Command → H) where
     abbrev pub after_placed : ℕ → Call H → InUse H → InUse H
@@ -208,11 +211,11 @@ module _ {H : Type 0} where
           place = refl;
           openings = refl;
           said = refl;
-          others = λ j other. at_other j k (nexts answer_of after (at_place i reads) t) l.stations other;
+          others = λ j other. at_other j k (nexts answer_of after k (at_place i reads) t) l.stations other;
           mine = λ u there.
               let same : t ≡ u = some_same t u (sym at ∙ there) in (
-                nexts answer_of after (at_place i reads) t,
-                at_changed k (nexts answer_of after (at_place i reads) t) t l.stations at,
+                nexts answer_of after k (at_place i reads) t,
+                at_changed k (nexts answer_of after k (at_place i reads) t) t l.stations at,
                 ap (λ (x : Station H). x.begun) same,
                 subst (λ (x : Station H). (last_of (at_place i reads) t.place ≡ x.place) ⊎ (last_of (at_place i reads) t.place ≡ i)) same (last_place i t.place reads),
               );
@@ -225,49 +228,26 @@ module _ {H : Type 0} where
     one_spoke : (k i : ℕ) (call : Call H) (l : InUse H) (t : Station H) (Good : ReaderState H → Packet → Type 0) → IsOfDevice k call
         → CallGood answer_of after Good call (held_by t) → site_at k l.stations ≡ Some t
         → SpokeBy k i (replies_by answer_of after call (held_by t)) l (after_placed i call l)
-    one_spoke k i (SubmitEvent j event) l t Good own good at =
-        let full = lacks_room event t.reader.queue in
-        subst (λ (m : ℕ). SpokeBy k i [] l (on_station m (λ (x : Station H). queues (lacks_room event x.reader.queue) event x) l)) (sym (same_number j k own))
-        (on_one k i (λ (x : Station H). queues (lacks_room event x.reader.queue) event x) l t at (queues_begun full event t) (queue_place full event t))
-    one_spoke k i (SetBusy j busy) l t Good own good at =
-        subst (λ (m : ℕ). SpokeBy k i [] l (after_call answer_of after (SetBusy m busy) [] l)) (sym (same_number j k own)) (on_one k i _ l t at refl refl)
-    one_spoke k i (WithdrawEvent j) l t Good own good at =
-        subst (λ (m : ℕ). SpokeBy k i [] l (after_call answer_of after (WithdrawEvent m) [] l)) (sym (same_number j k own)) (on_one k i _ l t at refl refl)
-    one_spoke k i (LapseEvent j) l t Good own good at =
-        subst (λ (m : ℕ). SpokeBy k i [] l (after_call answer_of after (LapseEvent m) [] l)) (sym (same_number j k own)) (on_one k i _ l t at refl refl)
-    one_spoke k i (SetHandler j handler) l t Good own good at =
-        subst (λ (m : ℕ). SpokeBy k i [] l (after_call answer_of after (SetHandler m handler) [] l)) (sym (same_number j k own)) (on_one k i _ l t at refl refl)
-    one_spoke k i (Take j bytes now) l t Good own good at =
-        subst (λ (m : ℕ). SpokeBy k i [] l (after_call answer_of after (Take m bytes now) [] l)) (sym (same_number j k own)) (on_one k i _ l t at refl refl)
-    one_spoke k i (TickDevice j now) l t Good own good at =
-        subst (λ (m : ℕ). SpokeBy k i [] l (after_call answer_of after (TickDevice m now) [] l)) (sym (same_number j k own)) (on_one k i _ l t at refl refl)
-    one_spoke k i (Silence j now) l t Good own good at =
-        subst (λ (m : ℕ). SpokeBy k i [] l (after_call answer_of after (Silence m now) [] l)) (sym (same_number j k own)) (on_one k i _ l t at refl refl)
-    one_spoke k i (Pending j) l t Good own good at =
-        subst (λ (m : ℕ). SpokeBy k i [] l (after_call answer_of after (Pending m) [] l)) (sym (same_number j k own)) (on_one k i _ l t at refl refl)
     one_spoke k i (Next j) l t Good own good at =
         subst (λ (m : ℕ). SpokeBy k i (replies_by answer_of after (Next k) (held_by t)) l (after_next answer_of after m (at_place i (next_reads (site_at m l.stations))) (site_at m l.stations) l))
         (sym (same_number j k own)) (next_spoke k i l (site_at k l.stations) t at at)
-    one_spoke k i _ l t Good own good at = absurd good
+    one_spoke k i (OfPanel call) l t Good own good at = absurd good
+    one_spoke k i (NewPanel config addresses) l t Good own good at = absurd good
+    one_spoke k i (NewDevice j config handler room gap) l t Good own good at = absurd good
+    one_spoke k i call l t Good own good at = on_that k i (device_called call) (does answer_of after call) l t own at refl refl
 
     one_ordered : (packets : List Packet) (k i : ℕ) (call : Call H) (l : InUse H) (t : Station H) → IsOfDevice k call
         → CallGood answer_of after (λ r q. IsOneOf packets q) call (held_by t) → site_at k l.stations ≡ Some t → Source packets i l
         → Since packets t.place i → IsOrdered (placed i call l) l
-    one_ordered packets k i (SubmitEvent j event) l t own good at source since = nothing_read (SubmitEvent j event) l (tt, tt)
-    one_ordered packets k i (SetBusy j busy) l t own good at source since = nothing_read (SetBusy j busy) l (tt, tt)
-    one_ordered packets k i (WithdrawEvent j) l t own good at source since = nothing_read (WithdrawEvent j) l (tt, tt)
-    one_ordered packets k i (LapseEvent j) l t own good at source since = nothing_read (LapseEvent j) l (tt, tt)
-    one_ordered packets k i (SetHandler j handler) l t own good at source since = nothing_read (SetHandler j handler) l (tt, tt)
-    one_ordered packets k i (Take j bytes now) l t own good at source since = nothing_read (Take j bytes now) l (tt, tt)
-    one_ordered packets k i (TickDevice j now) l t own good at source since = nothing_read (TickDevice j now) l (tt, tt)
-    one_ordered packets k i (Silence j now) l t own good at source since = nothing_read (Silence j now) l (tt, tt)
-    one_ordered packets k i (Pending j) l t own good at source since = nothing_read (Pending j) l (tt, tt)
     one_ordered packets k i (Next j) l t own good at source since =
         let there : site_at j l.stations ≡ Some t = ap (λ m. site_at m l.stations) (same_number j k own) ∙ at in
         let both = next_ordered packets i j l (site_at j l.stations) t there
         (reads_good answer_of after (λ r q. IsOneOf packets q) (items_of t.line.held) t.reader good) source since in
         record { in_order = both.0; quiet_opening = both.1 }
-    one_ordered packets k i _ l t own good at source since = absurd good
+    one_ordered packets k i (OfPanel call) l t own good at source since = absurd good
+    one_ordered packets k i (NewPanel config addresses) l t own good at source since = absurd good
+    one_ordered packets k i (NewDevice j config handler room gap) l t own good at source since = absurd good
+    one_ordered packets k i call l t own good at source since = nothing_read call l (tt, tt)
 
     pub source_next : (packets : List Packet) (i : ℕ) (l next : InUse H) (more : List Burst) → next.said ≡ l.said ++ more → next.openings ≡ l.openings
         → Source packets i l → Source packets i next

@@ -69,6 +69,7 @@ abbrev pub orders_with : List ℕ → OrdersState → OrdersState
 orders_with [] o = o
 orders_with (address ∷ addresses) o = orders_with addresses (with_new_queue o)
 
+-- a panel that was made with these settings, and to which these devices were added
 abbrev pub panel_made : Bool → BusConfig → ℕ → List ℕ → PanelMachine
 panel_made between config limit addresses = record {
   orders = orders_with addresses (new_orders between config.room);
@@ -110,6 +111,7 @@ abbrev pub submitted : {H : Type 0} → ℕ → Option Command → PanelMachine 
 submitted entry None m = []
 submitted entry (Some command) m = map OfPanel (bus_calls (bus.Submit entry command) (panel.panel_of m))
 
+-- the command that was read of a code and data, if one was
 abbrev pub if_read : Result Command MsgFault → Option Command
 if_read (Ok command) = Some command
 if_read (Err fault) = None
@@ -131,6 +133,7 @@ panel_calls Looks m = []
 panel_calls (Adds address) m = OfPanel (bus.Add (device_address address)) ∷ []
 panel_calls (PanelAnew between config limit addresses) m = NewPanel config addresses ∷ []
 
+-- the kind of a panel in C: its own calls are those of its handle, and each of them fits
 abbrev pub c_panel : {H : Type 0} → PanelKind H
 c_panel = record {
   Program = PanelMachine;
@@ -149,6 +152,7 @@ AddsEach (address ∷ addresses) m last =
     (next : Option PanelMachine) × (out : ℕ) × (out' : ℕ)
     × panel.AddsTo (device_address address) m (number status.Done) next out out' × AddsEach addresses next last
 
+-- By a call that makes a panel of such settings: what leads to a panel made anew comes to the panel that `panel_made` has.
 abbrev pub MakesAnewBy : (PanelSettings → Option BusConfig) → (PanelSettings → Option PanelMachine → ℕ → Option PanelMachine → Type 0) → Type 0
 MakesAnewBy config_of NewEnds = (settings : PanelSettings) (m : PanelMachine) (freed made last : Option PanelMachine) (addresses : List ℕ)
     → IsDone (frees (Some m)) (number status.Done) freed → NewEnds settings freed (number status.Done) made → AddsEach addresses made last
@@ -220,14 +224,17 @@ device_call (DeviceMade room settings caps) m = reader.does (reader.new_machine_
 abbrev pub told_status : ℕ → DeviceStatus → ReaderMachine → List (Call ProgramAnswers)
 told_status k told m = SetHandler k (record m.device.reader.handler { status = told }) ∷ []
 
+-- .. with these states, where they could be read
 abbrev pub told_states : ℕ → StateList → Option (ArrayVec ℕ) → ReaderMachine → List (Call ProgramAnswers)
 told_states k which None m = []
 told_states k which (Some states) m = told_status k (reader.with_states which states m.device.reader.handler.status) m
 
+-- the event that was read, if one was
 abbrev pub event_read : Result Event Status → Option Event
 event_read (Ok event) = Some event
 event_read (Err refused) = None
 
+-- an event that was read is submitted
 abbrev pub event_calls : ℕ → Option Event → List (Call ProgramAnswers)
 event_calls k None = []
 event_calls k (Some event) = SubmitEvent k event ∷ []
@@ -243,6 +250,7 @@ abbrev pub settles_by : ℕ → Question → Option Command → ReaderState Prog
 settles_by k NotAsked (Some command) r l = Pending k ∷ SetHandler k (record r.handler { question = Asked }) ∷ []
 settles_by k _ _ r l = Next k ∷ SetHandler k (record (next_told program_answer program_after r l.held).reader.handler { question = NotAsked }) ∷ []
 
+-- .. by the question that the program has had, and the command that is pending on this line
 abbrev pub settle_calls : ℕ → ReaderMachine → Received → List (Call ProgramAnswers)
 settle_calls k m l = settles_by k m.device.reader.handler.question (pending_of m.device.reader l.held) m.device.reader l
 
@@ -251,6 +259,7 @@ abbrev pub leaving_call : ℕ → Bool → Call ProgramAnswers
 leaving_call k true = LapseEvent k
 leaving_call k false = WithdrawEvent k
 
+-- .. and none leaves where none is too old
 abbrev pub expiry_calls : ℕ → Bool → Bool → List (Call ProgramAnswers)
 expiry_calls k expires ever_offered = if expires then leaving_call k ever_offered ∷ [] else []
 
@@ -282,6 +291,7 @@ device_calls k LooksIn m = []
 device_calls k (DeviceMade room settings caps) m =
     NewDevice k (record { address = settings.address; id = id_of settings; caps = caps }) new_program room settings.gap ∷ []
 
+-- the kind of a device in C: its own calls are those of its handle, and each of them fits
 abbrev pub c_device : DeviceKind ProgramAnswers
 c_device = record {
   Program = ReaderMachine;

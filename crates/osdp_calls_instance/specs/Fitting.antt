@@ -18,9 +18,8 @@ use Rattle.osdp_reader.specs.declared.config.ReaderConfig.{ReaderConfig}
 use Rattle.osdp_calls.specs.Calls.{LapseEvent, WithdrawEvent}
 use Rattle.osdp_calls.specs.Sayings.{NoneRefused}
 use Rattle.osdp_calls_instance.specs.CPrograms as c
-use Rattle.osdp_calls_instance.specs.Instance.{device as device_settings}
+use Rattle.osdp_premises.specs.LongDay.{device_at, key}
 use Rattle.osdp_calls_instance.specs.LinePrograms as lines
-use Rattle.osdp_calls_instance.specs.SimulatedDay.{key}
 
 -- each call of a panel's handle is one, and so is each of a device's handle
 pub record CallsForCFit (H : Type 0) : Type 0 where
@@ -34,12 +33,13 @@ two_addresses = 5 ∷ 6 ∷ []
 -- a device to which no panel has spoken yet, and which lets an event go that is older than a second; a key was pressed there at moment 0
 abbrev pub pressed : device_sessions.Session
 pressed = lines.after_device_line (lines.SaysToDevice (Some (to_device.Event key)))
-    (device_sessions.new_session device_settings 4 20 (record { expire = 1000; told = false }))
+    (device_sessions.new_session (device_at 0) 4 20 (record { expire = 1000; told = false }))
 
 -- the same device, but the key was ever offered: nobody knows whether the panel has it
 abbrev pub offered : device_sessions.Session
 offered = record pressed { reader = record pressed.reader { queue = record pressed.reader.queue { offered = true; ever_offered = true } } }
 
+-- the line `at 2000`
 abbrev pub two_seconds : lines.DeviceLine
 two_seconds = lines.SaysToDevice (Some (to_device.At 2000))
 

@@ -1,59 +1,27 @@
 -- A list of calls that keeps the premises: a packet that comes in two pieces, a COMSET that is lost, and a restart of each end.
-use Rattle.std.specs.Prelude.{◌≡◌, ℕ, false, true, List, [], ◌∷◌, map, take, Some, None}
+use Rattle.std.specs.Prelude.{◌≡◌, ℕ, false, true, List, [], ◌∷◌, map, take, Some}
 use Rattle.osdp_frame.specs.declared.check_kind.CheckKind.TheVariants.{Sum}
 use Rattle.osdp_msg.specs.declared.command.Command.{Command}
-use Rattle.osdp_msg.specs.declared.command.Command.TheVariants.{Comset}
-use Rattle.osdp_msg.specs.declared.limits.Room.{Room}
 use Rattle.osdp_bus.specs.Settings.{default_config}
 use Rattle.osdp_bus.specs.declared.config.BusConfig.{BusConfig}
 use Rattle.osdp_bus_laws.specs.Calls as bus
-use Rattle.osdp_frame.specs.Receiving.{new_line}
-use Rattle.osdp_reader.specs.State.{new_reader}
-use Rattle.osdp_reader.specs.declared.config.ReaderConfig.{ReaderConfig}
 use Rattle.osdp_reader.specs.declared.handler.Answer.{Answer}
-use Rattle.osdp_calls.specs.Calls.{Call, NewDevice, NewPanel, Next, OfPanel, Step, Take, after_calls}
-use Rattle.osdp_calls.specs.Lines.{Burst, InUse, Station, bus_with}
+use Rattle.osdp_calls.specs.Calls.{NewDevice, NewPanel, Next, OfPanel, Step, Take, after_calls}
+use Rattle.osdp_calls.specs.Lines.{Burst, InUse, bus_with}
 use Rattle.osdp_controller.specs.declared.report.Report.TheVariants.{Opened}
 use Rattle.osdp_calls.specs.Premises.{AllKeep, IsSetUp}
-
--- room for four messages, however long each is
-abbrev pub four : Room
-four = record { messages = 4; bytes = 5732 }
+use Rattle.osdp_premises.specs.LongDay.{away, calls, device_at, four, station_at}
 
 -- a bus with one entry, at address 0
 abbrev pub settings : BusConfig
 settings = default_config Sum four
 
-abbrev pub device : ReaderConfig
-device = record {
-  address = 0;
-  id = record { vendor = 1 ∷ 2 ∷ 3 ∷ []; model = 4; version = 5; serial = 6; firmware_major = 7; firmware_minor = 8; firmware_build = 9 };
-  caps = record { items = [] };
-}
-
--- COMSET to address 5 at 9600 bits a second
-abbrev pub away : Command
-away = Comset (record { address = 5; baud_rate = 9600 })
-
 module _ {H : Type 0} where
-  abbrev pub calls : Call H → List ℕ → Step H
-  calls call places = record { call = call; places = places }
-
-  abbrev pub station_at : ℕ → H → Station H
-  station_at address handler = record {
-    reader = new_reader (record device { address = address }) handler four;
-    line = new_line 20;
-    place = 0;
-    begun = None;
-  }
-
-  abbrev pub station : H → Station H
-  station handler = station_at 0 handler
-
+  -- the line at set-up: a bus with one entry, and its device
   abbrev pub set_up : H → InUse H
   set_up handler = record {
     bus = bus_with settings (0 ∷ []);
-    stations = station handler ∷ [];
+    stations = station_at 0 handler ∷ [];
     said = [];
     place = 0;
     openings = [];
@@ -72,9 +40,9 @@ module _ {H : Type 0} where
       ∷ calls (OfPanel (bus.OnBytes (83 ∷ 128 ∷ 19 ∷ 0 ∷ 0 ∷ 69 ∷ 1 ∷ 2 ∷ 3 ∷ []) 405)) []
       ∷ calls (OfPanel (bus.OnBytes (4 ∷ 5 ∷ 6 ∷ 0 ∷ 0 ∷ 0 ∷ 7 ∷ 8 ∷ 9 ∷ 168 ∷ []) 406)) (1 ∷ [])
       ∷ calls (OfPanel bus.NextReport) []
-      ∷ calls (OfPanel (bus.Submit 0 away)) []
+      ∷ calls (OfPanel (bus.Submit 0 (away 5))) []
       ∷ calls (OfPanel (bus.Tick 407)) []
-      ∷ calls (NewDevice 0 device handler four 20) []
+      ∷ calls (NewDevice 0 (device_at 0) handler four 20) []
       ∷ calls (NewPanel settings (0 ∷ [])) []
       ∷ []
 
@@ -88,5 +56,5 @@ module _ {H : Type 0} where
     pub record SomeCallsKeep (handler : H) : Type 0 where
       pub up : IsSetUp (set_up handler)
       pub keep : AllKeep answer_of after (some_calls handler) (set_up handler)
-      pub opened : (line_after 8 handler).bus.devices.report ≡ Some (0, Opened device.id)
+      pub opened : (line_after 8 handler).bus.devices.report ≡ Some (0, Opened (device_at 0).id)
       pub said : map (λ (b : Burst). b.by_panel) (line_after 13 handler).said ≡ true ∷ false ∷ true ∷ []

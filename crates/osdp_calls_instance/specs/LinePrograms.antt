@@ -41,14 +41,17 @@ pub data PanelLine : Type 0 where
   SaysToPanel : Option PanelCall → PanelLine
   PanelAnew : BusConfig → List ℕ → PanelLine
 
+-- a session after lines that add devices at these addresses
 abbrev pub after_adds : List ℕ → panel.Session → panel.Session
 after_adds [] s = s
 after_adds (address ∷ addresses) s = after_adds addresses (panel_runs.after_said (Some (Add address)) s)
 
+-- a session after a line
 abbrev pub after_panel_line : PanelLine → panel.Session → panel.Session
 after_panel_line (SaysToPanel said) s = panel_runs.after_said said s
 after_panel_line (PanelAnew config addresses) s = after_adds addresses (panel.new_session config)
 
+-- a panel may be run anew with entries that can be added as they stand
 abbrev pub PanelLineFits : PanelLine → panel.Session → Type 0
 PanelLineFits (SaysToPanel said) s = Unit {0}
 PanelLineFits (PanelAnew config addresses) s = NoneRefused addresses (new_bus config)
@@ -58,10 +61,12 @@ abbrev pub calls_said : {H : Type 0} → Option PanelCall → panel.Session → 
 calls_said None s = []
 calls_said (Some call) s = map OfPanel (panel_runs.calls_of call s.now)
 
+-- .. and a panel that is run anew is one that is made anew
 abbrev pub panel_line_calls : {H : Type 0} → PanelLine → panel.Session → List (Call H)
 panel_line_calls (SaysToPanel said) s = calls_said said s
 panel_line_calls (PanelAnew config addresses) s = NewPanel config addresses ∷ []
 
+-- the kind of a panel by lines: its own calls are its lines
 abbrev pub line_panel : {H : Type 0} → PanelKind H
 line_panel = record {
   Program = panel.Session;
@@ -80,6 +85,7 @@ pub data DeviceLine : Type 0 where
   SaysToDevice : Option ReaderCall → DeviceLine
   DeviceAnew : ReaderConfig → ℕ → ℕ → DeviceLine
 
+-- a session after a line
 abbrev pub after_device_line : DeviceLine → device.Session → device.Session
 after_device_line (SaysToDevice said) s = device_runs.after_said said s
 after_device_line (DeviceAnew config room gap) s = device.new_session config room gap s.absence
@@ -88,10 +94,12 @@ after_device_line (DeviceAnew config room gap) s = device.new_session config roo
 abbrev pub leaving : device.Session → List Expired
 leaving s = (lets_go s.now s.absence.expire s.reader s.ages).expired
 
+-- .. a line that tells a moment, and no other
 abbrev pub leaving_by : ReaderCall → device.Session → List Expired
 leaving_by (line.At later) s = leaving (record s { now = later })
 leaving_by _ s = []
 
+-- the words of a line are in their ranges, and a device is run anew with a gap of a millisecond at least
 abbrev pub DeviceLineFits : DeviceLine → device.Session → Type 0
 DeviceLineFits (SaysToDevice None) s = Unit {0}
 DeviceLineFits (SaysToDevice (Some call)) s = CallFits call
@@ -103,11 +111,13 @@ module _ {H : Type 0} where
   nexts k zero = Next k ∷ []
   nexts k (suc more) = Next k ∷ nexts k more
 
+  -- it goes on while bytes are left
   abbrev pub unless_done : List ℕ → List (Call H) → List (Call H)
   unless_done [] calls = []
   unless_done (byte ∷ bytes) calls = calls
 
   module _ (answer_of : H → Command → Answer) (after : H → Command → H) where
+    -- .. of what is held on this line
     abbrev pub reading : ℕ → ReaderState H → Received → List (Call H)
     reading k r l = nexts k (length (said_to_all answer_of after (items_of l.held) r))
 
@@ -125,6 +135,7 @@ abbrev pub leaving_call : ℕ → Expired → Call DeviceStatus
 leaving_call k (Withdrawn event) = WithdrawEvent k
 leaving_call k (InDoubt event) = LapseEvent k
 
+-- .. of all that leave
 abbrev pub leaving_calls : ℕ → List Expired → List (Call DeviceStatus)
 leaving_calls k gone = map (leaving_call k) gone
 
@@ -142,11 +153,13 @@ calls_of_line k (line.Outputs list) s = SetHandler k (record s.reader.handler { 
 calls_of_line k (line.Readers list) s = SetHandler k (record s.reader.handler { readers = list }) ∷ []
 calls_of_line k (line.Local tamper power) s = SetHandler k (record s.reader.handler { tamper = tamper; power = power }) ∷ []
 
+-- .. of any line; and a device that is run anew is one that is made anew
 abbrev pub device_line_calls : ℕ → DeviceLine → device.Session → List (Call DeviceStatus)
 device_line_calls k (SaysToDevice None) s = []
 device_line_calls k (SaysToDevice (Some call)) s = calls_of_line k call s
 device_line_calls k (DeviceAnew config room gap) s = NewDevice k config new_status (room_for room) gap ∷ []
 
+-- the kind of a device by lines: its own calls are its lines, and after each of them all that came in is read
 abbrev pub line_device : DeviceKind DeviceStatus
 line_device = record {
   Program = device.Session;
@@ -165,10 +178,12 @@ abbrev pub after_panel_lines : List (Option PanelCall) → panel.Session → pan
 after_panel_lines [] s = s
 after_panel_lines (said ∷ more) s = after_panel_lines more (after_panel_line (SaysToPanel said) s)
 
+-- .. and of lines to a device
 abbrev pub after_device_lines : List (Option ReaderCall) → device.Session → device.Session
 after_device_lines [] s = s
 after_device_lines (said ∷ more) s = after_device_lines more (after_device_line (SaysToDevice said) s)
 
+-- a run of lines that `osdp panel` or `osdp reader` has answered says calls in their ranges, and leaves what these calls leave
 pub record LinesAreThese : Type 0 where
   pub panel : (first last : panel.Session) (lines : List (List ℕ)) (text : List ℕ) → Speaks panel_lines.Answers first lines text last
       → (said : List (Option PanelCall)) × AreSaid to_panel.call_words to_panel.CallFits lines said × (last ≡ after_panel_lines said first)

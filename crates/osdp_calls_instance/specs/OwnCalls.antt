@@ -5,8 +5,8 @@ use Rattle.osdp_bus.specs.Buses.{BusState}
 use Rattle.osdp_bus_laws.specs.Calls as bus
 use Rattle.osdp_reader.specs.declared.handler.Answer.{Answer}
 use Rattle.osdp_shared_line.specs.Line.{changed, site_at}
-use Rattle.osdp_calls.specs.Calls.{Call, NewPanel, OfPanel, Step, after_calls}
-use Rattle.osdp_calls.specs.Ends.{GoByTheirOwn, Held, device_after, held_by, is_of_device}
+use Rattle.osdp_calls.specs.Calls.{Call, NewPanel, OfPanel, Step, after_calls, Held, device_after, held_by}
+use Rattle.osdp_calls.specs.Ends.{GoByTheirOwn, is_of_device}
 use Rattle.osdp_calls.specs.Lines.{InUse, Station, bus_with}
 use Rattle.osdp_calls.specs.Sayings.{AddsMakeTheBus}
 
@@ -42,10 +42,12 @@ module _ {H : Type 0} where
   bus_after (NewPanel config addresses) b = bus_with config addresses
   bus_after _ b = b
 
+  -- .. a list of calls, of a bus
   abbrev pub bus_after_each : List (Call H) → BusState → BusState
   bus_after_each [] b = b
   bus_after_each (call ∷ calls) b = bus_after_each calls (bus_after call b)
 
+  -- .. a list of calls, of a device
   abbrev pub device_after_each : (H → Command → Answer) → (H → Command → H) → List (Call H) → Held H → Held H
   device_after_each answer_of after [] d = d
   device_after_each answer_of after (call ∷ calls) d = device_after_each answer_of after calls (device_after answer_of after call d)
@@ -56,6 +58,7 @@ module _ {H : Type 0} where
   IsOfPanel (NewPanel config addresses) = Unit {0}
   IsOfPanel _ = ⊥
 
+  -- a call of the device of this entry, or its restart
   abbrev pub IsOfDevice : ℕ → Call H → Type 0
   IsOfDevice k call = is_of_device k call ≡ true
 
@@ -77,6 +80,7 @@ module _ {H : Type 0} (P : PanelKind H) (D : DeviceKind H) where
     pub panel : P.Program
     pub devices : List D.Program
 
+  -- an own call of the panel's program, or of the program of the device of an entry
   pub data OwnCall : Type 0 where
     AtPanel : P.Own → OwnCall
     AtDevice : ℕ → D.Own → OwnCall
@@ -86,22 +90,27 @@ module _ {H : Type 0} (P : PanelKind H) (D : DeviceKind H) where
   devices_after k own None ds = ds
   devices_after k own (Some d) ds = changed k (D.after own d) ds
 
+  -- the programs after an own call
   abbrev pub after_own : OwnCall → Programs → Programs
   after_own (AtPanel own) w = record w { panel = P.after own w.panel }
   after_own (AtDevice k own) w = record w { devices = devices_after k own (site_at k w.devices) w.devices }
 
+  -- .. and after a list of them
   abbrev pub after_each : List OwnCall → Programs → Programs
   after_each [] w = w
   after_each (own ∷ more) w = after_each more (after_own own w)
 
+  -- an own call fits this program, if there is one
   abbrev pub FitsAt : D.Own → Option D.Program → Type 0
   FitsAt own None = Unit {0}
   FitsAt own (Some d) = D.Fits own d
 
+  -- .. the program that makes it
   abbrev pub OwnFits : OwnCall → Programs → Type 0
   OwnFits (AtPanel own) w = P.Fits own w.panel
   OwnFits (AtDevice k own) w = FitsAt own (site_at k w.devices)
 
+  -- each own call of a list fits where those before it have brought the programs
   abbrev pub AllFit : List OwnCall → Programs → Type 0
   AllFit [] w = Unit {0}
   AllFit (own ∷ more) w = OwnFits own w × AllFit more (after_own own w)
@@ -111,10 +120,12 @@ module _ {H : Type 0} (P : PanelKind H) (D : DeviceKind H) where
   calls_at k own None = []
   calls_at k own (Some d) = D.calls k own d
 
+  -- .. of an own call of any of the programs
   abbrev pub calls_by : OwnCall → Programs → List (Call H)
   calls_by (AtPanel own) w = P.calls own w.panel
   calls_by (AtDevice k own) w = calls_at k own (site_at k w.devices)
 
+  -- .. and of a list of them
   abbrev pub all_calls : List OwnCall → Programs → List (Call H)
   all_calls [] w = []
   all_calls (own ∷ more) w = calls_by own w ++ all_calls more (after_own own w)

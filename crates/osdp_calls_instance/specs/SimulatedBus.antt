@@ -23,8 +23,7 @@ use Rattle.osdp_sim.specs.declared.step.SimStep.TheVariants.{Busy, Issue, Queue,
 use Rattle.osdp_sim_bus.specs.Runs.{AreSettings, is_well, run}
 use Rattle.osdp_sim_bus.specs.State.{Given, LineState, ReaderSite, address_of, set_up}
 use Rattle.osdp_sim_bus.specs.Steps.{after_step, is_there}
-use Rattle.osdp_calls.specs.Calls.{Call, OfPanel, SetBusy, Silence, Step, SubmitEvent, after_calls}
-use Rattle.osdp_calls.specs.Ends.{Held, takes_event}
+use Rattle.osdp_calls.specs.Calls.{Call, OfPanel, SetBusy, Silence, Step, SubmitEvent, after_calls, Held, takes_event}
 use Rattle.osdp_calls.specs.Lines.{InUse, Station, bus_with}
 use Rattle.osdp_calls.specs.Premises.{IsSetUp}
 use Rattle.osdp_calls.specs.Sayings.{after_hearing}
@@ -52,6 +51,7 @@ panel_step_calls (Begins entry now) = bus.Begin entry now ∷ []
 panel_step_calls (Waits now) = bus.Tick now ∷ bus.NextReport ∷ []
 panel_step_calls (HearsRun bytes now) = run_calls bytes now ++ bus.NextReport ∷ []
 
+-- the kind of a bus in a simulation: its own calls are these steps, and each of them fits
 abbrev pub sim_panel : {H : Type 0} → PanelKind H
 sim_panel = record {
   Program = BusState;
@@ -64,6 +64,7 @@ sim_panel = record {
 
 -- ---- its readers
 
+-- an event is queued; the reader is busy, or is not any more; and a burst of bytes comes, after which the line falls silent
 pub data DeviceStep : Type 0 where
   Queues : Event → DeviceStep
   IsBusy : Bool → DeviceStep
@@ -73,6 +74,7 @@ pub data DeviceStep : Type 0 where
 abbrev pub run_over : ℕ → Received → Received
 run_over now l = record l { held = new_run; last = max l.greatest now; greatest = max l.greatest now }
 
+-- the bytes of a burst are bytes
 abbrev pub BurstFits : {H : Type 0} → DeviceStep → Held H → Type 0
 BurstFits (HearsBurst bytes now) d = AreBytes bytes
 BurstFits _ d = Unit {0}
@@ -84,6 +86,7 @@ module _ {H : Type 0} where
   abbrev pub new_held : ℕ → Given H → Held H
   new_held gap given = record { reader = new_reader given.0 given.2 (room_for given.1); line = new_line gap }
 
+  -- .. the station of such a reader
   abbrev pub new_station : ℕ → Given H → Station H
   new_station gap given = record {
     reader = new_reader given.0 given.2 (room_for given.1);
@@ -92,6 +95,7 @@ module _ {H : Type 0} where
     begun = None;
   }
 
+  -- .. and the line, on which nothing has been said
   abbrev pub line_at_first : BusConfig → ℕ → List (Given H) → InUse H
   line_at_first config gap readers = record {
     bus = bus_with config (map address_of readers);
@@ -117,6 +121,7 @@ abbrev pub RunsFromASetUp : Type 0 → Type 0
 RunsFromASetUp H = (config : BusConfig) (readers : List (Given H)) (gap : ℕ) → AreSettings config readers → IsSetUp (line_at_first config gap readers)
 
 module _ {H : Type 0} (answer_of : H → Command → Answer) (after : H → Command → H) where
+  -- a reader hears the packets of a burst, and nothing is held after it; no bytes are no burst
   abbrev pub hears_burst : List ℕ → ℕ → Held H → Held H
   hears_burst [] now d = d
   hears_burst (byte ∷ bytes) now d = record {
@@ -124,6 +129,7 @@ module _ {H : Type 0} (answer_of : H → Command → Answer) (after : H → Comm
     line = run_over now d.line;
   }
 
+  -- what a step makes of a reader
   abbrev pub after_device_step : DeviceStep → Held H → Held H
   after_device_step (Queues event) d = takes_event (lacks_room event d.reader.queue) event d
   after_device_step (IsBusy busy) d = record d { reader = after_set_busy busy d.reader }
@@ -137,11 +143,13 @@ module _ {H : Type 0} (answer_of : H → Command → Answer) (after : H → Comm
       handing answer_of after (suc (turns_left (byte ∷ bytes) now d.line)) k (byte ∷ bytes) now d.reader d.line
       ++ Silence k now ∷ reading answer_of after k heard.reader (after_silence now heard.line)
 
+  -- which calls of a line in use a step is
   abbrev pub device_step_calls : ℕ → DeviceStep → Held H → List (Call H)
   device_step_calls k (Queues event) d = SubmitEvent k event ∷ []
   device_step_calls k (IsBusy busy) d = SetBusy k busy ∷ []
   device_step_calls k (HearsBurst bytes now) d = burst_calls k bytes now d
 
+  -- the kind of a reader in a simulation: its own calls are these steps, and nothing is held of its line between them
   abbrev pub sim_device : DeviceKind H
   sim_device = record {
     Program = Held H;
@@ -155,9 +163,11 @@ module _ {H : Type 0} (answer_of : H → Command → Answer) (after : H → Comm
 
   -- ---- a schedule
 
+  -- a step of the bus, or of a reader
   abbrev pub SimCall : Type 0
   SimCall = OwnCall sim_panel sim_device
 
+  -- a step for the reader of this number, if there is one
   abbrev pub for_there : ℕ → LineState H → (ℕ → SimCall) → List SimCall
   for_there number s call = if is_there number s then call (number - 1) ∷ [] else []
 
@@ -176,6 +186,7 @@ module _ {H : Type 0} (answer_of : H → Command → Answer) (after : H → Comm
   step_calls (ToController move) s = AtPanel (HearsRun (handed move s.to_bus) s.clock) ∷ []
   step_calls (Reopen number) s = for_there number s (λ k. AtPanel (Begins k s.clock))
 
+  -- .. and what a schedule is to them
   abbrev pub schedule_calls : List SimStep → LineState H → List SimCall
   schedule_calls [] s = []
   schedule_calls (step ∷ steps) s = step_calls step s ++ schedule_calls steps (after_step answer_of after step s)

@@ -3,8 +3,6 @@
 use Rattle.std.specs.Prelude.{ℕ, true, All, List, [], ◌∷◌}
 use Rattle.osdp_msg.specs.declared.command.Command.{Command}
 use Rattle.osdp_msg.specs.declared.command.Command.TheVariants.{Cap}
-use Rattle.osdp_msg.specs.declared.event.Event.{Event}
-use Rattle.osdp_msg.specs.declared.event.Event.TheVariants.{Keypad}
 use Rattle.osdp_reader.specs.declared.handler.Answer.{Answer}
 use Rattle.osdp_sim.specs.declared.step.Move.TheVariants.{Deliver, Drop}
 use Rattle.osdp_sim.specs.declared.step.SimStep.{SimStep}
@@ -12,15 +10,11 @@ use Rattle.osdp_sim.specs.declared.step.SimStep.TheVariants.{Busy, Issue, Queue,
 use Rattle.osdp_sim_bus.specs.State.{Given}
 use Rattle.osdp_calls.specs.Calls.{Step}
 use Rattle.osdp_calls.specs.Programs.{first_notes}
-use Rattle.osdp_calls_instance.specs.Instance.{away, device}
+use Rattle.osdp_premises.specs.LongDay.{away, device_at, key}
 use Rattle.osdp_calls_instance.specs.SimulatedBus.{AreItsCalls, line_at_first}
 use Rattle.osdp_calls_instance.specs.SimulatedOrder.{AllRuled, IsTaken}
 use Rattle.osdp_calls_instance.specs.SimulatedPremises.{OrdersNoComset}
 use Rattle.osdp_calls_instance.specs.TwoEntries.{once}
-
--- the key 1
-abbrev pub key : Event
-key = Keypad (record { reader = 0; digits = record { items = 49 ∷ [] } })
 
 -- The opening of the second session is lost, and so it ends. It begins again.
 abbrev pub some_steps : List SimStep
@@ -41,7 +35,7 @@ some_steps =
 -- address.
 abbrev pub moving_steps : List SimStep
 moving_steps =
-    Issue 1 away
+    Issue 1 (away 5)
     ∷ Wait 400
     ∷ ToReader Deliver
     ∷ ToController Deliver
@@ -60,8 +54,9 @@ moving_steps =
 module _ {H : Type 0} where
   -- a reader at an address, with room for four events
   abbrev pub given_at : ℕ → H → Given H
-  given_at address handler = (record device { address = address }, 4, handler)
+  given_at address handler = (device_at address, 4, handler)
 
+  -- two readers, at 0 and 1
   abbrev pub two_given : H → List (Given H)
   two_given handler = given_at 0 handler ∷ given_at 1 handler ∷ []
 

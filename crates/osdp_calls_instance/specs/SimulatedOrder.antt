@@ -23,6 +23,7 @@ module _ {H : Type 0} where
     pub quiet_opening : QuietOpening step.call step.places l
 
   module _ (answer_of : H → Command → Answer) (after : H → Command → H) where
+    -- .. each call of a list, where those before it have brought the line
     abbrev pub AllOrdered : List (Step H) → InUse H → Type 0
     AllOrdered [] l = Unit {0}
     AllOrdered (step ∷ steps) l = IsOrdered step l × AllOrdered steps (after_call answer_of after step.call step.places l)
@@ -52,6 +53,7 @@ module _ {H : Type 0} where
       pub ruled : AllRuled calls (line_at_first config gap readers) (first_notes (line_at_first config gap readers))
           → AllKeep answer_of after calls (line_at_first config gap readers)
 
+    -- so it is of each schedule that is taken
     abbrev pub RunKeepsOrder : Type 0
     RunKeepsOrder = (config : BusConfig) (readers : List (Given H)) (steps : List SimStep) (gap : ℕ) → 1 ≤ gap → IsTaken config readers steps
         → KeepsOrder config readers steps gap

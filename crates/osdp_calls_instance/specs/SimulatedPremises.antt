@@ -46,6 +46,7 @@ module _ {H : Type 0} (answer_of : H → Command → Answer) (after : H → Comm
   AllInRange [] l = Unit {0}
   AllInRange (step ∷ steps) l = InRange answer_of after step.call l × AllInRange steps (after_call answer_of after step.call step.places l)
 
+  -- .. the premise on addresses, of each call of a list
   abbrev pub AllAtAddresses : List (Step H) → InUse H → Type 0
   AllAtAddresses [] l = Unit {0}
   AllAtAddresses (step ∷ steps) l = Addresses step.call l × AllAtAddresses steps (after_call answer_of after step.call step.places l)

@@ -8,6 +8,7 @@ use Rattle.osdp_link_laws.specs.Reports.{Told, nothing_told, with_reports}
 use Rattle.osdp_reader.specs.declared.handler.Answer.{Answer}
 use Rattle.osdp_sim.specs.Schedules.{HoldsAlong}
 use Rattle.osdp_sim.specs.declared.step.SimStep.{SimStep}
+use Rattle.osdp_sim_laws.specs.Accounts.{told_of}
 use Rattle.osdp_sim_bus.specs.Runs.{is_well, run}
 use Rattle.osdp_sim_bus.specs.State.{Given, ReaderSite, address_of, set_up}
 use Rattle.osdp_sim_bus.specs.Steps.{after_step}
@@ -17,9 +18,9 @@ use Rattle.osdp_calls.specs.Told.{all_taken, all_told, reports_of}
 use Rattle.osdp_calls_instance.specs.SimulatedBus.{AreItsCalls, HandsBytes, line_at_first}
 
 module _ {H : Type 0} where
-  -- what was told of a reader, by the account of the run: commands with their answers, commands without, and events
+  -- what was told of a reader, by the account of the run
   abbrev pub told_in_run : ReaderSite H → Told
-  told_in_run u = record { settled = u.account.settled; in_doubt = u.account.unsettled; reported = u.account.reported }
+  told_in_run u = told_of u.account
 
   -- this holds of each reader of the run, at its place
   abbrev pub OfEachReader : (H → Command → Answer) → (H → Command → H) → BusConfig → List (Given H) → List SimStep → (ℕ → ReaderSite H → Type 0) → Type 0

@@ -12,13 +12,15 @@ use Rattle.osdp_calls.specs.Calls.{Next, OfPanel, Step, Take, after_calls}
 use Rattle.osdp_calls.specs.Lines.{InUse, Opening, bus_with}
 use Rattle.osdp_calls.specs.Premises.{AllKeep, IsSetUp}
 use Rattle.osdp_calls.specs.Told.{all_told, reports_of}
-use Rattle.osdp_calls_instance.specs.Instance.{away, calls, settings, station_at}
+use Rattle.osdp_premises.specs.LongDay.{away, calls, station_at}
+use Rattle.osdp_calls_instance.specs.Instance.{settings}
 
 -- a bus with two entries, at addresses 0 and 1, whose controllers send each packet once
 abbrev pub once : BusConfig
 once = record settings { sends = 1 }
 
 module _ {H : Type 0} where
+  -- the line at set-up: a bus with both entries, and their devices
   abbrev pub two_set_up : H → InUse H
   two_set_up handler = record {
     bus = bus_with once (0 ∷ 1 ∷ []);
@@ -46,7 +48,7 @@ module _ {H : Type 0} where
       ∷ calls (Next 0) (2 ∷ [])
       ∷ calls (OfPanel (bus.OnBytes (83 ∷ 128 ∷ 7 ∷ 0 ∷ 1 ∷ 70 ∷ 223 ∷ []) 410)) (3 ∷ [])
       ∷ calls (OfPanel bus.NextReport) []
-      ∷ calls (OfPanel (bus.Submit 0 away)) []
+      ∷ calls (OfPanel (bus.Submit 0 (away 5))) []
       ∷ calls (OfPanel (bus.Tick 411)) []
       ∷ calls (OfPanel (bus.Tick 700)) []
       ∷ calls (OfPanel bus.NextReport) []
@@ -80,5 +82,5 @@ module _ {H : Type 0} where
       pub up : IsSetUp (two_set_up handler)
       pub keep : AllKeep answer_of after two_calls (two_set_up handler)
       pub openings : map (λ (o : Opening). o.place) (two_after 31 handler).openings ≡ 7 ∷ 5 ∷ 0 ∷ []
-      pub told : two_told 20 handler ≡ record { settled = (Cap 0, PdCap (record { capabilities = record { items = [] } })) ∷ []; in_doubt = away ∷ []; reported = [] }
+      pub told : two_told 20 handler ≡ record { settled = (Cap 0, PdCap (record { capabilities = record { items = [] } })) ∷ []; in_doubt = away 5 ∷ []; reported = [] }
       pub no_more : two_told 31 handler ≡ two_told 20 handler

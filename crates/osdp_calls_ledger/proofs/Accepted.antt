@@ -1,11 +1,11 @@
 -- The steps of a call accept what the call does: no command and no event is forgotten, and none is made up.
-use Rattle.osdp_calls_ledger.proofs.Common.{◌≡◌, ℕ, ◌+◌, Bool, true, false, cond, List, [], ◌∷◌, ◌++◌, Option, Some, None, refl, sym, ap, ◌∙◌, inl, inr, append_assoc, append-nil, eqb_tells, map-append, ◌==◌, Packet, Command, Event, Report, BusState, device_of, changed_unless, submit_refusal_at, withdrawal_at, bus_ticks, Entry, BusFault, told_in, items_of, in_doubt, lacks_room, never_offered, ReaderState, Answer, Card, Ledger, Order, new_ledger, History, new_history, runs, steps_on, unless_full, both, each_append, each_map, Each, after_steps, queues, submits, withdraws, withdraws_event, site_at, Call, NewDevice, NewPanel, Next, OfPanel, Step, SubmitEvent, LapseEvent, WithdrawEvent, after_call, asked_at, first_answered, read_up_to, is_of_device, heard, InUse, Station, IsDone, answered, device_steps, given_back, opening, panel_restarts, panel_steps, reported, steps_along, steps_at, steps_from, steps_of}
+use Rattle.osdp_calls_ledger.proofs.Common.{◌≡◌, ℕ, ◌+◌, Bool, true, false, cond, List, [], ◌∷◌, ◌++◌, Option, Some, None, refl, sym, ap, ◌∙◌, inl, inr, append_assoc, append-nil, eqb_tells, map-append, ◌==◌, Packet, Command, Event, Report, BusState, device_of, changed_unless, submit_refusal_at, withdrawal_at, bus_ticks, Entry, BusFault, told_in, items_of, in_doubt, lacks_room, never_offered, ReaderState, Answer, Card, Ledger, Order, new_ledger, History, new_history, runs, steps_on, unless_full, both, each_append, each_map, Each, after_steps, queues, submits, withdraws, site_at, Call, NewDevice, NewPanel, Next, OfPanel, Step, SubmitEvent, LapseEvent, WithdrawEvent, after_call, asked_at, first_answered, read_up_to, is_of_device, heard, InUse, Station, IsDone, answered, device_steps, given_back, opening, panel_steps, reported, steps_along, steps_at, steps_from, steps_of}
 use Rattle.osdp_bus_laws.specs.Calls as bus
 use Rattle.osdp_ledger.specs.Ledger as ledger
 use Rattle.osdp_link_ledger.specs.Steps as links
 use Rattle.osdp_link_ledger.proofs.Lists.{commands, events}
 use Rattle.osdp_calls.specs.Accepted.{accepted_by, accepted_by_panel, all_accepted, all_queued, queued_at, queued_by}
-use Rattle.osdp_calls_ledger.proofs.Allowing.{answered_done, lapses_each, opening_open, reported_done}
+use Rattle.osdp_calls_ledger.proofs.Allowing.{answered_done, lapses_each, opening_open, reported_done, restarts_each, withdraws_each, withdraws_event_each}
 
 -- ---- what steps accept
 
@@ -73,18 +73,6 @@ reported_none k all g = each_map IsDone AcceptsNone done_accepts (reported k all
 opening_none : (k : ℕ) (o : Option ℕ) (sent : Option Packet) (q : Option Entry) → Each AcceptsNone (opening k o sent q)
 opening_none k o sent q = opening_open AcceptsNone tt k o sent q
 
-withdraws_none : (o : Option Command) (g : Ledger) → Each AcceptsNone (withdraws o g)
-withdraws_none None g = tt
-withdraws_none (Some command) g = (tt, tt)
-
-withdraws_event_none : (o : Option Event) (ever : Bool) (g : Ledger) → Each AcceptsNone (withdraws_event o ever g)
-withdraws_event_none None ever g = tt
-withdraws_event_none (Some event) ever g = (tt, tt)
-
-restarts_none : (o : Option Entry) → Each AcceptsNone (panel_restarts o)
-restarts_none None = tt
-restarts_none (Some d) = (tt, tt)
-
 -- ---- what the panel's calls accept
 
 -- no order
@@ -95,7 +83,7 @@ IsNoSubmit _ = Unit {0}
 panel_none : (k : ℕ) (call : bus.Call) (b : BusState) (g : Ledger) → IsNoSubmit call → Each AcceptsNone (panel_steps k call b g)
 panel_none k (bus.Submit i command) b g other = absurd other
 panel_none k (bus.Withdraw i) b g other =
-    both (Each AcceptsNone) (i == k) (withdraws (given_back (withdrawal_at i b)) g) [] (withdraws_none (given_back (withdrawal_at i b)) g) tt
+    both (Each AcceptsNone) (i == k) (withdraws (given_back (withdrawal_at i b)) g) [] (withdraws_each AcceptsNone (λ order. tt) (given_back (withdrawal_at i b)) g) tt
 panel_none k (bus.Tick now) b g other =
     let sends = opening k (asked_at now b) (bus_ticks now b).sent (device_of k (heard (bus.Tick now) now b)) in
     each_append AcceptsNone (reported k (told_in (bus.Tick now) b) g) sends (reported_none k (told_in (bus.Tick now) b) g)
@@ -153,7 +141,7 @@ module _ {H : Type 0} (answer_of : H → Command → Answer) (after : H → Comm
   device_none : (call : Call H) (t : Station H) (g : Ledger) → IsNeither call → Each AcceptsNone (device_steps answer_of after call t g)
   device_none (OfPanel call) t g other = absurd other
   device_none (SubmitEvent i event) t g other = absurd other
-  device_none (WithdrawEvent i) t g other = withdraws_event_none (never_offered t.reader.queue) t.reader.queue.ever_offered g
+  device_none (WithdrawEvent i) t g other = withdraws_event_each AcceptsNone (λ card. tt) (never_offered t.reader.queue) t.reader.queue.ever_offered g
   device_none (LapseEvent i) t g other = lapses_each AcceptsNone (λ card. (tt, tt)) (in_doubt t.reader.queue) g
   device_none (Next i) t g other = gets_accept (first_answered t.reader (read_up_to t.reader (items_of t.line.held))) t.reader g
   device_none (NewDevice i config handler room gap) t g other = (tt, tt)
@@ -166,7 +154,7 @@ module _ {H : Type 0} (answer_of : H → Command → Answer) (after : H → Comm
 
   call_none : (k : ℕ) (call : Call H) (l : InUse H) (g : Ledger) → IsNeither call → Each AcceptsNone (steps_of answer_of after k call l g)
   call_none k (OfPanel call) l g other = absurd other
-  call_none k (NewPanel config xs) l g other = restarts_none (device_of k l.bus)
+  call_none k (NewPanel config xs) l g other = restarts_each AcceptsNone (λ on_wire. tt) (device_of k l.bus)
   call_none k call l g other = at_none call (is_of_device k call) (site_at k l.stations) g other
 
   pub call_commands : (k : ℕ) (call : Call H) (l : InUse H) (g : Ledger) → commands_in (steps_of answer_of after k call l g) ≡ accepted_by k call l

@@ -1,10 +1,9 @@
 -- Which steps a call shows: plain ones, and a withdrawal, a lapse or a restart its own.
-use Rattle.osdp_calls_ledger.proofs.Common.{◌≡◌, ℕ, Bool, cond, List, [], ◌∷◌, Option, Some, None, sym, subst, inl, inr, eqb_tells, ◌==◌, Packet, Command, Event, Report, BusState, device_of, changed_unless, submit_refusal_at, withdrawal_at, bus_ticks, Entry, BusFault, told_in, items_of, in_doubt, lacks_room, never_offered, ReaderState, Answer, Card, Ledger, Open, Order, RestartDevice, RestartPanel, new_ledger, IsPlain, both, each_append, each_map, Each, after_steps, opens, queued_before, queues, submits, told, withdraws, lapses_event, withdraws_event, IsDone, are_plain, gets_done, opens_open, queued_plain, queues_plain, told_done, site_at, Call, NewDevice, NewPanel, Next, OfPanel, Pending, SetHandler, Silence, Step, SubmitEvent, Take, TickDevice, LapseEvent, WithdrawEvent, after_call, asked_at, first_answered, read_up_to, heard, InUse, Station, answered, device_steps, given_back, opening, panel_restarts, panel_steps, reported, steps_along, steps_at, steps_from, steps_of}
+use Rattle.osdp_calls_ledger.proofs.Common.{◌≡◌, ℕ, Bool, true, false, cond, List, [], ◌∷◌, Option, Some, None, sym, subst, inl, inr, eqb_tells, ◌==◌, Packet, Command, Event, Report, BusState, device_of, changed_unless, submit_refusal_at, withdrawal_at, bus_ticks, Entry, BusFault, told_in, items_of, in_doubt, lacks_room, never_offered, ReaderState, Answer, Card, Ledger, Open, Order, RestartDevice, RestartPanel, new_ledger, IsPlain, both, each_append, each_map, Each, after_steps, opens, queued_before, queues, submits, told, withdraws, lapses_event, withdraws_event, IsDone, are_plain, gets_done, opens_open, queued_plain, told_done, site_at, Call, NewDevice, NewPanel, Next, OfPanel, Step, SubmitEvent, LapseEvent, WithdrawEvent, after_call, asked_at, first_answered, read_up_to, heard, InUse, Station, answered, device_steps, given_back, opening, panel_restarts, panel_steps, reported, steps_along, steps_at, steps_from, steps_of}
 use Rattle.std.specs.Prelude.{nat_lt}
 use Rattle.osdp_bus_laws.specs.Calls as bus
 use Rattle.osdp_ledger.specs.Ledger as ledger
 use Rattle.osdp_link_ledger.specs.Steps.{card_at}
-use Rattle.osdp_calls.specs.Calls as calls
 
 -- ---- what is reported, and what a device has done
 
@@ -38,6 +37,29 @@ lapses_each P holds (Some event) g =
 
 -- ---- steps of which something holds
 
+module _ (P : ledger.Step → Type 0) where
+  pub submits_each : ((order : Order) → P (ledger.Submit order)) → (f : Option BusFault) (c : Command) (g : Ledger)
+      → Each P (changed_unless f [] (submits None c g))
+  submits_each holds None c g = (holds _, tt)
+  submits_each holds (Some fault) c g = tt
+
+  pub withdraws_each : ((order : Order) → P (ledger.Withdraw order)) → (o : Option Command) (g : Ledger) → Each P (withdraws o g)
+  withdraws_each holds None g = tt
+  withdraws_each holds (Some c) g = (holds _, tt)
+
+  pub queues_each : ((card : Card) → P (ledger.Queue card)) → (full : Bool) (e : Event) (g : Ledger) → Each P (queues full e g)
+  queues_each holds true e g = tt
+  queues_each holds false e g = (holds _, tt)
+
+  pub withdraws_event_each : ((card : Card) → P (ledger.WithdrawEvent card)) → (o : Option Event) (ever : Bool) (g : Ledger)
+      → Each P (withdraws_event o ever g)
+  withdraws_event_each holds None ever g = tt
+  withdraws_event_each holds (Some e) ever g = (holds _, tt)
+
+  pub restarts_each : ((on_wire : Bool) → P (RestartPanel on_wire)) → (q : Option Entry) → Each P (panel_restarts q)
+  restarts_each holds None = tt
+  restarts_each holds (Some d) = (holds _, tt)
+
 module _ (P : ledger.Step → Type 0) (plain : (step : ledger.Step) → IsPlain step → P step) (k : ℕ) where
   abbrev pub AllowsPanel : bus.Call → Type 0
   AllowsPanel (bus.Withdraw i) = i ≡ k → (order : Order) → P (ledger.Withdraw order)
@@ -56,23 +78,11 @@ module _ (P : ledger.Step → Type 0) (plain : (step : ledger.Step) → IsPlain 
     | inr differs ↦ subst (λ b. Each P (cond b steps [])) (sym differs.0) tt
   ]
 
-  withdraws_hold : (o : Option Command) (g : Ledger) → ((order : Order) → P (ledger.Withdraw order)) → Each P (withdraws o g)
-  withdraws_hold None g holds = tt
-  withdraws_hold (Some command) g holds = (holds _, tt)
-
-  withdraws_event_hold : (o : Option Event) (ever : Bool) (g : Ledger) → ((card : Card) → P (ledger.WithdrawEvent card)) → Each P (withdraws_event o ever g)
-  withdraws_event_hold None ever g holds = tt
-  withdraws_event_hold (Some event) ever g holds = (holds _, tt)
-
-  submits_hold : (f : Option BusFault) (command : Command) (g : Ledger) → Each P (changed_unless f [] (submits None command g))
-  submits_hold None command g = (plain _ tt, tt)
-  submits_hold (Some fault) command g = tt
-
   pub panel_holds : (call : bus.Call) (b : BusState) (g : Ledger) → AllowsPanel call → Each P (panel_steps k call b g)
   panel_holds (bus.Submit i command) b g allows =
-      if_own i (changed_unless (submit_refusal_at i command b) [] (submits None command g)) (λ same. submits_hold (submit_refusal_at i command b) command g)
+      if_own i (changed_unless (submit_refusal_at i command b) [] (submits None command g)) (λ same. submits_each P (λ order. plain _ tt) (submit_refusal_at i command b) command g)
   panel_holds (bus.Withdraw i) b g allows =
-      if_own i (withdraws (given_back (withdrawal_at i b)) g) (λ same. withdraws_hold (given_back (withdrawal_at i b)) g (allows same))
+      if_own i (withdraws (given_back (withdrawal_at i b)) g) (λ same. withdraws_each P (allows same) (given_back (withdrawal_at i b)) g)
   panel_holds (bus.Tick now) b g allows =
       let reports = reported k (told_in (bus.Tick now) b) g in
       let opens = opening k (asked_at now b) (bus_ticks now b).sent (device_of k (heard (bus.Tick now) now b)) in
@@ -83,10 +93,6 @@ module _ (P : ledger.Step → Type 0) (plain : (step : ledger.Step) → IsPlain 
   panel_holds (bus.OnSilence now) b g allows =
       done (reported k (told_in (bus.OnSilence now) b) g) (reported_done k (told_in (bus.OnSilence now) b) g)
   panel_holds _ b g allows = tt
-
-  restarts_hold : (q : Option Entry) → ((on_wire : Bool) → P (RestartPanel on_wire)) → Each P (panel_restarts q)
-  restarts_hold None holds = tt
-  restarts_hold (Some d) holds = (holds _, tt)
 
   module _ {H : Type 0} (answer_of : H → Command → Answer) (after : H → Command → H) where
     -- this holds of each step that a call may show, and that isn't plain
@@ -106,11 +112,11 @@ module _ (P : ledger.Step → Type 0) (plain : (step : ledger.Step) → IsPlain 
 
     pub call_holds : (call : Call H) (l : InUse H) (g : Ledger) → Allows call → Each P (steps_of answer_of after k call l g)
     call_holds (OfPanel call) l g allows = panel_holds call l.bus g allows
-    call_holds (NewPanel config xs) l g allows = restarts_hold (device_of k l.bus) allows
+    call_holds (NewPanel config xs) l g allows = restarts_each P allows (device_of k l.bus)
     call_holds (SubmitEvent i event) l g allows =
-        at_holds i (SubmitEvent i event) (λ t g same. are (queues (lacks_room event t.reader.queue) event g) (queues_plain (lacks_room event t.reader.queue) event g)) (site_at k l.stations) g
+        at_holds i (SubmitEvent i event) (λ t g same. queues_each P (λ card. plain _ tt) (lacks_room event t.reader.queue) event g) (site_at k l.stations) g
     call_holds (WithdrawEvent i) l g allows =
-        at_holds i (WithdrawEvent i) (λ t g same. withdraws_event_hold (never_offered t.reader.queue) t.reader.queue.ever_offered g (allows same)) (site_at k l.stations) g
+        at_holds i (WithdrawEvent i) (λ t g same. withdraws_event_each P (allows same) (never_offered t.reader.queue) t.reader.queue.ever_offered g) (site_at k l.stations) g
     call_holds (LapseEvent i) l g allows =
         at_holds i (LapseEvent i) (λ t g same. lapses_each P (allows same) (in_doubt t.reader.queue) g) (site_at k l.stations) g
     call_holds (Next i) l g allows =
@@ -118,12 +124,7 @@ module _ (P : ledger.Step → Type 0) (plain : (step : ledger.Step) → IsPlain 
         done (answered answer_of after o t.reader g) (answered_done answer_of after o t.reader g)) (site_at k l.stations) g
     call_holds (NewDevice i config handler room gap) l g allows =
         at_holds i (NewDevice i config handler room gap) (λ t g same. (allows same, tt)) (site_at k l.stations) g
-    call_holds (calls.SetBusy i busy) l g allows = at_holds i (calls.SetBusy i busy) (λ t g same. tt) (site_at k l.stations) g
-    call_holds (SetHandler i handler) l g allows = at_holds i (SetHandler i handler) (λ t g same. tt) (site_at k l.stations) g
-    call_holds (Take i bytes now) l g allows = at_holds i (Take i bytes now) (λ t g same. tt) (site_at k l.stations) g
-    call_holds (TickDevice i now) l g allows = at_holds i (TickDevice i now) (λ t g same. tt) (site_at k l.stations) g
-    call_holds (Silence i now) l g allows = at_holds i (Silence i now) (λ t g same. tt) (site_at k l.stations) g
-    call_holds (Pending i) l g allows = at_holds i (Pending i) (λ t g same. tt) (site_at k l.stations) g
+    call_holds call l g allows = at_holds _ call (λ t g same. tt) (site_at k l.stations) g
 
     along_holds : (steps : List (Step H)) (l : InUse H) (g : Ledger) → Each (λ (step : Step H). Allows step.call) steps
         → Each P (steps_along answer_of after k steps l g)

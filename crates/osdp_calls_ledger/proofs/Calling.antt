@@ -6,10 +6,10 @@ use Rattle.osdp_link_laws.specs.Link as link
 use Rattle.osdp_shared_line.specs.Line as line
 use Rattle.osdp_calls.specs.Calls as calls
 use Rattle.osdp_calls.proofs.Handing.{hands_over}
-use Rattle.osdp_calls.specs.Told.{taken_by}
 use Rattle.osdp_calls.proofs.Heeded.{net_as, of_line, says_alike, ticks_greatest}
 use Rattle.osdp_calls.proofs.Losing.{IsPlain}
 use Rattle.osdp_calls.proofs.Steps.{IsOf, plain_of}
+use Rattle.osdp_calls_ledger.specs.Acted.{acted_in}
 use Rattle.osdp_calls_ledger.proofs.Nexting.{next_of_shows, next_of_takes}
 use Rattle.osdp_calls_ledger.proofs.Own.{no_steps, none_back, of_device, of_power, of_submit, of_withdraw}
 use Rattle.osdp_calls_ledger.proofs.Quiet.{TakesNone, none_takes, seen_none}
@@ -24,7 +24,7 @@ module _ {H : Type 0} (answer_of : H → Command → Answer) (after : H → Comm
   call_shown call l k g = steps_of answer_of after k call l g
 
   abbrev pub call_taken : Call H → InUse H → Taken
-  call_taken call l k = taken_by answer_of after k call l
+  call_taken call l k = acted_in answer_of after k call l
 
   -- ---- calls that read nothing
 
@@ -50,7 +50,6 @@ module _ {H : Type 0} (answer_of : H → Command → Answer) (after : H → Comm
   device_takes (SetHandler i handler) = (tt, tt)
   device_takes (WithdrawEvent i) = (tt, tt)
   device_takes (LapseEvent i) = (tt, tt)
-  device_takes (NewDevice i config handler room gap) = (tt, tt)
   device_takes _ = tt
 
   -- a call that shows nothing of any station
@@ -216,9 +215,11 @@ module _ {H : Type 0} (answer_of : H → Command → Answer) (after : H → Comm
           takes = λ heard k own. next_of_takes answer_of after i (site_at i l.stations) n r.reached.moves x.made heard k;
         }
     call_shows (NewDevice i config handler room gap) places order quiet addresses range =
-        by_moves (NewDevice i config handler room gap) places order quiet addresses range (λ moves are. are)
-        (of_device answer_of after i (NewDevice i config handler room gap) (RestartReader i config handler room) (link.RestartReader config handler room) l n h
-        (λ k s. refl) (λ k s t g is. refl))
+        let call : Call H = NewDevice i config handler room gap in
+        let s = one_call answer_of after call places l n h order quiet addresses range in
+        by_steps call l n (after_call answer_of after call places l) s (subst (Each TakesNone) (sym s.made) (tt, tt)) (λ k. call_keeps k answer_of after call places l)
+        (λ k g own. ap (λ ms. seen answer_of after k ms n g) s.made
+        ∙ of_device answer_of after i call (RestartReader i config handler room) (link.RestartReader config handler room) l n h (λ k s. refl) (λ k s t g is. refl) k g)
     call_shows (NewPanel config xs) places order quiet addresses range =
         let s = one_call answer_of after (NewPanel config xs) places l n h order quiet addresses range in
         by_steps (NewPanel config xs) l n (after_call answer_of after (NewPanel config xs) places l) s (subst (Each TakesNone) (sym s.made.1) (tt, tt))

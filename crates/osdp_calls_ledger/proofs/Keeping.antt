@@ -1,20 +1,21 @@
 -- Every list of calls that keep the premises shows what the moves of a net show, so what each of several links keeps each entry keeps.
-use Rattle.std.proofs.Common.{◌≡◌, ◌==◌, ◌+◌, ℕ, false, All, List, [], ◌∷◌, ◌++◌, map, Option, None, Some, refl, sym, subst, ap, ◌∙◌, inl, inr}
+use Rattle.std.proofs.Common.{◌≡◌, ◌==◌, ◌+◌, ℕ, false, All, List, [], ◌∷◌, ◌++◌, Option, None, Some, refl, sym, subst, ap, ◌∙◌, inl, inr}
 use Rattle.std.specs.Prelude.{is_some, option_to_list}
-use Rattle.osdp_calls_ledger.proofs.Common.{Command, Event, Reply, Machine, ReaderState, Answer, Ledger, Order, RestartPanel, after, new_ledger, AreAllowed, History, new_history, runs, steps_on, EventsHold, OrdersHold, Link, Move, after_move, outstanding_command, after_steps, all_steps, queued_before, runs_after, each_all, each_map, each_of, Each, NetMovesFit, NobodyElseHears, Net, NetMove, RestartsPanel, after_net, run, site_at, some_same, moves_of, EachMoveIsItsOwn, view, Step, after_call, after_calls, InUse, Station, KeepsHandler, AllKeep, IsOfOne, all_heard, its_site, outstanding_same, waiting_too, Controls, IsNetOf, first_net, first_site, first_there, starts, EachKeepsLedger, steps_along, steps_from, calls_keep}
+use Rattle.osdp_calls_ledger.proofs.Common.{Command, Event, Machine, ReaderState, Answer, Ledger, RestartPanel, after, new_ledger, AreAllowed, History, new_history, runs, steps_on, EventsHold, OrdersHold, Link, Move, after_move, outstanding_command, after_steps, all_steps, queued_before, runs_after, each_all, each_map, each_of, Each, NetMovesFit, NobodyElseHears, Net, NetMove, RestartsPanel, after_net, run, site_at, some_same, moves_of, EachMoveIsItsOwn, view, Step, after_call, after_calls, InUse, Station, KeepsHandler, AllKeep, IsOfOne, all_heard, its_site, outstanding_same, waiting_too, Controls, IsNetOf, first_net, first_site, first_there, starts, EachKeepsLedger, steps_along, steps_from, calls_keep}
 use Rattle.osdp_bus.specs.declared.config.BusConfig.{BusConfig}
 use Rattle.osdp_ledger.specs.Ledger as ledger
 use Rattle.osdp_link_laws.specs.Ahead.{is_polling, offered_to}
-use Rattle.osdp_link_laws.specs.Reports as links
+use Rattle.osdp_link_ledger.specs.Acted as links
 use Rattle.osdp_link_ledger.specs.Laws.{HasNumber, IsLedgerOf, answer_to, is_under_way}
+use Rattle.osdp_link_ledger.specs.Telling.{acted_in_history}
 use Rattle.osdp_line_ledger.specs.Laws as lines
 use Rattle.osdp_shared_line.specs.Addresses.{IsSetUp as IsSetUpNet}
 use Rattle.osdp_shared_line.specs.Line as line
 use Rattle.osdp_shared_line.specs.Restarts.{KeepsDeviceOf}
 use Rattle.osdp_calls.specs.Premises.{IsSetUp}
 use Rattle.osdp_calls.specs.Promises.{link_of_entry}
-use Rattle.osdp_calls.specs.Told.{all_taken}
 use Rattle.osdp_calls.proofs.Counting.{at_site, counted, in_link, in_net}
+use Rattle.osdp_calls_ledger.specs.Acted.{all_acted}
 use Rattle.osdp_calls_ledger.proofs.Accepted.{all_commands, all_events}
 use Rattle.osdp_calls_ledger.proofs.Calling.{call_shown, call_shows}
 use Rattle.osdp_calls_ledger.proofs.Reporting.{tells_reports}
@@ -64,9 +65,9 @@ module _ {H : Type 0} (answer_of : H → Command → Answer) (after_command : H 
   abbrev along : List (Step H) → InUse H → Shown
   along steps l k g = steps_along answer_of after_command k steps l g
 
-  -- .. and what each device takes in it
+  -- .. and what each device takes in it, with the answers
   abbrev along_taken : List (Step H) → InUse H → Taken
-  along_taken steps l k = all_taken answer_of after_command k steps l
+  along_taken steps l k = all_acted answer_of after_command k steps l
 
   calls_show : (steps : List (Step H)) (l : InUse H) (n : Net H) → IsNetOf l n → AllKeep answer_of after_command steps l
       → Shows answer_of after_command (IsOfOne steps) (along steps l) (along_taken steps l) n (after_calls answer_of after_command steps l)
@@ -99,9 +100,9 @@ module _ {H : Type 0} (answer_of : H → Command → Answer) (after_command : H 
     pub shows : all_steps answer_of after_command (moves_of answer_of after_command k moves (first_net config l.stations))
         (view k (first_site config first) (first_net config l.stations)) (ledger_before first)
         ≡ RestartPanel false ∷ steps_along answer_of after_command k steps l (ledger_before first)
-    pub takes : links.all_taken answer_of after_command (moves_of answer_of after_command k moves (first_net config l.stations))
+    pub takes : links.all_acted answer_of after_command (moves_of answer_of after_command k moves (first_net config l.stations))
         (view k (first_site config first) (first_net config l.stations))
-        ≡ all_taken answer_of after_command k steps l
+        ≡ all_acted answer_of after_command k steps l
 
   -- a move of one of these calls leaves the device where they do
   keeps_one : (k : ℕ) (steps : List (Step H)) (move : NetMove H) → Each (λ (step : Step H). KeepsHandler k step.call) steps → IsOfOne steps move → KeepsDeviceOf k move
@@ -112,9 +113,9 @@ module _ {H : Type 0} (answer_of : H → Command → Answer) (after_command : H 
   keeps_one k (step ∷ steps) _ keep (inl is) = tt
 
   taken_counted : (ms : List (Move H)) (v : Link H)
-      → links.all_taken answer_of after_command ms v ≡ counted answer_of after_command (links.taken_in answer_of after_command) ms v
+      → links.all_acted answer_of after_command ms v ≡ counted answer_of after_command (links.acted_in answer_of after_command) ms v
   taken_counted [] v = refl
-  taken_counted (m ∷ ms) v = ap (λ cs. links.taken_in answer_of after_command m v ++ cs) (taken_counted ms (after_move answer_of after_command m v))
+  taken_counted (m ∷ ms) v = ap (λ cs. links.acted_in answer_of after_command m v ++ cs) (taken_counted ms (after_move answer_of after_command m v))
 
   pub entry_moves : EachMoveIsItsOwn answer_of after_command → NobodyElseHears answer_of after_command → (l : InUse H) (steps : List (Step H)) → IsSetUp l
       → AllKeep answer_of after_command steps l → (k : ℕ) (first : Station H) → site_at k l.stations ≡ Some first → EntryMoves steps l k first
@@ -134,7 +135,7 @@ module _ {H : Type 0} (answer_of : H → Command → Answer) (after_command : H 
       let g0 = ledger_before first in
       let g1 : after (RestartPanel false) g0 ≡ g0 =
       (λ i. after (RestartPanel false) (sym (runs_after before new_history) i)) ∙ ap (λ (h : History). h.ledger) (nothing_before first) ∙ runs_after before new_history in
-      let taken = links.taken_in answer_of after_command in
+      let taken = links.acted_in answer_of after_command in
       record {
         config = s.config;
         is_set_up = s.is_set_up;
@@ -232,7 +233,7 @@ module _ {H : Type 0} (answer_of : H → Command → Answer) (after_command : H 
             (is_of_entry last.begun ls.bus.greatest (link_of_entry d last) control at.reader kept.ledger);
         tells = record {
           orders = all_commands answer_of after_command k first steps l;
-          acted = ap (λ (h : History). map (λ (x : Order × Reply). x.0.command) h.acted) (sym ends) ∙ kept.tells.acted ∙ x.takes;
+          acted = ap acted_in_history (sym ends) ∙ kept.tells.acted ∙ x.takes;
           cards = all_events answer_of after_command k first steps l;
           told = tells_reports answer_of after_command l steps k first;
         };

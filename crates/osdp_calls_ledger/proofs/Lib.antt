@@ -18,3 +18,4 @@ pub mod Refusing
 pub mod Unbroken
 pub mod OneDevice
 pub mod Reporting
+pub mod Acted

@@ -1,19 +1,16 @@
--- What a device's `next` shows: what it does with the packet that it answers; and what it takes: what the response says.
-use Rattle.osdp_calls_ledger.proofs.Common.{◌≡◌, ◌≢◌, ◌⊎◌, ℕ, cond, List, [], ◌∷◌, ◌++◌, Option, Some, None, All, refl, sym, subst, ap, ◌∙◌, inl, inr, append-nil, eqb_tells, ◌==◌, ◌<◌, option_map, option_to_list, Packet, Command, items_of, ReaderState, outcome, Answer, Ledger, Repeated, both, each_map, each_of, is_false, is_true, after_steps, all_steps, gets, leaves_and_acts, Net, NetMove, Site, ToReader, after_net, run, site_at, HeardByOwn, move_of, one_if, own, own_front, view, for_reader, first_answered, read_up_to, InUse, Station, AllHeard, IsNextOf, IsLoss, answered, steps_at}
-use Rattle.osdp_msg.specs.declared.command.Command.TheVariants.{Poll}
-use Rattle.osdp_device.specs.Saying.{but_poll, said_to, taken_by as said_taken}
-use Rattle.osdp_reader.specs.Table.{hears, kind_of}
-use Rattle.osdp_reader.specs.declared.kind.Kind.{Kind}
+-- What a device's `next` shows: what it does with the packet that it answers; and what it takes, with the answer to it.
+use Rattle.osdp_calls_ledger.proofs.Common.{◌≡◌, ◌≢◌, ◌⊎◌, ℕ, cond, List, [], ◌∷◌, ◌++◌, Option, Some, None, All, refl, sym, subst, ap, ◌∙◌, inl, inr, append-nil, eqb_tells, ◌==◌, ◌<◌, option_to_list, Packet, Command, Reply, items_of, ReaderState, outcome, Answer, Ledger, Repeated, both, each_map, each_of, is_false, is_true, after_steps, all_steps, gets, leaves_and_acts, Net, NetMove, Site, ToReader, after_net, run, site_at, HeardByOwn, move_of, one_if, own, own_front, view, for_reader, first_answered, read_up_to, InUse, Station, AllHeard, IsNextOf, IsLoss, answered, steps_at}
+use Rattle.std.specs.Prelude.{zip}
+use Rattle.osdp_reader.specs.Table.{kind_of}
 use Rattle.osdp_reader.specs.declared.kind.Kind.TheVariants as kind
 use Rattle.osdp_ledger.specs.Ledger as ledger
 use Rattle.osdp_link_laws.specs.Link as link
-use Rattle.osdp_link_laws.specs.Reports.{command_taken, taken_as, taken_by as link_takes, taken_by_front, taken_in}
+use Rattle.osdp_link_laws.specs.Reports.{taken_as}
+use Rattle.osdp_link_ledger.specs.Acted.{acted_by, acted_in, done_by_front}
 use Rattle.osdp_link_ledger.specs.Steps as links
-use Rattle.osdp_calls.specs.Sayings.{acted_on}
-use Rattle.osdp_calls.specs.Told.{taken_at}
 use Rattle.osdp_calls.proofs.Counting.{at_site, counted, in_net, in_net_more}
 use Rattle.osdp_calls.proofs.Nexts.{IsAnswered, IsNext, IsPassed}
-use Rattle.osdp_calls.proofs.Replying.{told_first}
+use Rattle.osdp_calls_ledger.specs.Acted.{acted_at, acted_by_answered}
 use Rattle.osdp_calls_ledger.proofs.Own.{no_steps}
 use Rattle.osdp_calls_ledger.proofs.Quiet.{ShowsNothing, TakesNone, loss_shows, loss_takes, none_takes, seen_after_none, seen_none}
 use Rattle.osdp_calls_ledger.proofs.Seen.{seen, seen_at}
@@ -61,14 +58,14 @@ module _ {H : Type 0} (answer_of : H → Command → Answer) (after : H → Comm
       ∙ sym (ap (λ c. let o = outcome answer_of after c s.reader p in leaves_and_acts c s.reader.queue o.command o.said g) silent)
 
   front_takes : (k : ℕ) (p : Packet) (s : Site H) (n : Net H) → Front k p s n
-      → at_site answer_of after (taken_in answer_of after) k (Some s) (ToReader k Repeated) n ≡ link_takes answer_of after p s.reader
+      → at_site answer_of after (acted_in answer_of after) k (Some s) (ToReader k Repeated) n ≡ acted_by answer_of after p s.reader
   front_takes k p s n (IsOwn rest moves front) =
-      ap (λ ms. counted answer_of after (taken_in answer_of after) ms (view k s n)) moves
-      ∙ append-nil (taken_by_front answer_of after Repeated (view k s n).to_reader s.reader)
-      ∙ ap (λ ps. taken_by_front answer_of after Repeated ps s.reader) front
+      ap (λ ms. counted answer_of after (acted_in answer_of after) ms (view k s n)) moves
+      ∙ append-nil (done_by_front answer_of after (acted_by answer_of after) Repeated (view k s n).to_reader s.reader)
+      ∙ ap (λ ps. done_by_front answer_of after (acted_by answer_of after) Repeated ps s.reader) front
   front_takes k p s n (IsAway moves silent) =
-      ap (λ ms. counted answer_of after (taken_in answer_of after) ms (view k s n)) moves
-      ∙ sym (ap (λ c. taken_as c (outcome answer_of after c s.reader p).command) silent)
+      ap (λ ms. counted answer_of after (acted_in answer_of after) ms (view k s n)) moves
+      ∙ sym (ap (λ c. let o = outcome answer_of after c s.reader p in zip (taken_as c o.command) (option_to_list o.said)) silent)
 
   other_reads : (k i : ℕ) (o : Option (Site H)) (n : Net H) (g : Ledger) → i ≢ k → seen_at answer_of after k o (ToReader i Repeated) n g ≡ []
   other_reads k i None n g other = refl
@@ -106,23 +103,18 @@ module _ {H : Type 0} (answer_of : H → Command → Answer) (after : H → Comm
 
   -- ---- .. and takes
 
-  -- the command that is taken by the packet that is answered
-  abbrev answered_takes : Option Packet → ReaderState H → List Command
-  answered_takes None r = []
-  answered_takes (Some p) r = link_takes answer_of after p r
-
-  other_takes : (k i : ℕ) (o : Option (Site H)) (n : Net H) → i ≢ k → at_site answer_of after (taken_in answer_of after) k o (ToReader i Repeated) n ≡ []
+  other_takes : (k i : ℕ) (o : Option (Site H)) (n : Net H) → i ≢ k → at_site answer_of after (acted_in answer_of after) k o (ToReader i Repeated) n ≡ []
   other_takes k i None n other = refl
   other_takes k i (Some s) n other =
-      ap (λ b. counted answer_of after (taken_in answer_of after) (cond b (own_front k s.coming Repeated) []) (view k s n)) (is_false i k other)
+      ap (λ b. counted answer_of after (acted_in answer_of after) (cond b (own_front k s.coming Repeated) []) (view k s n)) (is_false i k other)
 
   next_takes : (i : ℕ) (o : Option Packet) (r : ReaderState H) (n : Net H) (moves : List (NetMove H)) → IsNext answer_of after i o r n moves
-      → AllHeard answer_of after moves n → (k : ℕ) → in_net answer_of after (taken_in answer_of after) k moves n ≡ cond (i == k) (answered_takes o r) []
+      → AllHeard answer_of after moves n → (k : ℕ) → in_net answer_of after (acted_in answer_of after) k moves n ≡ cond (i == k) (acted_by_answered answer_of after o r) []
   next_takes i o r n moves (IsPassed none losses) heard k =
       none_takes answer_of after k moves n (each_map IsLoss TakesNone loss_takes moves losses)
-      ∙ sym (ap (λ q. cond (i == k) (answered_takes q r) []) none ∙ both (λ (cs : List Command). cs ≡ []) (i == k) [] [] refl refl)
+      ∙ sym (ap (λ q. cond (i == k) (acted_by_answered answer_of after q r) []) none ∙ both (λ (cs : List (Command × Reply)). cs ≡ []) (i == k) [] [] refl refl)
   next_takes i o r n moves (IsAnswered p s e rest mid lost more some losses runs there reader coming after_it are) heard k =
-      let f = taken_in answer_of after in
+      let f = acted_in answer_of after in
       let last = after_net answer_of after (ToReader i Repeated) mid in
       let whole = (heard_then answer_of after lost (ToReader i Repeated ∷ more) n mid runs (subst (λ ms. AllHeard answer_of after ms n) are heard)).0 in
       ap (λ ms. in_net answer_of after f k ms n) are
@@ -139,34 +131,19 @@ module _ {H : Type 0} (answer_of : H → Command → Answer) (after : H → Comm
             ap (λ j. at_site answer_of after f k (site_at k mid.sites) (ToReader j Repeated) mid) equal.1
             ∙ ap (λ q. at_site answer_of after f k q (ToReader k Repeated) mid) at
             ∙ front_takes k p s mid (front_of k e p rest s mid coming whole at)
-            ∙ ap (link_takes answer_of after p) reader
-            ∙ sym (ap (λ b. cond b (link_takes answer_of after p r) []) equal.0)
-        | inr differs ↦ other_takes k i (site_at k mid.sites) mid differs.1 ∙ sym (ap (λ b. cond b (link_takes answer_of after p r) []) differs.0)
+            ∙ ap (acted_by answer_of after p) reader
+            ∙ sym (ap (λ b. cond b (acted_by answer_of after p r) []) equal.0)
+        | inr differs ↦ other_takes k i (site_at k mid.sites) mid differs.1 ∙ sym (ap (λ b. cond b (acted_by answer_of after p r) []) differs.0)
       ]
-      ∙ sym (ap (λ q. cond (i == k) (answered_takes q r) []) some)
-
-  -- .. which the response says
-  command_so : (c : Command) → option_to_list (but_poll (Some c)) ≡ command_taken c
-  command_so Poll = refl
-  command_so _ = refl
-
-  kind_so : (c : Kind) (command : Option Command) → option_to_list (said_taken c command) ≡ taken_as c command
-  kind_so kind.Taken None = refl
-  kind_so kind.Taken (Some command) = command_so command
-  kind_so _ command = refl
-
-  said_so : (o : Option Packet) (r : ReaderState H) → acted_on (option_map (said_to answer_of after r) o) ≡ answered_takes o r
-  said_so None r = refl
-  said_so (Some p) r = kind_so (kind_of r p) (hears answer_of after r p).command
+      ∙ sym (ap (λ q. cond (i == k) (acted_by_answered answer_of after q r) []) some)
 
   pub next_of_takes : (i : ℕ) (o : Option (Station H)) (n : Net H) (moves : List (NetMove H)) → IsNextOf answer_of after i o n moves
-      → AllHeard answer_of after moves n → (k : ℕ) → in_net answer_of after (taken_in answer_of after) k moves n ≡ cond (i == k) (taken_at answer_of after o) []
+      → AllHeard answer_of after moves n → (k : ℕ) → in_net answer_of after (acted_in answer_of after) k moves n ≡ cond (i == k) (acted_at answer_of after o) []
   next_of_takes i None n moves are heard k =
-      ap (λ ms. in_net answer_of after (taken_in answer_of after) k ms n) are ∙ sym (both (λ (cs : List Command). cs ≡ []) (i == k) [] [] refl refl)
+      ap (λ ms. in_net answer_of after (acted_in answer_of after) k ms n) are ∙ sym (both (λ (cs : List (Command × Reply)). cs ≡ []) (i == k) [] [] refl refl)
   next_of_takes i (Some t) n moves next heard k =
       let o = first_answered t.reader (read_up_to t.reader (items_of t.line.held)) in
       next_takes i o t.reader n moves next heard k
-      ∙ ap (λ cs. cond (i == k) cs []) (sym (said_so o t.reader) ∙ sym (ap acted_on (told_first answer_of after (items_of t.line.held) t.reader t.line.held).0))
 
   -- .. by the station of its entry
   pub next_of_shows : (i : ℕ) (o : Option (Station H)) (l : InUse H) (n : Net H) (moves : List (NetMove H)) → site_at i l.stations ≡ o

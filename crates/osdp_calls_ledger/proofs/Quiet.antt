@@ -3,7 +3,7 @@ use Rattle.osdp_calls_ledger.proofs.Common.{◌≡◌, ℕ, List, [], ◌∷◌,
 use Rattle.osdp_link_laws.specs.Link as link
 use Rattle.osdp_link_ledger.specs.Steps as links
 use Rattle.osdp_shared_line.specs.Line as line
-use Rattle.osdp_link_laws.specs.Reports.{taken_in}
+use Rattle.osdp_link_ledger.specs.Acted.{acted_in}
 use Rattle.osdp_shared_line.proofs.Restarting.{HoldsOf, move_holds}
 use Rattle.osdp_calls.proofs.Counting.{at_site, counted, in_net}
 use Rattle.osdp_calls_ledger.proofs.Seen.{seen, seen_at}
@@ -100,22 +100,22 @@ module _ {H : Type 0} where
 
     -- ---- .. and take nothing
 
-    link_takes : (m : Move H) (l : Link H) → LinkTakesNone m → taken_in answer_of after m l ≡ []
+    link_takes : (m : Move H) (l : Link H) → LinkTakesNone m → acted_in answer_of after m l ≡ []
     link_takes (link.ToReader how) l none = absurd none
     link_takes _ l none = refl
 
-    links_take : (ms : List (Move H)) (l : Link H) → Each LinkTakesNone ms → counted answer_of after (taken_in answer_of after) ms l ≡ []
+    links_take : (ms : List (Move H)) (l : Link H) → Each LinkTakesNone ms → counted answer_of after (acted_in answer_of after) ms l ≡ []
     links_take [] l none = refl
     links_take (m ∷ ms) l none =
         let next = after_move answer_of after m l in
-        ap (λ cs. cs ++ counted answer_of after (taken_in answer_of after) ms next) (link_takes m l none.0) ∙ links_take ms next none.1
+        ap (λ cs. cs ++ counted answer_of after (acted_in answer_of after) ms next) (link_takes m l none.0) ∙ links_take ms next none.1
 
-    at_takes : (k : ℕ) (o : Option (Site H)) (m : NetMove H) (n : Net H) → TakesNone m → at_site answer_of after (taken_in answer_of after) k o m n ≡ []
+    at_takes : (k : ℕ) (o : Option (Site H)) (m : NetMove H) (n : Net H) → TakesNone m → at_site answer_of after (acted_in answer_of after) k o m n ≡ []
     at_takes k None m n none = refl
     at_takes k (Some s) m n none = links_take (move_of k s m n) (view k s n) (move_holds LinkTakesNone k m s n (takes_holds k m none))
 
-    pub none_takes : (k : ℕ) (ms : List (NetMove H)) (n : Net H) → Each TakesNone ms → in_net answer_of after (taken_in answer_of after) k ms n ≡ []
+    pub none_takes : (k : ℕ) (ms : List (NetMove H)) (n : Net H) → Each TakesNone ms → in_net answer_of after (acted_in answer_of after) k ms n ≡ []
     none_takes k [] n none = refl
     none_takes k (m ∷ ms) n none =
         let next = after_net answer_of after m n in
-        ap (λ cs. cs ++ in_net answer_of after (taken_in answer_of after) k ms next) (at_takes k (site_at k n.sites) m n none.0) ∙ none_takes k ms next none.1
+        ap (λ cs. cs ++ in_net answer_of after (acted_in answer_of after) k ms next) (at_takes k (site_at k n.sites) m n none.0) ∙ none_takes k ms next none.1

@@ -1,13 +1,13 @@
 -- Each report is a step of the ledger, and no other step tells anything.
 use Rattle.std.proofs.Common.{◌≡◌, ◌+◌, ℕ, Bool, true, false, cond, List, [], ◌∷◌, ◌++◌, Option, Some, None, refl, sym, ap, ◌∙◌}
-use Rattle.osdp_calls_ledger.proofs.Common.{append_assoc, ◌==◌, Packet, Command, Event, Report, BusState, device_of, changed_unless, submit_refusal_at, withdrawal_at, bus_ticks, Entry, BusFault, told_in, items_of, lacks_room, in_doubt, never_offered, ReaderState, Answer, new_history, Doubt, Ledger, Settle, new_ledger, both, Each, after_steps, queued_before, queues, submits, told, withdraws, withdraws_event, site_at, Call, NewDevice, NewPanel, Next, OfPanel, Step, SubmitEvent, LapseEvent, WithdrawEvent, after_call, asked_at, first_answered, read_up_to, is_of_device, heard, InUse, Station, answered, device_steps, given_back, opening, panel_restarts, panel_steps, reported, steps_along, steps_at, steps_of, gets_each}
+use Rattle.osdp_calls_ledger.proofs.Common.{append_assoc, ◌==◌, Packet, Command, Event, Report, BusState, device_of, changed_unless, submit_refusal_at, withdrawal_at, bus_ticks, told_in, items_of, lacks_room, in_doubt, never_offered, ReaderState, Answer, new_history, Doubt, Ledger, Settle, new_ledger, both, Each, after_steps, queued_before, submits, told, withdraws, site_at, Call, NewDevice, NewPanel, Next, OfPanel, Step, SubmitEvent, LapseEvent, WithdrawEvent, after_call, asked_at, first_answered, read_up_to, is_of_device, heard, InUse, Station, answered, device_steps, given_back, opening, panel_restarts, panel_steps, reported, steps_along, steps_at, steps_of, gets_each}
 use Rattle.osdp_bus_laws.specs.Calls as bus
 use Rattle.osdp_ledger.specs.Ledger as ledger
 use Rattle.osdp_link_laws.specs.Reports.{Told, nothing_told, with_reports}
 use Rattle.osdp_link_ledger.proofs.Told.{report_tells, reports_more, runs_tell, steps_more, with_steps}
 use Rattle.osdp_calls.specs.Told.{all_told, reports_of, told_by}
 use Rattle.osdp_calls_ledger.specs.Reports.{TellsReports}
-use Rattle.osdp_calls_ledger.proofs.Allowing.{lapses_each, opening_open}
+use Rattle.osdp_calls_ledger.proofs.Allowing.{lapses_each, opening_open, queues_each, restarts_each, submits_each, withdraws_each, withdraws_event_each}
 
 -- ---- steps that tell nothing
 
@@ -27,26 +27,6 @@ silent (step ∷ steps) y all = silent steps y all.1
 queued_silent : (place : ℕ) (es : List Event) → Each IsSilent (queued_before place es)
 queued_silent place [] = tt
 queued_silent place (e ∷ es) = (tt, queued_silent (place + 1) es)
-
-queues_silent : (full : Bool) (e : Event) (g : Ledger) → Each IsSilent (queues full e g)
-queues_silent true e g = tt
-queues_silent false e g = (tt, tt)
-
-submits_silent : (f : Option BusFault) (c : Command) (g : Ledger) → Each IsSilent (changed_unless f [] (submits None c g))
-submits_silent None c g = (tt, tt)
-submits_silent (Some fault) c g = tt
-
-withdraws_silent : (o : Option Command) (g : Ledger) → Each IsSilent (withdraws o g)
-withdraws_silent None g = tt
-withdraws_silent (Some c) g = (tt, tt)
-
-withdraws_event_silent : (o : Option Event) (ever : Bool) (g : Ledger) → Each IsSilent (withdraws_event o ever g)
-withdraws_event_silent None ever g = tt
-withdraws_event_silent (Some e) ever g = (tt, tt)
-
-restarts_silent : (q : Option Entry) → Each IsSilent (panel_restarts q)
-restarts_silent None = tt
-restarts_silent (Some d) = (tt, tt)
 
 -- ---- reports
 
@@ -77,10 +57,10 @@ module _ (k : ℕ) where
   panel_tells : (call : bus.Call) (b : BusState) (g : Ledger) (y : Told) → with_steps (panel_steps k call b g) y ≡ with_reports (reports_of k (told_in call b)) y
   panel_tells (bus.Submit i c) b g y =
       let steps = changed_unless (submit_refusal_at i c b) [] (submits None c g) in
-      silent (cond (i == k) steps []) y (if_own i steps (submits_silent (submit_refusal_at i c b) c g))
+      silent (cond (i == k) steps []) y (if_own i steps (submits_each IsSilent (λ order. tt) (submit_refusal_at i c b) c g))
   panel_tells (bus.Withdraw i) b g y =
       let steps = withdraws (given_back (withdrawal_at i b)) g in
-      silent (cond (i == k) steps []) y (if_own i steps (withdraws_silent (given_back (withdrawal_at i b)) g))
+      silent (cond (i == k) steps []) y (if_own i steps (withdraws_each IsSilent (λ order. tt) (given_back (withdrawal_at i b)) g))
   panel_tells (bus.Tick now) b g y =
       let all = told_in (bus.Tick now) b in
       let opens = opening k (asked_at now b) (bus_ticks now b).sent (device_of k (heard (bus.Tick now) now b)) in
@@ -96,8 +76,8 @@ module _ (k : ℕ) where
     gets_silent (Some p) r g = gets_each IsSilent (λ order answer. tt) (λ card. tt) (λ card. tt) answer_of after p r g
 
     device_silent : (call : Call H) (t : Station H) (g : Ledger) → Each IsSilent (device_steps answer_of after call t g)
-    device_silent (SubmitEvent i e) t g = queues_silent (lacks_room e t.reader.queue) e g
-    device_silent (WithdrawEvent i) t g = withdraws_event_silent (never_offered t.reader.queue) t.reader.queue.ever_offered g
+    device_silent (SubmitEvent i e) t g = queues_each IsSilent (λ card. tt) (lacks_room e t.reader.queue) e g
+    device_silent (WithdrawEvent i) t g = withdraws_event_each IsSilent (λ card. tt) (never_offered t.reader.queue) t.reader.queue.ever_offered g
     device_silent (LapseEvent i) t g = lapses_each IsSilent (λ card. (tt, tt)) (in_doubt t.reader.queue) g
     device_silent (Next i) t g = gets_silent (first_answered t.reader (read_up_to t.reader (items_of t.line.held))) t.reader g
     device_silent (NewDevice i config handler room gap) t g = (tt, tt)
@@ -115,7 +95,7 @@ module _ (k : ℕ) where
 
     call_tells : (call : Call H) (l : InUse H) (g : Ledger) (y : Told) → with_steps (steps_of answer_of after k call l g) y ≡ with_reports (reports_of k (told_by call l)) y
     call_tells (OfPanel call) l g y = panel_tells call l.bus g y
-    call_tells (NewPanel config addresses) l g y = silent (panel_restarts (device_of k l.bus)) y (restarts_silent (device_of k l.bus))
+    call_tells (NewPanel config addresses) l g y = silent (panel_restarts (device_of k l.bus)) y (restarts_each IsSilent (λ on_wire. tt) (device_of k l.bus))
     call_tells call l g y = of_device call l g y
 
     along_tells : (steps : List (Step H)) (l : InUse H) (g : Ledger) (y : Told)

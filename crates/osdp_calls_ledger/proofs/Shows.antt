@@ -1,7 +1,7 @@
 -- What calls come to, with what the moves show of each entry, and what its device takes in them.
-use Rattle.osdp_calls_ledger.proofs.Common.{◌≡◌, ℕ, List, [], ◌∷◌, ◌++◌, sym, subst, ap, ◌∙◌, is_some, Command, Answer, Ledger, each_append, each_map, Each, after_steps, NetMovesFit, Net, NetMove, after_net, run, site_at, InUse, AllHeard, IsLoss, IsNetOf, LosesTo, Makes, IsOurs, fits_both, net_more}
+use Rattle.osdp_calls_ledger.proofs.Common.{◌≡◌, ℕ, List, [], ◌∷◌, ◌++◌, sym, subst, ap, ◌∙◌, is_some, Command, Reply, Answer, Ledger, each_append, each_map, Each, after_steps, NetMovesFit, Net, NetMove, after_net, run, site_at, InUse, AllHeard, IsLoss, IsNetOf, LosesTo, Makes, IsOurs, fits_both, net_more}
 use Rattle.osdp_ledger.specs.Ledger as ledger
-use Rattle.osdp_link_laws.specs.Reports.{taken_in}
+use Rattle.osdp_link_ledger.specs.Acted.{acted_in}
 use Rattle.osdp_calls.proofs.Counting.{in_net, in_net_more}
 use Rattle.osdp_calls.proofs.Losing.{IsPlain}
 use Rattle.osdp_calls_ledger.proofs.Quiet.{ShowsNothing, TakesNone, loss_shows, loss_takes, none_takes, seen_none}
@@ -17,9 +17,9 @@ none_shown k g = []
 abbrev pub both_shown : Shown → Shown → Shown
 both_shown f h k = in_turn (f k) (h k)
 
--- the commands that each device takes
+-- the commands that each device takes, each with the answer to it
 abbrev pub Taken : Type 0
-Taken = ℕ → List Command
+Taken = ℕ → List (Command × Reply)
 
 abbrev pub none_taken : Taken
 none_taken k = []
@@ -40,8 +40,8 @@ module _ {H : Type 0} (answer_of : H → Command → Answer) (after : H → Comm
   heard_then (x ∷ ms) more n m is heard = heard_then ms more (after_net answer_of after x n) m is heard.1
 
   -- what the device of this entry takes in moves
-  abbrev pub taken_by : ℕ → List (NetMove H) → Net H → List Command
-  taken_by k moves n = in_net answer_of after (taken_in answer_of after) k moves n
+  abbrev pub taken_by : ℕ → List (NetMove H) → Net H → List (Command × Reply)
+  taken_by k moves n = in_net answer_of after (acted_in answer_of after) k moves n
 
   -- ---- moves that fit, all of them of this kind, the net that they come to, and what they show
 
@@ -139,5 +139,5 @@ module _ {H : Type 0} (answer_of : H → Command → Answer) (after : H → Comm
         takes = λ heard k own.
             let first = x.takes (heard_first x.moves y.moves n heard) k (sym (keeps k) ∙ own) in
             let second = ap (taken_by k y.moves) x.run ∙ y.takes (heard_then x.moves y.moves n x.net x.run heard) k own in
-            in_net_more answer_of after (taken_in answer_of after) k x.moves y.moves n ∙ (λ i. first i ++ second i);
+            in_net_more answer_of after (acted_in answer_of after) k x.moves y.moves n ∙ (λ i. first i ++ second i);
       }

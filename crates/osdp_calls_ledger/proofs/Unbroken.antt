@@ -1,6 +1,6 @@
 -- A device that has lost no power since its session began. As the opening ID goes out nothing is on the line, so a session begins there in which the reader
 -- hasn't restarted, whatever was before; and none in which it hasn't ends by a refused number.
-use Rattle.osdp_calls_ledger.proofs.Common.{◌≡◌, ◌+◌, ◌<◌, ℕ, Bool, true, false, List, [], ◌∷◌, ◌++◌, Option, Some, None, is_some, refl, sym, subst, ap, ◌∙◌, Packet, Command, Event, State, Closed, Quiet, Idle, Waiting, Pausing, ticks, submit_refusal, withdrawn_in, in_doubt, lacks_room, never_offered, Answer, Ledger, Open, RestartDevice, Link, Move, after_move, each_all, each_map, Each, after_steps, all_steps, gets_done, opens, queued_before, queues, submits, told, told_done, withdraws, withdraws_event, IsDone, NobodyElseHears, EachMoveIsItsOwn, Net, NetMove, run, site_at, moves_of, view, first_net, first_site, after_calls, calls_keep, steps_along}
+use Rattle.osdp_calls_ledger.proofs.Common.{◌≡◌, ◌+◌, ◌<◌, ℕ, Bool, true, false, List, [], ◌∷◌, ◌++◌, Option, Some, None, is_some, refl, sym, subst, ap, ◌∙◌, Packet, Command, Event, State, Closed, Quiet, Idle, Waiting, Pausing, ticks, submit_refusal, withdrawn_in, in_doubt, lacks_room, never_offered, Answer, Ledger, Open, RestartDevice, Link, Move, after_move, each_all, each_map, Each, after_steps, all_steps, gets_done, opens, queued_before, submits, told, told_done, IsDone, NobodyElseHears, EachMoveIsItsOwn, Net, NetMove, run, site_at, moves_of, view, first_net, first_site, after_calls, calls_keep, steps_along}
 use Rattle.std.specs.Prelude.{IfSome}
 use Rattle.osdp_controller.specs.declared.fault.ControllerFault.{ControllerFault}
 use Rattle.osdp_ledger.specs.Ledger as ledger
@@ -21,7 +21,7 @@ use Rattle.osdp_shared_line.proofs.Restarting.{HoldsOf, moves_hold}
 use Rattle.osdp_shared_line.proofs.Running.{apart_all, apart_first}
 use Rattle.osdp_calls.proofs.Losing.{IsPlain}
 use Rattle.osdp_calls_ledger.specs.Refusals.{CallsRefuseNoNumber, has_restarted}
-use Rattle.osdp_calls_ledger.proofs.Allowing.{lapses_each}
+use Rattle.osdp_calls_ledger.proofs.Allowing.{lapses_each, queues_each, withdraws_each, withdraws_event_each}
 use Rattle.osdp_calls_ledger.proofs.Keeping.{entry_moves, ledger_before}
 use Rattle.osdp_calls_ledger.proofs.Refusing.{RefusesNone, next_refuses_none}
 
@@ -56,18 +56,6 @@ submits_calm : (fault : Option ControllerFault) (c : Command) (g : Ledger) → E
 submits_calm None c g = (tt, tt)
 submits_calm (Some fault) c g = tt
 
-withdraws_calm : (o : Option Command) (g : Ledger) → Each IsCalm (withdraws o g)
-withdraws_calm None g = tt
-withdraws_calm (Some c) g = (tt, tt)
-
-withdraws_event_calm : (o : Option Event) (ever : Bool) (g : Ledger) → Each IsCalm (withdraws_event o ever g)
-withdraws_event_calm None ever g = tt
-withdraws_event_calm (Some e) ever g = (tt, tt)
-
-queues_calm : (full : Bool) (e : Event) (g : Ledger) → Each IsCalm (queues full e g)
-queues_calm true e g = tt
-queues_calm false e g = (tt, tt)
-
 before_calm : (place : ℕ) (es : List Event) → Each IsCalm (queued_before place es)
 before_calm place [] = tt
 before_calm place (e ∷ es) = (tt, before_calm (place + 1) es)
@@ -91,12 +79,12 @@ module _ {H : Type 0} (answer_of : H → Command → Answer) (after : H → Comm
   other_calm (link.Tick now) l g other = absurd other
   other_calm (link.RestartReader config handler room) l g other = absurd other
   other_calm (link.Submit c) l g other = submits_calm (submit_refusal c l.controller) c g
-  other_calm (link.Queue e) l g other = queues_calm (lacks_room e l.reader.queue) e g
+  other_calm (link.Queue e) l g other = queues_each IsCalm (λ card. tt) (lacks_room e l.reader.queue) e g
   other_calm (link.ToReader how) l g other = reads_calm how l.to_reader l g
   other_calm (link.ToController how now) l g other =
       let r = told_by_front how l.to_controller now l.controller.session in are_calm (told r g) (told_done r g)
-  other_calm link.Withdraw l g other = withdraws_calm (withdrawn_in l.controller.session.state l.controller.waiting) g
-  other_calm link.WithdrawEvent l g other = withdraws_event_calm (never_offered l.reader.queue) l.reader.queue.ever_offered g
+  other_calm link.Withdraw l g other = withdraws_each IsCalm (λ order. tt) (withdrawn_in l.controller.session.state l.controller.waiting) g
+  other_calm link.WithdrawEvent l g other = withdraws_event_each IsCalm (λ card. tt) (never_offered l.reader.queue) l.reader.queue.ever_offered g
   other_calm link.LapseEvent l g other = lapses_each IsCalm (λ card. (tt, tt)) (in_doubt l.reader.queue) g
   other_calm (link.RestartController config room) l g other = (tt, tt)
   other_calm _ l g other = tt

@@ -33,10 +33,12 @@ module _ {H : Type 0} where
   taken_back_at None = []
   taken_back_at (Some t) = gives (never_offered t.reader.queue) TakenBack
 
+  -- .. the event that `lapse_event` lets lapse there
   abbrev pub lapsed_at : Option (Station H) → List (Event × Exit)
   lapsed_at None = []
   lapsed_at (Some t) = gives (in_doubt t.reader.queue) Lapsed
 
+  -- .. by a call, where it is one of the device of this entry
   abbrev pub given_up_by : ℕ → Call H → InUse H → List (Event × Exit)
   given_up_by k (WithdrawEvent entry) l = if entry == k then taken_back_at (site_at k l.stations) else []
   given_up_by k (LapseEvent entry) l = if entry == k then lapsed_at (site_at k l.stations) else []

@@ -1,4 +1,5 @@
 pub mod Steps
+pub mod Acted
 pub mod Laws
 pub mod GivenUp
 pub mod Promises

@@ -44,6 +44,7 @@ abbrev pub given_back : Result (Option Command) BusFault → Option Command
 given_back (Ok command) = command
 given_back (Err fault) = None
 
+-- what a call of the panel shows of this entry
 abbrev pub panel_steps : ℕ → bus.Call → BusState → Ledger → List ledger.Step
 panel_steps k (bus.Submit entry command) b g =
     if entry == k then changed_unless (submit_refusal_at entry command b) [] (submits None command g) else []
@@ -65,6 +66,7 @@ module _ {H : Type 0} (answer_of : H → Command → Answer) (after : H → Comm
   answered None r g = []
   answered (Some p) r g = gets answer_of after p r g
 
+  -- what a call of this device shows
   abbrev pub device_steps : Call H → Station H → Ledger → List ledger.Step
   device_steps (SubmitEvent i event) t g = queues (lacks_room event t.reader.queue) event g
   device_steps (WithdrawEvent i) t g = withdraws_event (never_offered t.reader.queue) t.reader.queue.ever_offered g
@@ -73,17 +75,20 @@ module _ {H : Type 0} (answer_of : H → Command → Answer) (after : H → Comm
   device_steps (NewDevice i config handler room gap) t g = RestartDevice ∷ []
   device_steps _ t g = []
 
+  -- .. of the device of a station, if there is one
   abbrev pub steps_at : Call H → Option (Station H) → Ledger → List ledger.Step
   steps_at call None g = []
   steps_at call (Some t) g = device_steps call t g
 
   -- ---- of any call, those of this entry
 
+  -- a call shows of this entry what its end shows by it
   abbrev pub steps_of : ℕ → Call H → InUse H → Ledger → List ledger.Step
   steps_of k (OfPanel call) l g = panel_steps k call l.bus g
   steps_of k (NewPanel config addresses) l g = panel_restarts (device_of k l.bus)
   steps_of k call l g = if is_of_device k call then steps_at call (site_at k l.stations) g else []
 
+  -- .. and a list of calls, in their order
   abbrev pub steps_along : ℕ → List (Step H) → InUse H → Ledger → List ledger.Step
   steps_along k [] l g = []
   steps_along k (step ∷ steps) l g =

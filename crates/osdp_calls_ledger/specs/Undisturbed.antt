@@ -9,6 +9,7 @@ use Rattle.osdp_calls.specs.Lines.{InUse, Station}
 use Rattle.osdp_calls.specs.Undisturbed.{IsOrdinaryOf}
 use Rattle.osdp_calls_ledger.specs.Steps.{steps_from}
 
+-- where each call is ordinary for an entry, each end in its ledger was told to a program
 abbrev pub OrdinaryCallsEndTold : {H : Type 0} → (H → Command → Answer) → (H → Command → H) → Type 0
 OrdinaryCallsEndTold {H} answer_of after = (l : InUse H) (steps : List (Step H)) (k : ℕ) (first : Station H) → All (λ (step : Step H). IsOrdinaryOf k step.call) steps
     → AllTold (runs (steps_from answer_of after k first steps l) new_history)

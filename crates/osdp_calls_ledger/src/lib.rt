@@ -2,6 +2,7 @@
 //! nothing: their contracts are laws.
 #![tactic(auto)]
 
+ghost use Rattle.osdp_calls_ledger.specs.Acted.{EachTakenIsAnswered};
 ghost use Rattle.osdp_calls_ledger.specs.Laws.{EachKeepsLedger};
 ghost use Rattle.osdp_calls_ledger.specs.OneDevice.{OneDeviceHoldsOnce};
 ghost use Rattle.osdp_calls_ledger.specs.Promises.{LedgerHoldsOnce, RuledLedgerHoldsOnce};
@@ -15,7 +16,8 @@ use osdp_reader::Handler;
 /// For every list of calls of a panel's program and of its devices' programs, restarts of either among them, that keep the premises, and each entry:
 /// each step that its programs see, read off what the calls answer and report, is one that the ledger allows where it happens. The ledger at the
 /// end is the line's: ahead are the outstanding command and those that wait in the bus, and the events are those of the device's queue. What the
-/// steps come to is what the calls have accepted, what the device has taken and what the panel was told: so no step is forgotten, and none is made up.
+/// steps come to is what the calls have accepted, what the device has taken, with its answers, and what the panel was told: so no step is forgotten, and none
+/// is made up.
 pub fn each_keeps_ledger<H: Handler>()
     ensures { EachKeepsLedger H.answer_of H.after }
 {
@@ -23,6 +25,11 @@ pub fn each_keeps_ledger<H: Handler>()
     osdp_shared_line::nobody_else_hears::<H>();
     osdp_line_ledger::each_keeps_ledger::<H>();
 }
+
+/// Each command that a device takes has an answer. Whatever is called, what its program acts on by a response is what it takes and answers.
+pub fn each_taken_is_answered<H: Handler>()
+    ensures { EachTakenIsAnswered H.answer_of H.after }
+{}
 
 /// So what the programs of each entry are promised is what its ledger says, a sentence each. Each accepted command has one place, in the order of
 /// submission. None is taken twice. What is settled was taken, with that answer. At most one is told in doubt a session. Each accepted event has left

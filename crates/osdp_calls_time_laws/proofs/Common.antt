@@ -7,7 +7,7 @@ pub use Rattle.osdp_msg.specs.declared.command.Command.{Command}
 pub use Rattle.osdp_bus.specs.declared.config.BusConfig.{BusConfig}
 pub use Rattle.osdp_reader.specs.declared.handler.Answer.{Answer}
 pub use Rattle.osdp_shared_line.specs.Line.{after_net, changed, Net, RestartPanel, site_at}
-pub use Rattle.osdp_calls.specs.Calls.{after_call, after_calls, asked_at, begins_session, begins_with, begun_of, Call, change_at, changes_at, is_to_begin, last_of, made_anew, NewDevice, NewPanel, Next, noted, OfPanel, panel_says, Pending, queues, read_by, said_for, SetBusy, SetHandler, Silence, Step, SubmitEvent, Take, TickDevice, LapseEvent, WithdrawEvent, lapses_event, withdraws_event}
+pub use Rattle.osdp_calls.specs.Calls.{device_called, does, on_called, after_call, after_calls, asked_at, begins_session, begins_with, begun_of, Call, change_at, changes_at, is_to_begin, last_of, NewDevice, NewPanel, Next, noted, OfPanel, panel_says, Pending, read_by, said_for, SetBusy, SetHandler, Silence, Step, SubmitEvent, Take, TickDevice, LapseEvent, WithdrawEvent}
 pub use Rattle.osdp_calls.specs.Lines.{Burst, bus_with, concerns, InUse, is_ahead_of_device, is_before, is_past_for_device, is_past_for_panel, Opening, Station, those}
 pub use Rattle.osdp_premises.specs.Deciding.{has_addresses, if_there, is_in_order, is_quiet}
 pub use Rattle.osdp_calls_time_laws.specs.Deciding.{are_read_within, are_timely, is_timely, keeps_clock, TimelyIsExact, waits_twice}
@@ -45,7 +45,6 @@ pub use Rattle.osdp_calls.proofs.Heeding.{AsBefore, changed_at, IsChanged, new_a
 pub use Rattle.osdp_calls.proofs.Holding.{one_call}
 pub use Rattle.osdp_calls_ledger.specs.Promises.{LedgerHoldsOnce, RuledLedgerHoldsOnce}
 pub use Rattle.osdp_calls_time_laws.specs.Laws.{steps_of, TimelyCallsOpenQuietly, TimelyLedgerHoldsOnce, TimelyRuledHoldsOnce}
-pub use Rattle.osdp_calls.proofs.Ruling.{queues_begun}
 pub use Rattle.osdp_shared_line.specs.Programs.{Note}
 pub use Rattle.osdp_calls.specs.Programs.{AllKeepRule, CallsRuleSuffices, first_notes, KeepsByRule, notes_after}
 pub use Rattle.osdp_calls_time_laws.specs.Instance.{brief, held_day, LongDayIsTimely, moment_in, one_line, timed, TwiceIsTooShort}

@@ -1,6 +1,6 @@
 -- The test of a call holds exactly where it is in time.
-use Rattle.std.proofs.Common.{◌≡◌, ◌≤◌, ◌<◌, ◌+◌, ◌*◌, ◌&&◌, ◌==◌, ℕ, suc, Bool, true, Decides, List, [], ◌∷◌, Option, Some, None, IfSome}
-use Rattle.osdp_calls_time_laws.proofs.Common.{and_parts, Decides-and, Decides-eqb, Decides-like, ◌^◌, nat_le, nat_lt, Command, BusConfig, Answer, site_at, Call, NewPanel, OfPanel, after_call, InUse, if_there, TimelyIsExact, are_read_within, are_timely, is_timely, keeps_clock, waits_twice, AllTimely, Clock, IsTimely, KeepsClock, Timed, WaitsTwice, clock_after, moment_of}
+use Rattle.std.proofs.Common.{◌≡◌, ◌<◌, ◌+◌, ◌*◌, ◌&&◌, ◌==◌, ℕ, suc, Bool, true, Decides, List, [], ◌∷◌, Option, Some, None, IfSome}
+use Rattle.osdp_calls_time_laws.proofs.Common.{and_parts, Decides-and, Decides-eqb, Decides-like, ◌^◌, nat_lt, Command, BusConfig, Answer, site_at, Call, NewPanel, OfPanel, after_call, InUse, if_there, TimelyIsExact, are_timely, is_timely, keeps_clock, waits_twice, AllTimely, Clock, IsTimely, KeepsClock, Timed, WaitsTwice, clock_after, moment_of}
 use Rattle.osdp_premises.proofs.Deciding.{always, each_decides, if_decides, leb_decides}
 
 -- the same where there is one
@@ -15,31 +15,24 @@ module _ {H : Type 0} where
   moment_decides : (t : Timed H) (l : InUse H) (now : ℕ)
       → Decides ((t.start + now == t.at) && nat_lt (now + l.bus.config.quiet_wait) (2 ^ 64)) ((t.start + now ≡ t.at) × (now + l.bus.config.quiet_wait < 2 ^ 64))
   moment_decides t l now =
-      Decides-and (t.start + now == t.at) (nat_lt (now + l.bus.config.quiet_wait) (2 ^ 64)) (Decides-eqb (t.start + now) t.at)
+      Decides-and _ _ (Decides-eqb (t.start + now) t.at)
       (leb_decides (suc (now + l.bus.config.quiet_wait)) (2 ^ 64))
 
   clock_decides : (w : ℕ) (call : Call H) (t : Timed H) (c : Clock) (l : InUse H) → Decides (keeps_clock w call t c l) (KeepsClock w call t c l)
   clock_decides w (OfPanel call) t c l =
-      Decides-and (t.start == c.start) (if_there (λ now. (t.start + now == t.at) && nat_lt (now + l.bus.config.quiet_wait) (2 ^ 64)) (moment_of call))
-      (Decides-eqb t.start c.start)
-      (some_decides (λ now. (t.start + now == t.at) && nat_lt (now + l.bus.config.quiet_wait) (2 ^ 64))
-      (λ now. (t.start + now ≡ t.at) × (now + l.bus.config.quiet_wait < 2 ^ 64)) (λ now. moment_decides t l now) (moment_of call))
+      Decides-and _ _ (Decides-eqb t.start c.start)
+      (some_decides _ _ (λ now. moment_decides t l now) (moment_of call))
   clock_decides w (NewPanel config addresses) t c l =
-      Decides-and (nat_le t.start t.at) (waits_twice w config) (leb_decides t.start t.at) (twice_decides w config)
+      Decides-and _ _ (leb_decides t.start t.at) (twice_decides w config)
   clock_decides w _ t c l = Decides-eqb t.start c.start
 
   pub timely_exact : TimelyIsExact H
   timely_exact w t c l =
-      let order = nat_le c.now t.at in
-      let clock = keeps_clock w t.step.call t c l in
-      let read = are_read_within w t.at c.said t.step.places in
-      Decides-like (order && (clock && read))
-      (λ h. record { in_turn = h.0; clock = h.1.0; read = h.1.1 })
+      Decides-like _ (λ h. record { in_turn = h.0; clock = h.1.0; read = h.1.1 })
       (λ (is : IsTimely w t c l). (is.in_turn, (is.clock, is.read)))
-      (Decides-and order (clock && read) (leb_decides c.now t.at)
-      (Decides-and clock read (clock_decides w t.step.call t c l)
-      (each_decides (λ i. if_there (λ said. nat_le t.at (said + w)) (site_at i c.said)) (λ i. (said : ℕ) → site_at i c.said ≡ Some said → t.at ≤ said + w)
-      (λ i. if_decides (λ said. nat_le t.at (said + w)) (λ said. t.at ≤ said + w) (λ said. leb_decides t.at (said + w)) (site_at i c.said)) t.step.places)))
+      (Decides-and _ _ (leb_decides c.now t.at)
+      (Decides-and _ _ (clock_decides w t.step.call t c l)
+      (each_decides _ _ (λ i. if_decides _ _ (λ said. leb_decides t.at (said + w)) (site_at i c.said)) t.step.places)))
 
   module _ (answer_of : H → Command → Answer) (after : H → Command → H) where
     pub all_timely : (w : ℕ) (ts : List (Timed H)) (c : Clock) (l : InUse H) → are_timely answer_of after w ts c l ≡ true

@@ -1,8 +1,5 @@
 -- Call after call each packet is read in time, so each opening is quiet.
-use Rattle.osdp_calls_time_laws.proofs.Common.{◌≡◌, ◌+◌, ◌<◌, ◌≤◌, ℕ, List, [], ◌∷◌, length, refl, sym, subst, ap, ◌∙◌, arith, ◌++◌, ◌^◌, map, slice_get, Command, BusState, address_of, IsBusConfig, BusConfig, Entry, ReadsWhatIsAsked, each_of, Each, after_set_busy, after_set_handler, Answer, Net, RestartPanel, after_net, site_at, Apart, apart_after, apart_all, apart_first, Call, NewDevice, NewPanel, Next, OfPanel, Pending, SetBusy, SetHandler, Silence, SubmitEvent, Take, TickDevice, LapseEvent, WithdrawEvent, after_call, begun_of, change_at, made_anew, queues, lapses_event, withdraws_event, InUse, Station, bus_with, AllKeep, InOrder, InRange, IsSetUp, QuietOpening, begun_change, new_at, one_call, IsNetOf, LedgerHoldsOnce, TimelyCallsOpenQuietly, TimelyLedgerHoldsOnce, steps_of, AllKeepElse, AllTimely, Clock, KeepsClock, Timed, WaitsTwice, clock_after, clock_at, queues_begun}
-use Rattle.osdp_device.specs.Deciding.{passed}
-use Rattle.osdp_frame.specs.Receiving.{after_silence, after_take, after_tick}
-use Rattle.osdp_reader.specs.Queue.{lacks_room}
+use Rattle.osdp_calls_time_laws.proofs.Common.{◌≡◌, ◌+◌, ◌<◌, ◌≤◌, ℕ, List, [], Option, None, Some, ◌∷◌, length, refl, sym, subst, ap, ◌∙◌, arith, ◌++◌, ◌^◌, map, slice_get, Command, BusState, address_of, IsBusConfig, BusConfig, Entry, ReadsWhatIsAsked, each_of, Each, Answer, Net, RestartPanel, after_net, site_at, Apart, apart_after, apart_all, apart_first, Call, NewPanel, Next, OfPanel, after_call, begun_of, InUse, Station, bus_with, AllKeep, InOrder, InRange, IsSetUp, QuietOpening, begun_change, new_at, one_call, IsNetOf, LedgerHoldsOnce, TimelyCallsOpenQuietly, TimelyLedgerHoldsOnce, steps_of, AllKeepElse, AllTimely, Clock, KeepsClock, Timed, WaitsTwice, clock_after, clock_at, device_called, does, on_called}
 use Rattle.osdp_calls.proofs.Setting.{first_net, starts}
 use Rattle.osdp_calls_time_laws.proofs.Devices.{of_new}
 use Rattle.osdp_calls_time_laws.proofs.Nexts.{runs_next}
@@ -47,41 +44,25 @@ module _ {H : Type 0} where
           subst (λ s. Waits w l.said c.said k (address_of d) (s + began)) (sym start)
           (r.waits k d began (sym (ap (λ (b : BusState). slice_get b.devices.entries k) bus) ∙ entry) (sym (begun k) ∙ is)))
 
-      station_changes : (k : ℕ) (change : Station H → Station H) → t.start ≡ c.start → ((u : Station H) → (change u).begun ≡ u.begun)
-          → Runs w (clock_after t c (record l { stations = change_at k change l.stations })) (record l { stations = change_at k change l.stations })
-      station_changes k change start same =
-          rests (record l { stations = change_at k change l.stations }) start refl refl refl (λ j. begun_change j k change l.stations same)
+      called_changes : (o : Option ℕ) (change : Station H → Station H) → t.start ≡ c.start → ((u : Station H) → (change u).begun ≡ u.begun)
+          → Runs w (clock_after t c (on_called o change l)) (on_called o change l)
+      called_changes None change start same = rests l start refl refl refl (λ j. refl)
+      called_changes (Some k) change start same =
+          rests (on_called (Some k) change l) start refl refl refl (λ j. begun_change j k change l.stations same)
 
       pub runs_call : (call : Call H) (places : List ℕ) → InOrder call places l → QuietOpening call places l → InRange answer_of after call l
           → KeepsClock w call t c l → Each (ReadAt w t.at c.said) places → (m : Net H) → IsNetOf (after_call answer_of after call places l) m
           → Runs w (clock_after t c (after_call answer_of after call places l)) (after_call answer_of after call places l)
       runs_call (OfPanel call) places order quiet range clock read m same =
           runs_panel answer_of after reads w t c l n h apart r later clock.0 call places order quiet range clock.1
-      runs_call (SubmitEvent k event) places order quiet range clock read m same =
-          station_changes k (λ u. queues (lacks_room event u.reader.queue) event u) clock (λ u. queues_begun (lacks_room event u.reader.queue) event u)
-      runs_call (SetBusy k busy) places order quiet range clock read m same =
-          station_changes k (λ u. record u { reader = after_set_busy busy u.reader }) clock (λ u. refl)
-      runs_call (SetHandler k handler) places order quiet range clock read m same =
-          station_changes k (λ u. record u { reader = after_set_handler handler u.reader }) clock (λ u. refl)
-      runs_call (WithdrawEvent k) places order quiet range clock read m same = station_changes k withdraws_event clock (λ u. refl)
-      runs_call (LapseEvent k) places order quiet range clock read m same = station_changes k lapses_event clock (λ u. refl)
-      runs_call (Take k bytes now) places order quiet range clock read m same =
-          station_changes k (λ u. record u { line = after_take bytes now u.line }) clock (λ u. refl)
-      runs_call (TickDevice k now) places order quiet range clock read m same =
-          station_changes k (λ u. record u { line = after_tick now u.line }) clock (λ u. refl)
-      runs_call (Silence k now) places order quiet range clock read m same =
-          station_changes k (λ u. record u { line = after_silence now u.line }) clock (λ u. refl)
       runs_call (Next k) places order quiet range clock read m same =
           runs_next answer_of after w t c l n h apart r later clock k places (site_at k l.stations) refl order read (device_kept clock)
           (rests l clock refl refl refl (λ j. refl))
-      runs_call (Pending k) places order quiet range clock read m same =
-          station_changes k (λ u. record u { line = record u.line { held = passed u.reader u.line.held } }) clock (λ u. refl)
-      runs_call (NewDevice k config handler room gap) places order quiet range clock read m same =
-          station_changes k (made_anew config handler room gap) clock (λ u. refl)
       runs_call (NewPanel config addresses) places order quiet range clock read m same =
           let next = after_call answer_of after (NewPanel config addresses) places l in
           runs_silent w t c l next r later (new_kept w t.start t.at config addresses range.0 clock.1 clock.0) refl refl
           (none_wait w t.start c.said config addresses next m same refl)
+      runs_call call places order quiet range clock read m same = called_changes (device_called call) (does answer_of after call) clock (λ u. refl)
 
     -- ---- a list of calls
 

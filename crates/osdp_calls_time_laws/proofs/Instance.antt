@@ -1,17 +1,17 @@
 -- The long day is read in time; and of a quiet wait of twice the time for which packets are held an opening isn't quiet.
-use Rattle.osdp_calls_time_laws.proofs.Common.{◌≡◌, ◌≢◌, ◌<◌, ◌&&◌, ℕ, zero, suc, Bool, true, false, List, [], ◌∷◌, Some, None, refl, sym, subst, ◌∙◌, arith, and_parts, false≢true, take, Command, IsBusConfig, Answer, site_at, Note, OfPanel, Step, after_call, after_calls, InUse, Station, AllKeep, IsSetUp, first_notes, notes_after, has_addresses, is_in_order, is_quiet, LongDayIsTimely, TwiceIsTooShort, brief, held_day, moment_in, one_line, timed, steps_of, AllKeepElse, AllKeepRuleElse, clock_at}
+use Rattle.osdp_calls_time_laws.proofs.Common.{◌≡◌, ◌<◌, ◌&&◌, ℕ, zero, suc, Bool, true, false, List, [], ◌∷◌, refl, sym, ◌∙◌, arith, and_parts, false≢true, take, Command, IsBusConfig, Answer, Note, OfPanel, Step, after_call, after_calls, InUse, AllKeep, IsSetUp, first_notes, notes_after, has_addresses, is_in_order, is_quiet, LongDayIsTimely, TwiceIsTooShort, brief, held_day, moment_in, one_line, timed, steps_of, AllKeepElse, AllKeepRuleElse, clock_at}
 use Rattle.osdp_frame.specs.Held.{decided}
 use Rattle.osdp_frame.specs.Items.{items, left_over}
 use Rattle.osdp_msg.specs.CommandTable.{command_at, command_fault, command_of}
 use Rattle.osdp_msg.specs.ReplyTable.{reply_at, reply_fault, reply_of}
 use Rattle.osdp_bus_laws.specs.Calls as bus
-use Rattle.osdp_reader_laws.specs.Storing.{StoresItsOwn}
 use Rattle.osdp_premises.specs.Exactly.{AllInRange}
 use Rattle.osdp_premises.specs.Ruling.{keeps_rule}
-use Rattle.osdp_premises.specs.LongDay.{answers, calls, line_in_the_morning, long_day, station_at}
+use Rattle.osdp_premises.specs.LongDay.{answers, calls, line_in_the_morning, long_day}
 use Rattle.osdp_premises.proofs.Exactly.{exact}
 use Rattle.osdp_premises.proofs.Ruling.{rule_exact}
-use Rattle.osdp_premises.proofs.LongDay.{AllRanges, all_range, day_keeps, id_fits, is_the_one, keep_at, no_bytes, room_fits}
+use Rattle.osdp_premises.proofs.LongDay.{AllRanges, all_range, day_keeps, id_fits, keep_at, no_bytes, room_fits}
+use Rattle.osdp_premises.proofs.SettingUp.{set_up_of}
 use Rattle.osdp_calls_time_laws.proofs.Deciding.{all_timely}
 
 brief_fits : IsBusConfig brief
@@ -34,29 +34,9 @@ brief_fits = record {
 }
 
 module _ {H : Type 0} where
-  one : (handler : H) (Q : Station H → Type 0) → Q (station_at 3 handler) → (k : ℕ) (t : Station H) → site_at k (station_at 3 handler ∷ []) ≡ Some t → Q t
-  one handler Q first zero t is = subst Q (is_the_one (station_at 3 handler) t is) first
-  one handler Q first (suc k) t is = absurd (let e = is in cc)
-
-  none_beside : (handler : H) (j k : ℕ) (s t : Station H) → j ≢ k → site_at j (station_at 3 handler ∷ []) ≡ Some s → site_at k (station_at 3 handler ∷ []) ≡ Some t → ⊥
-  none_beside handler zero zero s t other at there = other refl
-  none_beside handler (suc j) k s t other at there = let e = at in cc
-  none_beside handler zero (suc k) s t other at there = let e = there in cc
-
   one_is_set_up : (handler : H) → IsSetUp (one_line handler)
-  one_is_set_up handler = record {
-    config = brief;
-    others = [];
-    settings = brief_fits;
-    bus = refl;
-    devices = one handler (λ t. t.reader.config.address < 127) (omega arith);
-    apart = λ j k s t other at there e. none_beside handler j k s t other at there;
-    stored = one handler (λ t. StoresItsOwn t.reader) tt;
-    place = one handler (λ t. (t.place ≡ 0) × (t.begun ≡ None)) (refl, refl);
-    said = refl;
-    read = refl;
-    openings = refl;
-  }
+  one_is_set_up handler =
+      set_up_of brief [] (one_line handler) brief_fits refl (record { address = omega arith; stores = tt; place = (refl, refl) }, tt) refl (refl, refl, refl)
 
   module _ (answer_of : H → Command → Answer) (after : H → Command → H) where
     -- the premises but that on quiet openings, from all of them, or by tests

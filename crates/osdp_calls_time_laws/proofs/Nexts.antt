@@ -212,8 +212,8 @@ module _ {H : Type 0} where
         let ps = read_up_to u.reader (items_of u.line.held) in
         let o = first_answered u.reader ps in
         let new = by_device k (reply_to answer_of after o u.reader) in
-        let begun : (j : ℕ) → begun_of (site_at j (changed k (nexts answer_of after places u) l.stations)) ≡ begun_of (site_at j l.stations) =
-        λ j. begun_changed j k (nexts answer_of after places u) u l.stations at refl in
+        let begun : (j : ℕ) → begun_of (site_at j (changed k (nexts answer_of after k places u) l.stations)) ≡ begun_of (site_at j l.stations) =
+        λ j. begun_changed j k (nexts answer_of after k places u) u l.stations at refl in
         runs_on w t c l (after_next answer_of after k places (Some u) l) r later kept
         (λ e d began entry is.
         let was : begun_of (site_at e l.stations) ≡ Some began = sym (begun e) ∙ is in

@@ -1,6 +1,6 @@
 -- Where entries stand in an order of the panel's own, and each packet is read in time, each opening is quiet, too.
 use Rattle.std.proofs.Common.{◌≡◌, ◌≤◌, ◌<◌, ◌+◌, ◌&&◌, ℕ, Bool, true, false, cond, IfSome, List, [], ◌∷◌, Option, refl, sym, subst, ap, ◌∙◌, arith}
-use Rattle.osdp_calls_time_laws.proofs.Common.{and_parts, ◌^◌, Command, BusState, BusConfig, ReadsWhatIsAsked, each_of, Each, Answer, Net, site_at, Apart, apart_all, Call, NewDevice, NewPanel, Next, OfPanel, Pending, SetBusy, SetHandler, Silence, SubmitEvent, Take, TickDevice, LapseEvent, WithdrawEvent, after_call, begun_of, InUse, InOrder, InRange, QuietOpening, one_call, IsNetOf, is_timely, moment_in, Clock, KeepsClock, Timed, WaitsTwice, clock_after, clock_at, moment_of}
+use Rattle.osdp_calls_time_laws.proofs.Common.{and_parts, ◌^◌, Command, BusState, BusConfig, ReadsWhatIsAsked, each_of, Each, Answer, Net, site_at, Apart, apart_all, Call, OfPanel, after_call, begun_of, InUse, InOrder, InRange, QuietOpening, one_call, IsNetOf, is_timely, moment_in, Clock, KeepsClock, Timed, WaitsTwice, clock_after, clock_at, moment_of}
 use Rattle.osdp_frame.specs.Held.{decided}
 use Rattle.osdp_frame.specs.Items.{items, left_over}
 use Rattle.osdp_msg.specs.CommandTable.{command_at, command_fault, command_of}
@@ -54,18 +54,7 @@ module _ {H : Type 0} where
               (λ i. (sym (moment_same a.numbers.ordered call) i, config i)) clock.1,
         )
         by_test false = IsNone refl clock.0
-    is_made (NewPanel config addresses) clock = InTime clock
-    is_made (SubmitEvent k event) clock = InTime clock
-    is_made (SetBusy k busy) clock = InTime clock
-    is_made (SetHandler k handler) clock = InTime clock
-    is_made (WithdrawEvent k) clock = InTime clock
-    is_made (LapseEvent k) clock = InTime clock
-    is_made (Take k bytes now) clock = InTime clock
-    is_made (TickDevice k now) clock = InTime clock
-    is_made (Silence k now) clock = InTime clock
-    is_made (Next k) clock = InTime clock
-    is_made (Pending k) clock = InTime clock
-    is_made (NewDevice k config handler room gap) clock = InTime clock
+    is_made _ clock = InTime clock
 
   module _ (answer_of : H → Command → Answer) (after : H → Command → H) where
     module _ (reads : ReadsWhatIsAsked) (w : ℕ) where

@@ -5,13 +5,6 @@ use Rattle.osdp_bus_laws.specs.Calls as bus
 use Rattle.osdp_calls_time_laws.specs.Reading.{ReadsAreHandedOver}
 
 pub reads_are_handed_over : ReadsAreHandedOver
-reads_are_handed_over (bus.Add address) b = refl
-reads_are_handed_over (bus.Begin entry now) b = refl
-reads_are_handed_over (bus.Submit entry command) b = refl
-reads_are_handed_over (bus.Withdraw entry) b = refl
-reads_are_handed_over (bus.Retarget entry address) b = refl
 reads_are_handed_over (bus.OnBytes [] now) b = refl
 reads_are_handed_over (bus.OnBytes (byte ∷ bytes) now) b = refl
-reads_are_handed_over (bus.OnSilence now) b = refl
-reads_are_handed_over (bus.Tick now) b = refl
-reads_are_handed_over bus.NextReport b = refl
+reads_are_handed_over _ b = refl

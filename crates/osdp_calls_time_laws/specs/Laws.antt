@@ -10,6 +10,7 @@ use Rattle.osdp_calls_ledger.specs.Promises.{EachHoldsOnce}
 use Rattle.osdp_calls_time_laws.specs.Moments.{AllKeepElse, AllKeepRuleElse, AllTimely, Timed, WaitsTwice, clock_at}
 
 module _ {H : Type 0} where
+  -- the calls without their moments
   abbrev pub steps_of : List (Timed H) → List (Step H)
   steps_of ts = map (λ (t : Timed H). t.step) ts
 

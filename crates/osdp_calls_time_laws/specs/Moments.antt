@@ -76,6 +76,7 @@ module _ {H : Type 0} where
       pub addresses : Addresses step.call l
       pub in_range : InRange answer_of after step.call l
 
+    -- .. of each call of a list
     abbrev pub AllKeepElse : List (Timed H) → InUse H → Type 0
     AllKeepElse [] l = Unit {0}
     AllKeepElse (t ∷ ts) l = KeepsElse t.step l × AllKeepElse ts (after_call answer_of after t.step.call t.step.places l)
@@ -86,6 +87,7 @@ module _ {H : Type 0} where
       pub rule : KeepsRule step.call l notes
       pub in_range : InRange answer_of after step.call l
 
+    -- .. of each call of a list, with what was noted by the calls before it
     abbrev pub AllKeepRuleElse : List (Timed H) → InUse H → (ℕ → Note) → Type 0
     AllKeepRuleElse [] l notes = Unit {0}
     AllKeepRuleElse (t ∷ ts) l notes =

@@ -14,6 +14,7 @@ pub record OwnTimed (H : Type 0) : Type 0 where
   pub start : ℕ
 
 module _ {H : Type 0} where
+  -- the calls without their moments
   abbrev pub own_steps_of : List (OwnTimed H) → List (OwnStep H)
   own_steps_of ts = map (λ (t : OwnTimed H). t.step) ts
 
@@ -41,6 +42,7 @@ module _ {H : Type 0} where
       pub fits : Fits step.call step.ordered step.numbers
       pub leaves : LeavesAlone step.call a
 
+    -- .. of each call of a list
     abbrev pub AllOwnKeepElse : List (OwnTimed H) → OwnLine H → Type 0
     AllOwnKeepElse [] a = Unit {0}
     AllOwnKeepElse (t ∷ ts) a = OwnKeepsElse t.step a × AllOwnKeepElse ts (after_own answer_of after t.step a)

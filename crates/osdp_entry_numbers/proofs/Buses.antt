@@ -198,8 +198,16 @@ module _ (n : Numbers) (are : AreNumbers n) (ms : List Remembered) where
       by_test false is = let there = held_there k b is in ticked_at first (Some k) b es u (there.1.0, there.1.1)
 
   -- what is told as a run ends, and then
-  then_told : (xs ys tells more : List (ℕ × Report)) → tells ≡ map (renumbers n.ordered) xs → more ≡ map (renumbers n.ordered) ys → tells ++ more ≡ map (renumbers n.ordered) (xs ++ ys)
-  then_told xs ys tells more a b = (λ i. a i ++ b i) ∙ sym (map-append (renumbers n.ordered) xs ys)
+  then_ticked : (whole part : BusTicked) (xs ys tells more : List (ℕ × Report)) → tells ≡ map (renumbers n.ordered) xs → SameTicked n ms whole part more ys
+      → SameTicked n ms whole part (tells ++ more) (xs ++ ys)
+  then_ticked whole part xs ys tells more first x = record {
+    devices = x.devices;
+    first = x.first;
+    under = x.under;
+    same = x.same;
+    sent = x.sent;
+    told = (λ i. first i ++ x.told i) ∙ sym (map-append (renumbers n.ordered) xs ys);
+  }
 
   -- by who holds it, once the run has ended
   by_holder_same : (first : ℕ) (o : Option ℕ) (b : BusState) (es : Devices) → SoundBus (like b es first ms) → UnderDevices n b.devices es → IsTurn n first (asked_by_holder o b)
@@ -208,16 +216,9 @@ module _ (n : Numbers) (are : AreNumbers n) (ms : List Remembered) where
   unfolding items end_same
   by_holder_same first None b es sound u turn =
       let e = end_same first b es sound u in
-      let x = free_same first (ends_run b) e.devices e.under turn in
-      record {
-        devices = x.devices;
-        first = x.first;
-        under = x.under;
-        same = x.same;
-        sent = x.sent;
-        told = then_told (told_by_end b) (asks_free [] (λ k. told_by_ticking k (ends_run b)) (ends_run b)) (told_by_end (like b es first ms))
-            (asks_free [] (λ k. told_by_ticking k (ends_run (like b es first ms))) (ends_run (like b es first ms))) e.told x.told;
-      }
+      let c = like b es first ms in
+      then_ticked (ticks_free (ends_run c)) (ticks_free (ends_run b)) (told_by_end b) (asks_free [] (λ k. told_by_ticking k (ends_run b)) (ends_run b)) (told_by_end c)
+      (asks_free [] (λ k. told_by_ticking k (ends_run c)) (ends_run c)) e.told (free_same first (ends_run b) e.devices e.under turn)
   by_holder_same first (Some k) b es sound u turn =
       subst (λ x. SameTicked n ms (cond x (ticks_held (n.ordered k) (ends_run c)) (stays c)) (ticks_by (Some k) b)
       (cond x (told_by_end c ++ asks_holder [] (λ o. told_by_ticking o (ends_run c)) (n.ordered k) (ends_run c)) [])
@@ -231,16 +232,9 @@ module _ (n : Numbers) (are : AreNumbers n) (ms : List Remembered) where
           (cond x (told_by_end b ++ asks_holder [] (λ o. told_by_ticking o (ends_run b)) k (ends_run b)) [])
       by_test true =
           let e = end_same first b es sound u in
-          let x = holder_same first k (ends_run b) e.devices e.under in
-          record {
-            devices = x.devices;
-            first = x.first;
-            under = x.under;
-            same = x.same;
-            sent = x.sent;
-            told = then_told (told_by_end b) (asks_holder [] (λ o. told_by_ticking o (ends_run b)) k (ends_run b)) (told_by_end c)
-                (asks_holder [] (λ o. told_by_ticking o (ends_run c)) (n.ordered k) (ends_run c)) e.told x.told;
-          }
+          then_ticked (ticks_held (n.ordered k) (ends_run c)) (ticks_held k (ends_run b)) (told_by_end b)
+          (asks_holder [] (λ o. told_by_ticking o (ends_run b)) k (ends_run b)) (told_by_end c)
+          (asks_holder [] (λ o. told_by_ticking o (ends_run c)) (n.ordered k) (ends_run c)) e.told (holder_same first k (ends_run b) e.devices e.under)
       by_test false = rests_same first b es u
 
   on_same : (first : ℕ) (b : BusState) (es : Devices) → SoundBus (like b es first ms) → UnderDevices n b.devices es → IsTurn n first (asked_by_holder (holder b) b)
@@ -270,15 +264,8 @@ module _ (n : Numbers) (are : AreNumbers n) (ms : List Remembered) where
           let d = ends_silent (seen now b) in
           let x = subst (λ w. SameTicked n ms (ticks_on w) (ticks_on d) (told_by_holder (holder w) w) (told_by_holder (holder d) d)) (sym e.same)
           (on_same first d e.devices (subst SoundBus e.same (after_silent first now b es sound)) e.under turn) in
-          record {
-            devices = x.devices;
-            first = x.first;
-            under = x.under;
-            same = x.same;
-            sent = x.sent;
-            told = then_told (told_by_silence (seen now b)) (told_by_holder (holder d) d) (told_by_silence (seen now c))
-                (told_by_holder (holder (ends_silent (seen now c))) (ends_silent (seen now c))) e.told x.told;
-          }
+          then_ticked (ticks_on (ends_silent (seen now c))) (ticks_on d) (told_by_silence (seen now b)) (told_by_holder (holder d) d) (told_by_silence (seen now c))
+          (told_by_holder (holder (ends_silent (seen now c))) (ends_silent (seen now c))) e.told x
 
   -- ---- who is asked, and what is read
 

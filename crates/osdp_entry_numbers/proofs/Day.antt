@@ -14,40 +14,30 @@ use Rattle.osdp_entry_numbers.specs.Day.{AnyOrder, KeepsRestart, around, back, b
 -- ---- the numbers
 
 exchanged_back : (i : ℕ) → exchanged (exchanged i) ≡ i
-exchanged_back zero = refl
-exchanged_back (suc zero) = refl
-exchanged_back (suc (suc zero)) = refl
 exchanged_back (suc (suc (suc i))) = refl
+exchanged_back _ = refl
 
 between_are : AreNumbers between
 between_are = record { back = exchanged_back; forth = exchanged_back }
 
 between_sorted : (i : ℕ) → site_at {A = ℕ} (exchanged i) (3 ∷ 4 ∷ 20 ∷ []) ≡ site_at {A = ℕ} i (3 ∷ 20 ∷ 4 ∷ [])
-between_sorted zero = refl
-between_sorted (suc zero) = refl
-between_sorted (suc (suc zero)) = refl
 between_sorted (suc (suc (suc i))) = refl
+between_sorted _ = refl
 
 back_onward : (i : ℕ) → back (onward i) ≡ i
-back_onward zero = refl
-back_onward (suc zero) = refl
-back_onward (suc (suc zero)) = refl
 back_onward (suc (suc (suc i))) = refl
+back_onward _ = refl
 
 onward_back : (k : ℕ) → onward (back k) ≡ k
-onward_back zero = refl
-onward_back (suc zero) = refl
-onward_back (suc (suc zero)) = refl
 onward_back (suc (suc (suc k))) = refl
+onward_back _ = refl
 
 around_are : AreNumbers around
 around_are = record { back = back_onward; forth = onward_back }
 
 around_sorted : (i : ℕ) → site_at {A = ℕ} (onward i) (3 ∷ 4 ∷ 20 ∷ []) ≡ site_at {A = ℕ} i (4 ∷ 20 ∷ 3 ∷ [])
-around_sorted zero = refl
-around_sorted (suc zero) = refl
-around_sorted (suc (suc zero)) = refl
 around_sorted (suc (suc (suc i))) = refl
+around_sorted _ = refl
 
 without_are : AreNumbers without
 without_are = record { back = onward_back; forth = back_onward }
@@ -55,8 +45,7 @@ without_are = record { back = onward_back; forth = back_onward }
 without_sorted : (i a : ℕ) → site_at {A = ℕ} i (20 ∷ 3 ∷ []) ≡ Some a → site_at {A = ℕ} (back i) (3 ∷ 4 ∷ 20 ∷ []) ≡ Some a
 without_sorted zero a at = at
 without_sorted (suc zero) a at = at
-without_sorted (suc (suc zero)) a at = absurd (let e = at in cc)
-without_sorted (suc (suc (suc i))) a at = absurd (let e = at in cc)
+without_sorted (suc (suc i)) a at = absurd (let e = at in cc)
 
 at_first : IsNewPanel twice (3 ∷ 20 ∷ 4 ∷ []) (3 ∷ 4 ∷ 20 ∷ []) between
 at_first = record { settings = twice_fits; none_refused = (refl, (refl, (refl, tt))); numbers = between_are; sorted = λ i a at. between_sorted i ∙ at }

@@ -1,6 +1,6 @@
 -- Calls that keep the premises of any calls keep these: the line beside the panel's own bus differs by the turn alone.
 use Rattle.std.proofs.Common.{◌≡◌, ◌⊎◌, ℕ, true, false, cond, is_some, List, [], ◌∷◌, ◌++◌, map, option_map, Option, Some, None, refl, sym, subst, ap, ◌∙◌, inl, inr}
-use Rattle.osdp_entry_numbers.proofs.Common.{option_map_or, Packet, Command, BusState, device_of, after_begin_at, after_retarget_at, after_submit_at, begin_refusal_of, changed_unless, entry_withdraws, retarget_refusal_of, submit_refusal_of, BusConfig, Entry, sound_call, SoundBus, each_of, Each, Answer, site_at, Call, NewDevice, NewPanel, Next, OfPanel, Step, after_call, after_next, after_panel, asked_at, begins_with, begun_of, change_at, is_to_begin, last_of, noted, panel_says, read_by, said_at, said_for, CanStand, Burst, InUse, Station, AllKeep, AreInOrder, IsAsked, IsFreeFor, IsNoOthers, IsOfOthers, IsSaid, IsThere, Keeps, MayBeAt, PanelInRange, said_bus, AnyCallsKeep, as_they_stand, same_step, IsNewPanel, has_entry, named, renumbered, turn_of, AllOwnKeep, LeavesAlone, OwnKeeps, OwnLine, after_own, asked_in}
+use Rattle.osdp_entry_numbers.proofs.Common.{option_map_or, Packet, Command, BusState, device_of, after_begin_at, after_retarget_at, after_submit_at, begin_refusal_of, changed_unless, entry_withdraws, retarget_refusal_of, submit_refusal_of, BusConfig, Entry, sound_call, SoundBus, each_of, Each, Answer, site_at, Call, NewDevice, NewPanel, Next, OfPanel, Step, after_call, after_next, after_panel, asked_at, begins_with, begun_of, change_at, is_to_begin, last_of, noted, panel_says, read_by, said_at, said_for, CanStand, Burst, InUse, Station, AllKeep, AreInOrder, IsAsked, IsFreeFor, IsNoOthers, IsOfOthers, IsSaid, IsThere, Keeps, MayBeAt, PanelInRange, said_bus, AnyCallsKeep, as_they_stand, same_step, IsNewPanel, has_entry, named, renumbered, turn_of, AllOwnKeep, LeavesAlone, OwnKeeps, OwnLine, after_own, asked_in, next_bus}
 use Rattle.osdp_bus_laws.specs.Calls as bus
 use Rattle.osdp_entry_numbers.specs.Numbers.{is_of_line}
 use Rattle.osdp_entry_numbers.proofs.NewPanels.{has_turn, new_sound}
@@ -75,11 +75,6 @@ module _ {H : Type 0} where
       → after_next answer_of after i ps o (on_turn first l) ≡ on_turn first (after_next answer_of after i ps o l)
   next_first answer_of after i ps None first l = refl
   next_first answer_of after i ps (Some t) first l = refl
-
-  next_bus : (answer_of : H → Command → Answer) (after : H → Command → H) (i : ℕ) (ps : List ℕ) (o : Option (Station H)) (l : InUse H)
-      → (after_next answer_of after i ps o l).bus ≡ l.bus
-  next_bus answer_of after i ps None l = refl
-  next_bus answer_of after i ps (Some t) l = refl
 
   -- ---- what a call of the panel comes to
 
@@ -174,13 +169,7 @@ module _ {H : Type 0} where
         by_call : (call : bus.Call) → Rattle.osdp_calls.specs.Premises.PanelAddresses call l → Rattle.osdp_calls.specs.Premises.PanelAddresses call (on_turn first l)
         by_call (bus.Submit i command) free = λ t at goes asked comset. no_others first i asked.address l (free t at (sym (submit_first i command first l.bus) ∙ goes) asked comset)
         by_call (bus.Retarget i address) free = λ t at goes. no_others first i address l (free t at (sym (retarget_first i address first l.bus) ∙ goes))
-        by_call (bus.Add address) free = tt
-        by_call (bus.Begin i now) free = tt
-        by_call (bus.Withdraw i) free = tt
-        by_call (bus.OnBytes bytes now) free = tt
-        by_call (bus.OnSilence now) free = tt
-        by_call (bus.Tick now) free = tt
-        by_call bus.NextReport free = tt
+        by_call _ free = tt
 
     -- what one call of each kind comes to
     pub record Beside (step : Step H) (first : ℕ) (l : InUse H) : Type 0 where

@@ -84,13 +84,9 @@ module _ (n : Numbers) (are : AreNumbers n) where
   opening_under k o sent p q (LeftOut g none there idle) =
       ap (opening k (option_map n.ordered o) sent) there ∙ by_asked (option_map n.ordered o) ∙ sym (ap (opening (n.own k) o sent) none ∙ by_nobody o)
     where
-      either : (b : Bool) → cond {A = List ledger.Step} b [] [] ≡ []
-      either true = refl
-      either false = refl
-
       by_asked : (x : Option ℕ) → opening k x sent (Some g) ≡ []
       by_asked None = refl
-      by_asked (Some i) = ap (λ st. cond (i == k) (opens st sent) []) idle.closed ∙ either (i == k)
+      by_asked (Some i) = ap (λ st. cond (i == k) (opens st sent) []) idle.closed ∙ nothing (i == k)
 
       by_nobody : (x : Option ℕ) → opening (n.own k) x sent None ≡ []
       by_nobody None = refl

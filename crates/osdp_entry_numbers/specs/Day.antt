@@ -18,9 +18,11 @@ use Rattle.osdp_entry_numbers.specs.Numbers.{Numbers}
 use Rattle.osdp_entry_numbers.specs.OwnOrder.{AllOwnKeep, IsOwnSetUp, OwnLine, OwnStep, after_all_own, own_view}
 use Rattle.osdp_entry_numbers.specs.Promises.{own_steps_from}
 
+-- the order of the day in the ledger of its device: the first that was submitted
 abbrev pub order : Order
 order = record { place = 0; command = Cap 0 }
 
+-- the event of the day there: the first that was queued
 abbrev pub card : Card
 card = record { place = 0; event = key }
 
@@ -31,6 +33,7 @@ exchanged (suc zero) = 2
 exchanged (suc (suc zero)) = 1
 exchanged (suc (suc (suc i))) = suc (suc (suc i))
 
+-- the numbers of a panel with the entry of another make between ours
 abbrev pub between : Numbers
 between = record { ordered = exchanged; own = exchanged }
 
@@ -41,12 +44,14 @@ onward (suc zero) = 2
 onward (suc (suc zero)) = 0
 onward (suc (suc (suc i))) = suc (suc (suc i))
 
+-- .. and the other way round
 abbrev pub back : ℕ → ℕ
 back zero = 2
 back (suc zero) = 0
 back (suc (suc zero)) = 1
 back (suc (suc (suc i))) = suc (suc (suc i))
 
+-- the numbers of a panel with these entries turned
 abbrev pub around : Numbers
 around = record { ordered = onward; own = back }
 
@@ -55,6 +60,7 @@ abbrev pub without : Numbers
 without = record { ordered = back; own = onward }
 
 module _ {H : Type 0} where
+  -- a call that doesn't make the panel anew
   abbrev pub does : Call H → List ℕ → OwnStep H
   does call places = record { call = call; places = places; ordered = []; numbers = between }
 
@@ -116,6 +122,7 @@ module _ {H : Type 0} where
     abbrev pub KeepsRestart : List ℕ → OwnLine H → Type 0
     KeepsRestart addresses a = Keeps answer_of after (record { call = NewPanel twice addresses; places = [] }) a.line
 
+    -- The set-up and the day keep the premises. What they come to is said by each field.
     pub record AnyOrder (handler : H) : Type 0 where
       pub up : IsOwnSetUp (own_line handler)
       pub keep : AllOwnKeep answer_of after day (own_line handler)

@@ -18,6 +18,7 @@ abbrev pub as_they_stand : Numbers
 as_they_stand = record { ordered = λ i. i; own = λ k. k }
 
 module _ {H : Type 0} where
+  -- of a panel that is made anew the addresses of its entries
   abbrev pub addresses_of : Call H → List ℕ
   addresses_of (NewPanel config addresses) = addresses
   addresses_of _ = []
@@ -26,9 +27,11 @@ module _ {H : Type 0} where
   abbrev pub same_step : Step H → OwnStep H
   same_step step = record { call = step.call; places = step.places; ordered = addresses_of step.call; numbers = as_they_stand }
 
+  -- any line in use, as one whose entries have the numbers that they stand at
   abbrev pub same_line : InUse H → OwnLine H
   same_line l = record { bus = l.bus; numbers = as_they_stand; line = l }
 
+  -- Calls that keep the premises of any calls keep those of this crate, where the entries of each panel could be added as they stand.
   abbrev pub AnyCallsKeep : (H → Command → Answer) → (H → Command → H) → Type 0
   AnyCallsKeep answer_of after = (l : InUse H) (steps : List (Step H)) (config : BusConfig) (addresses : List ℕ) → IsSetUp l → IsBusConfig config
       → l.bus ≡ bus_with config addresses → NoneRefused addresses (new_bus config) → All (λ (step : Step H). CanStand step.call) steps

@@ -60,6 +60,7 @@ named (bus.Withdraw entry) = Some entry
 named (bus.Retarget entry address) = Some entry
 named _ = None
 
+-- .. which holds of a call that names none
 abbrev pub has_entry : Option ℕ → BusState → Bool
 has_entry None b = true
 has_entry (Some entry) b = is_some (device_of entry b)

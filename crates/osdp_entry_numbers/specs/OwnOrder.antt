@@ -43,6 +43,7 @@ module _ {H : Type 0} where
   in_order (NewPanel config addresses) ordered a = NewPanel config ordered
   in_order call ordered a = call
 
+  -- .. with the places of what it reads
   abbrev pub ordered_step : OwnStep H → OwnLine H → Step H
   ordered_step step a = record { call = in_order step.call step.ordered a; places = step.places }
 
@@ -51,6 +52,7 @@ module _ {H : Type 0} where
   asked_by (OfPanel call) b = asked_in call b
   asked_by _ b = None
 
+  -- .. so the line has that turn before the call
   abbrev pub turned : Call H → OwnLine H → InUse H
   turned call a = record a.line {
     bus = record a.line.bus { first = turn_of (option_map a.numbers.ordered (asked_by call a.bus)) a.line.bus.first };
@@ -62,6 +64,7 @@ module _ {H : Type 0} where
   own_after (NewPanel config addresses) b = bus_with config addresses
   own_after _ b = b
 
+  -- a panel that is made anew has other numbers
   abbrev pub numbers_after : Call H → Numbers → Numbers → Numbers
   numbers_after (NewPanel config addresses) next n = next
   numbers_after _ next n = n
@@ -93,6 +96,7 @@ module _ {H : Type 0} where
     pub same : a.line.bus ≡ bus_with config ordered
 
   module _ (answer_of : H → Command → Answer) (after : H → Command → H) where
+    -- the panel's own bus, its numbers and the line after a call
     abbrev pub after_own : OwnStep H → OwnLine H → OwnLine H
     after_own step a = record {
       bus = own_after step.call a.bus;
@@ -100,6 +104,7 @@ module _ {H : Type 0} where
       line = after_call answer_of after (ordered_step step a).call step.places (turned step.call a);
     }
 
+    -- .. and after a list of calls
     abbrev pub after_all_own : List (OwnStep H) → OwnLine H → OwnLine H
     after_all_own [] a = a
     after_all_own (step ∷ steps) a = after_all_own steps (after_own step a)
@@ -111,6 +116,7 @@ module _ {H : Type 0} where
       pub fits : Fits step.call step.ordered step.numbers
       pub leaves : LeavesAlone step.call a
 
+    -- .. and each call of a list keeps them where those before it have brought the line
     abbrev pub AllOwnKeep : List (OwnStep H) → OwnLine H → Type 0
     AllOwnKeep [] a = Unit {0}
     AllOwnKeep (step ∷ steps) a = OwnKeeps step a × AllOwnKeep steps (after_own step a)

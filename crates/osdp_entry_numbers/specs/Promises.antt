@@ -39,10 +39,12 @@ module _ {H : Type 0} where
   IsOfPanel k d a = (device_of (a.numbers.own k) a.bus ≡ Some d) ⊎ ((device_of (a.numbers.own k) a.bus ≡ None) × IsIdle d)
 
   module _ (answer_of : H → Command → Answer) (after : H → Command → H) where
+    -- the commands that a list of calls accepts for a device
     abbrev pub all_own_accepted : ℕ → List (OwnStep H) → OwnLine H → List Command
     all_own_accepted k [] a = []
     all_own_accepted k (step ∷ steps) a = own_accepted k step.call a ++ all_own_accepted k steps (after_own answer_of after step a)
 
+    -- .. the events that it queues in the device
     abbrev pub all_own_queued : ℕ → List (OwnStep H) → OwnLine H → List Event
     all_own_queued k [] a = []
     all_own_queued k (step ∷ steps) a = queued_by k step.call a.line ++ all_own_queued k steps (after_own answer_of after step a)
@@ -58,11 +60,13 @@ module _ {H : Type 0} where
     own_steps k (NewPanel config addresses) a g = own_restarts (device_of (a.numbers.own k) a.bus)
     own_steps k call a g = steps_of answer_of after k call a.line g
 
+    -- .. over a list of calls, in their order
     abbrev pub own_along : ℕ → List (OwnStep H) → OwnLine H → Ledger → List ledger.Step
     own_along k [] a g = []
     own_along k (step ∷ steps) a g =
         let now = own_steps k step.call a g in now ++ own_along k steps (after_own answer_of after step a) (after_steps now g)
 
+    -- .. with the events that wait in the device at set-up before
     abbrev pub own_steps_from : ℕ → Station H → List (OwnStep H) → OwnLine H → List ledger.Step
     own_steps_from k first steps a =
         let before = queued_before 0 first.reader.queue.events in before ++ own_along k steps a (after_steps before new_ledger)
@@ -94,6 +98,7 @@ module _ {H : Type 0} where
     pub told : (call : bus.Call) → told_in (renumbered a.numbers.ordered call) (turned (OfPanel call) a).bus ≡ map (renumbers a.numbers.ordered) (told_in call a.bus)
     pub sent : (now : ℕ) → (bus_ticks now (turned (OfPanel (bus.Tick now)) a).bus).sent ≡ (bus_ticks now a.bus).sent
 
+  -- so it is after each list of calls that keep the premises, from a set-up on
   abbrev pub OwnOrderDoesTheSame : (H → Command → Answer) → (H → Command → H) → Type 0
   OwnOrderDoesTheSame answer_of after =
       (a : OwnLine H) (steps : List (OwnStep H)) → IsOwnSetUp a → AllOwnKeep answer_of after steps a → DoesTheSame (after_all_own answer_of after steps a)

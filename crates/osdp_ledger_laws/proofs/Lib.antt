@@ -1,4 +1,8 @@
 pub mod Laws
+mod Lapses
 pub mod Runs
 pub mod Sessions
+mod Without
+pub mod Reports
+pub mod Beginning
 pub mod Counting

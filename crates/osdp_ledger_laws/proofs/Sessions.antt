@@ -7,6 +7,7 @@ use Rattle.osdp_msg.specs.declared.reply.Reply.{Reply}
 use Rattle.osdp_ledger.specs.History.{AreAllowed, End, Forgotten, GivenBack, History, InDoubt, Settled, ends_at_restart, new_history, runs, steps_on}
 use Rattle.osdp_ledger.specs.Ledger.{Act, Close, Doubt, Lapse, Leave, May, MayActOn, Offers, Open, Order, Queue, Report, RestartDevice, RestartPanel, Settle, Step, Submit, Withdraw, WithdrawEvent, acted_on, late_after, panel_restarted}
 use Rattle.osdp_ledger.specs.OneSession.{settled_in}
+use Rattle.osdp_ledger.proofs.InTurn.{allowed_second, runs_then}
 use Rattle.osdp_ledger.proofs.OneSession.{asked, front_is, settled_more, taken}
 use Rattle.osdp_ledger_laws.specs.Sessions.{BeginsNone, EachSessionHolds, HoldsInSession}
 
@@ -389,16 +390,8 @@ module _ (began : History) where
 
 -- ---- after any steps
 
-runs_then : (xs ys : List Step) (h : History) → runs (xs ++ ys) h ≡ runs ys (runs xs h)
-runs_then [] ys h = refl
-runs_then (x ∷ xs) ys h = runs_then xs ys (steps_on x h)
-
-allowed_then : (xs ys : List Step) (h : History) → AreAllowed (xs ++ ys) h → AreAllowed ys (runs xs h)
-allowed_then [] ys h all = all
-allowed_then (x ∷ xs) ys h all = allowed_then xs ys (steps_on x h) all.1
-
 pub each_session_holds : EachSessionHolds
 each_session_holds before since allowed none =
     let began = runs before new_history in
     subst (λ (h : History). HoldsInSession began h) (sym (runs_then before (Open ∷ since) new_history))
-    (holds began since (allowed_then before (Open ∷ since) new_history allowed).1 none)
+    (holds began since (allowed_second before (Open ∷ since) new_history allowed).1 none)

@@ -2,7 +2,9 @@
 //! are laws.
 #![tactic(auto)]
 
+ghost use Rattle.osdp_ledger_laws.specs.Lapses.{LapsedIsReportedNoMore};
 ghost use Rattle.osdp_ledger_laws.specs.Laws.{ActsOrOffers, PlainEndsAreTold, ReportsOnceASession, SkipsNoNeighbour};
+ghost use Rattle.osdp_ledger_laws.specs.Reports.{EachSessionReports, ReportsAreABeginning};
 ghost use Rattle.osdp_ledger_laws.specs.Runs.{MoreStepsHappen};
 ghost use Rattle.osdp_ledger_laws.specs.Sessions.{EachSessionHolds, OneSessionCounts};
 
@@ -12,12 +14,32 @@ pub fn each_session_holds()
     ensures { EachSessionHolds }
 {}
 
-/// Of two events that one session reports, the first was queued first. So none is reported twice in a session.
+/// In a session the first events are reported, in order, but for some given up or lost. They are the first of those that waited in the device's queue as it
+/// began, and behind these of those accepted since. Each is reported once. What is missing has left since: it was taken back, has lapsed, or was lost with the
+/// device's power.
+pub fn each_session_reports()
+    ensures { EachSessionReports }
+{}
+
+/// Where none is given up or lost, none is missing. So it is where in the session no event is taken back or lapses, and the device keeps its power. The panel
+/// may lose power in it, and orders may be taken back.
+pub fn reports_are_a_beginning()
+    ensures { ReportsAreABeginning }
+{
+    each_session_reports();
+}
+
+/// Of two events that a session reports, the first was queued first. So none is reported twice in a session.
 pub fn reports_once_a_session()
     ensures { ReportsOnceASession }
 {
     osdp_ledger::keeps_events();
 }
+
+/// What lapses before its session offers it is reported no more. It is an event that was offered in earlier sessions alone; no later session reports it either.
+pub fn lapsed_is_reported_no_more()
+    ensures { LapsedIsReportedNoMore }
+{}
 
 /// The event that was queued next before one that is reported was reported too, or was taken back, or has lapsed, or was thrown away.
 pub fn skips_no_neighbour()

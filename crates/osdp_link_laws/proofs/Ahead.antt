@@ -1,5 +1,5 @@
 -- What is ahead of a link, by how far its session has come.
-use Rattle.osdp_link_laws.proofs.Common.{◌≡◌, ◌≢◌, ◌+◌, ◌⊎◌, ℕ, Bool, true, false, List, [], length, Option, None, refl, sym, ap, ◌∙◌, inl, inr, arith, length-append, option_to_list, Packet, next_sequence, Command, Event, Reply, meaning_of, submitted_command, Plain, ControllerConfig, Exchange, Opening, Polling, Asking, Session, State, Closed, Quiet, Idle, Waiting, Pausing, Queue, ReaderState, Answer, Link, outstanding_command, left}
+use Rattle.osdp_link_laws.proofs.Common.{◌≡◌, ◌≢◌, ◌+◌, ◌⊎◌, ℕ, Bool, true, false, List, [], length, Option, None, refl, sym, ap, ◌∙◌, inl, inr, arith, length-append, option_to_list, Packet, next_sequence, Command, Event, Reply, meaning_of, submitted_command, Plain, ControllerConfig, Exchange, Opening, Polling, Asking, Session, State, Closed, Quiet, Idle, Waiting, Pausing, Queue, ReaderState, Answer, Link, outstanding_command, count_ahead}
 use Rattle.osdp_link_laws.specs.Ahead.{event_told, has_number, is_opening, is_poll, is_polling, is_unopened, offered_to, read_as, unoffered_events}
 use Rattle.osdp_link_laws.proofs.Moves.{Premises}
 use Rattle.osdp_link_laws.proofs.Numbers.{is_false, is_true, next_differs}
@@ -198,7 +198,7 @@ module _ (fixed : ControllerConfig) where
 
   pub left_at : {H : Type 0} (answer_of : H → Command → Answer) (after : H → Command → H) → Premises fixed answer_of after → (since : Restarted) (at : Stage) (l : Link H)
       → At fixed answer_of after since at l → IsPlaced at l.reader.config.address l.reader.last → l.controller.session.state ≢ Closed
-      → left l ≡ count_at since at l.controller.waiting l.reader.queue
+      → count_ahead l ≡ count_at since at l.controller.waiting l.reader.queue
   left_at answer_of after given since at l h placed lasts =
       let s = l.controller.session in
       let ws = l.controller.waiting in

@@ -29,7 +29,7 @@ pub use Rattle.osdp_reader.specs.declared.kind.Kind.{Kind}
 pub use Rattle.osdp_link_laws.specs.Beginning.{Begins, MaySubmit, MoveFits, MovesFit, SaysWhatFits, SaysWhatFitsIf}
 pub use Rattle.osdp_link_laws.specs.Link.{after_move, Delivered, Delivery, LapseEvent, Link, LoseToController, LoseToReader, Lost, lost_at, Move, outstanding_command, Queue as QueueEvent, Reopen, Repeated, RestartController, RestartReader, Retarget, run, SetBusy, SetHandler, Submit, Tick, ToController, ToReader, Withdraw, WithdrawEvent}
 pub use Rattle.osdp_link_laws.specs.Refusals.{IsNoRefusal, IsOtherCause, KeepsReader, RefusesNoNumber, RefusesNoNumberWithoutRestart, SaysAllPlainly}
-pub use Rattle.osdp_link_laws.specs.Ahead.{ahead, left}
+pub use Rattle.osdp_link_laws.specs.Ahead.{ahead, count_ahead}
 pub use Rattle.osdp_link_laws.specs.Reports.{all_taken, nothing_told, reports, Told, told_by, told_by_front, told_in, with_reports}
 pub use Rattle.osdp_link_laws.specs.Sessions.{accepted, all_begun, all_queued, all_submitted, queued, restarts_after, restarts_in_session, submitted, unless_full}
 pub use Rattle.osdp_controller.specs.declared.report.Report.{Report}

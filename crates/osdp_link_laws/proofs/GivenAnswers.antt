@@ -1,13 +1,12 @@
 -- The answer that is on its way is one that the device gave to its command.
-use Rattle.osdp_link_laws.proofs.Common.{◌≡◌, ℕ, List, [], ◌∷◌, ◌++◌, Option, Some, None, Ok, refl, sym, subst, ap, ◌∙◌, Packet, Command, Reply, exchange_command, seen, ticks, Opening, Polling, Asking, Exchange, ControllerFault, Report, released, ReaderState, answer_to, command_in, event_or_answer, kind_of, taken, ReaderConfig, Answer, Kind, Delivered, Delivery, Link, Lost, Move, Reopen, Repeated, RestartReader, Tick, ToController, ToReader, told_by_front}
+use Rattle.osdp_link_laws.proofs.Common.{◌≡◌, ℕ, List, [], ◌∷◌, ◌++◌, Option, Some, None, Ok, sym, subst, ap, ◌∙◌, Packet, Command, Reply, exchange_command, ticks, Opening, Polling, Asking, Exchange, ControllerFault, Report, released, ReaderState, answer_to, command_in, event_or_answer, kind_of, taken, ReaderConfig, Answer, Kind, Delivered, Delivery, Link, Lost, Move, Reopen, Repeated, RestartReader, Tick, ToController, ToReader, told_by_front}
 use Rattle.osdp_controller.specs.Machine as controllers
 use Rattle.osdp_reader.specs.declared.kind.Kind.TheVariants as kind
 use Rattle.osdp_link_laws.proofs.Acting.{no_event}
-use Rattle.osdp_link_laws.proofs.Coming.{Announces, Due, HearsTo, MovesTo, Reads, ReadsFront, ReadsTo, ReopensTo, Stays, settled_in}
+use Rattle.osdp_link_laws.proofs.Coming.{Due, HearsTo, MovesTo, Reads, ReadsFront, ReadsTo, ReopensTo, Stays, settled_in}
 use Rattle.osdp_link_laws.proofs.Lines.{each_front, each_rest}
-use Rattle.osdp_link_laws.proofs.Reports.{tick_so}
 use Rattle.osdp_link_laws.proofs.Stages.{After, Behind, Each, IsAsked, IsStage, Restarted, Stage, Start, owed, owed_at}
-use Rattle.osdp_link_laws.proofs.Telling.{hears_tell, ticks_tell}
+use Rattle.osdp_link_laws.proofs.Telling.{hears_tell, ticks_alike}
 
 module _ {H : Type 0} (answer_of : H → Command → Answer) (after : H → Command → H) where
   abbrev pub IsAnswerOf : Command × Reply → Type 0
@@ -57,7 +56,7 @@ module _ {H : Type 0} (answer_of : H → Command → Answer) (after : H → Comm
 
   -- what is told was on its way
   heard : (r : Option Report) (since : Restarted) (at to : Stage) → HearsTo r at to → AreAnswers at → Each IsAnswerOf (settled_in r ++ owed_at to)
-  heard r since at to comes are = subst (Each IsAnswerOf) (sym (hears_tell since at to r comes).owed) are
+  heard r since at to comes are = subst (Each IsAnswerOf) (hears_tell since at to r comes).owing are
 
   pub told_given : (r : Option Report) (since : Restarted) (at to : Stage) → HearsTo r at to → AreAnswers at → Each IsAnswerOf (settled_in r)
   told_given r since at to comes are = each_front IsAnswerOf (settled_in r) (owed_at to) (heard r since at to comes are)
@@ -68,11 +67,7 @@ module _ {H : Type 0} (answer_of : H → Command → Answer) (after : H → Comm
   ticked : (now : ℕ) (l : Link H) (since : Restarted) (at : Stage) (new : Restarted) (to : Stage) → MovesTo answer_of after (Tick now) l since at new to
       → AreAnswers at → AreAnswers to
   ticked now l since at new to comes are =
-      let t = ticks now l.controller.session l.controller.waiting in
-      let none : Announces t.step.report [] [] =
-      tick_so (λ r. Announces r [] []) (refl, refl) (λ o. (refl, refl)) l.controller.session.state (seen now l.controller.session) l.controller.waiting in
-      each_rest IsAnswerOf (settled_in t.step.report) (owed_at to)
-      (subst (Each IsAnswerOf) (sym (ticks_tell since at to t none comes.1).owed) are)
+      subst (Each IsAnswerOf) (sym (ticks_alike since at to (ticks now l.controller.session l.controller.waiting) comes.1).owing) are
 
   reopens : (refusal : Option ControllerFault) (ps qs : List Packet) (since : Restarted) (at : Stage) (new : Restarted) (to : Stage)
       → ReopensTo answer_of after refusal ps qs since at new to → AreAnswers at → AreAnswers to

@@ -15,7 +15,7 @@ use Rattle.osdp_link_laws.proofs.Lines.{both}
 use Rattle.osdp_link_laws.proofs.Reports.{tick_so}
 use Rattle.osdp_link_laws.proofs.Since.{Hears, has_acted}
 use Rattle.osdp_link_laws.proofs.Stages.{After, Before, Behind, Fresh, IsStage, Level, Never, Now, Past, ReaderAt, Rest, Restarted, Stage, Start, number_after, owed, owed_at, pending, pending_at, shown, shown_at, unreported_at}
-use Rattle.osdp_link_laws.proofs.Telling.{hears_tell, ticks_tell}
+use Rattle.osdp_link_laws.proofs.Telling.{hears_tell, ticks_alike}
 
 -- ---- reports
 
@@ -98,28 +98,19 @@ ticks_first t at to (inr begins) = begins_first at to begins.0
 pub ticks_leave : (since : Restarted) (at to : Stage) (t : Ticked) (ws : List Command) (q : Queue) → Announces t.step.report [] [] → TicksTo t at to
     → KeepsOrders at to ws t.waiting → tells t.step.report + count_at since to t.waiting q ≡ count_at since at ws q
 ticks_leave since at to t ws q none comes waits =
-    let told = ticks_tell since at to t none comes in
+    let told = ticks_alike since at to t comes in
     let settled = ap (λ xs. length xs) none.0 in
     let reported = ap (λ xs. length xs) none.1 in
     let all = ap (λ cs. length cs) waits in
     let before = length-append (pending_at at) ws in
     let afterwards = length-append (pending_at to) t.waiting in
-    let owing = ap (λ xs. length xs) told.owed in
-    let owing_of = length-append (settled_in t.step.report) (owed_at to) in
-    let untold : length (untold_by since (unreported_at to)) ≡ length (untold_by since (unreported_at at)) =
-    ap (λ es. length (untold_by since es)) (ap (λ es. es ++ unreported_at to) (sym none.1) ∙ told.told) in
+    let owing : length (owed_at to) ≡ length (owed_at at) = ap length told.owing in
+    let untold : length (untold_by since (unreported_at to)) ≡ length (untold_by since (unreported_at at)) = ap (λ es. length (untold_by since es)) told.untold in
     let rest = ap (λ b. length (unoffered_events b q)) (ticks_first t at to comes) in
     let one = announced t.step.report in
-    omega (arith, settled, reported, all, before, afterwards, owing, owing_of, untold, rest, one)
+    omega (arith, settled, reported, all, before, afterwards, owing, untold, rest, one)
 
 -- ---- a packet comes to the controller
-
-hears_pending : (at to : Stage) (o : Option Report) → HearsTo o at to → pending_at to ≡ pending_at at
-hears_pending Fresh to o comes = ap pending_at comes.0
-hears_pending (Behind past x) to o comes = ap pending_at comes.0
-hears_pending (Rest n x a) to o comes = ap pending_at comes.0
-hears_pending (Level past x a) to o (inl same) = ap pending_at same.0
-hears_pending (Level past x a) to o (inr answered) = ap pending_at answered.0
 
 module _ (fixed : ControllerConfig) {H : Type 0} where
   -- where the session opens no event counts as offered
@@ -146,10 +137,10 @@ module _ (fixed : ControllerConfig) {H : Type 0} where
       → HearsTo o at to → tells o + count_at since to ws r.queue ≡ count_at since at ws r.queue
   hears_leave since at to o ws r hears stage is comes =
       let told = hears_tell since at to o comes in
-      let pend = ap (λ cs. length cs) (hears_pending at to o comes) in
-      let owing = ap (λ xs. length xs) told.owed in
+      let pend : length (pending_at to) ≡ length (pending_at at) = ap length told.pend in
+      let owing : length (owed_at at) ≡ length (settled_in o ++ owed_at to) = ap length told.owing in
       let owing_of = length-append (settled_in o) (owed_at to) in
-      let untold = ap (λ es. length es) told.told in
+      let untold : length (unreported_at at) ≡ length (reported_in o ++ unreported_at to) = ap length told.untold in
       let untold_of = length-append (reported_in o) (unreported_at to) in
       let untold_at = ap (λ es. length es) (hears_untold since (unreported_at at) hears) in
       let untold_to = ap (λ es. length es) (hears_untold since (unreported_at to) hears) in

@@ -1,5 +1,5 @@
 -- A round from a clear link leaves it clear and at rest, or ends the session; and from rest each round brings one more.
-use Rattle.osdp_link_laws.proofs.Common.{◌≡◌, ◌≢◌, ℕ, length, Some, ap, sym, subst, ◌∙◌, inl, inr, arith, min-le_left, min-le_right, Command, seen, ControllerConfig, Closed, Idle, Answer, Link, run, ReadEachOther, ComesThroughFromRest, ComesToRest, SetsNoAddress, round, ahead, left}
+use Rattle.osdp_link_laws.proofs.Common.{◌≡◌, ◌≢◌, ℕ, length, Some, ap, sym, subst, ◌∙◌, inl, inr, arith, min-le_left, min-le_right, Command, seen, ControllerConfig, Closed, Idle, Answer, Link, run, ReadEachOther, ComesThroughFromRest, ComesToRest, SetsNoAddress, round, ahead, count_ahead}
 use Rattle.osdp_link_laws.proofs.Due.{closed_rests}
 use Rattle.osdp_link_laws.proofs.InARow.{assumed, stands, stands_since}
 use Rattle.osdp_link_laws.proofs.Lines.{each_all}
@@ -66,8 +66,8 @@ module _ {H : Type 0} (answer_of : H → Command → Answer) (after : H → Comm
         ];
       } in
       let all = assumed answer_of after peers s.fixed s.device in
-      let few = min-le_left (length moments) (left afterwards) in
-      let every = min-le_right (length moments) (left afterwards) in
+      let few = min-le_left (length moments) (count_ahead afterwards) in
+      let every = min-le_right (length moments) (count_ahead afterwards) in
       elim (through s.fixed answer_of after all moments afterwards s.goes idle due more) [
         | inl far ↦ omega (arith, far, few)
         | inr whole ↦ omega (arith, whole, every)

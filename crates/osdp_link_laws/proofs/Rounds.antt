@@ -1,5 +1,5 @@
 -- Rounds that lose nothing, from rest: each settles a command or reports an event, until all are.
-use Rattle.osdp_link_laws.proofs.Common.{◌≡◌, ◌⊎◌, ◌+◌, ℕ, suc, Bool, false, List, [], ◌∷◌, ◌++◌, length, drop, refl, sym, subst, ap, ◌∙◌, inl, inr, arith, Command, Event, exchange_command, later, seen, ticks, ControllerConfig, Idle, next_sequence, Answer, ReaderConfig, event_for, event_or_answer, offering, Queue, released, option_to_list, outstanding_command, MaySubmit, SaysWhatFits, Link, SetsNoAddress, TellsItsEvent, left}
+use Rattle.osdp_link_laws.proofs.Common.{◌≡◌, ◌⊎◌, ◌+◌, ℕ, suc, Bool, false, List, [], ◌∷◌, ◌++◌, length, drop, refl, sym, subst, ap, ◌∙◌, inl, inr, arith, Command, Event, exchange_command, later, seen, ticks, ControllerConfig, Idle, next_sequence, Answer, ReaderConfig, event_for, event_or_answer, offering, Queue, released, option_to_list, outstanding_command, MaySubmit, SaysWhatFits, Link, SetsNoAddress, TellsItsEvent, count_ahead}
 use Rattle.osdp_controller.specs.Hearing.{poll_told}
 use Rattle.osdp_msg.specs.Events.{event_reply}
 use Rattle.osdp_link_laws.specs.Ahead.{has_number, is_polling, is_unopened, offered_to, unoffered_events}
@@ -25,7 +25,7 @@ calm events capacity room ever = record { events = events; capacity = capacity; 
 
 module _ {H : Type 0} where
   -- where nobody waits for an answer
-  left_at_rest : (l : Link H) (due : ℕ) → l.controller.session.state ≡ Idle due → left l ≡ length l.controller.waiting + length (released l.reader.queue).events
+  left_at_rest : (l : Link H) (due : ℕ) → l.controller.session.state ≡ Idle due → count_ahead l ≡ length l.controller.waiting + length (released l.reader.queue).events
   left_at_rest l due idle =
       ap (λ st. length (option_to_list (outstanding_command st) ++ l.controller.waiting)
       + length (offered_to (is_polling st) (has_number l.controller.session.number l.reader.last) l.reader.stored ++ unoffered_events (is_unopened st) l.reader.queue)) idle
@@ -103,7 +103,7 @@ module _ (fixed : ControllerConfig) {H : Type 0} (answer_of : H → Command → 
   -- .. which tells one, unless none is left
   pub idle_round : Given → (now : ℕ) (l : Link H) → Goes fixed answer_of after l → Idles l
       → Acts (ticks now l.controller.session l.controller.waiting) → SaysWhatFits answer_of after (at_tick now l).to_reader l.reader
-      → Idles (goes answer_of after now l) × OneLess (tells (went answer_of after now l).told) (left l) (left (goes answer_of after now l))
+      → Idles (goes answer_of after now l) × OneLess (tells (went answer_of after now l).told) (count_ahead l) (count_ahead (goes answer_of after now l))
   idle_round given now l held idle does fits =
       let is = idle_exchange given now l held idle does fits in
       let q = l.reader.queue in
@@ -111,6 +111,6 @@ module _ (fixed : ControllerConfig) {H : Type 0} (answer_of : H → Command → 
       let before = left_at_rest l idle.idle.0 idle.idle.1 in
       let one = counts answer_of after given.tells l.controller.waiting rest.events q.capacity q.room rest.ever_offered l.reader.config l.reader.handler held.holds.2.waiting in (
         subst (λ w. Idles w.next) (sym is) (rested_idle now l idle),
-        subst (λ w. OneLess (tells w.told) (left l) (left w.next)) (sym is)
-            (subst (λ n. OneLess (tells (rested fixed answer_of after now l).told) n (left (rested_link fixed answer_of after now l))) (sym before) one),
+        subst (λ w. OneLess (tells w.told) (count_ahead l) (count_ahead w.next)) (sym is)
+            (subst (λ n. OneLess (tells (rested fixed answer_of after now l).told) n (count_ahead (rested_link fixed answer_of after now l))) (sym before) one),
       )

@@ -1,5 +1,5 @@
 -- From a link without losses over its rounds.
-use Rattle.osdp_link_laws.proofs.Common.{◌≡◌, ◌≢◌, ◌⊎◌, ◌≤◌, ◌+◌, ◌-◌, ℕ, List, [], ◌∷◌, ◌++◌, length, refl, sym, subst, ap, ◌∙◌, inl, inr, arith, option_to_list, Option, min-le_left, min-le_right, Packet, Command, said_by, hears_in, ignores, is_from_reader, seen, ticks, ControllerConfig, Report, State, Closed, Idle, Answer, MovesFit, SaysWhatFits, Delivered, Link, Tick, ToController, ToReader, run, AreDue, ComeOn, ComesThrough, IsClear, SetsNoAddress, round, rounds, ReadEachOther, ahead, left, reports, told_by, told_in}
+use Rattle.osdp_link_laws.proofs.Common.{◌≡◌, ◌≢◌, ◌⊎◌, ◌≤◌, ◌+◌, ◌-◌, ℕ, List, [], ◌∷◌, ◌++◌, length, refl, sym, subst, ap, ◌∙◌, inl, inr, arith, option_to_list, Option, min-le_left, min-le_right, Packet, Command, said_by, hears_in, ignores, is_from_reader, seen, ticks, ControllerConfig, Report, State, Closed, Idle, Answer, MovesFit, SaysWhatFits, Delivered, Link, Tick, ToController, ToReader, run, AreDue, ComeOn, ComesThrough, IsClear, SetsNoAddress, round, rounds, ReadEachOther, ahead, count_ahead, reports, told_by, told_in}
 use Rattle.osdp_link_laws.specs.Link as link
 use Rattle.osdp_link_laws.proofs.Ahead.{asks_for, count_at, left_at, placed_here, rests_none, waits_none}
 use Rattle.osdp_link_laws.proofs.Due.{Acts, closed_rests, due_sends}
@@ -92,7 +92,7 @@ module _ (fixed : ControllerConfig) {H : Type 0} (answer_of : H → Command → 
   -- no less is told and left after the first round than was left before it
   first_left : Given → (now : ℕ) (l : Link H) → Holds l → IsStill fixed answer_of after l → l.controller.session.state ≢ Closed
       → SaysWhatFits answer_of after (at_tick now l).to_reader l.reader → IsIdle fixed answer_of after (goes answer_of after now l)
-      → left l ≤ told_now now l + left (goes answer_of after now l)
+      → count_ahead l ≤ told_now now l + count_ahead (goes answer_of after now l)
   first_left given now l held still lasts fits idle =
       let s = l.controller.session in
       let ws = l.controller.waiting in
@@ -128,7 +128,7 @@ module _ (fixed : ControllerConfig) {H : Type 0} (answer_of : H → Command → 
 
   -- one more with each round, until it is all
   abbrev Through : List ℕ → Link H → Type 0
-  Through moments l = (length moments ≤ all_told moments l) ⊎ (left l ≤ all_told moments l)
+  Through moments l = (length moments ≤ all_told moments l) ⊎ (count_ahead l ≤ all_told moments l)
 
   pub through : Given → (moments : List ℕ) (l : Link H) → Holds l → IsIdle fixed answer_of after l → AreDue answer_of after moments l
       → MovesFit answer_of after (rounds moments) l → Through moments l
@@ -147,11 +147,11 @@ module _ (fixed : ControllerConfig) {H : Type 0} (answer_of : H → Command → 
       ]
 
   -- the first round counts for none
-  come_on : (now : ℕ) (later : List ℕ) (l : Link H) → left l ≤ told_now now l + left (goes answer_of after now l)
+  come_on : (now : ℕ) (later : List ℕ) (l : Link H) → count_ahead l ≤ told_now now l + count_ahead (goes answer_of after now l)
       → Through later (goes answer_of after now l) → ComeOn answer_of after (now ∷ later) l
   come_on now later l first more =
-      let few = min-le_left (length (now ∷ later) - 1) (left l) in
-      let all = min-le_right (length (now ∷ later) - 1) (left l) in
+      let few = min-le_left (length (now ∷ later) - 1) (count_ahead l) in
+      let all = min-le_right (length (now ∷ later) - 1) (count_ahead l) in
       let told = round_told now later l in
       elim more [
         | inl far ↦ omega (arith, few, told, far)
@@ -161,13 +161,13 @@ module _ (fixed : ControllerConfig) {H : Type 0} (answer_of : H → Command → 
 module _ {H : Type 0} (answer_of : H → Command → Answer) (after : H → Command → H) where
   -- once a session has ended no more tick is due, so there was one round
   ended : (now : ℕ) (later : List ℕ) (l m : Link H) → m.controller.session.state ≡ Closed → AreDue answer_of after later m → ComeOn answer_of after (now ∷ later) l
-  ended now [] l m closed due = let few = min-le_left (length (now ∷ []) - 1) (left l) in omega (arith, few)
+  ended now [] l m closed due = let few = min-le_left (length (now ∷ []) - 1) (count_ahead l) in omega (arith, few)
   ended now (next ∷ later) l m closed due =
       absurd (closed_rests m.controller.session.state (seen next m.controller.session) m.controller.waiting closed due.0)
 
   pub comes_through : ReadEachOther answer_of after → ComesThrough answer_of after
   comes_through peers l moves [] b fits clear due more =
-      let few = min-le_left (length {A = ℕ} [] - 1) (left (run answer_of after moves l)) in omega (arith, few)
+      let few = min-le_left (length {A = ℕ} [] - 1) (count_ahead (run answer_of after moves l)) in omega (arith, few)
   comes_through peers l moves (now ∷ later) b fits clear due more =
       let afterwards = run answer_of after moves l in
       let s = stands answer_of after peers l moves b fits in

@@ -1,4 +1,4 @@
--- Moves with which neither end restarts and no command or event is taken back.
+-- Moves with which neither end restarts, no command or event is taken back, and no event lapses.
 use Rattle.osdp_link_laws.specs.Link.{LoseToController, LoseToReader, Move, RestartController, RestartReader, Retarget, SetHandler, Withdraw, WithdrawEvent, LapseEvent}
 
 -- a move with which neither end restarts, no command or event is withdrawn and no event lapses

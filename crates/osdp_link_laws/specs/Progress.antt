@@ -10,7 +10,7 @@ use Rattle.osdp_controller_laws.specs.Calls.{IsInRange, longest_wait}
 use Rattle.osdp_reader.specs.declared.handler.Answer.{Answer}
 use Rattle.osdp_reader.specs.State.{ReaderState}
 use Rattle.osdp_reader.specs.Table.{new_address}
-use Rattle.osdp_link_laws.specs.Ahead.{ahead, left}
+use Rattle.osdp_link_laws.specs.Ahead.{ahead, count_ahead}
 use Rattle.osdp_link_laws.specs.Beginning.{MovesFit, Begins}
 use Rattle.osdp_link_laws.specs.Link.{Delivered, Link, Move, Tick, ToController, ToReader, run}
 use Rattle.osdp_link_laws.specs.Ordinary.{IsOrdinary}
@@ -61,9 +61,9 @@ module _ {H : Type 0} where
     AreDue [] l = Unit {0}
     AreDue (now ∷ later) l = (is_due now l.controller ≡ true) × AreDue later (run answer_of after (round now) l)
 
-    -- of so many rounds each but one settles a command or reports an event, or all that was left is settled and reported
+    -- of so many rounds each but one settles a command or reports an event, or all that was ahead is settled and reported
     abbrev pub ComeOn : List ℕ → Link H → Type 0
-    ComeOn moments l = min (length moments - 1) (left l) ≤ told_in (reports answer_of after (rounds moments) l)
+    ComeOn moments l = min (length moments - 1) (count_ahead l) ≤ told_in (reports answer_of after (rounds moments) l)
 
     abbrev pub ComesThrough : Type 0
     ComesThrough = (l : Link H) (moves : List (Move H)) (moments : List ℕ) → Begins l → MovesFit answer_of after moves l
@@ -86,7 +86,7 @@ module _ {H : Type 0} where
         → let later = run answer_of after moves l in
         IsClear later → IsAtRest later → HearsOn (restarts_in_session answer_of after moves l 0) later
         → AreDue moments later → MovesFit answer_of after (rounds moments) later
-        → min (length moments) (left later) ≤ told_in (reports answer_of after (rounds moments) later)
+        → min (length moments) (count_ahead later) ≤ told_in (reports answer_of after (rounds moments) later)
 
     -- each tick comes so much later than the greatest moment seen as the longest of the controller's waits
     abbrev pub AreLate : List ℕ → Link H → Type 0
@@ -103,10 +103,12 @@ module _ {H : Type 0} where
         → let last = run answer_of after (rounds moments) later in
         (last.controller.session.state ≡ Closed) ⊎ ComeOn moments later
 
-    -- a session that lasts forgets none: what is accepted in it is told, or left
+    -- In a first session that has not ended, and in which neither end restarts and nothing is taken back or lapses, nothing is forgotten. As many commands
+    -- and events were ahead at its beginning or were accepted in it as are told settled or reported in it, or are ahead at its end. This counts them: which
+    -- ones they are says the ledger.
     abbrev pub ForgetsNone : Type 0
     ForgetsNone = (l : Link H) (moves : List (Move H)) → Begins l → MovesFit answer_of after moves l → All IsOrdinary moves
         → let last = run answer_of after moves l in
         all_begun answer_of after moves l ≡ 0 → is_closed last.controller.session.state ≡ false
-        → told_in (reports answer_of after moves l) + left last
-        ≡ left l + length (all_submitted answer_of after moves l) + length (all_queued answer_of after moves l)
+        → told_in (reports answer_of after moves l) + count_ahead last
+        ≡ count_ahead l + length (all_submitted answer_of after moves l) + length (all_queued answer_of after moves l)

@@ -72,7 +72,7 @@ pub fn stay_where_they_are<H: Handler>()
 /// an answer at first, and the reader hasn't restarted in this session or has heard number 0 since, m rounds settle and report m, or all.
 ///
 /// A first session that lasts forgets none, where neither end restarts, nothing is taken back and no event lapses: as many commands are settled and events
-/// reported, or left, as were left when it began and were accepted since. Which these are says the ledger (`osdp_link_ledger`).
+/// reported in it, or are ahead at its end, as were ahead when it began and were accepted since. Which these are says the ledger (`osdp_link_ledger`).
 pub fn comes_through<H: Handler>()
     ensures due { ComesThrough H.answer_of H.after }
     ensures in_time { ComesThroughInTime H.answer_of H.after }

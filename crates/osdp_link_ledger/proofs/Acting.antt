@@ -1,32 +1,12 @@
 -- What the device does with a packet: the ledger stays tied.
-use Rattle.osdp_link_ledger.proofs.Common.{◌≡◌, ◌<◌, ◌+◌, ◌⊎◌, ◌==◌, ℕ, suc, Bool, true, false, cond, List, [], ◌∷◌, ◌++◌, length, map, drop, take, Option, Some, None, All, refl, sym, subst, ap, ◌∙◌, inl, inr, arith, append-nil, length-map, All-head, option_to_list, Packet, Command, Event, Reply, State, Closed, EventQueue, event_for, offering, released, Act, Card, Leave, Ledger, MayFollow, NoOffer, Offer, Offers, Order, Reported, Unreported, acted_on, is_in_front, Beyond, IsUpTo, asked, Link, is_true, is_under_way, unreported_in, card_at, leaves, order_acted, order_at, Due}
+use Rattle.osdp_link_ledger.proofs.Common.{◌≡◌, ◌<◌, ◌⊎◌, ◌==◌, suc, Bool, true, false, cond, List, [], ◌∷◌, ◌++◌, length, map, drop, take, Option, Some, None, All, refl, sym, subst, ap, ◌∙◌, inl, inr, arith, append-nil, length-map, All-head, option_to_list, Packet, Command, Event, Reply, State, event_for, offering, released, Act, Card, Leave, Ledger, MayFollow, NoOffer, Offer, Offers, Order, Reported, Unreported, acted_on, is_in_front, Beyond, IsUpTo, asked, Link, is_true, is_under_way, unreported_in, card_at, leaves, order_acted, order_at, Due}
 use Rattle.osdp_msg.specs.declared.command.Command.TheVariants as command
 use Rattle.osdp_ledger.specs.Ledger as ledger
 use Rattle.osdp_link_ledger.proofs.Events.{beyond_front}
 use Rattle.osdp_link_ledger.proofs.Facts.{OutIs, out_of}
 use Rattle.osdp_link_ledger.proofs.Lists.{FrontUnshown, IsOfferedFront, after_card, commands, events, front_card, front_order, not_offered}
 use Rattle.osdp_link_ledger.proofs.Reading.{TakesNext}
-use Rattle.osdp_link_ledger.proofs.Ties.{ActedIs, AllUpTo, IsTied, Leads, OffersAre, Placed, SessionIs, Ties}
-
--- ---- what the session has of orders
-
-pub record Lasts (state : State) (d : Due) (g : Ledger) : Type 0 where
-  pub way : is_under_way state ≡ true
-  pub acted : ActedIs g.ahead g.acted d.owing
-  pub late : g.late ≡ None
-
-pub record HasEnded (state : State) (d : Due) (g : Ledger) : Type 0 where
-  pub closed : state ≡ Closed
-  pub acted : g.acted ≡ None
-  pub late : commands (option_to_list g.late) ≡ d.pend
-
-abbrev pub OrdersAre : State → Due → Ledger → Type 0
-OrdersAre state d g = Lasts state d g ⊎ HasEnded state d g
-
-pub with_offers : (state : State) (q : EventQueue) (ps qs : List Packet) (d : Due) (g : Ledger) → OrdersAre state d g → OffersAre q d.untold d.stands g.offer g.cards
-    → SessionIs state q ps qs d g
-with_offers state q ps qs d g (inl s) o = inr (inl (record { way = s.way; acted = s.acted; late = s.late; offers = o }))
-with_offers state q ps qs d g (inr s) o = inr (inr (record { closed = s.closed; acted = s.acted; late = s.late; offers = o }))
+use Rattle.osdp_link_ledger.proofs.Ties.{ActedIs, AllUpTo, HasEnded, IsTied, Lasts, Leads, OffersAre, OrdersAre, Placed, Ties}
 
 -- what is tied where an offered front has left
 pub record IsReady {H : Type 0} (l : Link H) (d : Due) (g : Ledger) : Type 0 where
@@ -91,10 +71,6 @@ module _ {H : Type 0} (p : Packet) (l : Link H) (d : Due) (g : Ledger) (placed :
       }
 
   -- the offered front leaves
-  orders_stay : OrdersAre l.controller.session.state d g → OrdersAre l.controller.session.state d (record g { cards = drop 1 g.cards; offer = NoOffer })
-  orders_stay (inl s) = inl (record { way = s.way; acted = s.acted; late = s.late })
-  orders_stay (inr s) = inr (record { closed = s.closed; acted = s.acted; late = s.late })
-
   goes : (e : Event) (rest : List Event) → l.reader.queue.events ≡ e ∷ rest → (released l.reader.queue).events ≡ rest → l.reader.queue.offered ≡ true
       → (released l.reader.queue).ever_offered ≡ false → Leads (Leave (card_at g.cards e) ∷ []) g (IsReady l d)
   goes e rest queue left on ever =
@@ -110,7 +86,7 @@ module _ {H : Type 0} (p : Packet) (l : Link H) (d : Due) (g : Ledger) (placed :
           told = refl;
           follows = λ c stands. tt;
           counts = sym (sym (length-map (drop 1 g.cards) (λ (c : Card). c.event)) ∙ ap length (front.1 ∙ sym left));
-          orders = orders_stay orders;
+          orders = orders;
         },
       )
     where
@@ -159,10 +135,9 @@ none_acted state d g (inl s) owes = by_owing s.acted
     by_owing (inr one) = absurd (no_answer ((one.order.command, one.answer)) (sym owes ∙ one.owing))
 
 -- what is due of orders stays so
-same_orders : (state : State) (d e : Due) (g : Ledger) (offer : Offer) (shown : ℕ) → e.pend ≡ d.pend → e.owing ≡ d.owing → OrdersAre state d g
-    → OrdersAre state e (record g { offer = offer; shown = shown })
-same_orders state d e g offer shown pend owing (inl s) = inl (record { way = s.way; acted = subst (ActedIs g.ahead g.acted) (sym owing) s.acted; late = s.late })
-same_orders state d e g offer shown pend owing (inr s) = inr (record { closed = s.closed; acted = s.acted; late = s.late ∙ sym pend })
+same_orders : (state : State) (d e : Due) (g : Ledger) → e.pend ≡ d.pend → e.owing ≡ d.owing → OrdersAre state d g → OrdersAre state e g
+same_orders state d e g pend owing (inl s) = inl (record { way = s.way; acted = subst (ActedIs g.ahead g.acted) (sym owing) s.acted; late = s.late })
+same_orders state d e g pend owing (inr s) = inr (record { closed = s.closed; acted = s.acted; late = s.late ∙ sym pend })
 
 module _ {H : Type 0} (p : Packet) (l : Link H) (d : Due) (g : Ledger) (n : TakesNext p l d) (r : IsReady l d g) where
   abbrev Offering : List Event → List Packet → List Packet → Due → Ledger → Type 0
@@ -176,9 +151,10 @@ module _ {H : Type 0} (p : Packet) (l : Link H) (d : Due) (g : Ledger) (n : Take
     is_open = r.is_open;
     cards = r.cards;
     front = r.front;
-    session = with_offers l.controller.session.state (offering None (released l.reader.queue)) ps qs e g
-        (same_orders l.controller.session.state d e g g.offer g.shown later.pend later.owing r.orders)
-        (record { untold = later.untold ∙ sym r.told; front = λ on. absurd cc; counts = omega (arith, r.counts) });
+    session = inr (
+      same_orders l.controller.session.state d e g later.pend later.owing r.orders,
+      record { untold = later.untold ∙ sym r.told; front = λ on. absurd cc; counts = omega (arith, r.counts) },
+    );
   }
 
   -- the front is told
@@ -186,26 +162,27 @@ module _ {H : Type 0} (p : Packet) (l : Link H) (d : Due) (g : Ledger) (n : Take
       → Leads (Offers (card_at g.cards event) ∷ []) g (Offering (event ∷ rest) ps qs e)
   offers_front event rest ps qs e is later =
       let front = front_card g.cards event rest (r.cards ∙ is) in
-      let c = card_at g.cards event in
-      let k : Ledger = record g { offer = Unreported c; shown = c.place + 1 } in (
+      let c = card_at g.cards event in (
         ((none_acted l.controller.session.state d g r.orders n.owing, r.follows c (drop 1 g.cards, front.0), (drop 1 g.cards, front.0)), tt),
         record {
           ahead = r.ahead;
           is_open = r.is_open;
           cards = r.cards;
           front = λ never. absurd cc;
-          session = with_offers l.controller.session.state (offering (event_for command.Poll (event ∷ rest)) (released l.reader.queue)) ps qs e k
-              (same_orders l.controller.session.state d e g (Unreported c) (c.place + 1) later.pend later.owing r.orders) (record {
-                untold = later.untold ∙ ap (λ x. x ∷ []) (sym (name g.cards));
-                front = λ on. inr (drop 1 g.cards, front.0);
-                counts =
-                    let few : length (drop 1 g.cards) ≡ length rest = sym (length-map (drop 1 g.cards) (λ (c : Card). c.event)) ∙ ap length front.1 in
-                    let all : length (released l.reader.queue).events ≡ suc (length rest) = ap length is in
-                    let left : length (after_card c g.cards) ≡ length (drop 1 g.cards) =
-                    ap (λ ds. length (after_card c ds)) front.0 ∙ ap (λ b. length (cond b (drop 1 g.cards) (c ∷ drop 1 g.cards))) (is_true c.place c.place refl) in
-                    let one : e.stands ≡ 1 = later.stands in
-                    omega (arith, few, all, left, one);
-              });
+          session = inr (
+            same_orders l.controller.session.state d e g later.pend later.owing r.orders,
+            record {
+              untold = later.untold ∙ ap (λ x. x ∷ []) (sym (name g.cards));
+              front = λ on. inr (drop 1 g.cards, front.0);
+              counts =
+                  let few : length (drop 1 g.cards) ≡ length rest = sym (length-map (drop 1 g.cards) (λ (c : Card). c.event)) ∙ ap length front.1 in
+                  let all : length (released l.reader.queue).events ≡ suc (length rest) = ap length is in
+                  let left : length (after_card c g.cards) ≡ length (drop 1 g.cards) =
+                  ap (λ ds. length (after_card c ds)) front.0 ∙ ap (λ b. length (cond b (drop 1 g.cards) (c ∷ drop 1 g.cards))) (is_true c.place c.place refl) in
+                  let one : e.stands ≡ 1 = later.stands in
+                  omega (arith, few, all, left, one);
+            },
+          );
         },
       )
     where
@@ -235,7 +212,7 @@ module _ {H : Type 0} (p : Packet) (l : Link H) (d : Due) (g : Ledger) (n : Take
   reported (Reported b) told = tt
 
   -- the front of the session
-  acts_in_session : (c : Command) (a : Reply) (ps qs : List Packet) (e : Due) → Acts c a d e → Lasts l.controller.session.state d g
+  acts_in_session : (c : Command) (a : Reply) (ps qs : List Packet) (e : Due) → Acts c a d e → Lasts l.controller.session.state d.owing g.ahead g.acted g.late
       → Leads (Act (order_acted c g) a ∷ []) g (Acted ps qs e)
   acts_in_session c a ps qs e later s =
       let under_way : g.is_open ≡ true = r.is_open ∙ s.way in
@@ -251,19 +228,21 @@ module _ {H : Type 0} (p : Packet) (l : Link H) (d : Due) (g : Ledger) (n : Take
           is_open = r.is_open;
           cards = r.cards;
           front = r.front;
-          session = inr (inl (record {
-            way = s.way;
-            acted = inr (record {
-              order = order_at g.ahead c;
-              rest = drop 1 g.ahead;
-              answer = a;
-              ahead = front.0;
-              acted = refl;
-              owing = later.owing ∙ ap (λ x. (x, a) ∷ []) (sym (command g.ahead));
-            });
-            late = s.late;
-            offers = offers_on c a e later;
-          }));
+          session = inr (
+            inl (record {
+              way = s.way;
+              acted = inr (record {
+                order = order_at g.ahead c;
+                rest = drop 1 g.ahead;
+                answer = a;
+                ahead = front.0;
+                acted = refl;
+                owing = later.owing ∙ ap (λ x. (x, a) ∷ []) (sym (command g.ahead));
+              });
+              late = s.late;
+            }),
+            offers_on c a e later,
+          );
         }),
       )
     where
@@ -277,7 +256,7 @@ module _ {H : Type 0} (p : Packet) (l : Link H) (d : Due) (g : Ledger) (n : Take
   late_order (Some o) c is =
       let same : o.command ≡ c = cc in ap (λ command. Some (record { place = o.place; command = command })) same
 
-  acts_late : (c : Command) (a : Reply) (ps qs : List Packet) (e : Due) → Acts c a d e → HasEnded l.controller.session.state d g
+  acts_late : (c : Command) (a : Reply) (ps qs : List Packet) (e : Due) → Acts c a d e → HasEnded l.controller.session.state d.pend g.acted g.late
       → Leads (Act (order_acted c g) a ∷ []) g (Acted ps qs e)
   acts_late c a ps qs e later s =
       let over : g.is_open ≡ false = r.is_open ∙ ap is_under_way s.closed in
@@ -289,7 +268,7 @@ module _ {H : Type 0} (p : Packet) (l : Link H) (d : Due) (g : Ledger) (n : Take
           is_open = r.is_open;
           cards = r.cards;
           front = r.front;
-          session = inr (inr (record { closed = s.closed; acted = s.acted; late = sym later.pend; offers = offers_on c a e later }));
+          session = inr (inr (record { closed = s.closed; acted = s.acted; late = sym later.pend }), offers_on c a e later);
         }),
       )
 

@@ -144,4 +144,4 @@ module _ {H : Type 0} (answer_of : H → Command → Answer) (after : H → Comm
       let h = runs (steps_from answer_of after moves l) new_history in
       let is = ap (λ (y : Tally). y.acted) (come_to answer_of after moves l) in
       is ∙ moves_answer moves l config (refl, refl) keep
-      ∙ ap (with_answers answer_of after config handler) (ap (map asked) (sym is) ∙ commands_acted h.acted)
+      ∙ ap (with_answers answer_of after config handler) (ap (map asked) (sym is) ∙ commands_acted h)

@@ -21,17 +21,18 @@ pub use Rattle.osdp_ledger.proofs.Waiting.{Beyond, Events, IsUpTo, OfferIs, Risi
 pub use Rattle.osdp_link_laws.specs.Beginning.{Begins, MaySubmit, MoveFits, MovesFit}
 pub use Rattle.osdp_link_laws.specs.Link.{after_move, Delivered, Delivery, LapseEvent, Link, LoseToController, LoseToReader, Lost, lost_at, Move, outstanding_command, Queue as QueueEvent, Reopen, Repeated, RestartController, RestartReader, Retarget, run, SetBusy, SetHandler, Submit, Tick, ToController, ToReader, Withdraw, WithdrawEvent}
 pub use Rattle.osdp_link_laws.specs.Peers.{ReadEachOther}
-pub use Rattle.osdp_link_laws.specs.Reports.{all_taken, command_taken, nothing_told, reports, taken_as, taken_by_front, taken_in, Told, told_by, told_by_front, with_report, with_reports}
+pub use Rattle.osdp_link_laws.specs.Reports.{all_taken, command_taken, nothing_told, reports, taken_as, taken_by, taken_by_front, taken_in, Told, told_by, told_by_front, with_report, with_reports}
 pub use Rattle.osdp_link_laws.specs.Sessions.{accepted, all_queued, all_submitted, queued, submitted, unless_full}
 pub use Rattle.osdp_link_laws.proofs.InARow.{assumed, Assumed, begins_so, standing_so, Stands, StandsThen}
 pub use Rattle.osdp_link_laws.proofs.Coming.{BeginsFrom, Due, due_at, HearsTo, IsSent, MovesTo, Reads, ReadsFront, ReadsTo, ReopensTo, reported_in, settled_in, standing_at, stands, Stays, stood, TicksTo}
 pub use Rattle.osdp_link_laws.proofs.Stages.{After, answer, Before, Behind, ControllerAt, Each, Fresh, HasActed, IsAsked, IsStage, Knows, Level, Never, Now, number_after, owed, owed_at, pending, pending_at, ReaderAt, Rest, Restarted, shown, Stage, Start, unreported_at, Waits}
-pub use Rattle.osdp_link_ledger.specs.Telling.{doubted_as, LedgerTellsMoves, settled_as, told_in_history}
+pub use Rattle.osdp_link_ledger.specs.Acted.{acted_by, acted_in, all_acted, all_done, done_by_front, done_in, EachTakenIsAnswered}
+pub use Rattle.osdp_link_ledger.specs.Telling.{acted_in_history, doubted_as, LedgerTellsMoves, told_in_history, without_place}
 pub use Rattle.osdp_link_ledger.specs.Steps.{acts, acts_at_zero, acts_on, after_steps, all_steps, card_at, gets, gives_up as gives_up_event, lapses_event, leaves, leaves_and_acts, leaving, leaving as leaving_events, offered_at, offers, opens, order_acted, order_at, queued_before, queues, steps_before, steps_from, steps_of, submits, submitted_before, ticked, to_reader, told, withdraws, withdraws_event}
 pub use Rattle.osdp_msg.specs.declared.reply.Reply.{Reply}
 pub use Rattle.osdp_controller.specs.declared.state.State.{State}
 pub use Rattle.osdp_controller.specs.declared.state.State.TheVariants.{Closed, Idle, Pausing, Quiet, Waiting}
-pub use Rattle.osdp_link_laws.proofs.Telling.{asked}
+pub use Rattle.osdp_link_laws.proofs.Telling.{alike, asked, IsAlike, IsTold}
 pub use Rattle.osdp_link_laws.proofs.Numbers.{is_false, is_true, next_differs}
 pub use Rattle.osdp_link_ledger.specs.Laws.{HasNumber, HoldsByLedger, is_under_way, IsLedgerOf, LinkKeepsLedger, unreported_in}
 pub use Rattle.osdp_msg.specs.Events.{event_in, event_reply}

@@ -25,10 +25,7 @@ fewer_offers q waits stands g cards fewer o = record { untold = o.untold; front 
 fewer_session : (state : State) (q : EventQueue) (ps qs : List Packet) (d : Due) (g : Ledger) (cards : List Card) → Fewer q (cond q.offered d.stands 0) g cards
     → SessionIs state q ps qs d g → SessionIs state (withdrawn q) ps qs d (record g { cards = cards })
 fewer_session state q ps qs d g cards fewer (inl s) = inl s
-fewer_session state q ps qs d g cards fewer (inr (inl s)) =
-    inr (inl (record { way = s.way; acted = s.acted; late = s.late; offers = fewer_offers q d.untold d.stands g cards fewer s.offers }))
-fewer_session state q ps qs d g cards fewer (inr (inr s)) =
-    inr (inr (record { closed = s.closed; acted = s.acted; late = s.late; offers = fewer_offers q d.untold d.stands g cards fewer s.offers }))
+fewer_session state q ps qs d g cards fewer (inr (orders, o)) = inr (orders, fewer_offers q d.untold d.stands g cards fewer o)
 
 with_fewer : (state : State) (waiting : List Command) (q : EventQueue) (ps qs : List Packet) (d : Due) (g : Ledger) (cards : List Card) → Fewer q (cond q.offered d.stands 0) g cards
     → Ties state waiting q ps qs d g → Ties state waiting (withdrawn q) ps qs d (record g { cards = cards })

@@ -1,7 +1,7 @@
 -- What is outstanding at a stage of a session, and how what is due changes with the stage.
-use Rattle.osdp_link_ledger.proofs.Common.{◌≡◌, ◌≢◌, true, ◌⊎◌, List, [], ◌∷◌, ◌++◌, length, map, Option, Some, None, refl, sym, subst, ap, ◌∙◌, inl, inr, append-nil, option_to_list, Packet, Command, Event, Reply, Ticked, ControllerConfig, ControllerFault, Report, Session, State, Closed, Quiet, Answer, asked, outstanding_command, BeginsFrom, Due, HearsTo, IsSent, ReopensTo, Stays, TicksTo, due_at, reported_in, settled_in, Before, Behind, ControllerAt, Fresh, Level, Never, Now, Rest, Restarted, Stage, Waits, number_after, owed_at, pending, pending_at, is_under_way}
+use Rattle.osdp_link_ledger.proofs.Common.{◌≡◌, ◌≢◌, true, ◌⊎◌, List, [], ◌∷◌, ◌++◌, map, Option, Some, None, refl, sym, subst, ap, ◌∙◌, inl, inr, append-nil, option_to_list, Packet, Command, Ticked, ControllerConfig, ControllerFault, Report, Session, State, Closed, Quiet, Answer, asked, outstanding_command, Due, HearsTo, IsSent, ReopensTo, Stays, TicksTo, due_at, reported_in, settled_in, Before, Behind, ControllerAt, Fresh, Level, Never, Now, Rest, Restarted, Stage, Waits, number_after, owed_at, pending, pending_at, is_under_way}
 use Rattle.osdp_link_laws.proofs.Ahead.{asks_for, rests_none}
-use Rattle.osdp_link_laws.proofs.Telling.{begins_tells, hears_tell, owed_command}
+use Rattle.osdp_link_laws.proofs.Telling.{IsAlike, IsTold, begins_alike, hears_tell, owed_command}
 use Rattle.osdp_link_laws.proofs.Ticks.{submitted_is}
 
 abbrev pub out_of : State → List Command
@@ -62,19 +62,6 @@ module _ {H : Type 0} (answer_of : H → Command → Answer) (after : H → Comm
   due_reopened None (p ∷ ps) qs since at new to is = due_stays since at new to is
   due_reopened (Some fault) ps qs since at new to is = due_stays since at new to is
 
--- a command may have begun: no answer is due that wasn't, nor an event
-pub record IsAlike (d e : Due) : Type 0 where
-  pub owing : e.owing ≡ d.owing
-  pub untold : e.untold ≡ d.untold
-  pub stands : e.stands ≡ d.stands
-
-pub alike : (d e : Due) → e ≡ d → IsAlike d e
-alike d e same = record { owing = ap (λ (x : Due). x.owing) same; untold = ap (λ (x : Due). x.untold) same; stands = ap (λ (x : Due). x.stands) same }
-
-begun : (since : Restarted) (at to : Stage) → BeginsFrom at to → IsAlike (due_at since at) (due_at since to)
-begun since at to begins =
-    let t = begins_tells since at to None (refl, refl) begins in record { owing = t.owed; untold = t.told; stands = ap length t.stands }
-
 -- as much is due after a tick, or a frame went out
 abbrev pub DueAfterTick : Ticked → Due → Due → Type 0
 DueAfterTick t d e = (e ≡ d) ⊎ (IsAlike d e × IsSent t)
@@ -85,15 +72,9 @@ due_ticks t since at new to (same, ticks) = subst (λ s. DueAfterTick t (due_at 
   where
     by_ticks : TicksTo t at to → DueAfterTick t (due_at since at) (due_at since to)
     by_ticks (inl is) = inl (ap (due_at since) is)
-    by_ticks (inr (begins, sent)) = inr (begun since at to begins, sent)
+    by_ticks (inr (begins, sent)) = inr (begins_alike since at to begins, sent)
 
--- these answers and these events are told
-pub record IsTold (settled : List (Command × Reply)) (reported : List Event) (d e : Due) : Type 0 where
-  pub pend : e.pend ≡ d.pend
-  pub owing : d.owing ≡ settled ++ e.owing
-  pub untold : d.untold ≡ reported ++ e.untold
-  pub stands : e.stands ≡ d.stands
-
+-- as much is due after a report as before, but what it tells
 abbrev pub DueAfterReport : Option Report → Due → Due → Type 0
 DueAfterReport r d e = IsTold (settled_in r) (reported_in r) d e
 
@@ -109,18 +90,6 @@ told_none d e same = record {
   stands = ap (λ (x : Due). x.stands) same;
 }
 
-same_pending : (r : Option Report) (at to : Stage) → HearsTo r at to → pending_at to ≡ pending_at at
-same_pending r Fresh to is = ap pending_at is.0
-same_pending r (Behind past x) to is = ap pending_at is.0
-same_pending r (Rest n x a) to is = ap pending_at is.0
-same_pending r (Level past x a) to (inl is) = ap pending_at is.0
-same_pending r (Level past x a) to (inr is) = ap pending_at is.0
-
-hears : (r : Option Report) (since : Restarted) (at to : Stage) → HearsTo r at to → DueAfterReport r (due_at since at) (due_at since to)
-hears r since at to is =
-    let t = hears_tell since at to r is in
-    record { pend = same_pending r at to is; owing = sym t.owed; untold = sym t.told; stands = ap length t.stands }
-
 pub due_hears : (r : Option Report) (since : Restarted) (at : Stage) (new : Restarted) (to : Stage) → (new ≡ since) × HearsTo r at to
     → DueAfterReport r (due_at since at) (due_at new to)
-due_hears r since at new to (same, is) = subst (λ s. DueAfterReport r (due_at since at) (due_at s to)) (sym same) (hears r since at to is)
+due_hears r since at new to (same, is) = subst (λ s. DueAfterReport r (due_at since at) (due_at s to)) (sym same) (hears_tell since at to r is)

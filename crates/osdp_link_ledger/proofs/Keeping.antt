@@ -1,5 +1,5 @@
 -- Each move keeps the ledger tied to the link, and so does each list of moves.
-use Rattle.osdp_link_ledger.proofs.Common.{◌≡◌, ◌≢◌, ◌==◌, ℕ, Bool, true, false, cond, List, [], ◌∷◌, ◌++◌, length, Option, Some, None, Result, Ok, refl, sym, subst, ap, ◌∙◌, inl, inr, arith, append-nil, length-map, option_to_list, Packet, event_in, event_reply, Command, Event, MsgFault, Reply, exchange_command, Ticked, ticks, Exchange, Opening, Polling, Asking, Report, reply_packet, EventQueue, event_for, lacks_room, offering, released, unoffered, ReaderState, begun, event_or_answer, kind_of, moved, new_address, outcome, Answer, Kind, Ledger, Open, Step, MaySubmit, MoveFits, Delivered, Delivery, LapseEvent, Link, Lost, LoseToController, LoseToReader, Move, QueueEvent, Reopen, Repeated, RestartController, RestartReader, Retarget, SetBusy, SetHandler, Submit, Tick, ToController, ToReader, Withdraw, WithdrawEvent, after_move, lost_at, told_by_front, no_event, IsRead, all_read, Due, IsSent, MovesTo, ReadsFront, Stays, due_at, Assumed, Stands, standing_so, Premises, After, Each, IsAsked, Restarted, Stage, pending, shown, is_under_way, acts_on, after_steps, gets, leaves, leaves_and_acts, leaving_events, offers, opens, order_acted, steps_of, ticked, told, to_reader}
+use Rattle.osdp_link_ledger.proofs.Common.{◌≡◌, ◌≢◌, ◌==◌, ℕ, Bool, true, false, cond, List, [], ◌∷◌, ◌++◌, length, Option, Some, None, Result, Ok, refl, sym, subst, ap, ◌∙◌, inl, inr, arith, append-nil, length-map, option_to_list, Packet, event_in, event_reply, Command, Event, MsgFault, Reply, exchange_command, Ticked, ticks, Exchange, Opening, Polling, Asking, Report, reply_packet, EventQueue, event_for, lacks_room, offering, released, unoffered, ReaderState, begun, event_or_answer, kind_of, moved, new_address, outcome, Answer, Kind, Ledger, Open, Step, MaySubmit, MoveFits, Delivered, Delivery, LapseEvent, Link, Lost, LoseToController, LoseToReader, Move, QueueEvent, Reopen, Repeated, RestartController, RestartReader, Retarget, SetBusy, SetHandler, Submit, Tick, ToController, ToReader, Withdraw, WithdrawEvent, after_move, lost_at, told_by_front, no_event, IsRead, all_read, Due, IsSent, MovesTo, ReadsFront, Stays, due_at, Assumed, Stands, standing_so, Premises, After, Each, IsAsked, Restarted, Stage, pending, shown, is_under_way, acts_on, after_steps, gets, leaves, leaves_and_acts, leaving_events, offers, opens, order_acted, steps_of, ticked, told, to_reader, IsAlike, IsTold, alike}
 use Rattle.osdp_msg.specs.declared.command.Command.TheVariants as command
 use Rattle.osdp_msg.specs.declared.reply.Reply.TheVariants as reply
 use Rattle.osdp_controller.specs.Hearing as controller
@@ -10,16 +10,16 @@ use Rattle.osdp_reader.specs.declared.kind.Kind.TheVariants as kind
 use Rattle.osdp_ledger.specs.Ledger as ledger
 use Rattle.osdp_link_laws.specs.Link as link
 use Rattle.osdp_link_laws.proofs.Hearing.{closed_hears}
-use Rattle.osdp_link_ledger.proofs.Acting.{Acts, IsReady, OrdersAre, Polled, acts as acting, leaving, offers_front, offers_none, with_offers}
+use Rattle.osdp_link_ledger.proofs.Acting.{Acts, IsReady, Polled, acts as acting, leaving, offers_front, offers_none}
 use Rattle.osdp_link_ledger.proofs.Events.{withdrawing_event}
-use Rattle.osdp_link_ledger.proofs.Facts.{DueAfterReport, DueAfterTick, IsAlike, IsTold, OutIs, alike, due_hears, due_reopened, due_stays, due_ticks, none_told, out_at, reopened, told_none}
+use Rattle.osdp_link_ledger.proofs.Facts.{DueAfterReport, DueAfterTick, OutIs, due_hears, due_reopened, due_stays, due_ticks, none_told, out_at, reopened, told_none}
 use Rattle.osdp_link_ledger.proofs.Lapsing.{lapsing_event}
 use Rattle.osdp_link_ledger.proofs.Lists.{none_counted}
 use Rattle.osdp_link_ledger.proofs.Programs.{losing, queueing, reopening, restarting_device, restarting_panel, retargeting, submitting, withdrawing, without_events}
 use Rattle.osdp_link_ledger.proofs.Reading.{IsAnswered, IsReadAs, TakesNext, read}
 use Rattle.osdp_link_ledger.proofs.Reports.{reports}
 use Rattle.osdp_link_ledger.proofs.Telling.{IsEnding, IsOpening, IsQuietTick, TickIs, heard_tells, tick_is}
-use Rattle.osdp_link_ledger.proofs.Ties.{ActedIs, IsTied, Leads, OffersAre, Placed, SessionIs, Ties, after_append, all_may_append}
+use Rattle.osdp_link_ledger.proofs.Ties.{ActedIs, IsTied, Leads, OffersAre, OrdersAre, Placed, SessionIs, Ties, after_append, all_may_append}
 
 -- steps, and others after them
 pub in_turn : (xs : List Step) (ys : Ledger → List Step) (g : Ledger) (P Q : Ledger → Type 0) → Leads xs g P → ((k : Ledger) → P k → Leads (ys k) k Q)
@@ -70,12 +70,12 @@ module _ {H : Type 0} (l : Link H) (d : Due) (g : Ledger) (h : IsTied l d g) whe
         empty = same s.way ∙ s.empty;
         acted = s.acted;
       })
-      by_session (inr (inl s)) =
+      by_session (inr (inl s, offers)) =
           let alike = alike_after t e later in
-          inr (inl (record { way = q.way ∙ s.way; acted = same_acted e alike s.acted; late = s.late; offers = same_offers e alike s.offers }))
-      by_session (inr (inr s)) =
+          inr (inl (record { way = q.way ∙ s.way; acted = same_acted e alike s.acted; late = s.late }), same_offers e alike offers)
+      by_session (inr (inr s, offers)) =
           subst (λ x. SessionIs t.session.state l.reader.queue (l.to_reader ++ option_to_list t.step.frame) l.to_controller x g) (sym (same (ap is_under_way s.closed)))
-          (inr (inr (record { closed = q.closed s.closed; acted = s.acted; late = s.late; offers = s.offers })))
+          (inr (inr (record { closed = q.closed s.closed; acted = s.acted; late = s.late }), offers))
 
   opening_tick : (t : Ticked) (e : Due) → DueAfterTick t d e → IsOpening l.controller.session.state l.controller.waiting t
       → Leads (Open ∷ []) g (AfterTick t e)
@@ -90,11 +90,9 @@ module _ {H : Type 0} (l : Link H) (d : Due) (g : Ledger) (h : IsTied l d g) whe
               is_open = sym q.way;
               cards = h.cards;
               front = h.front;
-              session = inr (inl (record {
-                way = q.way;
-                acted = inl (record { acted = refl; owing = alike.owing ∙ ap (λ (x : Due). x.owing) s.empty });
-                late = refl;
-                offers = record {
+              session = inr (
+                inl (record { way = q.way; acted = inl (record { acted = refl; owing = alike.owing ∙ ap (λ (x : Due). x.owing) s.empty }); late = refl }),
+                record {
                   untold = alike.untold ∙ ap (λ (x : Due). x.untold) s.empty;
                   front = λ on. inl refl;
                   counts =
@@ -102,12 +100,12 @@ module _ {H : Type 0} (l : Link H) (d : Due) (g : Ledger) (h : IsTied l d g) whe
                       none_counted l.reader.queue.offered e.stands (alike.stands ∙ ap (λ (x : Due). x.stands) s.empty) in
                       let all : length g.cards ≡ length l.reader.queue.events = sym (length-map g.cards (λ (c : ledger.Card). c.event)) ∙ ap length h.cards in
                       omega (arith, none, all);
-                };
-              }));
+                },
+              );
             },
           )
-      by_session (inr (inl s)) = absurd (let e : false ≡ true = sym q.before ∙ s.way in cc)
-      by_session (inr (inr s)) = absurd (let e : [] ≡ Open ∷ [] = ap (λ st. opens st t.step.frame) (sym s.closed) ∙ q.opening in cc)
+      by_session (inr (inl s, offers)) = absurd (let e : false ≡ true = sym q.before ∙ s.way in cc)
+      by_session (inr (inr s, offers)) = absurd (let e : [] ≡ Open ∷ [] = ap (λ st. opens st t.step.frame) (sym s.closed) ∙ q.opening in cc)
 
   ending_tick : OutIs l.controller.session.state d → (t : Ticked) (e : Due) → DueAfterTick t d e → IsEnding l.controller.session.state l.controller.waiting t
       → Leads (told t.step.report g) g (Ties t.session.state l.controller.waiting l.reader.queue (l.to_reader ++ option_to_list t.step.frame) l.to_controller e)
@@ -122,11 +120,11 @@ module _ {H : Type 0} (l : Link H) (d : Due) (g : Ledger) (h : IsTied l d g) whe
       by_session : SessionIs l.controller.session.state l.reader.queue l.to_reader l.to_controller d g
           → Leads (told t.step.report g) g (Ties t.session.state l.controller.waiting l.reader.queue (l.to_reader ++ option_to_list t.step.frame) l.to_controller e)
       by_session (inl s) = absurd (let e : false ≡ true = sym s.way ∙ q.before in cc)
-      by_session (inr (inl s)) =
+      by_session (inr (inl s, offers)) =
           subst (λ r. Leads (told r g) g (Ties t.session.state l.controller.waiting l.reader.queue (l.to_reader ++ option_to_list t.step.frame) l.to_controller e)) (sym q.told)
-          (reports l d g f h s (Some (report.Lost q.cause q.command)) e t.session.state (l.to_reader ++ option_to_list t.step.frame) l.to_controller (q.out, q.closed)
+          (reports l d g f h s offers (Some (report.Lost q.cause q.command)) e t.session.state (l.to_reader ++ option_to_list t.step.frame) l.to_controller (q.out, q.closed)
           (told_none d e same))
-      by_session (inr (inr s)) = absurd (let e : false ≡ true = ap is_under_way (sym s.closed) ∙ q.before in cc)
+      by_session (inr (inr s, offers)) = absurd (let e : false ≡ true = ap is_under_way (sym s.closed) ∙ q.before in cc)
 
   pub ticking : OutIs l.controller.session.state d → (t : Ticked) (e : Due) → DueAfterTick t d e → TickIs l.controller.session.state l.controller.waiting t
       → Leads (ticked l.controller.session.state t g) g (AfterTick t e)
@@ -162,10 +160,10 @@ module _ {H : Type 0} (l : Link H) (d : Due) (g : Ledger) (h : IsTied l d g) whe
           → (let heard = controller.hears p now l.controller.session in
           DueAfterReport heard.report d e → Leads (told heard.report g) g (Ties heard.session.state l.controller.waiting l.reader.queue l.to_reader qs e))
       by_session (inl s) later = absurd (not_empty p rest l.to_controller is s.to_controller)
-      by_session (inr (inl s)) later =
+      by_session (inr (inl s, offers)) later =
           let heard = controller.hears p now l.controller.session in
-          reports l d g f h s heard.report e heard.session.state l.to_reader qs (heard_tells p now l.controller.session reads) later
-      by_session (inr (inr s)) later =
+          reports l d g f h s offers heard.report e heard.session.state l.to_reader qs (heard_tells p now l.controller.session reads) later
+      by_session (inr (inr s, offers)) later =
           subst (λ (heard : controller.Heard). DueAfterReport heard.report d e
           → Leads (told heard.report g) g (Ties heard.session.state l.controller.waiting l.reader.queue l.to_reader qs e))
           (sym (closed_hears p now l.controller.session s.closed)) (λ later. (tt, unheard e qs (λ e. absurd (not_empty p rest l.to_controller is e)) later)) later
@@ -209,7 +207,7 @@ module _ {H : Type 0} (answer_of : H → Command → Answer) (after : H → Comm
         is_open = h.is_open;
         cards = h.cards ∙ sym same;
         front = λ never. h.front (sym ever ∙ never);
-        session = with_offers l.controller.session.state q ps qs d g orders new;
+        session = inr (orders, new);
       })
 
   -- what is due where this reply was said to an exchange
@@ -318,10 +316,7 @@ module _ {H : Type 0} (answer_of : H → Command → Answer) (after : H → Comm
           → (let out = reader.hears answer_of after l.reader p in
           Leads (gets answer_of after p l.reader g) g (Ties l.controller.session.state l.controller.waiting out.reader.queue ps qs e))
       by_session (inl s) = absurd (not_empty l d g h p rest l.to_reader is s.to_reader)
-      by_session (inr (inl s)) =
-          by_kind answer_of after tells l d g placed h f p ps qs e (inl (record { way = s.way; acted = s.acted; late = s.late })) s.offers (kind_of l.reader p) r
-      by_session (inr (inr s)) =
-          by_kind answer_of after tells l d g placed h f p ps qs e (inr (record { closed = s.closed; acted = s.acted; late = s.late })) s.offers (kind_of l.reader p) r
+      by_session (inr (orders, offers)) = by_kind answer_of after tells l d g placed h f p ps qs e orders offers (kind_of l.reader p) r
 
   -- nothing comes
   unread : (xs : List Packet) → (l.to_reader ≡ [] → xs ≡ []) → e ≡ d → Ties l.controller.session.state l.controller.waiting l.reader.queue xs l.to_controller e g

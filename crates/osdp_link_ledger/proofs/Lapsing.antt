@@ -24,10 +24,7 @@ module _ (rest : List Event) (capacity room : ℕ) (offered : Bool) (q : EventQu
 
   gone_session : (state : State) (ps qs : List Packet) (d : Due) → SessionIs state q ps qs d g → SessionIs state left ps qs d (record g { cards = cards })
   gone_session state ps qs d (inl s) = inl s
-  gone_session state ps qs d (inr (inl s)) =
-      inr (inl (record { way = s.way; acted = s.acted; late = s.late; offers = gone_offers d.untold d.stands s.offers }))
-  gone_session state ps qs d (inr (inr s)) =
-      inr (inr (record { closed = s.closed; acted = s.acted; late = s.late; offers = gone_offers d.untold d.stands s.offers }))
+  gone_session state ps qs d (inr (orders, o)) = inr (orders, gone_offers d.untold d.stands o)
 
   with_gone : (state : State) (waiting : List Command) (ps qs : List Packet) (d : Due) → Ties state waiting q ps qs d g → Ties state waiting left ps qs d (record g { cards = cards })
   with_gone state waiting ps qs d h = record {

@@ -8,7 +8,7 @@ use Rattle.osdp_reader.specs.Queue.{Queue as EventQueue, empty_queue, queued}
 use Rattle.osdp_link_laws.specs.Link as link
 use Rattle.osdp_link_ledger.proofs.Facts.{OutIs, out_of, reopened}
 use Rattle.osdp_link_ledger.proofs.Lists.{IsOfferedFront, commands, front_more, front_order, no_items, not_offered, one_more_unoffered, still_front}
-use Rattle.osdp_link_ledger.proofs.Ties.{ActedIs, IsTied, IsUnderWay, Leads, OffersAre, Placed, SessionIs, Ties}
+use Rattle.osdp_link_ledger.proofs.Ties.{ActedIs, IsTied, Lasts, Leads, OffersAre, Placed, SessionIs, Ties}
 
 -- ---- a command is submitted
 
@@ -26,9 +26,9 @@ acted_longer ahead o acted owing (inr one) = inr (record {
 submitted_session : (state : State) (q : EventQueue) (ps qs : List Packet) (d : Due) (g : Ledger) (o : Order) → SessionIs state q ps qs d g
     → SessionIs state q ps qs d (record g { submitted = g.submitted + 1; ahead = g.ahead ++ o ∷ [] })
 submitted_session state q ps qs d g o (inl s) = inl s
-submitted_session state q ps qs d g o (inr (inl s)) =
-    inr (inl (record { way = s.way; acted = acted_longer g.ahead o g.acted d.owing s.acted; late = s.late; offers = s.offers }))
-submitted_session state q ps qs d g o (inr (inr s)) = inr (inr (record { closed = s.closed; acted = s.acted; late = s.late; offers = s.offers }))
+submitted_session state q ps qs d g o (inr (inl s, offers)) =
+    inr (inl (record { way = s.way; acted = acted_longer g.ahead o g.acted d.owing s.acted; late = s.late }), offers)
+submitted_session state q ps qs d g o (inr (inr s, offers)) = inr (inr s, offers)
 
 pub submitting : {H : Type 0} → (refusal : Option ControllerFault) (c : Command) (l : Link H) (d : Due) (g : Ledger) → IsTied l d g
     → Leads (submits refusal c g) g (IsTied (link.submits refusal c l) d)
@@ -65,10 +65,7 @@ queued_offers q e waits stands g placed o =
 queued_session : (state : State) (q : EventQueue) (ps qs : List Packet) (d : Due) (g : Ledger) (e : Event) → Placed g → SessionIs state q ps qs d g
     → SessionIs state (queued e q) ps qs d (record g { queued = g.queued + 1; cards = g.cards ++ record { place = g.queued; event = e } ∷ [] })
 queued_session state q ps qs d g e placed (inl s) = inl s
-queued_session state q ps qs d g e placed (inr (inl s)) =
-    inr (inl (record { way = s.way; acted = s.acted; late = s.late; offers = queued_offers q e d.untold d.stands g placed s.offers }))
-queued_session state q ps qs d g e placed (inr (inr s)) =
-    inr (inr (record { closed = s.closed; acted = s.acted; late = s.late; offers = queued_offers q e d.untold d.stands g placed s.offers }))
+queued_session state q ps qs d g e placed (inr (orders, o)) = inr (orders, queued_offers q e d.untold d.stands g placed o)
 
 pub queueing : {H : Type 0} → (full : Bool) (e : Event) (l : Link H) (d : Due) (g : Ledger) → Placed g → IsTied l d g
     → Leads (queues full e g) g (IsTied (link.queues full e l) d)
@@ -90,8 +87,8 @@ queueing {H} false e l d g placed h =
 closed_session : (q : EventQueue) (ps qs : List Packet) (d : Due) (g : Ledger) (ahead : List Order) → SessionIs Closed q ps qs d g
     → SessionIs Closed q ps qs d (record g { ahead = ahead })
 closed_session q ps qs d g ahead (inl s) = inl s
-closed_session q ps qs d g ahead (inr (inl s)) = absurd (let e : false ≡ true = s.way in cc)
-closed_session q ps qs d g ahead (inr (inr s)) = inr (inr (record { closed = s.closed; acted = s.acted; late = s.late; offers = s.offers }))
+closed_session q ps qs d g ahead (inr (inl s, offers)) = absurd (let e : false ≡ true = s.way in cc)
+closed_session q ps qs d g ahead (inr (inr s, offers)) = inr (inr s, offers)
 
 pub withdrawing : (state : State) (waiting : List Command) (q : EventQueue) (ps qs : List Packet) (d : Due) (g : Ledger) → Ties state waiting q ps qs d g
     → Leads (withdraws (controllers.withdrawn_in state waiting) g) g (Ties state (controllers.kept_in state waiting) q ps qs d)
@@ -137,8 +134,8 @@ losing state waiting q ps qs xs ys d g first second h = record {
 
 none_acted : (state : State) (q : EventQueue) (ps qs : List Packet) (d : Due) (g : Ledger) → state ≡ Closed → SessionIs state q ps qs d g → g.acted ≡ None
 none_acted state q ps qs d g closed (inl s) = s.acted
-none_acted state q ps qs d g closed (inr (inl s)) = absurd (let e : false ≡ true = ap is_under_way (sym closed) ∙ s.way in cc)
-none_acted state q ps qs d g closed (inr (inr s)) = s.acted
+none_acted state q ps qs d g closed (inr (inl s, offers)) = absurd (let e : false ≡ true = ap is_under_way (sym closed) ∙ s.way in cc)
+none_acted state q ps qs d g closed (inr (inr s, offers)) = s.acted
 
 pub reopening : {H : Type 0} → (refusal : Option ControllerFault) (ps qs : List Packet) (now : ℕ) (l : Link H) (d : Due) (g : Ledger)
     → controllers.begin_refusal l.controller ≡ refusal → l.to_reader ≡ ps → l.to_controller ≡ qs → IsTied l d g
@@ -186,10 +183,7 @@ power_session state q ps qs d g room (inl s) = inl (record {
   empty = ap without_events s.empty;
   acted = s.acted;
 })
-power_session state q ps qs d g room (inr (inl s)) =
-    inr (inl (record { way = s.way; acted = s.acted; late = s.late; offers = power_offers q room d g s.offers }))
-power_session state q ps qs d g room (inr (inr s)) =
-    inr (inr (record { closed = s.closed; acted = s.acted; late = s.late; offers = power_offers q room d g s.offers }))
+power_session state q ps qs d g room (inr (orders, o)) = inr (orders, power_offers q room d g o)
 
 pub restarting_device : (state : State) (waiting : List Command) (q : EventQueue) (ps qs : List Packet) (d : Due) (g : Ledger) (room : Room) → Ties state waiting q ps qs d g
     → Leads (RestartDevice ∷ []) g (Ties state waiting (empty_queue room.messages room.bytes) ps qs (without_events d))
@@ -253,9 +247,9 @@ idle_panel state waiting q ps qs d g over closed none h session = (
 
 -- in a session
 busy_panel : {H : Type 0} → (l : Link H) (d : Due) (g : Ledger) (out : Option Command) → outstanding_command l.controller.session.state ≡ out → OutIs l.controller.session.state d
-    → IsTied l d g → IsUnderWay l.controller.session.state l.reader.queue d g
+    → IsTied l d g → Lasts l.controller.session.state d.owing g.ahead g.acted g.late → OffersAre l.reader.queue d.untold d.stands g.offer g.cards
     → Leads (RestartPanel (is_some out) ∷ []) g (Ties Closed [] l.reader.queue l.to_reader l.to_controller d)
-busy_panel {H} l d g out is f h s =
+busy_panel {H} l d g out is f h s offers =
     let under_way : g.is_open ≡ true = h.is_open ∙ s.way in (
       (may out is g.ahead refl, tt),
       subst (λ b. Ties Closed [] l.reader.queue l.to_reader l.to_controller d (panel_restarted (is_some out) b g)) (sym under_way) (record {
@@ -263,7 +257,7 @@ busy_panel {H} l d g out is f h s =
         is_open = refl;
         cards = h.cards;
         front = h.front;
-        session = inr (inr (record { closed = refl; acted = refl; late = late out is g.ahead refl; offers = s.offers }));
+        session = inr (inr (record { closed = refl; acted = refl; late = late out is g.ahead refl }), offers);
       }),
     )
   where
@@ -295,7 +289,7 @@ restarting_panel {H} l d g f h = by_session h.session
     by_session (inl s) =
         idle_panel state l.controller.waiting l.reader.queue l.to_reader l.to_controller d g s.way (h.is_open ∙ s.way) s.acted h
         (inl (record { way = refl; to_reader = s.to_reader; to_controller = s.to_controller; empty = s.empty; acted = s.acted }))
-    by_session (inr (inl s)) = busy_panel l d g (outstanding_command state) refl f h s
-    by_session (inr (inr s)) =
+    by_session (inr (inl s, offers)) = busy_panel l d g (outstanding_command state) refl f h s offers
+    by_session (inr (inr s, offers)) =
         idle_panel state l.controller.waiting l.reader.queue l.to_reader l.to_controller d g (ap is_under_way s.closed) (h.is_open ∙ ap is_under_way s.closed) s.acted h
-        (inr (inr (record { closed = refl; acted = s.acted; late = s.late; offers = s.offers })))
+        (inr (inr (record { closed = refl; acted = s.acted; late = s.late }), offers))

@@ -1,16 +1,17 @@
 -- What a report says: the ledger stays tied.
-use Rattle.osdp_link_ledger.proofs.Common.{◌≡◌, ◌+◌, ◌⊎◌, ℕ, suc, true, cond, List, [], ◌∷◌, ◌++◌, length, map, drop, Option, Some, None, refl, sym, subst, ap, ◌∙◌, inl, inr, arith, length-append, length-map, option_to_list, Packet, Command, Event, Reply, Report, State, Closed, Close, Doubt, Ledger, NoOffer, Offer, Reported, Settle, Unreported, asked, Link, is_under_way, unreported_in, offered_at, order_at, told, Due}
+use Rattle.osdp_link_ledger.proofs.Common.{◌≡◌, ◌+◌, ◌⊎◌, ℕ, suc, true, cond, List, [], ◌∷◌, ◌++◌, length, map, drop, Option, Some, None, refl, sym, subst, ap, ◌∙◌, inl, inr, arith, length-append, length-map, option_to_list, Packet, Command, Event, Reply, Report, State, Closed, Close, Doubt, Ledger, NoOffer, Offer, Reported, Settle, Unreported, asked, Link, is_under_way, unreported_in, offered_at, order_at, told, Due, IsTold}
 use Rattle.osdp_msg.specs.declared.reply.Reply.TheVariants as reply
 use Rattle.osdp_controller.specs.declared.report.Report.TheVariants as report
 use Rattle.osdp_ledger.specs.Ledger as ledger
-use Rattle.osdp_link_ledger.proofs.Facts.{DueAfterReport, IsTold, OutIs, none_told, out_of}
+use Rattle.osdp_link_ledger.proofs.Facts.{DueAfterReport, OutIs, none_told, out_of}
 use Rattle.osdp_link_ledger.proofs.Lists.{IsOfferedFront, commands, front_order, no_items, not_offered}
 use Rattle.osdp_link_ledger.proofs.Programs.{front_late, nothing_out}
 use Rattle.osdp_link_ledger.proofs.Telling.{Stays, Tells}
-use Rattle.osdp_link_ledger.proofs.Ties.{ActedIs, IsTied, IsUnderWay, Leads, OffersAre, Ties}
+use Rattle.osdp_link_ledger.proofs.Ties.{ActedIs, IsTied, Lasts, Leads, OffersAre, Ties}
 use Rattle.osdp_link_ledger.proofs.Told.{command_at}
 
-module _ {H : Type 0} (l : Link H) (d : Due) (g : Ledger) (f : OutIs l.controller.session.state d) (h : IsTied l d g) (s : IsUnderWay l.controller.session.state l.reader.queue d g) where
+module _ {H : Type 0} (l : Link H) (d : Due) (g : Ledger) (f : OutIs l.controller.session.state d) (h : IsTied l d g) (s : Lasts l.controller.session.state d.owing g.ahead g.acted g.late)
+    (o : OffersAre l.reader.queue d.untold d.stands g.offer g.cards) where
   abbrev state : State
   state = l.controller.session.state
 
@@ -27,7 +28,7 @@ module _ {H : Type 0} (l : Link H) (d : Due) (g : Ledger) (f : OutIs l.controlle
 
   -- what was offered stays so
   offers_stay : (e : Due) → e.untold ≡ d.untold → e.stands ≡ d.stands → OffersAre l.reader.queue e.untold e.stands g.offer g.cards
-  offers_stay e untold stands = record { untold = untold ∙ s.offers.untold; front = s.offers.front; counts = omega (arith, s.offers.counts, counted stands) }
+  offers_stay e untold stands = record { untold = untold ∙ o.untold; front = o.front; counts = omega (arith, o.counts, counted stands) }
 
   stays : (e : Due) (new : State) (ps qs : List Packet) → e ≡ d → Stays state new → Becomes new ps qs e g
   stays e new ps qs due same = subst (λ x. Becomes new ps qs x g) (sym due) (record {
@@ -35,7 +36,7 @@ module _ {H : Type 0} (l : Link H) (d : Due) (g : Ledger) (f : OutIs l.controlle
     is_open = h.is_open ∙ sym same.1;
     cards = h.cards;
     front = h.front;
-    session = inr (inl (record { way = same.1 ∙ s.way; acted = s.acted; late = s.late; offers = s.offers }));
+    session = inr (inl (record { way = same.1 ∙ s.way; acted = s.acted; late = s.late }), o);
   })
 
   -- ---- the answer comes
@@ -69,12 +70,10 @@ module _ {H : Type 0} (l : Link H) (d : Due) (g : Ledger) (f : OutIs l.controlle
           is_open = under_way ∙ sym way;
           cards = h.cards;
           front = h.front;
-          session = inr (inl (record {
-            way = way;
-            acted = inl (record { acted = refl; owing = now.1 });
-            late = s.late;
-            offers = offers_stay e (sym later.untold) later.stands;
-          }));
+          session = inr (
+            inl (record { way = way; acted = inl (record { acted = refl; owing = now.1 }); late = s.late }),
+            offers_stay e (sym later.untold) later.stands,
+          );
         },
       )
 
@@ -90,12 +89,14 @@ module _ {H : Type 0} (l : Link H) (d : Due) (g : Ledger) (f : OutIs l.controlle
           is_open = sym (ap is_under_way closed);
           cards = h.cards;
           front = h.front;
-          session = inr (inr (record {
-            closed = closed;
-            acted = refl;
-            late = ap (λ late. commands (option_to_list late)) s.late ∙ sym (later.pend ∙ none_late c a e.owing out later.owing);
-            offers = offers_stay e (sym later.untold) later.stands;
-          }));
+          session = inr (
+            inr (record {
+              closed = closed;
+              acted = refl;
+              late = ap (λ late. commands (option_to_list late)) s.late ∙ sym (later.pend ∙ none_late c a e.owing out later.owing);
+            }),
+            offers_stay e (sym later.untold) later.stands,
+          );
         },
       )
 
@@ -103,7 +104,7 @@ module _ {H : Type 0} (l : Link H) (d : Due) (g : Ledger) (f : OutIs l.controlle
 
   reporting : (offer : Offer) (event : Event) (e : Due) (new : State) (ps qs : List Packet) → g.offer ≡ offer → Stays state new → IsTold [] (event ∷ []) d e
       → Leads (ledger.Report (offered_at offer event) ∷ []) g (Becomes new ps qs e)
-  reporting offer event e new ps qs is same later = by_offer offer is (ap unreported_in (sym is) ∙ sym s.offers.untold ∙ later.untold)
+  reporting offer event e new ps qs is same later = by_offer offer is (ap unreported_in (sym is) ∙ sym o.untold ∙ later.untold)
     where
       by_offer : (offer : Offer) → g.offer ≡ offer → unreported_in offer ≡ event ∷ e.untold
           → Leads (ledger.Report (offered_at offer event) ∷ []) g (Becomes new ps qs e)
@@ -119,19 +120,17 @@ module _ {H : Type 0} (l : Link H) (d : Due) (g : Ledger) (f : OutIs l.controlle
               is_open = h.is_open ∙ sym same.1;
               cards = h.cards;
               front = h.front;
-              session = inr (inl (record {
-                way = same.1 ∙ s.way;
-                acted = subst (ActedIs g.ahead g.acted) later.owing s.acted;
-                late = s.late;
-                offers = subst (λ x. OffersAre l.reader.queue e.untold e.stands (Reported x) g.cards) card (record {
+              session = inr (
+                inl (record { way = same.1 ∙ s.way; acted = subst (ActedIs g.ahead g.acted) later.owing s.acted; late = s.late }),
+                subst (λ x. OffersAre l.reader.queue e.untold e.stands (Reported x) g.cards) card (record {
                   untold = sym rest;
-                  front = λ on. by_front (subst (λ o. (o ≡ NoOffer) ⊎ IsOfferedFront o g.cards) is (s.offers.front on));
+                  front = λ on. by_front (subst (λ o. (o ≡ NoOffer) ⊎ IsOfferedFront o g.cards) is (o.front on));
                   counts =
                       let all : length l.reader.queue.events ≡ cond l.reader.queue.offered d.stands 0 + length (not_offered (Unreported c) g.cards) =
-                      subst (λ o. length l.reader.queue.events ≡ cond l.reader.queue.offered d.stands 0 + length (not_offered o g.cards)) is s.offers.counts in
+                      subst (λ o. length l.reader.queue.events ≡ cond l.reader.queue.offered d.stands 0 + length (not_offered o g.cards)) is o.counts in
                       omega (arith, all, counted later.stands);
-                });
-              }));
+                }),
+              );
             },
           )
         where
@@ -152,12 +151,14 @@ module _ {H : Type 0} (l : Link H) (d : Due) (g : Ledger) (f : OutIs l.controlle
           is_open = sym (ap is_under_way closed);
           cards = h.cards;
           front = h.front;
-          session = inr (inr (record {
-            closed = closed;
-            acted = refl;
-            late = front_late g.ahead g.acted d.owing d.pend (order_at g.ahead c) c s.acted (sym out ∙ f s.way) (command_at g.ahead c);
-            offers = s.offers;
-          }));
+          session = inr (
+            inr (record {
+              closed = closed;
+              acted = refl;
+              late = front_late g.ahead g.acted d.owing d.pend (order_at g.ahead c) c s.acted (sym out ∙ f s.way) (command_at g.ahead c);
+            }),
+            o,
+          );
         },
       )
 
@@ -171,12 +172,7 @@ module _ {H : Type 0} (l : Link H) (d : Due) (g : Ledger) (f : OutIs l.controlle
           is_open = sym (ap is_under_way closed);
           cards = h.cards;
           front = h.front;
-          session = inr (inr (record {
-            closed = closed;
-            acted = none.0;
-            late = ap (λ late. commands (option_to_list late)) s.late ∙ sym none.1;
-            offers = s.offers;
-          }));
+          session = inr (inr (record { closed = closed; acted = none.0; late = ap (λ late. commands (option_to_list late)) s.late ∙ sym none.1 }), o);
         },
       )
 

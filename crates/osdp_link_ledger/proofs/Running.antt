@@ -5,7 +5,7 @@ use Rattle.osdp_link_ledger.proofs.Facts.{due_fresh, goes_to, none_due, out_of}
 use Rattle.osdp_link_ledger.proofs.Keeping.{due_of, keeps_one}
 use Rattle.osdp_link_ledger.proofs.Lists.{FrontUnshown, commands, events}
 use Rattle.osdp_link_ledger.proofs.Machines.{AreKept, acted_is, kept_at, owed_answer, unasked_at, unpolled_at}
-use Rattle.osdp_link_ledger.proofs.Ties.{AllMay, IsTied, IsUnderWay, SessionIs, after_append, all_may_append, allowed, events_keep, placed, runs_after}
+use Rattle.osdp_link_ledger.proofs.Ties.{AllMay, IsTied, Lasts, OffersAre, SessionIs, after_append, all_may_append, allowed, events_keep, placed, runs_after}
 
 -- ---- what waits at first
 
@@ -103,16 +103,17 @@ module _ {H : Type 0} (answer_of : H → Command → Answer) (after : H → Comm
       way going = sym h.is_open ∙ going
 
       by_session : g.is_open ≡ true → SessionIs l.controller.session.state l.reader.queue l.to_reader l.to_controller (due_of answer_of after l s) g
-          → IsUnderWay l.controller.session.state l.reader.queue (due_of answer_of after l s) g
+          → Lasts l.controller.session.state (owed_at at) g.ahead g.acted g.late
+          × (let d = due_of answer_of after l s in OffersAre l.reader.queue d.untold d.stands g.offer g.cards)
       by_session going (inl u) = absurd (let e : false ≡ true = sym u.way ∙ way going in cc)
-      by_session going (inr (inl u)) = u
-      by_session going (inr (inr u)) = absurd (let e : false ≡ true = ap is_under_way (sym u.closed) ∙ way going in cc)
+      by_session going (inr (inl u, offers)) = (u, offers)
+      by_session going (inr (inr u, offers)) = absurd (let e : false ≡ true = ap is_under_way (sym u.closed) ∙ way going in cc)
 
       acted : g.is_open ≡ true → g.acted ≡ owed_answer (owed_at at)
-      acted going = acted_is g.ahead g.acted (owed_at at) (by_session going h.session).acted
+      acted going = acted_is g.ahead g.acted (owed_at at) (by_session going h.session).0.acted
 
       offered : g.is_open ≡ true → unreported_in g.offer ≡ unreported_at at
-      offered going = sym (by_session going h.session).offers.untold
+      offered going = sym (by_session going h.session).1.untold
 
       kept : is_under_way l.controller.session.state ≡ true → (n : ℕ) → HasNumber l n
           → AreKept s.fixed answer_of after l.controller.session l.reader n (owed_at at) (unreported_at at)

@@ -1,6 +1,7 @@
 -- What a history comes to, as plain lists: what each of its steps adds to them, and what each move does. No step is forgotten, and none is made up,
 -- whatever goes over the line.
-use Rattle.osdp_link_ledger.proofs.Common.{◌≡◌, ◌+◌, ◌++◌, ℕ, Bool, true, false, cond, ltb, List, [], ◌∷◌, map, Option, Some, None, refl, sym, ap, ◌∙◌, append_assoc, append-nil, map-append, option_to_list, Packet, event_in, Command, Id, Poll, Event, Reply, ticks, ControllerFault, Report, State, Quiet, EventQueue, in_doubt, lacks_room, never_offered, ReaderState, hears, kind_of, Answer, Kind, History, new_history, runs, steps_on, Act, Card, Lapse, Ledger, Order, Step, new_ledger, Delivered, Delivery, LapseEvent, Link, Lost, Move, QueueEvent, Repeated, Submit, Tick, ToController, ToReader, Withdraw, WithdrawEvent, after_move, Told, nothing_told, reports, told_by, told_by_front, with_reports, accepted, all_queued, all_submitted, queued, submitted, unless_full, acts, after_steps, all_steps, card_at, lapses_event, leaves, leaves_and_acts, leaving, offers, opens, order_acted, queued_before, queues, steps_before, steps_from, steps_of, submits, submitted_before, to_reader, told, told_in_history, withdraws, withdraws_event, asked}
+use Rattle.osdp_link_ledger.proofs.Common.{◌≡◌, ◌+◌, ◌++◌, ℕ, Bool, true, false, cond, ltb, List, [], ◌∷◌, map, Option, Some, None, refl, sym, ap, ◌∙◌, append_assoc, append-nil, map-append, option_to_list, Packet, event_in, Command, Id, Poll, Event, Reply, ticks, ControllerFault, Report, State, Quiet, EventQueue, in_doubt, lacks_room, never_offered, ReaderState, hears, kind_of, Answer, Kind, History, new_history, runs, steps_on, Act, Card, Lapse, Ledger, Order, Step, new_ledger, Delivered, Delivery, LapseEvent, Link, Lost, Move, QueueEvent, Repeated, Submit, Tick, ToController, ToReader, Withdraw, WithdrawEvent, after_move, Told, nothing_told, reports, told_by, told_by_front, with_reports, accepted, all_queued, all_submitted, queued, submitted, unless_full, acts, after_steps, all_steps, card_at, lapses_event, leaves, leaves_and_acts, leaving, offers, opens, order_acted, queued_before, queues, steps_before, steps_from, steps_of, submits, submitted_before, to_reader, told, acted_in_history, without_place, told_in_history, withdraws, withdraws_event, asked, all_done, done_by_front, done_in, taken_as}
+use Rattle.std.specs.Prelude.{zip}
 use Rattle.osdp_controller.specs.Machine.{submit_refusal, withdrawn_in}
 use Rattle.osdp_controller.specs.declared.report.Report.TheVariants as report
 use Rattle.osdp_reader.specs.declared.kind.Kind.TheVariants as kind
@@ -8,12 +9,12 @@ use Rattle.osdp_ledger.specs.Ledger as ledger
 use Rattle.osdp_link_ledger.proofs.Lists.{commands, events}
 use Rattle.osdp_link_ledger.proofs.Told.{order_is, report_tells, reports_more, step_tells, with_step}
 
-abbrev pub asked_in : Order × Reply → Command × Reply
-asked_in d = (d.0.command, d.1)
-
-pub commands_acted : (ds : List (Order × Reply)) → map asked (map asked_in ds) ≡ map (λ (d : Order × Reply). d.0.command) ds
-commands_acted [] = refl
-commands_acted (d ∷ ds) = ap (λ cs. d.0.command ∷ cs) (commands_acted ds)
+pub commands_acted : (h : History) → map asked (acted_in_history h) ≡ map (λ (d : Order × Reply). d.0.command) h.acted
+commands_acted h = of_acts h.acted
+  where
+    of_acts : (ds : List (Order × Reply)) → map asked (map without_place ds) ≡ map (λ (d : Order × Reply). d.0.command) ds
+    of_acts [] = refl
+    of_acts (d ∷ ds) = ap (λ cs. d.0.command ∷ cs) (of_acts ds)
 
 pub record Tally : Type 0 where
   pub orders : List Command
@@ -22,7 +23,7 @@ pub record Tally : Type 0 where
   pub told : Told
 
 abbrev of_history : History → Tally
-of_history h = record { orders = commands h.accepted; acted = map asked_in h.acted; cards = events h.queued; told = told_in_history h }
+of_history h = record { orders = commands h.accepted; acted = acted_in_history h; cards = events h.queued; told = told_in_history h }
 
 -- ---- what a step adds
 
@@ -42,7 +43,7 @@ all_more (x ∷ xs) ys y = all_more xs ys (with_one x y)
 
 one_adds : (step : Step) (h : History) → of_history (steps_on step h) ≡ with_one step (of_history h)
 one_adds (ledger.Submit o) h = (λ i. record (of_history h) { orders = map-append (λ (o : Order). o.command) h.accepted (o ∷ []) i })
-one_adds (Act o answer) h = (λ i. record (of_history h) { acted = map-append asked_in h.acted ((o, answer) ∷ []) i })
+one_adds (Act o answer) h = (λ i. record (of_history h) { acted = map-append without_place h.acted ((o, answer) ∷ []) i })
 one_adds (ledger.Queue c) h = (λ i. record (of_history h) { cards = map-append (λ (c : Card). c.event) h.queued (c ∷ []) i })
 one_adds step h = (λ i. record (of_history h) { told = step_tells step h i })
 
@@ -126,19 +127,14 @@ offers_add : (e : Option Event) (g : Ledger) (y : Tally) → with_all (offers e 
 offers_add None g y = refl
 offers_add (Some e) g y = refl
 
--- the command that is acted on, with its answer
-abbrev pub given_on : Command → Reply → List (Command × Reply)
-given_on Poll answer = []
-given_on c answer = (c, answer) ∷ []
-
+-- the command that is acted on, with its answer: one that is taken, or one with number 0 that opens no session
 abbrev given_at_zero : Command → Reply → List (Command × Reply)
 given_at_zero (Id kept) answer = []
 given_at_zero c answer = (c, answer) ∷ []
 
 abbrev pub given_as : Kind → Option Command → Option Reply → List (Command × Reply)
-given_as kind.Taken (Some c) (Some answer) = given_on c answer
 given_as kind.Zero (Some c) (Some answer) = given_at_zero c answer
-given_as _ c said = []
+given_as k c said = zip (taken_as k c) (option_to_list said)
 
 abbrev with_given : List (Command × Reply) → Tally → Tally
 with_given ds y = record y { acted = y.acted ++ ds }
@@ -149,7 +145,7 @@ none_given y = (λ i. record y { acted = sym (append-nil y.acted) i })
 order_acts : (c : Command) (answer : Reply) (g : Ledger) (y : Tally) → with_one (Act (order_acted c g) answer) y ≡ with_given ((c, answer) ∷ []) y
 order_acts c answer g y = (λ i. with_given ((order_is c g i, answer) ∷ []) y)
 
-taken_adds : (c : Command) (answer : Reply) (g : Ledger) (y : Tally) → with_all (acts kind.Taken (Some c) (Some answer) g) y ≡ with_given (given_on c answer) y
+taken_adds : (c : Command) (answer : Reply) (g : Ledger) (y : Tally) → with_all (acts kind.Taken (Some c) (Some answer) g) y ≡ with_given (given_as kind.Taken (Some c) (Some answer)) y
 taken_adds Poll answer g y = offers_add (event_in answer) g y ∙ none_given y
 taken_adds c answer g y = order_acts c answer g y
 
@@ -157,9 +153,14 @@ zero_adds : (c : Command) (answer : Reply) (g : Ledger) (y : Tally) → with_all
 zero_adds (Id kept) answer g y = none_given y
 zero_adds c answer g y = order_acts c answer g y
 
+unanswered : (c : Command) → given_as kind.Taken (Some c) None ≡ []
+unanswered Poll = refl
+unanswered c = refl
+
 acts_add : (k : Kind) (c : Option Command) (said : Option Reply) (g : Ledger) (y : Tally) → with_all (acts k c said g) y ≡ with_given (given_as k c said) y
 acts_add kind.Taken (Some c) (Some answer) g y = taken_adds c answer g y
 acts_add kind.Zero (Some c) (Some answer) g y = zero_adds c answer g y
+acts_add kind.Taken (Some c) None g y = none_given y ∙ (λ i. with_given (sym (unanswered c) i) y)
 acts_add k c said g y = none_given y
 
 gets_add : (k : Kind) (q : EventQueue) (c : Option Command) (said : Option Reply) (g : Ledger) (y : Tally)
@@ -171,21 +172,17 @@ gets_add k q c said g y =
     ∙ acts_add k c said (after_steps left g) y
 
 module _ {H : Type 0} (answer_of : H → Command → Answer) (after : H → Command → H) where
-  abbrev given_by : Packet → ReaderState H → List (Command × Reply)
+  abbrev pub given_by : Packet → ReaderState H → List (Command × Reply)
   given_by p r = let o = hears answer_of after r p in given_as (kind_of r p) o.command o.said
 
   abbrev pub given_by_front : Delivery → List Packet → ReaderState H → List (Command × Reply)
-  given_by_front Delivered (p ∷ rest) r = given_by p r
-  given_by_front Repeated (p ∷ rest) r = given_by p r
-  given_by_front _ _ r = []
+  given_by_front how ps r = done_by_front answer_of after given_by how ps r
 
   abbrev pub given_in : Move H → Link H → List (Command × Reply)
-  given_in (ToReader how) l = given_by_front how l.to_reader l.reader
-  given_in _ l = []
+  given_in move l = done_in answer_of after given_by move l
 
   abbrev pub all_given : List (Move H) → Link H → List (Command × Reply)
-  all_given [] l = []
-  all_given (move ∷ moves) l = given_in move l ++ all_given moves (after_move answer_of after move l)
+  all_given moves l = all_done answer_of after given_by moves l
 
   to_reader_adds : (how : Delivery) (ps : List Packet) (r : ReaderState H) (g : Ledger) (y : Tally)
       → with_all (to_reader answer_of after ps how r g) y ≡ with_given (given_by_front how ps r) y

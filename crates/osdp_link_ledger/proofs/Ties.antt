@@ -95,20 +95,22 @@ pub record IsUnopened (state : State) (ps qs : List Packet) (d : Due) (done : Op
   pub empty : d ≡ none_due
   pub acted : done ≡ None
 
-pub record IsUnderWay (state : State) (q : EventQueue) (d : Due) (g : Ledger) : Type 0 where
+-- what a session has of orders: it is under way, or over
+pub record Lasts (state : State) (owing : List (Command × Reply)) (ahead : List Order) (now : Option Reply) (still : Option Order) : Type 0 where
   pub way : is_under_way state ≡ true
-  pub acted : ActedIs g.ahead g.acted d.owing
-  pub late : g.late ≡ None
-  pub offers : OffersAre q d.untold d.stands g.offer g.cards
+  pub acted : ActedIs ahead now owing
+  pub late : still ≡ None
 
-pub record IsOver (state : State) (q : EventQueue) (d : Due) (g : Ledger) : Type 0 where
+pub record HasEnded (state : State) (pend : List Command) (now : Option Reply) (still : Option Order) : Type 0 where
   pub closed : state ≡ Closed
-  pub acted : g.acted ≡ None
-  pub late : commands (option_to_list g.late) ≡ d.pend
-  pub offers : OffersAre q d.untold d.stands g.offer g.cards
+  pub acted : now ≡ None
+  pub late : commands (option_to_list still) ≡ pend
+
+abbrev pub OrdersAre : State → Due → Ledger → Type 0
+OrdersAre state d g = Lasts state d.owing g.ahead g.acted g.late ⊎ HasEnded state d.pend g.acted g.late
 
 abbrev pub SessionIs : State → EventQueue → List Packet → List Packet → Due → Ledger → Type 0
-SessionIs state q ps qs d g = IsUnopened state ps qs d g.acted ⊎ (IsUnderWay state q d g ⊎ IsOver state q d g)
+SessionIs state q ps qs d g = IsUnopened state ps qs d g.acted ⊎ (OrdersAre state d g × OffersAre q d.untold d.stands g.offer g.cards)
 
 pub record Ties (state : State) (waiting : List Command) (q : EventQueue) (ps qs : List Packet) (d : Due) (g : Ledger) : Type 0 where
   pub ahead : commands g.ahead ≡ out_of state ++ waiting

@@ -1,10 +1,12 @@
 -- What steps tell, and what reports do: each report is a step, and no other step settles a command, tells one in doubt or reports an event.
-use Rattle.osdp_link_ledger.proofs.Common.{◌≡◌, ◌++◌, ℕ, Bool, true, false, List, [], ◌∷◌, flat_map, map, Some, None, refl, sym, ap, ◌∙◌, append-nil, map-append, option_to_list, Command, Event, Reply, Report, Told, with_report, with_reports, Card, Doubt, End, Forgotten, GivenBack, History, InDoubt, Ledger, NoOffer, Offer, Order, RestartPanel, Settle, Settled, Step, ends_at_restart, runs, steps_on, doubted_as, offered_at, order_acted, order_at, settled_as, told, told_in_history}
+use Rattle.osdp_link_ledger.proofs.Common.{◌≡◌, ◌++◌, ℕ, Bool, true, false, List, [], ◌∷◌, flat_map, map, Some, None, refl, sym, ap, ◌∙◌, append-nil, map-append, option_to_list, Command, Event, Reply, Report, Told, with_report, with_reports, Card, Doubt, End, Forgotten, GivenBack, History, InDoubt, Ledger, NoOffer, Offer, Order, RestartPanel, Settle, Settled, Step, ends_at_restart, runs, steps_on, doubted_as, offered_at, order_acted, order_at, told, told_in_history, without_place}
 use Rattle.std.specs.Prelude.{if◌then◌else◌}
 use Rattle.std.proofs.lemmas.Grind.{flat_map-append}
 use Rattle.osdp_msg.specs.declared.reply.Reply.TheVariants as reply
 use Rattle.osdp_controller.specs.declared.report.Report.TheVariants as report
 use Rattle.osdp_ledger.specs.Ledger as ledger
+use Rattle.osdp_ledger.specs.OneSession.{settled_in}
+use Rattle.osdp_ledger.proofs.OneSession.{settled_more}
 
 -- ---- what a step tells
 
@@ -22,8 +24,8 @@ pub steps_more : (xs ys : List Step) (y : Told) → with_steps (xs ++ ys) y ≡ 
 steps_more [] ys y = refl
 steps_more (x ∷ xs) ys y = steps_more xs ys (with_step x y)
 
-abbrev by_settled : Order × End → List (Command × Reply)
-by_settled e = settled_as e.0 e.1
+abbrev settled_of : List (Order × End) → List (Command × Reply)
+settled_of es = map without_place (settled_in es)
 
 abbrev by_doubt : Order × End → List Command
 by_doubt e = doubted_as e.0 e.1
@@ -33,16 +35,16 @@ event_of r = r.1.event
 
 ends_more : (more : List (Order × End)) (h : History) → told_in_history (record h { ended = h.ended ++ more })
     ≡ record (told_in_history h) {
-      settled = (told_in_history h).settled ++ flat_map by_settled more;
+      settled = (told_in_history h).settled ++ settled_of more;
       in_doubt = (told_in_history h).in_doubt ++ flat_map by_doubt more;
     }
 ends_more more h =
     (λ i. record (told_in_history h) {
-      settled = flat_map-append by_settled h.ended more i;
+      settled = (ap (map without_place) (settled_more h.ended more) ∙ map-append without_place (settled_in h.ended) (settled_in more)) i;
       in_doubt = flat_map-append by_doubt h.ended more i;
     })
 
-ends_none : (more : List (Order × End)) (h : History) → (flat_map by_settled more ≡ []) × (flat_map by_doubt more ≡ [])
+ends_none : (more : List (Order × End)) (h : History) → (settled_of more ≡ []) × (flat_map by_doubt more ≡ [])
     → told_in_history (record h { ended = h.ended ++ more }) ≡ told_in_history h
 ends_none more h none =
     ends_more more h
@@ -50,11 +52,11 @@ ends_none more h none =
     ∙ (λ i. record (told_in_history h) { settled = append-nil (told_in_history h).settled i; in_doubt = append-nil (told_in_history h).in_doubt i })
 
 -- a panel that loses power tells nothing of what it had
-forgets : (os : List Order) → (flat_map by_settled (map (λ o. (o, Forgotten)) os) ≡ []) × (flat_map by_doubt (map (λ o. (o, Forgotten)) os) ≡ [])
+forgets : (os : List Order) → (settled_of (map (λ o. (o, Forgotten)) os) ≡ []) × (flat_map by_doubt (map (λ o. (o, Forgotten)) os) ≡ [])
 forgets [] = (refl, refl)
 forgets (o ∷ os) = forgets os
 
-restarts : (going wire : Bool) (os : List Order) → (flat_map by_settled (ends_at_restart going wire os) ≡ []) × (flat_map by_doubt (ends_at_restart going wire os) ≡ [])
+restarts : (going wire : Bool) (os : List Order) → (settled_of (ends_at_restart going wire os) ≡ []) × (flat_map by_doubt (ends_at_restart going wire os) ≡ [])
 restarts true true [] = (refl, refl)
 restarts true true (o ∷ os) = forgets os
 restarts true false os = forgets os

@@ -9,13 +9,14 @@ use Rattle.osdp_ledger.specs.Ledger.{Order}
 use Rattle.osdp_link_laws.specs.Link.{Link, Move}
 use Rattle.osdp_link_laws.specs.OneHandler.{KeepHandler, with_answers}
 use Rattle.osdp_link_ledger.specs.Steps.{steps_from}
+use Rattle.osdp_link_ledger.specs.Telling.{acted_in_history}
 
 module _ {H : Type 0} (answer_of : H → Command → Answer) (after : H → Command → H) where
   -- each command that was acted on has the answer to it after those before it: that of these settings to ID, CAP and COMSET, and that of this handler to
   -- all others
   abbrev pub HasAnswersOf : ReaderConfig → H → History → Type 0
   HasAnswersOf config handler h =
-      map (λ (d : Order × Reply). (d.0.command, d.1)) h.acted ≡ with_answers answer_of after config handler (map (λ (d : Order × Reply). d.0.command) h.acted)
+      acted_in_history h ≡ with_answers answer_of after config handler (map (λ (d : Order × Reply). d.0.command) h.acted)
 
   -- however the link stands at first, and whatever goes over it
   abbrev pub ActsHaveAnswersOfOneHandler : Type 0

@@ -2,6 +2,7 @@
 //! functions do nothing: their contracts are laws.
 #![tactic(auto)]
 
+ghost use Rattle.osdp_link_ledger.specs.Acted.{EachTakenIsAnswered};
 ghost use Rattle.osdp_link_ledger.specs.Answers.{ActsHaveAnswersOfOneHandler};
 ghost use Rattle.osdp_link_ledger.specs.Instance.{DevicesActAndOffer};
 ghost use Rattle.osdp_link_ledger.specs.Laws.{HoldsByLedger, LinkKeepsLedger};
@@ -27,13 +28,18 @@ pub fn devices_act_and_offer<H: Handler>()
     link_keeps_ledger::<H>();
 }
 
-/// What these steps come to is what the moves say: the commands accepted, those that the device has taken, those settled, each with its answer, and
+/// What these steps come to is what the moves say: the commands accepted, those that the device has taken and those settled, each with its answer, and
 /// those told in doubt, and the events queued and reported, each in its order. So no such step is forgotten, and none is made up.
 pub fn ledger_tells_moves<H: Handler>()
     ensures { LedgerTellsMoves H.answer_of H.after }
 {
     osdp_link_laws::read_each_other::<H>();
 }
+
+/// Each command that a device takes has an answer. Whatever goes over the line, what it takes and answers is all that it takes.
+pub fn each_taken_is_answered<H: Handler>()
+    ensures { EachTakenIsAnswered H.answer_of H.after }
+{}
 
 /// So the promises of the ledger hold of a link: of its commands and of its events.
 pub fn holds_by_ledger<H: Handler>()

@@ -20,8 +20,8 @@ use Rattle.osdp_reader.specs.declared.config.ReaderConfig.{ReaderConfig}
 use Rattle.osdp_reader.specs.declared.handler.Answer.{Answer}
 use Rattle.osdp_reader.specs.declared.kind.Kind.{Kind}
 use Rattle.osdp_reader.specs.declared.kind.Kind.TheVariants.{Taken, Zero}
-use Rattle.osdp_calls.specs.Calls.{Call, Next, Pending, SubmitEvent}
-use Rattle.osdp_calls.specs.Ends.{Held, device_after, is_of_device, takes_event}
+use Rattle.osdp_calls.specs.Calls.{Call, Next, Pending, SubmitEvent, Held, device_after, takes_event}
+use Rattle.osdp_calls.specs.Ends.{is_of_device}
 use Rattle.osdp_calls_instance.specs.OwnCalls.{device_after_each}
 use Rattle.osdp_mixed_devices.specs.Mixed.{call_as, held_as, reader_as}
 

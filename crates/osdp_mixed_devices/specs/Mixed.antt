@@ -3,8 +3,7 @@ use Rattle.std.specs.Prelude.{◌≡◌, ℕ, List, [], map}
 use Rattle.osdp_msg.specs.declared.command.Command.{Command}
 use Rattle.osdp_reader.specs.State.{ReaderState}
 use Rattle.osdp_reader.specs.declared.handler.Answer.{Answer}
-use Rattle.osdp_calls.specs.Calls.{Call, NewDevice, NewPanel, Next, OfPanel, Pending, SetBusy, SetHandler, Silence, SubmitEvent, Take, TickDevice, LapseEvent, WithdrawEvent}
-use Rattle.osdp_calls.specs.Ends.{Held}
+use Rattle.osdp_calls.specs.Calls.{Call, NewDevice, NewPanel, Next, OfPanel, Pending, SetBusy, SetHandler, Silence, SubmitEvent, Take, TickDevice, LapseEvent, WithdrawEvent, Held}
 use Rattle.osdp_calls_instance.specs.OwnCalls.{DeviceKind, device_after_each}
 use Rattle.osdp_mixed_devices.specs.Either.{after_either, answer_of_either}
 use Rattle.osdp_mixed_devices.specs.declared.either.EitherHandler.{EitherHandler}
@@ -15,6 +14,7 @@ module _ {H K : Type 0} (seen : H → K) where
   abbrev pub reader_as : ReaderState H → ReaderState K
   reader_as r = record { config = r.config; last = r.last; stored = r.stored; queue = r.queue; busy = r.busy; handler = seen r.handler }
 
+  -- .. and the whole device
   abbrev pub held_as : Held H → Held K
   held_as d = record { reader = reader_as d.reader; line = d.line }
 
@@ -40,13 +40,16 @@ pub data OneOf (A B : Type 0) : Type 0 where
   OfSecond : B → OneOf A B
 
 module _ {A B : Type 0} (D : DeviceKind A) (E : DeviceKind B) where
+  -- a program of a device of either kind
   abbrev pub Program : Type 0
   Program = OneOf D.Program E.Program
 
+  -- its device, with its handler as one of either type
   abbrev pub held_of : Program → Held (EitherHandler A B)
   held_of (OfFirst d) = held_as First (D.held d)
   held_of (OfSecond e) = held_as Second (E.held e)
 
+  -- what holds of it at all times is what holds of a program of its kind
   abbrev pub IsSound : Program → Type 0
   IsSound (OfFirst d) = D.Sound d
   IsSound (OfSecond e) = E.Sound e
@@ -58,12 +61,14 @@ module _ {A B : Type 0} (D : DeviceKind A) (E : DeviceKind B) where
   after_own (OfFirst own) (OfSecond e) = OfSecond e
   after_own (OfSecond own) (OfFirst d) = OfFirst d
 
+  -- an own call fits a program of its kind that it fits there, and no program of the other kind
   abbrev pub OwnFits : OneOf D.Own E.Own → Program → Type 0
   OwnFits (OfFirst own) (OfFirst d) = D.Fits own d
   OwnFits (OfSecond own) (OfSecond e) = E.Fits own e
   OwnFits (OfFirst own) (OfSecond e) = ⊥
   OwnFits (OfSecond own) (OfFirst d) = ⊥
 
+  -- which calls of a line in use an own call is: those that it is in its kind
   abbrev pub own_calls : ℕ → OneOf D.Own E.Own → Program → List (Call (EitherHandler A B))
   own_calls k (OfFirst own) (OfFirst d) = map (call_as First) (D.calls k own d)
   own_calls k (OfSecond own) (OfSecond e) = map (call_as Second) (E.calls k own e)

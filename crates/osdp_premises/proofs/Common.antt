@@ -27,3 +27,5 @@ pub use Rattle.osdp_premises.specs.Leaving.{is_ordinary, keeps_device, keeps_han
 pub use Rattle.osdp_link_laws.proofs.Lines.{each_all}
 pub use Rattle.osdp_link_laws.proofs.Stages.{Each}
 pub use Rattle.osdp_premises.specs.LongDay.{answers, calls, device_at, first_line, four, had_sessions, line_after, line_in_the_morning, long_day, LongDayKeeps, RestartHappens, RestartsHappen, spare_at, station_at, twice}
+pub use Rattle.osdp_shared_line.proofs.Rounds.{at_length}
+pub use Rattle.osdp_shared_line.proofs.Sites.{some_same}

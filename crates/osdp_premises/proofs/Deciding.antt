@@ -1,8 +1,6 @@
 -- Tests of lists, of what may be there, and of packets.
-use Rattle.osdp_premises.proofs.Common.{◌≡◌, ◌≢◌, ◌≤◌, ◌<◌, ◌&&◌, ◌||◌, ◌⊎◌, ◌==◌, ℕ, zero, suc, not, leb, Bool, true, false, Decides, All, List, [], ◌∷◌, length, Option, Some, None, refl, sym, subst, ap, arith, inl, inr, ⊎_elim, slice_get, cases_eq, cases_lt, false≢true, le-leb, leb-true, Decides-and, Decides-below_and, Decides-by_and, Decides-eqb, Decides-like, Decides-or, Packet, Sum, Crc, Somewhere, site_at, Burst, AreInOrder, AreNotPast, are_in_order, are_not_past, each_below, each_of, each_other, if_there, is_check, is_packet, is_there_with, some_of}
-use Rattle.std.specs.Bool.{beq}
+use Rattle.osdp_premises.proofs.Common.{◌≡◌, ◌≢◌, ◌≤◌, ◌<◌, ◌&&◌, ◌⊎◌, ℕ, zero, suc, not, leb, Bool, true, false, Decides, All, List, [], ◌∷◌, length, Option, Some, None, refl, sym, subst, ap, arith, inl, inr, ⊎_elim, slice_get, cases_eq, cases_lt, false≢true, le-leb, leb-true, Decides-and, Decides-below_and, Decides-by_and, Decides-eqb, Decides-like, Decides-or, Packet, Sum, Crc, Somewhere, site_at, Burst, AreInOrder, AreNotPast, are_in_order, are_not_past, each_below, each_of, each_other, if_there, is_check, is_packet, is_there_with, some_of, some_same}
 use Rattle.std.specs.Cmp.{booleans_Decides}
-use Rattle.std.specs.Str.{bytes_eq}
 use Rattle.std.proofs.lemmas.Slice.Eq.{bytes_eq-Decides}
 use Rattle.osdp_frame.specs.declared.check_kind.CheckKind.{CheckKind}
 use Rattle.osdp_frame.proofs.Spelled.{same_packet}
@@ -20,7 +18,7 @@ leb_decides a b = (leb-true a b, le-leb a b)
 
 pub some_decides : {A : Type 0} (p : A → Bool) (P : A → Type 0) → ((x : A) → Decides (p x) (P x)) → (xs : List A) → Decides (some_of p xs) (Somewhere P xs)
 some_decides p P each [] = never (λ h. h)
-some_decides p P each (x ∷ xs) = Decides-or (p x) (some_of p xs) (each x) (some_decides p P each xs)
+some_decides p P each (x ∷ xs) = Decides-or _ _ (each x) (some_decides p P each xs)
 
 pub each_decides : {A : Type 0} (p : A → Bool) (P : A → Type 0) → ((x : A) → Decides (p x) (P x)) → (xs : List A) → Decides (each_of p xs) (All P xs)
 each_decides p P each xs = Decides-by_and p P (each_of p) each refl (λ _ _. refl) xs
@@ -31,25 +29,14 @@ below_decides p P each n = Decides-below_and p P (each_below p) each refl (λ _.
 pub there_decides : {A : Type 0} (p : A → Bool) (P : A → Type 0) → ((x : A) → Decides (p x) (P x)) → (o : Option A)
     → Decides (is_there_with p o) ((x : A) × (o ≡ Some x) × P x)
 there_decides p P each None = never (λ h. absurd (let none = h.1 in cc))
-there_decides p P each (Some x) = Decides-like (p x) (λ h. (x, refl, h)) (λ h. subst P (sym (some_is x h.0 h.1)) h.2) (each x)
-  where
-    some_is : {A : Type 0} (x y : A) → Some x ≡ Some y → x ≡ y
-    some_is x y e = cc
+there_decides p P each (Some x) = Decides-like _ (λ h. (x, refl, h)) (λ h. subst P (sym (some_same x h.0 h.1)) h.2) (each x)
 
 pub if_decides : {A : Type 0} (p : A → Bool) (P : A → Type 0) → ((x : A) → Decides (p x) (P x)) → (o : Option A)
     → Decides (if_there p o) ((x : A) → o ≡ Some x → P x)
 if_decides p P each None = always (λ x none. absurd (let e = none in cc))
-if_decides p P each (Some x) = Decides-like (p x) (λ h y e. subst P (some_is x y e) h) (λ all. all x refl) (each x)
-  where
-    some_is : {A : Type 0} (x y : A) → Some x ≡ Some y → x ≡ y
-    some_is x y e = cc
+if_decides p P each (Some x) = Decides-like _ (λ h y e. subst P (some_same x y e) h) (λ all. all x refl) (each x)
 
 -- what stands at a place of a list is at a place of it
-pub site_below : {A : Type 0} (k : ℕ) (xs : List A) (x : A) → site_at k xs ≡ Some x → k < length xs
-site_below k [] x none = absurd (let e = none in cc)
-site_below zero (y ∷ ys) x is = omega arith
-site_below (suc k) (y ∷ ys) x is = let below = site_below k ys x is in omega (arith, below)
-
 pub get_below : {A : Type 0} (k : ℕ) (xs : List A) (x : A) → slice_get xs k ≡ Some x → k < length xs
 get_below k [] x none = absurd (let e = none in cc)
 get_below zero (y ∷ ys) x is = omega arith
@@ -59,14 +46,14 @@ get_below (suc k) (y ∷ ys) x is = let below = get_below k ys x is in omega (ar
 pub every_decides : (n : ℕ) (p : ℕ → Bool) (P : ℕ → Type 0) → ((j : ℕ) → Decides (p j) (P j)) → ((j : ℕ) → n ≤ j → P j)
     → Decides (each_below p n) ((j : ℕ) → P j)
 every_decides n p P each past =
-    Decides-like (each_below p n) (λ all j. ⊎_elim (λ below. all j below) (λ above. past j above) (cases_lt j n)) (λ all j below. all j)
+    Decides-like _ (λ all j. ⊎_elim (λ below. all j below) (λ above. past j above) (cases_lt j n)) (λ all j below. all j)
     (below_decides p P each n)
 
 -- of each number but one, below a number past which there is nothing
 pub other_decides : (k n : ℕ) (p : ℕ → Bool) (P : ℕ → Type 0) → ((j : ℕ) → Decides (p j) (P j)) → ((j : ℕ) → n ≤ j → P j)
     → Decides (each_other k n p) ((j : ℕ) → j ≢ k → P j)
 other_decides k n p P each past =
-    Decides-like (each_other k n p) to from (below_decides (λ j. (j == k) || p j) (λ j. (j ≡ k) ⊎ P j) (λ j. Decides-or (j == k) (p j) (Decides-eqb j k) (each j)) n)
+    Decides-like _ to from (below_decides _ _ (λ j. Decides-or _ _ (Decides-eqb j k) (each j)) n)
   where
     by : (j : ℕ) → j ≢ k → (j ≡ k) ⊎ P j → P j
     by j other (inl same) = absurd (other same)
@@ -87,8 +74,7 @@ check_decides Crc Sum = never (λ e. cc)
 check_decides Crc Crc = always refl
 
 packet_decides : (p q : Packet) → Decides (is_packet p q) (p ≡ q)
-packet_decides p q = Decides-like (is_packet p q)
-    (λ h. same_packet p q h.0 h.1.0 h.1.1.0 h.1.1.1.0 h.1.1.1.1.0 h.1.1.1.1.1.0 h.1.1.1.1.1.1)
+packet_decides p q = Decides-like _ (λ h. same_packet p q h.0 h.1.0 h.1.1.0 h.1.1.1.0 h.1.1.1.1.0 h.1.1.1.1.1.0 h.1.1.1.1.1.1)
     (λ e. (
       ap (λ (x : Packet). x.reply) e,
       (
@@ -99,12 +85,12 @@ packet_decides p q = Decides-like (is_packet p q)
         ),
       ),
     ))
-    (Decides-and (beq p.reply q.reply) _ (booleans_Decides p.reply q.reply)
-    (Decides-and (p.address == q.address) _ (Decides-eqb p.address q.address)
-    (Decides-and (p.sequence == q.sequence) _ (Decides-eqb p.sequence q.sequence)
-    (Decides-and (is_check p.check q.check) _ (check_decides p.check q.check)
-    (Decides-and (beq p.block q.block) _ (booleans_Decides p.block q.block)
-    (Decides-and (p.reserved == q.reserved) (bytes_eq p.body q.body) (Decides-eqb p.reserved q.reserved) (bytes_eq-Decides p.body q.body)))))))
+    (Decides-and _ _ (booleans_Decides p.reply q.reply)
+    (Decides-and _ _ (Decides-eqb p.address q.address)
+    (Decides-and _ _ (Decides-eqb p.sequence q.sequence)
+    (Decides-and _ _ (check_decides p.check q.check)
+    (Decides-and _ _ (booleans_Decides p.block q.block)
+    (Decides-and _ _ (Decides-eqb p.reserved q.reserved) (bytes_eq-Decides p.body q.body)))))))
 
 -- ---- what is read
 
@@ -114,27 +100,21 @@ here_decides : (Others : Packet → Type 0) (said : List Burst) (p : Packet) (ps
     → Decides (is_there_with (λ (b : Burst). is_packet b.packet p) (site_at i said) && (leb before i && rest))
     ((b : Burst) × (site_at i said ≡ Some b) × (b.packet ≡ p) × (before ≤ i) × AreInOrder Others said ps places i)
 here_decides Others said p ps i places before rest decides =
-    let there = is_there_with (λ (b : Burst). is_packet b.packet p) (site_at i said) in
-    Decides-like (there && (leb before i && rest))
-    (λ h. (h.0.0, h.0.1, h.0.2, h.1.0, h.1.1))
+    Decides-like _ (λ h. (h.0.0, h.0.1, h.0.2, h.1.0, h.1.1))
     (λ h. ((h.0, h.1, h.2), (h.3, h.4)))
-    (Decides-and there (leb before i && rest)
-    (there_decides (λ (b : Burst). is_packet b.packet p) (λ (b : Burst). b.packet ≡ p) (λ b. packet_decides b.packet p) (site_at i said))
-    (Decides-and (leb before i) rest (leb_decides before i) decides))
+    (Decides-and _ _ (there_decides _ _ (λ b. packet_decides b.packet p) (site_at i said))
+    (Decides-and _ _ (leb_decides before i) decides))
 
 pub said_decides : (others : Packet → Bool) (Others : Packet → Type 0) → ((p : Packet) → Decides (others p) (Others p)) → (said : List Burst)
     (ps : List Packet) (places : List ℕ) (before : ℕ) → Decides (are_in_order others said ps places before) (AreInOrder Others said ps places before)
 said_decides others Others each said [] [] before = always tt
 said_decides others Others each said [] (i ∷ places) before = never (λ h. h)
 said_decides others Others each said (p ∷ ps) [] before =
-    Decides-and (others p) (are_in_order others said ps [] before) (each p) (said_decides others Others each said ps [] before)
+    Decides-and _ _ (each p) (said_decides others Others each said ps [] before)
 said_decides others Others each said (p ∷ ps) (i ∷ places) before =
     let rest = are_in_order others said ps places i in
-    let there = is_there_with (λ (b : Burst). is_packet b.packet p) (site_at i said) && (leb before i && rest) in
-    let other = are_in_order others said ps (i ∷ places) before in
-    Decides-or there (others p && other)
-    (here_decides Others said p ps i places before rest (said_decides others Others each said ps places i))
-    (Decides-and (others p) other (each p) (said_decides others Others each said ps (i ∷ places) before))
+    Decides-or _ _ (here_decides Others said p ps i places before rest (said_decides others Others each said ps places i))
+    (Decides-and _ _ (each p) (said_decides others Others each said ps (i ∷ places) before))
 
 not_decides : (b : Bool) → Decides (not b) (b ≡ false)
 not_decides true = never (λ e. false≢true (sym e))
@@ -142,5 +122,4 @@ not_decides false = always refl
 
 pub past_decides : (is_past : ℕ → Burst → Bool) (said : List Burst) (places : List ℕ) → Decides (are_not_past is_past said places) (AreNotPast is_past said places)
 past_decides is_past said places =
-    each_decides (λ i. if_there (λ b. not (is_past i b)) (site_at i said)) (λ i. (b : Burst) → site_at i said ≡ Some b → is_past i b ≡ false)
-    (λ i. if_decides (λ b. not (is_past i b)) (λ b. is_past i b ≡ false) (λ b. not_decides (is_past i b)) (site_at i said)) places
+    each_decides _ _ (λ i. if_decides _ _ (λ b. not_decides (is_past i b)) (site_at i said)) places

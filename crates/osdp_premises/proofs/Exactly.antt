@@ -1,5 +1,5 @@
 -- Each test holds exactly where its premise does, call by call.
-use Rattle.osdp_premises.proofs.Common.{◌≡◌, ◌&&◌, ◌||◌, ◌⊎◌, ℕ, Decides, List, [], ◌∷◌, Option, Some, None, and_parts, Decides-eqb, Decides-or, Command, items_of, Answer, site_at, Call, NewDevice, NewPanel, Next, OfPanel, Step, after_call, read_by, read_up_to, InUse, Station, is_past_for_device, is_past_for_panel, Addresses, InOrder, IsFreeFor, IsOfOthers, NextInOrder, QuietOpening, are_fair, are_in_order, has_addresses, if_there, is_fair, is_free_for, is_in_order, is_of_others, is_quiet, stands_at, FairCallsKeep, PremisesAreExact}
+use Rattle.osdp_premises.proofs.Common.{◌&&◌, ℕ, Decides, List, [], ◌∷◌, Option, Some, None, and_parts, Decides-eqb, Decides-or, Command, items_of, Answer, site_at, Call, NewDevice, NewPanel, Next, OfPanel, Step, after_call, read_by, read_up_to, InUse, Station, is_past_for_device, is_past_for_panel, Addresses, InOrder, IsOfOthers, NextInOrder, QuietOpening, are_fair, are_in_order, has_addresses, if_there, is_fair, is_in_order, is_of_others, is_quiet, FairCallsKeep, PremisesAreExact}
 use Rattle.osdp_premises.proofs.Addresses.{apart_decides, free_decides, others_decides, panel_decides}
 use Rattle.osdp_premises.proofs.Deciding.{always, if_decides, past_decides, said_decides}
 
@@ -23,10 +23,8 @@ module _ {H : Type 0} where
   addresses_decide : (call : Call H) (l : InUse H) → Decides (has_addresses call l) (Addresses call l)
   addresses_decide (OfPanel call) l = panel_decides call l
   addresses_decide (NewDevice k config handler room gap) l =
-      if_decides (λ (t : Station H). stands_at config.address t || is_free_for k config.address l t)
-      (λ (t : Station H). (t.reader.config.address ≡ config.address) ⊎ IsFreeFor k config.address t l)
-      (λ t.
-      Decides-or (stands_at config.address t) (is_free_for k config.address l t) (Decides-eqb t.reader.config.address config.address)
+      if_decides _ _ (λ t.
+      Decides-or _ _ (Decides-eqb t.reader.config.address config.address)
       (free_decides k config.address l t))
       (site_at k l.stations)
   addresses_decide (NewPanel config addresses) l = apart_decides addresses l

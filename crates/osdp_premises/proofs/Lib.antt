@@ -4,6 +4,7 @@ pub mod Addresses
 pub mod Exactly
 pub mod Ruling
 pub mod Leaving
+pub mod SettingUp
 pub mod LongDay
 pub mod SharedAddress
 pub mod Strangers

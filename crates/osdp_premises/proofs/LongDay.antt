@@ -1,5 +1,5 @@
 -- The long day keeps the premises: by the tests of each call, and since its values are in their ranges.
-use Rattle.osdp_premises.proofs.Common.{◌≡◌, ◌≢◌, ◌<◌, ◌≤◌, ℕ, zero, suc, true, IfSome, List, [], ◌∷◌, length, Option, Some, None, is_some, refl, sym, subst, ap, ◌∙◌, inr, arith, and_parts, Sum, Command, device_of, new_device, Entry, items_of, each_all, Each, hears, Answer, site_at, Call, NewDevice, NewPanel, Next, OfPanel, Step, after_call, after_calls, read_up_to, CanStand, InUse, Station, bus_with, AllKeep, InRange, IsSetUp, Keeps, NextInRange, PanelInRange, each_of, AllInRange, keeps_panel, LongDayKeeps, RestartHappens, RestartsHappen, calls, device_at, first_line, four, had_sessions, line_after, line_in_the_morning, long_day, spare_at, station_at, twice}
+use Rattle.osdp_premises.proofs.Common.{◌≡◌, ◌<◌, ◌≤◌, ℕ, zero, suc, true, IfSome, List, [], ◌∷◌, length, Option, Some, None, is_some, refl, subst, inr, arith, and_parts, Sum, Command, device_of, new_device, Entry, items_of, each_all, Each, hears, Answer, site_at, Call, NewDevice, NewPanel, Next, OfPanel, Step, after_call, after_calls, read_up_to, CanStand, InUse, Station, AllKeep, InRange, IsSetUp, Keeps, NextInRange, PanelInRange, each_of, AllInRange, keeps_panel, LongDayKeeps, RestartHappens, RestartsHappen, calls, device_at, first_line, four, had_sessions, line_after, line_in_the_morning, long_day, spare_at, station_at, twice, some_same}
 use Rattle.std.specs.Prelude.{All, drop, slice_index, take}
 use Rattle.osdp_frame.specs.Held.{decided}
 use Rattle.osdp_frame.specs.Items.{items, left_over}
@@ -12,6 +12,7 @@ use Rattle.osdp_bus.proofs.Defaults.{bus_in_range}
 use Rattle.osdp_reader_laws.specs.Storing.{StoresItsOwn}
 use Rattle.osdp_premises.proofs.Exactly.{fair_keep}
 use Rattle.osdp_premises.proofs.Leaving.{leaving_exact}
+use Rattle.osdp_premises.proofs.SettingUp.{MayStand, set_up_of}
 
 pub twice_fits : IsBusConfig twice
 twice_fits = bus_in_range Sum four 2 ((omega arith, omega arith), omega arith, omega arith) (omega arith, omega arith)
@@ -44,25 +45,11 @@ no_bytes i = omega arith
 pub key_fits : KeypadFits (record { reader = 0; digits = record { items = 49 ∷ [] } })
 key_fits = record { reader = omega arith; room = omega arith; digits = key_bytes }
 
-pub is_the_one : {A : Type 0} (x y : A) → Some x ≡ Some y → x ≡ y
-is_the_one x y e = cc
-
 -- what holds of the first of a list, and of the rest
 each_split : {A : Type 0} (P : A → Type 0) (n : ℕ) (xs : List A) → Each P (take n xs) → Each P (drop n xs) → Each P xs
 each_split P zero xs first rest = rest
 each_split P (suc n) [] first rest = tt
 each_split P (suc n) (x ∷ xs) first rest = (first.0, each_split P n xs first.1 rest)
-
--- the addresses of the two
-abbrev at_place : ℕ → ℕ
-at_place zero = 3
-at_place (suc k) = 4
-
-far : (j k : ℕ) → j ≢ k → j < 2 → k < 2 → at_place j ≢ at_place k
-far zero zero other lj lk e = other refl
-far zero (suc k) other lj lk e = let e' : 3 ≡ 4 = e in absurd (omega (arith, e'))
-far (suc j) zero other lj lk e = let e' : 4 ≡ 3 = e in absurd (omega (arith, e'))
-far (suc j) (suc k) other lj lk e = other (omega (arith, lj, lk))
 
 abbrev the_entry : Option Entry → Entry
 the_entry None = new_device 0 twice
@@ -73,40 +60,18 @@ module _ {H : Type 0} where
   the_station None handler = station_at 3 handler
   the_station (Some t) handler = t
 
-  -- two devices at set-up, the first as it may be
-  module _ (handler : H) (first : Station H) (address : first.reader.config.address ≡ 3) where
-    both : (Q : Station H → Type 0) → Q first → Q (station_at 4 handler) → (k : ℕ) (t : Station H)
-        → site_at k (first ∷ station_at 4 handler ∷ []) ≡ Some t → Q t
-    both Q one other zero t is = subst Q (is_the_one first t is) one
-    both Q one other (suc zero) t is = subst Q (is_the_one (station_at 4 handler) t is) other
-    both Q one other (suc (suc k)) t is = absurd cc
-
-    stands : (k : ℕ) (t : Station H) → site_at k (first ∷ station_at 4 handler ∷ []) ≡ Some t → (k < 2) × (t.reader.config.address ≡ at_place k)
-    stands zero t is = (omega arith, sym (ap (λ (x : Station H). x.reader.config.address) (is_the_one first t is)) ∙ address)
-    stands (suc zero) t is = (omega arith, sym (ap (λ (x : Station H). x.reader.config.address) (is_the_one (station_at 4 handler) t is)))
-    stands (suc (suc k)) t is = absurd cc
-
-    set_up_with : StoresItsOwn first.reader → (first.place ≡ 0) × (first.begun ≡ None)
-        → IsSetUp (record (first_line handler) { stations = first ∷ station_at 4 handler ∷ [] })
-    set_up_with stores place = record {
-      config = twice;
-      settings = twice_fits;
-      others = 20 ∷ [];
-      bus = ap (λ a. bus_with twice (a ∷ 4 ∷ 20 ∷ [])) (sym address);
-      devices = both (λ t. t.reader.config.address < 127) (subst (λ a. a < 127) (sym address) (omega arith)) (omega arith);
-      apart = λ j k s t other at there e. far j k other (stands j s at).0 (stands k t there).0 (sym (stands j s at).1 ∙ e ∙ (stands k t there).1);
-      stored = both (λ t. StoresItsOwn t.reader) stores tt;
-      place = both (λ t. (t.place ≡ 0) × (t.begun ≡ None)) place (refl, refl);
-      said = refl;
-      read = refl;
-      openings = refl;
-    }
+  -- a device as it comes, at an address below 127
+  stands : (t : Station H) → t.reader.config.address < 127 → StoresItsOwn t.reader → (t.place ≡ 0) × (t.begun ≡ None) → MayStand t
+  stands t address stores place = record { address = address; stores = stores; place = place }
 
   pub is_set_up : (handler : H) → IsSetUp (first_line handler)
-  is_set_up handler = set_up_with handler (station_at 3 handler) refl tt (refl, refl)
+  is_set_up handler = set_up_of twice (20 ∷ []) (first_line handler) twice_fits refl
+      (stands (station_at 3 handler) (omega arith) tt (refl, refl), (stands (station_at 4 handler) (omega arith) tt (refl, refl), tt)) refl (refl, refl, refl)
 
   in_the_morning : (handler : H) → IsSetUp (line_in_the_morning handler)
-  in_the_morning handler = set_up_with handler (had_sessions (station_at 3 handler)) refl (refl, inr refl) (refl, refl)
+  in_the_morning handler = set_up_of twice (20 ∷ []) (line_in_the_morning handler) twice_fits refl
+      (stands (had_sessions (station_at 3 handler)) (omega arith) (refl, inr refl) (refl, refl), (stands (station_at 4 handler) (omega arith) tt (refl, refl), tt))
+      refl (refl, refl, refl)
 
   -- calls among which no panel is made anew
   still : (steps : List (Step H)) → each_of (λ (step : Step H). keeps_panel step.call) steps ≡ true → Each (λ (step : Step H). CanStand step.call) steps
@@ -194,7 +159,7 @@ module _ {H : Type 0} (answer_of : H → Command → Answer) (after : H → Comm
   pub keep_at : (count : ℕ) (steps : List (Step H)) (l : InUse H) (step : Step H) → site_at count steps ≡ Some step → AllKeep answer_of after steps l
       → Keeps answer_of after step (after_calls answer_of after (take count steps) l)
   keep_at count [] l step none keep = absurd (let e = none in cc)
-  keep_at zero (first ∷ steps) l step is keep = subst (λ x. Keeps answer_of after x l) (is_the_one first step is) keep.0
+  keep_at zero (first ∷ steps) l step is keep = subst (λ x. Keeps answer_of after x l) (some_same first step is) keep.0
   keep_at (suc count) (first ∷ steps) l step is keep =
       keep_at count steps (after_call answer_of after first.call first.places l) step is keep.1
 

@@ -1,18 +1,15 @@
 -- The test of the rule for programs holds exactly where the rule does.
-use Rattle.osdp_premises.proofs.Common.{◌≡◌, ◌≢◌, ◌&&◌, ◌==◌, ℕ, not, Bool, Decides, [], ◌∷◌, length, Option, Some, None, refl, subst, arith, and_parts, Decides-eqb, Decides-like, Decides-not, Command, Communication, comset_of, BusState, device_of, retarget_refusal_at, submit_refusal_at, Entry, BusFault, Answer, site_at, NewDevice, NewPanel, OfPanel, after_call, Station, address_asked, if_there, is_in_order, is_quiet, is_there_with, stands_at}
+use Rattle.osdp_premises.proofs.Common.{◌≡◌, ◌≢◌, ◌&&◌, ℕ, Bool, Decides, [], ◌∷◌, length, Option, Some, None, refl, subst, arith, and_parts, Decides-eqb, Decides-like, Decides-not, Command, Communication, comset_of, BusState, device_of, retarget_refusal_at, submit_refusal_at, Entry, BusFault, Answer, site_at, NewDevice, NewPanel, OfPanel, after_call, address_asked, if_there, is_in_order, is_quiet, some_same, at_length}
 use Rattle.osdp_bus.specs.Entries.{address_of}
 use Rattle.osdp_bus_laws.specs.Calls as bus
 use Rattle.osdp_shared_line.specs.Programs.{Note}
 use Rattle.osdp_calls.specs.Programs.{IsKnown, PanelKeepsRule, notes_after}
 use Rattle.osdp_premises.specs.Ruling.{RuleIsExact, RuledCallsKeep, are_ruled, is_known, is_unknown_beside, keeps_rule, panel_keeps_rule, unless_refused}
-use Rattle.osdp_premises.proofs.Deciding.{always, below_decides, get_below, if_decides, other_decides, site_below, some_decides, there_decides}
+use Rattle.osdp_premises.proofs.Deciding.{always, below_decides, get_below, if_decides, other_decides, some_decides, there_decides}
 use Rattle.osdp_premises.proofs.Exactly.{exact}
 
-is_that_one : {A : Type 0} (x y : A) → Some x ≡ Some y → x ≡ y
-is_that_one x y e = cc
-
 known_decides : (address : ℕ) (d : Entry) (note : Note) → Decides (is_known address d note) (IsKnown address d note)
-known_decides address d note = some_decides (λ a. a == address) (λ a. a ≡ address) (λ a. Decides-eqb a address) (address_of d ∷ note.addresses)
+known_decides address d note = some_decides _ _ (λ a. Decides-eqb a address) (address_of d ∷ note.addresses)
 
 -- no other entry knows it
 abbrev Unknown : ℕ → ℕ → BusState → (ℕ → Note) → Type 0
@@ -20,24 +17,19 @@ Unknown k address b notes = (j : ℕ) (d : Entry) → j ≢ k → device_of j b 
 
 unknown_decides : (k address : ℕ) (b : BusState) (notes : ℕ → Note) → Decides (is_unknown_beside k address b notes) (Unknown k address b notes)
 unknown_decides k address b notes =
-    Decides-like (is_unknown_beside k address b notes)
-    (λ h j d other at known. h j other (d, at, known))
+    Decides-like _ (λ h j d other at known. h j other (d, at, known))
     (λ all j other held. all j held.0 other held.1 held.2)
-    (other_decides k (length b.devices.entries) (λ j. not (is_there_with (λ d. is_known address d (notes j)) (device_of j b)))
-    (λ j. ((d : Entry) × (device_of j b ≡ Some d) × IsKnown address d (notes j)) → ⊥)
-    (λ j. Decides-not (is_there_with (λ d. is_known address d (notes j)) (device_of j b))
-    (there_decides (λ d. is_known address d (notes j)) (λ d. IsKnown address d (notes j)) (λ d. known_decides address d (notes j)) (device_of j b)))
+    (other_decides k (length b.devices.entries) _ _ (λ j. Decides-not _ (there_decides _ _ (λ d. known_decides address d (notes j)) (device_of j b)))
     (λ j above held. let below = get_below j b.devices.entries held.0 held.1 in absurd (omega (arith, above, below))))
 
 refused_decides : (f : Option BusFault) (p : Bool) (P : Type 0) → Decides p P → Decides (unless_refused f p) (f ≡ None → P)
-refused_decides None p P is = Decides-like p (λ h e. h) (λ h. h refl) is
+refused_decides None p P is = Decides-like _ (λ h e. h) (λ h. h refl) is
 refused_decides (Some fault) p P is = always (λ none. absurd (let e = none in cc))
 
 asked_decides : (k : ℕ) (asked : Option Communication) (b : BusState) (notes : ℕ → Note)
     → Decides (if_there (λ address. is_unknown_beside k address b notes) (address_asked asked)) ((c : Communication) → asked ≡ Some c → Unknown k c.address b notes)
 asked_decides k None b notes = always (λ c none. absurd (let e = none in cc))
-asked_decides k (Some c) b notes = Decides-like (is_unknown_beside k c.address b notes)
-    (λ h other same. subst (λ (x : Communication). Unknown k x.address b notes) (is_that_one c other same) h)
+asked_decides k (Some c) b notes = Decides-like _ (λ h other same. subst (λ (x : Communication). Unknown k x.address b notes) (some_same c other same) h)
     (λ all. all c refl) (unknown_decides k c.address b notes)
 
 panel_decides : (call : bus.Call) (b : BusState) (notes : ℕ → Note) → Decides (panel_keeps_rule call b notes) (PanelKeepsRule call b notes)
@@ -47,23 +39,18 @@ panel_decides (bus.Submit k command) b notes =
 panel_decides (bus.Retarget k address) b notes =
     refused_decides (retarget_refusal_at k address b) (if_there (λ d. is_known address d (notes k)) (device_of k b))
     ((d : Entry) → device_of k b ≡ Some d → IsKnown address d (notes k))
-    (if_decides (λ d. is_known address d (notes k)) (λ d. IsKnown address d (notes k)) (λ d. known_decides address d (notes k)) (device_of k b))
+    (if_decides _ _ (λ d. known_decides address d (notes k)) (device_of k b))
 panel_decides _ b notes = always tt
 
 module _ {H : Type 0} where
   pub rule_exact : RuleIsExact H
   rule_exact (OfPanel call) l notes = panel_decides call l.bus notes
   rule_exact (NewDevice k config handler room gap) l notes =
-      if_decides (stands_at config.address) (λ (t : Station H). t.reader.config.address ≡ config.address)
-      (λ t. Decides-eqb t.reader.config.address config.address) (site_at k l.stations)
+      if_decides _ _ (λ t. Decides-eqb t.reader.config.address config.address) (site_at k l.stations)
   rule_exact (NewPanel config addresses) l notes =
-      let known = λ (k : ℕ). if_there (λ a. if_there (λ d. is_known a d (notes k)) (device_of k l.bus)) (site_at k addresses) in
-      Decides-like (keeps_rule (NewPanel config addresses) l notes)
-      (λ h k a d at there. h k (site_below k addresses a at) a at d there)
+      Decides-like _ (λ h k a d at there. h k (at_length k a addresses at) a at d there)
       (λ all k below a at d there. all k a d at there)
-      (below_decides known (λ k. (a : ℕ) → site_at k addresses ≡ Some a → (d : Entry) → device_of k l.bus ≡ Some d → IsKnown a d (notes k))
-      (λ k. if_decides (λ a. if_there (λ d. is_known a d (notes k)) (device_of k l.bus)) (λ a. (d : Entry) → device_of k l.bus ≡ Some d → IsKnown a d (notes k))
-      (λ a. if_decides (λ d. is_known a d (notes k)) (λ d. IsKnown a d (notes k)) (λ d. known_decides a d (notes k)) (device_of k l.bus)) (site_at k addresses))
+      (below_decides _ _ (λ k. if_decides _ _ (λ a. if_decides _ _ (λ d. known_decides a d (notes k)) (device_of k l.bus)) (site_at k addresses))
       (length addresses))
   rule_exact _ l notes = always tt
 

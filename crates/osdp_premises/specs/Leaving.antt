@@ -5,7 +5,7 @@ use Rattle.osdp_bus.specs.Buses.{new_bus}
 use Rattle.osdp_bus.specs.Settings.{IsBusConfig}
 use Rattle.osdp_bus.specs.declared.config.BusConfig.{BusConfig}
 use Rattle.osdp_bus_laws.specs.Calls as bus
-use Rattle.osdp_calls.specs.Calls.{Call, NewDevice, NewPanel, Next, OfPanel, Pending, SetBusy, SetHandler, Silence, SubmitEvent, Take, TickDevice, LapseEvent, WithdrawEvent}
+use Rattle.osdp_calls.specs.Calls.{Call, NewDevice, NewPanel, OfPanel, SetHandler, LapseEvent, WithdrawEvent}
 use Rattle.osdp_calls.specs.Ends.{CanStand, KeepsPanel}
 use Rattle.osdp_calls.specs.OneDevice.{KeepsHandler}
 use Rattle.osdp_calls.specs.Restarts.{KeepsDevice}
@@ -15,75 +15,33 @@ use Rattle.osdp_calls.specs.Undisturbed.{IsOrdinaryOf}
 -- a call of the panel takes back no command of this entry
 abbrev pub leaves_commands : ℕ → bus.Call → Bool
 leaves_commands k (bus.Withdraw entry) = not (entry == k)
-leaves_commands k (bus.Add address) = true
-leaves_commands k (bus.Begin entry now) = true
-leaves_commands k (bus.Submit entry command) = true
-leaves_commands k (bus.Retarget entry address) = true
-leaves_commands k (bus.OnBytes bytes now) = true
-leaves_commands k (bus.OnSilence now) = true
-leaves_commands k (bus.Tick now) = true
-leaves_commands k bus.NextReport = true
+leaves_commands k _ = true
 
 module _ {H : Type 0} where
+  -- the panel is not made anew
   abbrev pub keeps_panel : Call H → Bool
   keeps_panel (NewPanel config addresses) = false
-  keeps_panel (OfPanel call) = true
-  keeps_panel (SubmitEvent i event) = true
-  keeps_panel (SetBusy i busy) = true
-  keeps_panel (SetHandler i handler) = true
-  keeps_panel (WithdrawEvent i) = true
-  keeps_panel (LapseEvent i) = true
-  keeps_panel (Take i bytes now) = true
-  keeps_panel (TickDevice i now) = true
-  keeps_panel (Silence i now) = true
-  keeps_panel (Next i) = true
-  keeps_panel (Pending i) = true
-  keeps_panel (NewDevice i config handler room gap) = true
+  keeps_panel _ = true
 
+  -- the device of this entry is not made anew
   abbrev pub keeps_device : ℕ → Call H → Bool
   keeps_device k (NewDevice i config handler room gap) = not (i == k)
-  keeps_device k (NewPanel config addresses) = true
-  keeps_device k (OfPanel call) = true
-  keeps_device k (SubmitEvent i event) = true
-  keeps_device k (SetBusy i busy) = true
-  keeps_device k (SetHandler i handler) = true
-  keeps_device k (WithdrawEvent i) = true
-  keeps_device k (LapseEvent i) = true
-  keeps_device k (Take i bytes now) = true
-  keeps_device k (TickDevice i now) = true
-  keeps_device k (Silence i now) = true
-  keeps_device k (Next i) = true
-  keeps_device k (Pending i) = true
+  keeps_device k _ = true
 
+  -- .. nor does its program set another handler
   abbrev pub keeps_handler : ℕ → Call H → Bool
   keeps_handler k (SetHandler i handler) = not (i == k)
   keeps_handler k (NewDevice i config handler room gap) = not (i == k)
-  keeps_handler k (NewPanel config addresses) = true
-  keeps_handler k (OfPanel call) = true
-  keeps_handler k (SubmitEvent i event) = true
-  keeps_handler k (SetBusy i busy) = true
-  keeps_handler k (WithdrawEvent i) = true
-  keeps_handler k (LapseEvent i) = true
-  keeps_handler k (Take i bytes now) = true
-  keeps_handler k (TickDevice i now) = true
-  keeps_handler k (Silence i now) = true
-  keeps_handler k (Next i) = true
-  keeps_handler k (Pending i) = true
+  keeps_handler k _ = true
 
+  -- the call restarts neither end of this entry, takes back nothing of it, and lets no event of it lapse
   abbrev pub is_ordinary : ℕ → Call H → Bool
   is_ordinary k (OfPanel call) = leaves_commands k call
   is_ordinary k (NewDevice i config handler room gap) = not (i == k)
   is_ordinary k (NewPanel config addresses) = false
   is_ordinary k (WithdrawEvent i) = not (i == k)
   is_ordinary k (LapseEvent i) = not (i == k)
-  is_ordinary k (SubmitEvent i event) = true
-  is_ordinary k (SetBusy i busy) = true
-  is_ordinary k (SetHandler i handler) = true
-  is_ordinary k (Take i bytes now) = true
-  is_ordinary k (TickDevice i now) = true
-  is_ordinary k (Silence i now) = true
-  is_ordinary k (Next i) = true
-  is_ordinary k (Pending i) = true
+  is_ordinary k _ = true
 
 -- each premise of the laws of one life, of one handler, and of what is undisturbed, holds exactly where its test does
 pub record LeavingIsExact (H : Type 0) : Type 0 where

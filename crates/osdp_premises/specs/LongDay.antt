@@ -44,6 +44,7 @@ four = record { messages = 4; bytes = 5732 }
 abbrev pub twice : BusConfig
 twice = record (default_config Sum four) { sends = 2 }
 
+-- the settings of a device at this address
 abbrev pub device_at : ℕ → ReaderConfig
 device_at address = record {
   address = address;
@@ -63,6 +64,7 @@ spare_at address = record {
 abbrev pub asks : ℕ → ℕ → List ℕ → List ℕ
 asks address number body = spelling (packed false address number Sum false 0 body)
 
+-- .. from this address
 abbrev pub answers : ℕ → ℕ → List ℕ → List ℕ
 answers address number body = spelling (packed true address number Sum false 0 body)
 
@@ -75,9 +77,11 @@ abbrev pub key : Event
 key = Keypad (record { reader = 0; digits = record { items = 49 ∷ [] } })
 
 module _ {H : Type 0} where
+  -- a call, with the places of what it reads
   abbrev pub calls : Call H → List ℕ → Step H
   calls call places = record { call = call; places = places }
 
+  -- a new device at this address, with this handler
   abbrev pub station_at : ℕ → H → Station H
   station_at address handler = record {
     reader = new_reader (device_at address) handler four;
@@ -331,6 +335,7 @@ module _ {H : Type 0} where
   abbrev pub replaced : H → H → List (Step H)
   replaced handler other = calls (NewDevice 1 (spare_at 4) handler four 20) [] ∷ []
 
+  -- all calls of the day
   abbrev pub long_day : H → H → List (Step H)
   long_day handler other =
       opening handler other
@@ -353,6 +358,7 @@ module _ {H : Type 0} where
   waits l = option_map (λ (t : Station H). (t.reader.queue.events, t.reader.queue.ever_offered)) (site_at 0 l.stations)
 
   module _ (answer_of : H → Command → Answer) (after : H → Command → H) where
+    -- the line after all of them
     abbrev pub line_at_night : H → H → InUse H
     line_at_night handler other = after_calls answer_of after (long_day handler other) (line_in_the_morning handler)
 

@@ -12,7 +12,7 @@ use Rattle.osdp_bus_laws.specs.Calls as bus
 use Rattle.osdp_reader.specs.declared.handler.Answer.{Answer}
 use Rattle.osdp_shared_line.specs.Line.{site_at}
 use Rattle.osdp_shared_line.specs.Programs.{Note}
-use Rattle.osdp_calls.specs.Calls.{Call, NewDevice, NewPanel, Next, OfPanel, Pending, SetBusy, SetHandler, Silence, Step, SubmitEvent, Take, TickDevice, LapseEvent, WithdrawEvent, after_call}
+use Rattle.osdp_calls.specs.Calls.{Call, NewDevice, NewPanel, OfPanel, Step, after_call}
 use Rattle.osdp_calls.specs.Lines.{InUse}
 use Rattle.osdp_calls.specs.Programs.{AllKeepRule, KeepsRule, notes_after}
 use Rattle.osdp_premises.specs.Deciding.{address_asked, each_below, each_other, if_there, is_in_order, is_quiet, is_there_with, some_of, stands_at}
@@ -32,35 +32,22 @@ abbrev pub unless_refused : Option BusFault → Bool → Bool
 unless_refused None asked = asked
 unless_refused (Some fault) asked = true
 
+-- what the rule asks of a call of the panel
 abbrev pub panel_keeps_rule : bus.Call → BusState → (ℕ → Note) → Bool
 panel_keeps_rule (bus.Submit k command) b notes =
     unless_refused (submit_refusal_at k command b) (if_there (λ address. is_unknown_beside k address b notes) (address_asked (comset_of command)))
 panel_keeps_rule (bus.Retarget k address) b notes =
     unless_refused (retarget_refusal_at k address b) (if_there (λ d. is_known address d (notes k)) (device_of k b))
-panel_keeps_rule (bus.Add address) b notes = true
-panel_keeps_rule (bus.Begin entry now) b notes = true
-panel_keeps_rule (bus.Withdraw entry) b notes = true
-panel_keeps_rule (bus.OnBytes bytes now) b notes = true
-panel_keeps_rule (bus.OnSilence now) b notes = true
-panel_keeps_rule (bus.Tick now) b notes = true
-panel_keeps_rule bus.NextReport b notes = true
+panel_keeps_rule _ b notes = true
 
 module _ {H : Type 0} where
+  -- .. of any call
   abbrev pub keeps_rule : Call H → InUse H → (ℕ → Note) → Bool
   keeps_rule (OfPanel call) l notes = panel_keeps_rule call l.bus notes
   keeps_rule (NewDevice k config handler room gap) l notes = if_there (stands_at config.address) (site_at k l.stations)
   keeps_rule (NewPanel config addresses) l notes =
       each_below (λ k. if_there (λ a. if_there (λ d. is_known a d (notes k)) (device_of k l.bus)) (site_at k addresses)) (length addresses)
-  keeps_rule (SubmitEvent k event) l notes = true
-  keeps_rule (SetBusy k busy) l notes = true
-  keeps_rule (SetHandler k handler) l notes = true
-  keeps_rule (WithdrawEvent k) l notes = true
-  keeps_rule (LapseEvent k) l notes = true
-  keeps_rule (Take k bytes now) l notes = true
-  keeps_rule (TickDevice k now) l notes = true
-  keeps_rule (Silence k now) l notes = true
-  keeps_rule (Next k) l notes = true
-  keeps_rule (Pending k) l notes = true
+  keeps_rule _ l notes = true
 
   module _ (answer_of : H → Command → Answer) (after : H → Command → H) where
     -- order, quiet openings and the rule, of each call of a list

@@ -33,6 +33,7 @@ module _ {H : Type 0} where
       pub addresses : Addresses step.call l
       pub in_range : InRange answer_of after step.call l
 
+    -- .. of each call of a list
     abbrev pub AllKeepButOrder : List (Step H) → InUse H → Type 0
     AllKeepButOrder [] l = Unit {0}
     AllKeepButOrder (step ∷ steps) l = KeepsButOrder step l × AllKeepButOrder steps (after_call answer_of after step.call step.places l)

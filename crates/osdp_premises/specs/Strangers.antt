@@ -27,6 +27,7 @@ module _ {H : Type 0} where
   read_in (Next k) l = read_next (site_at k l.stations)
   read_in _ l = []
 
+  -- all that a `next` of this device reads was said, in order
   abbrev pub NextIsSaid : List Burst → List ℕ → Option (Station H) → Type 0
   NextIsSaid said places None = Unit {0}
   NextIsSaid said places (Some t) = AreSaid said (read_up_to t.reader (items_of t.line.held)) places t.place

@@ -3,7 +3,7 @@ use Rattle.std.proofs.Common.{◌≡◌, ◌∙◌, ℕ, List, [], ◌∷◌, ma
 use Rattle.osdp_frame.specs.Held.{decided}
 use Rattle.osdp_frame.specs.Items.{items, left_over}
 use Rattle.osdp_msg.specs.CommandTable.{command_at, command_fault, command_of}
-use Rattle.osdp_program_days.proofs.Common.{CapabilityFits, new_program, program_after, program_answer, each_all, Call, NewDevice, NewPanel, Next, OfPanel, Pending, SetBusy, SetHandler, Silence, Step, SubmitEvent, Take, TickDevice, LapseEvent, WithdrawEvent, c_device, c_panel, IsLineOf, id_fits, key_fits, twice_fits, owns, steps_of}
+use Rattle.osdp_program_days.proofs.Common.{CapabilityFits, new_program, program_after, program_answer, each_all, Call, OfPanel, Step, c_device, c_panel, IsLineOf, id_fits, key_fits, twice_fits, owns, steps_of}
 use Rattle.osdp_msg.specs.ReplyTable.{reply_at, reply_fault, reply_of}
 use Rattle.osdp_entry_numbers.specs.Day.{own_line}
 use Rattle.osdp_entry_numbers.specs.OwnOrder.{OwnStep, own_view}
@@ -16,18 +16,7 @@ module _ {H : Type 0} where
   -- a step by the panel's own numbers is the same call
   own_call : (call : Call H) (places : List ℕ) → (own_of call places).call ≡ call
   own_call (OfPanel call) places = refl
-  own_call (NewPanel config addresses) places = refl
-  own_call (SubmitEvent k event) places = refl
-  own_call (SetBusy k busy) places = refl
-  own_call (SetHandler k handler) places = refl
-  own_call (WithdrawEvent k) places = refl
-  own_call (LapseEvent k) places = refl
-  own_call (Take k bytes now) places = refl
-  own_call (TickDevice k now) places = refl
-  own_call (Silence k now) places = refl
-  own_call (Next k) places = refl
-  own_call (Pending k) places = refl
-  own_call (NewDevice k config handler room gap) places = refl
+  own_call _ places = refl
 
   own_calls : (steps : List (Step H)) → map (λ (step : OwnStep H). step.call) (map own_step steps) ≡ map (λ (step : Step H). step.call) steps
   own_calls [] = refl

@@ -25,18 +25,23 @@ programs = record {
   devices = device_sessions.new_session (device_at 3) 4 20 second ∷ device_sessions.new_session (device_at 4) 4 20 second ∷ [];
 }
 
+-- a line to the panel, with the places of what is read then
 abbrev pub panel : PanelCall → List ℕ → Made line_panel line_device
 panel call places = record { own = AtPanel (SaysToPanel (Some call)); places = places }
 
+-- .. and one to a device
 abbrev pub device : ℕ → ReaderCall → List ℕ → Made line_panel line_device
 device k call places = record { own = AtDevice k (SaysToDevice (Some call)); places = places }
 
+-- a line to the panel at this moment
 abbrev pub panel_at : ℕ → PanelCall → List ℕ → List (Made line_panel line_device)
 panel_at now call places = panel (to_panel.At now) [] ∷ panel call places ∷ []
 
+-- .. and one to a device
 abbrev pub device_at_moment : ℕ → ℕ → ReaderCall → List ℕ → List (Made line_panel line_device)
 device_at_moment now k call places = device k (to_device.At now) [] ∷ device k call places ∷ []
 
+-- the lines by which something happens
 abbrev pub by_lines : Happening → List (Made line_panel line_device)
 by_lines (Begins entry now) = panel_at now (to_panel.Begin entry) []
 by_lines (Orders entry command) = panel (to_panel.Submit entry command) [] ∷ []
@@ -54,8 +59,10 @@ by_lines (IsBusy k busy) = device k (to_device.Busy busy) [] ∷ []
 by_lines (LetsOldGo k now) = device k (to_device.At now) [] ∷ []
 by_lines (DeviceIsMadeAnew k address) = record { own = AtDevice k (DeviceAnew (device_at address) 4 20); places = [] } ∷ []
 
+-- .. the whole day
 abbrev pub day_by_lines : List (Made line_panel line_device)
 day_by_lines = flat_map by_lines day
 
+-- the day by lines keeps the premises, and comes to what `DayKeeps` has
 abbrev pub DayByLinesKeeps : Type 0
 DayByLinesKeeps = DayKeeps line_panel line_device status_answer status_after day_by_lines programs new_status

@@ -8,7 +8,7 @@ use Rattle.osdp_bus_laws.specs.Calls as bus
 use Rattle.osdp_ledger.specs.History.{AfterReport, CutOff, End, Exit, GivenBack, History, Lapsed, Left, Settled, new_history, runs}
 use Rattle.osdp_ledger.specs.Ledger.{Card, Order}
 use Rattle.osdp_reader.specs.declared.handler.Answer.{Answer}
-use Rattle.osdp_calls.specs.Calls.{Call, NewDevice, NewPanel, Next, OfPanel, Pending, SetBusy, SetHandler, Silence, Step, SubmitEvent, Take, TickDevice, LapseEvent, WithdrawEvent}
+use Rattle.osdp_calls.specs.Calls.{Call, Next, OfPanel, Step}
 use Rattle.osdp_calls_instance.specs.OwnCalls.{DeviceKind, OwnCall, PanelKind, Programs, after_own, calls_by}
 use Rattle.osdp_calls.specs.Premises.{AllKeep}
 use Rattle.osdp_calls_ledger.specs.Steps.{steps_from}
@@ -19,30 +19,14 @@ use Rattle.osdp_programs_ledger.specs.Programs.{AreTheirCalls}
 abbrev pub panel_reads : bus.Call → Bool
 panel_reads (bus.OnBytes bytes now) = true
 panel_reads (bus.OnSilence now) = true
-panel_reads (bus.Add address) = false
-panel_reads (bus.Begin entry now) = false
-panel_reads (bus.Submit entry command) = false
-panel_reads (bus.Withdraw entry) = false
-panel_reads (bus.Retarget entry address) = false
-panel_reads (bus.Tick now) = false
-panel_reads bus.NextReport = false
+panel_reads _ = false
 
 module _ {H : Type 0} where
   -- a call by which an end reads
   abbrev pub reads : Call H → Bool
   reads (OfPanel call) = panel_reads call
   reads (Next k) = true
-  reads (SubmitEvent k event) = false
-  reads (SetBusy k busy) = false
-  reads (SetHandler k handler) = false
-  reads (WithdrawEvent k) = false
-  reads (LapseEvent k) = false
-  reads (Take k bytes now) = false
-  reads (TickDevice k now) = false
-  reads (Silence k now) = false
-  reads (Pending k) = false
-  reads (NewDevice k config handler room gap) = false
-  reads (NewPanel config addresses) = false
+  reads _ = false
 
   -- the first of these calls that reads takes all that stands at these places
   abbrev pub all_at : List ℕ → List (Call H) → List (Step H)
@@ -56,15 +40,18 @@ module _ {H : Type 0} where
       pub own : OwnCall P D
       pub places : List ℕ
 
+    -- the own calls of the programs
     abbrev pub owns : List Made → List (OwnCall P D)
     owns day = map (λ (made : Made). made.own) day
 
+    -- .. and the calls of a line in use that they are, with the places of what is read
     abbrev pub steps_of : List Made → Programs P D → List (Step H)
     steps_of [] w = []
     steps_of (made ∷ more) w = all_at made.places (calls_by P D made.own w) ++ steps_of more (after_own P D made.own w)
 
 -- a day of programs whose panel and devices are at first those of `first_line`: it keeps all premises of the theorem, and what it comes to of the first entry
 module _ {H : Type 0} (P : PanelKind H) (D : DeviceKind H) (answer_of : H → Command → Answer) (after : H → Command → H) where
+  -- the history of the device at 3 over such a day
   abbrev pub history_of : List (Made P D) → Programs P D → H → History
   history_of day w handler = runs (steps_from answer_of after 0 (station_at 3 handler) (steps_of P D day w) (first_line handler)) new_history
 

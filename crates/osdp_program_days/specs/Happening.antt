@@ -32,9 +32,11 @@ pub data Happening : Type 0 where
 abbrev pub identity : List ℕ
 identity = 69 ∷ 1 ∷ 2 ∷ 3 ∷ 4 ∷ 5 ∷ 6 ∷ 0 ∷ 0 ∷ 0 ∷ 7 ∷ 8 ∷ 9 ∷ []
 
+-- output 0 is switched on for good
 abbrev pub on : OutputRecord
 on = record { output = 0; control = 2; timer = 0 }
 
+-- .. as the body of an OUT
 abbrev pub ordered_on : List ℕ
 ordered_on = 104 ∷ 0 ∷ 2 ∷ 0 ∷ 0 ∷ []
 
@@ -159,5 +161,6 @@ lapse =
     ∷ Hears (answers 5 1 (83 ∷ 0 ∷ 1 ∷ 49 ∷ [])) 12004 (35 ∷ [])
     ∷ []
 
+-- all that happens on that day
 abbrev pub day : List Happening
 day = opening ++ order ++ busy ++ lost ++ restart ++ again ++ move ++ panel_restart ++ lapse

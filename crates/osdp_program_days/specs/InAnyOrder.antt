@@ -57,9 +57,11 @@ day =
     ∷ Hears (answers 4 0 identity) 1272 (9 ∷ [])
     ∷ []
 
+-- the calls for C by which that happens
 abbrev pub day_in_c : List (Made c_panel c_device)
 day_in_c = flat_map in_c day
 
+-- a panel whose second entry is a device of another make, and two devices
 abbrev pub programs : Programs c_panel c_device
 programs = record {
   panel = panel_made false twice minute (3 ∷ 20 ∷ 4 ∷ []);
@@ -77,12 +79,15 @@ own_of (NewPanel config addresses) places =
     record { call = NewPanel config addresses; places = places; ordered = 3 ∷ 4 ∷ 20 ∷ []; numbers = numbers_of addresses }
 own_of call places = record { call = call; places = places; ordered = []; numbers = between }
 
+-- .. a call with the places of what it reads
 abbrev pub own_step : {H : Type 0} → Step H → OwnStep H
 own_step step = own_of step.call step.places
 
+-- the calls of that day, by the panel's own numbers
 abbrev pub own_day : List (OwnStep ProgramAnswers)
 own_day = map own_step (steps_of c_panel c_device day_in_c programs)
 
+-- the history of the device at 4 over that day
 abbrev pub history : History
 history = runs (own_steps_from program_answer program_after 1 (station_at 4 new_program) own_day (own_line new_program)) new_history
 

@@ -22,6 +22,7 @@ settings_at address = record {
   product = record { vendor = 1 ∷ 2 ∷ 3 ∷ []; model = 4; version = 5; firmware_major = 7; firmware_minor = 8; firmware_build = 9 };
 }
 
+-- a device that was made by this call at this address
 abbrev pub device_at : ℕ → ReaderMachine
 device_at address = new_machine_in four (settings_at address) (record { items = [] })
 
@@ -36,12 +37,15 @@ programs = record {
   devices = device_at 3 ∷ device_at 4 ∷ [];
 }
 
+-- a call of the panel's handle, with the places of what is read then
 abbrev pub panel : PanelCall → List ℕ → Made c_panel c_device
 panel call places = record { own = AtPanel call; places = places }
 
+-- .. and one of the handle of a device
 abbrev pub device : ℕ → DeviceCall → List ℕ → Made c_panel c_device
 device k call places = record { own = AtDevice k call; places = places }
 
+-- the calls for C by which something happens
 abbrev pub in_c : Happening → List (Made c_panel c_device)
 in_c (Begins entry now) = panel (Begin entry now) [] ∷ []
 in_c (Orders entry command) = panel (SubmitText entry (Some command)) [] ∷ []
@@ -59,8 +63,10 @@ in_c (IsBusy k busy) = device k (SetBusyTo (if busy then 1 else 0)) [] ∷ []
 in_c (LetsOldGo k now) = device k (ExpiresEvent now 1000) [] ∷ []
 in_c (DeviceIsMadeAnew k address) = device k (DeviceMade four (settings_at address) (record { items = [] })) [] ∷ []
 
+-- .. the whole day
 abbrev pub day_in_c : List (Made c_panel c_device)
 day_in_c = flat_map in_c day
 
+-- the day in C keeps the premises, and comes to what `DayKeeps` has
 abbrev pub DayInCKeeps : Type 0
 DayInCKeeps = DayKeeps c_panel c_device program_answer program_after day_in_c programs new_program

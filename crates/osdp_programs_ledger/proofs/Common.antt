@@ -12,8 +12,8 @@ pub use Rattle.osdp_shared_line.specs.Line.{site_at}
 pub use Rattle.osdp_shared_line.proofs.Sites.{some_same}
 pub use Rattle.osdp_sim_bus.specs.Runs.{are_apart, AreSettings, is_at, is_reader_in_range, is_well, run}
 pub use Rattle.osdp_sim_bus.specs.State.{address_of, Given, LineState, new_site, ReaderSite, set_up}
-pub use Rattle.osdp_calls.specs.Calls.{after_call, after_calls, Call, NewDevice, NewPanel, Next, OfPanel, Pending, SetBusy, SetHandler, Silence, Step, SubmitEvent, Take, TickDevice, LapseEvent, WithdrawEvent}
-pub use Rattle.osdp_calls.specs.Ends.{device_after, device_after_all, GoByTheirOwn, Held, held_by, is_of_device}
+pub use Rattle.osdp_calls.specs.Calls.{after_call, after_calls, Call, NewDevice, NewPanel, Next, OfPanel, Pending, SetBusy, SetHandler, Silence, Step, SubmitEvent, Take, TickDevice, LapseEvent, WithdrawEvent, device_after, Held, held_by}
+pub use Rattle.osdp_calls.specs.Ends.{device_after_all, GoByTheirOwn, is_of_device}
 pub use Rattle.osdp_calls.specs.Lines.{bus_with, InUse, Station}
 pub use Rattle.osdp_calls_instance.specs.LinePrograms.{handing, line_device, line_panel, nexts, reading, unless_done}
 pub use Rattle.osdp_calls_instance.specs.OwnCalls.{after_each, all_calls, AtDevice, AtPanel, bus_after, bus_after_each, calls_at, CallTheLine, DeviceKind, IsLineOf, PanelKind}

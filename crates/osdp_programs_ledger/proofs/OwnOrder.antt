@@ -1,5 +1,5 @@
 -- What programs call is what the panel's own bus and our devices go by, whatever the numbers of its entries are.
-use Rattle.osdp_programs_ledger.proofs.Common.{◌≡◌, ℕ, cond, List, [], ◌∷◌, map, Option, Some, None, refl, sym, subst, ap, ◌∙◌, inl, inr, Command, BusState, device_of, new_device, BusConfig, Entry, Answer, site_at, some_same, Call, NewDevice, NewPanel, Next, OfPanel, Pending, SetBusy, SetHandler, Silence, Step, SubmitEvent, Take, TickDevice, LapseEvent, WithdrawEvent, GoByTheirOwn, Held, device_after, device_after_all, held_by, is_of_device, InUse, Station, CallTheLine, DeviceKind, PanelKind, after_each, bus_after, bus_after_each, each_bus}
+use Rattle.osdp_programs_ledger.proofs.Common.{◌≡◌, ℕ, cond, List, [], ◌∷◌, map, Option, Some, None, refl, sym, subst, ap, ◌∙◌, inl, inr, Command, BusState, device_of, new_device, BusConfig, Entry, Answer, site_at, some_same, Call, OfPanel, Step, GoByTheirOwn, Held, device_after, device_after_all, held_by, is_of_device, InUse, Station, CallTheLine, DeviceKind, PanelKind, after_each, bus_after, bus_after_each, each_bus}
 use Rattle.osdp_entry_numbers.specs.Including.{AnyCallsKeep, same_step}
 use Rattle.osdp_entry_numbers.specs.Numbers.{IsIdle}
 use Rattle.osdp_entry_numbers.specs.OwnOrder.{OwnLine, OwnStep, after_all_own, after_own, in_order, own_after, own_view, turned}
@@ -26,18 +26,7 @@ module _ {H : Type 0} where
   -- the panel's own bus after a call
   bus_same : (call : Call H) (b : BusState) → own_after call b ≡ bus_after call b
   bus_same (OfPanel call) b = refl
-  bus_same (NewPanel config addresses) b = refl
-  bus_same (SubmitEvent k event) b = refl
-  bus_same (SetBusy k busy) b = refl
-  bus_same (SetHandler k handler) b = refl
-  bus_same (WithdrawEvent k) b = refl
-  bus_same (LapseEvent k) b = refl
-  bus_same (Take k bytes now) b = refl
-  bus_same (TickDevice k now) b = refl
-  bus_same (Silence k now) b = refl
-  bus_same (Next k) b = refl
-  bus_same (Pending k) b = refl
-  bus_same (NewDevice k config handler room gap) b = refl
+  bus_same _ b = refl
 
   module _ (answer_of : H → Command → Answer) (after : H → Command → H) where
     own_bus : (steps : List (OwnStep H)) (a : OwnLine H) → (after_all_own answer_of after steps a).bus ≡ bus_after_each (map (λ (step : OwnStep H). step.call) steps) a.bus
@@ -51,18 +40,7 @@ module _ {H : Type 0} where
         → cond (is_of_device k (in_order call ordered a)) (device_after answer_of after (in_order call ordered a) d) d
         ≡ cond (is_of_device k call) (device_after answer_of after call d) d
     device_same k (OfPanel call) ordered a d = refl
-    device_same k (NewPanel config addresses) ordered a d = refl
-    device_same k (SubmitEvent i event) ordered a d = refl
-    device_same k (SetBusy i busy) ordered a d = refl
-    device_same k (SetHandler i handler) ordered a d = refl
-    device_same k (WithdrawEvent i) ordered a d = refl
-    device_same k (LapseEvent i) ordered a d = refl
-    device_same k (Take i bytes now) ordered a d = refl
-    device_same k (TickDevice i now) ordered a d = refl
-    device_same k (Silence i now) ordered a d = refl
-    device_same k (Next i) ordered a d = refl
-    device_same k (Pending i) ordered a d = refl
-    device_same k (NewDevice i config handler room gap) ordered a d = refl
+    device_same k _ ordered a d = refl
 
     module _ (own : (l : InUse H) → GoByTheirOwn answer_of after l) where
       own_device : (steps : List (OwnStep H)) (a : OwnLine H) (k : ℕ) (t : Station H) → site_at k a.line.stations ≡ Some t

@@ -1,8 +1,8 @@
 -- The run of a schedule is calls of a line in use, and its account tells what their ledger says.
 use Rattle.osdp_programs_ledger.proofs.Common.{◌≡◌, ℕ, zero, suc, List, [], ◌∷◌, map, Some, sym, subst, ap, ◌∙◌, slice_get, Command, device_of, Answer, site_at, Given, GoByTheirOwn, InUse, RunIsCalls, line_at_first, new_station, runs_from_a_set_up, LedgerHoldsOnce}
-use Rattle.osdp_link_laws.specs.Reports.{Told}
 use Rattle.osdp_calls_instance.specs.SimulatedReports.{RunTakesTheSame, RunTellsTheSame}
 use Rattle.osdp_calls_ledger.specs.Laws.{EachKeepsLedger}
+use Rattle.osdp_calls_ledger.proofs.Acted.{each_taken}
 use Rattle.osdp_programs_ledger.specs.Schedules.{RunsHoldOnce}
 use Rattle.osdp_programs_ledger.proofs.Accepted.{run_accepts}
 use Rattle.osdp_programs_ledger.proofs.Entries.{entry_of}
@@ -29,7 +29,6 @@ module _ {H : Type 0} where
         let held = holds l calls up keep k first t.0 entry.0 is t.1 entry.1 in
         let kept = keeps l calls up keep k first t.0 entry.0 is t.1 entry.1 in
         let told = tells config readers steps gap calls taken.settings.bus (entries_stand config readers taken.settings) taken.well taken.bytes are k u at in
-        let same = kept.tells.told ∙ told in
         let more = run_accepts answer_of after own config readers steps gap calls some taken.well taken.bytes are k given u there at in
         let took = takes config readers steps gap calls some taken.well taken.bytes are k u at in
         record {
@@ -41,11 +40,10 @@ module _ {H : Type 0} where
           allowed = held.0;
           holds = held.1;
           told = record {
-            issued = more.0 ∙ sym kept.tells.orders;
-            queued = more.1 ∙ sym kept.tells.cards;
-            settled = sym (ap (λ (x : Told). x.settled) same);
-            unsettled = sym (ap (λ (x : Told). x.in_doubt) same);
-            taken = sym (kept.tells.acted ∙ took);
-            reported = sym (ap (λ (x : Told). x.reported) same);
+            orders = kept.tells.orders ∙ sym more.0;
+            acted = kept.tells.acted;
+            cards = kept.tells.cards ∙ sym more.1;
+            told = kept.tells.told ∙ told;
           };
+          taken = sym took ∙ sym (each_taken answer_of after k calls l);
         }

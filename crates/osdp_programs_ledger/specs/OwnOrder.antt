@@ -9,8 +9,8 @@ use Rattle.osdp_bus.specs.declared.entry.Entry.{Entry}
 use Rattle.osdp_reader.specs.declared.handler.Answer.{Answer}
 use Rattle.osdp_ledger.specs.History.{AreAllowed, new_history, runs}
 use Rattle.osdp_shared_line.specs.Line.{site_at}
-use Rattle.osdp_calls.specs.Calls.{Step}
-use Rattle.osdp_calls.specs.Ends.{CanStand, held_by}
+use Rattle.osdp_calls.specs.Calls.{Step, held_by}
+use Rattle.osdp_calls.specs.Ends.{CanStand}
 use Rattle.osdp_calls.specs.Lines.{InUse, Station, bus_with}
 use Rattle.osdp_calls.specs.Premises.{AllKeep}
 use Rattle.osdp_calls.specs.Sayings.{NoneRefused}

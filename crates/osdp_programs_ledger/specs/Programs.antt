@@ -7,8 +7,7 @@ use Rattle.osdp_reader.specs.declared.handler.Answer.{Answer}
 use Rattle.osdp_ledger.specs.History.{AreAllowed, new_history, runs}
 use Rattle.osdp_shared_line.specs.Line.{site_at}
 use Rattle.osdp_calls.specs.Accepted.{all_accepted, all_queued}
-use Rattle.osdp_calls.specs.Calls.{Step}
-use Rattle.osdp_calls.specs.Ends.{held_by}
+use Rattle.osdp_calls.specs.Calls.{Step, held_by}
 use Rattle.osdp_calls.specs.Lines.{InUse, Station}
 use Rattle.osdp_calls.specs.Premises.{AllKeep, IsSetUp}
 use Rattle.osdp_calls.specs.Programs.{AllKeepRule, first_notes}
@@ -29,6 +28,7 @@ module _ {H : Type 0} (P : PanelKind H) (D : DeviceKind H) (answer_of : H → Co
     pub holds : EntryHoldsOnce (all_accepted answer_of after k steps l) (first.reader.queue.events ++ all_queued answer_of after k steps l)
         (all_given_up answer_of after k steps l) entry station (runs (steps_from answer_of after k first steps l) new_history)
 
+  -- so it is of each entry that has a device at the end
   abbrev pub EachProgramHoldsOnce : List (OwnCall P D) → Programs P D → InUse H → List (Step H) → Type 0
   EachProgramHoldsOnce own w l steps = (k : ℕ) (first : Station H) (d : D.Program) → site_at k l.stations ≡ Some first
       → site_at k (after_each P D own w).devices ≡ Some d → HoldsOnceAt k first (after_each P D own w) d steps l

@@ -1,17 +1,16 @@
 -- Runs of schedules over a bus, as the calls that they are: what the ledger says of each reader, and the account of the run too.
-use Rattle.std.specs.Prelude.{◌≡◌, ℕ, ◌≤◌, List, flat_map, map, Some, slice_get}
+use Rattle.std.specs.Prelude.{◌≡◌, ℕ, ◌≤◌, List, map, Some, slice_get}
 use Rattle.osdp_msg.specs.declared.command.Command.{Command}
 use Rattle.osdp_msg.specs.declared.reply.Reply.{Reply}
 use Rattle.osdp_bus.specs.Buses.{device_of}
 use Rattle.osdp_bus.specs.declared.config.BusConfig.{BusConfig}
 use Rattle.osdp_bus.specs.declared.entry.Entry.{Entry}
 use Rattle.osdp_reader.specs.declared.handler.Answer.{Answer}
-use Rattle.osdp_ledger.specs.History.{AreAllowed, End, History, new_history, runs}
-use Rattle.osdp_ledger.specs.Ledger.{Card, Order}
-use Rattle.osdp_link_ledger.specs.Telling.{doubted_as, settled_as}
+use Rattle.osdp_ledger.specs.History.{AreAllowed, new_history, runs}
+use Rattle.osdp_link_ledger.specs.Telling.{TellsAll}
 use Rattle.osdp_shared_line.specs.Line.{site_at}
-use Rattle.osdp_sim.specs.Account.{Account}
 use Rattle.osdp_sim.specs.declared.step.SimStep.{SimStep}
+use Rattle.osdp_sim_laws.specs.Accounts.{told_of}
 use Rattle.osdp_sim_bus.specs.Runs.{run}
 use Rattle.osdp_sim_bus.specs.State.{Given, ReaderSite, set_up}
 use Rattle.osdp_calls.specs.Accepted.{all_accepted, all_queued}
@@ -20,18 +19,10 @@ use Rattle.osdp_calls.specs.Lines.{Station}
 use Rattle.osdp_calls.specs.Premises.{AllKeep}
 use Rattle.osdp_calls_instance.specs.SimulatedBus.{AreItsCalls, line_at_first, new_station}
 use Rattle.osdp_calls_instance.specs.SimulatedOrder.{IsTaken}
+use Rattle.osdp_calls_ledger.specs.Acted.{all_acted}
 use Rattle.osdp_calls_ledger.specs.GivenUp.{all_given_up}
 use Rattle.osdp_calls_ledger.specs.Promises.{EntryHoldsOnce}
 use Rattle.osdp_calls_ledger.specs.Steps.{steps_from}
-
--- the account has the commands accepted, those taken, those settled, each with its answer, and those told unsettled; and the events accepted and reported
-pub record TellsTheSame (a : Account) (h : History) : Type 0 where
-  pub issued : a.issued ≡ map (λ (o : Order). o.command) h.accepted
-  pub settled : a.settled ≡ flat_map (λ (e : Order × End). settled_as e.0 e.1) h.ended
-  pub unsettled : a.unsettled ≡ flat_map (λ (e : Order × End). doubted_as e.0 e.1) h.ended
-  pub taken : a.taken ≡ map (λ (d : Order × Reply). d.0.command) h.acted
-  pub queued : a.queued ≡ map (λ (c : Card). c.event) h.queued
-  pub reported : a.reported ≡ map (λ (told : ℕ × Card). told.1.event) h.reports
 
 module _ {H : Type 0} (answer_of : H → Command → Answer) (after : H → Command → H) where
   -- a device with this reader, at the entry that the bus of the run has
@@ -46,7 +37,11 @@ module _ {H : Type 0} (answer_of : H → Command → Answer) (after : H → Comm
     pub holds : EntryHoldsOnce (all_accepted answer_of after k calls (line_at_first config gap readers)) (all_queued answer_of after k calls (line_at_first config gap readers))
         (all_given_up answer_of after k calls (line_at_first config gap readers)) entry station
         (runs (steps_from answer_of after k (new_station gap given) calls (line_at_first config gap readers)) new_history)
-    pub told : TellsTheSame u.account (runs (steps_from answer_of after k (new_station gap given) calls (line_at_first config gap readers)) new_history)
+    -- What its ledger says that was accepted and told is what the account has so, and the device has acted on these commands, with these answers.
+    pub told : TellsAll u.account.issued (all_acted answer_of after k calls (line_at_first config gap readers)) u.account.queued (told_of u.account)
+        (runs (steps_from answer_of after k (new_station gap given) calls (line_at_first config gap readers)) new_history)
+    -- They are the commands that the account has as taken.
+    pub taken : u.account.taken ≡ map (λ (d : Command × Reply). d.0) (all_acted answer_of after k calls (line_at_first config gap readers))
 
   -- of each reader of a run whose calls keep the premises
   abbrev pub RunsHoldOnce : Type 0

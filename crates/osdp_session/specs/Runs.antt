@@ -36,6 +36,7 @@ module _ {H : Type 0} (answer_of : H → Command → Answer) (after : H → Comm
     pub sessions : WasSetUp answer → TellsSessions config handler (steps_done steps answer) (account_in answer)
     pub once : WasSetUp answer → reopens_in 1 (steps_done steps answer) ≡ 0 → HoldsInOneSession answer_of after config.reader handler (account_in answer)
 
+  -- whatever the steps are
   abbrev pub HoldsOfEachRun : Type 0
   HoldsOfEachRun = (config : SimConfig) (handler : H) (steps : List SimStep) (answer : Result Account (Fault Account))
       → IsAnswer answer_of after config handler steps answer → HoldsOfRun config handler steps answer

@@ -35,6 +35,7 @@ module _ {H : Type 0} where
       pub sessions : WasSetUp answer → OfEach (TellsSessions (steps_done steps answer)) readers (accounts_in answer)
       pub once : WasSetUp answer → OfEach (IsOneSession answer_of after (steps_done steps answer)) readers (accounts_in answer)
 
+  -- whatever the readers and the steps are
   abbrev pub HoldsOfEachBusRun : (H → Command → Answer) → (H → Command → H) → Type 0
   HoldsOfEachBusRun answer_of after = (config : BusConfig) (readers : List (Given H)) (steps : List SimStep) (answer : BusAnswer)
       → IsAnswer answer_of after config readers steps answer → HoldsOfBusRun answer_of after config readers steps answer

@@ -2,7 +2,7 @@
 use Rattle.osdp_shared_line.proofs.Common.{◌≡◌, ◌≢◌, ◌⊎◌, ◌<◌, ◌≤◌, ℕ, zero, suc, true, false, cond, eqb, List, [], ◌∷◌, ◌++◌, length, Option, Some, None, IfSome, refl, sym, subst, ap, ◌∙◌, inl, inr, arith, eqb_tells, Packet, Command, seen, Closed, Answer, MovesFit, SaysWhatFitsIf, Delivered, Link, Move, after_move, ReadsWhatIsAsked, AreDue, AreLate, ComeOn, ComesThrough, ComesThroughInTime, IsClear, SetsNoAddress, round, rounds, reports, told_in, each_of, NetMovesFit, unended, Net, NetMove, Site, Tick, ToPanel, address_of, after_net, changed, first_gets, gets, is_told, run, site_at, tagged, AreRounds, ComesOn, EachComesThrough, EachComesThroughInTime, IsEmpty, RoundsAreItsOwn, all_read, moments_of, net_round, net_rounds, IsItsLink, moves_of, reports_at, IsMoved, front_to_panel, one_if, own, own_reply, other_reply, view, is_false, is_true}
 use Rattle.std.specs.Prelude.{Bool, ◌-◌, map, min, option_to_list}
 use Rattle.osdp_controller.specs.Ticking as ticking
-use Rattle.osdp_link_laws.specs.Ahead.{left}
+use Rattle.osdp_link_laws.specs.Ahead.{count_ahead}
 use Rattle.osdp_link_laws.specs.Link as link
 use Rattle.osdp_shared_line.specs.Line as line
 use Rattle.osdp_shared_line.specs.Views as views
@@ -389,7 +389,7 @@ module _ {H : Type 0} (answer_of : H → Command → Answer) (after : H → Comm
         ComeOn answer_of after (moments_of k turns) (view k s later) → ComesOn answer_of after k turns s later
     come_on n moves turns k first s last h comes =
         let later = run answer_of after moves n in
-        subst (λ rs. min (length (moments_of k turns) - 1) (left (view k s later)) ≤ told_in rs) (sym (come n moves turns k first s last h).2) comes
+        subst (λ rs. min (length (moments_of k turns) - 1) (count_ahead (view k s later)) ≤ told_in rs) (sym (come n moves turns k first s last h).2) comes
 
     pub each_comes_through : ComesThrough answer_of after → EachComesThrough answer_of after
     each_comes_through through n moves turns k first s last h due =

@@ -4,7 +4,7 @@ use Rattle.osdp_msg.specs.declared.command.Command.{Command}
 use Rattle.osdp_controller.specs.declared.state.State.TheVariants.{Closed}
 use Rattle.osdp_controller_laws.specs.Calls.{IsInRange}
 use Rattle.osdp_reader.specs.declared.handler.Answer.{Answer}
-use Rattle.osdp_link_laws.specs.Ahead.{left}
+use Rattle.osdp_link_laws.specs.Ahead.{count_ahead}
 use Rattle.osdp_link_laws.specs.Link as link
 use Rattle.osdp_link_laws.specs.Link.{Delivered}
 use Rattle.osdp_link_laws.specs.Progress.{AreDue, AreLate, IsClear, rounds}
@@ -73,7 +73,7 @@ module _ {H : Type 0} where
     -- over the rounds of all, as many of this site's commands and events as it has rounds of its own, but one, are told settled or reported, or all that
     -- were left
     abbrev pub ComesOn : ℕ → List (ℕ × ℕ) → Site H → Net H → Type 0
-    ComesOn k turns s n = min (length (moments_of k turns) - 1) (left (view k s n))
+    ComesOn k turns s n = min (length (moments_of k turns) - 1) (count_ahead (view k s n))
         ≤ told_in (reports_at answer_of after k (net_rounds (length n.sites) turns) s n)
 
     -- so it is where each tick of its own is due ..

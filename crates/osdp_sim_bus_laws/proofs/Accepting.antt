@@ -1,410 +1,317 @@
 -- Which orders are accepted for each of several readers: by the room that there is.
-use Rattle.osdp_sim_bus_laws.proofs.Common.{◌≡◌, ◌≤◌, ◌+◌, ◌-◌, ℕ, zero, suc, arith, Bool, true, false, ◌==◌, if◌then◌else◌, List, [], ◌∷◌, ◌++◌, Option, Some, None, inl, inr, refl, sym, subst, ap, ◌∙◌, eq-eqb, slice_get-map, option_map, slice_get, slice_set, option_map_or, Command, Event, CommandFits, comset_of, ControllerFault, lacks_room, Answer, after_submit_at, bus_fault, entry_submits, is_comset_refused, submit_refusal_at, submit_refusal_of, BusConfig, Entry, BusFault, IsAmong, each_of, Each, Account, SimStep, Issue, Queue, Given, LineState, ReaderSite, begun_device, new_site, set_up, StepFits, after_step, changed_site, is_there, issued, site_issues, site_queues, site_queues_unless, Accepts, IsNoOrder, accepted, counts, none_accepted, one_accepted, one_less, one_refused, submit_is, OrderFits, ShortCommands, ShortEvents, commands_stay_short, events_stay_short, no_room_for_command, no_room_for_event, one_more_command, one_more_event, orders_fit, same_events, AcceptsFor, EachAccepts, IsNoComset}
-use Rattle.osdp_msg.specs.declared.limits.Room.{Room}
+use Rattle.osdp_sim_bus_laws.proofs.Common.{◌≡◌, ◌<◌, ◌-◌, ℕ, zero, suc, arith, Bool, true, false, ◌==◌, if◌then◌else◌, cond, List, [], ◌∷◌, ◌++◌, length, Option, Some, None, inl, inr, refl, sym, subst, ap, ◌∙◌, append_assoc, append-nil, slice_get-map, option_map, slice_get, Packet, Command, Event, comset_of, ControllerFault, Answer, Delivered, Delivery, Lost, Repeated, BusConfig, IsAmong, each_append, each_front, each_of, each_rest, Each, both, Account, SimStep, Issue, Queue, Busy, Wait, ToReader, ToController, Reopen, Given, LineState, new_site, set_up, StepFits, after_step, is_there, steps_done, IsNoOrder, OrdersNone, commands_by_room, commands_in, events_by_room, events_in, orders_for_fit, submit_is, OrderFits, orders_fit, AcceptsFor, EachAccepts, IsNoComset, Net, NetMove, Site, IsSetUp, one_ticks, run, site_at, who_ticks, moment_after, each_reads, for_reader, moment_of, moves_for, moves_of, IsRun, SchedulesAreMoves, first_net, first_site}
+use Rattle.std.proofs.lemmas.Bool.Decides.{eqb_tells}
+use Rattle.osdp_msg.specs.CommandTable.{CommandFits}
 use Rattle.osdp_msg.specs.Events.{EventFits}
+use Rattle.osdp_msg.specs.declared.command.Command.TheVariants as command
+use Rattle.osdp_msg.specs.declared.limits.Room.{Room}
 use Rattle.osdp_controller.specs.Machine as controllers
-use Rattle.osdp_controller.specs.declared.fault.ControllerFault.TheVariants.{Full}
-use Rattle.osdp_bus.specs.Buses.{device_of}
-use Rattle.osdp_bus.specs.declared.fault.BusFault.TheVariants.{AddressTaken}
-use Rattle.osdp_sim_bus.specs.Runs.{FitAlong, run, steps_done}
-use Rattle.osdp_sim_laws.specs.Accepted.{but_poll, commands_for, events_for}
-use Rattle.osdp_sim_bus_laws.proofs.Places.{StaysAt, get_changed, get_set, other_changed, stays_all, stays_changed}
-use Rattle.osdp_sim_bus_laws.proofs.Rows.{answers, told_by}
-use Rattle.osdp_sim_bus_laws.proofs.Waiting.{Keeps}
-use Rattle.osdp_sim_bus_laws.proofs.Idling.{NoneQueued, SameIssued, event_step, events_idle, idle_device, idle_sites, issued_idle, other_order, there_is, where_sites}
+use Rattle.osdp_link_laws.specs.Link as link
+use Rattle.osdp_link_laws.specs.Link.{Link, Move}
+use Rattle.osdp_link_laws.specs.Reports.{command_taken as but_poll}
+use Rattle.osdp_link_laws.specs.Sessions as sessions
+use Rattle.osdp_shared_line.specs.Addresses.{NetMovesFit}
+use Rattle.osdp_shared_line.specs.Line as line
+use Rattle.osdp_shared_line.specs.Line.{after_net, is_comset_refused}
+use Rattle.osdp_shared_line.specs.Runs as links
+use Rattle.osdp_shared_line.specs.Runs.{EachIsALink}
+use Rattle.osdp_shared_line.specs.Views.{front_to_panel, lost, move_of, one_if, other_reply, own_front, own_reply, sees}
+use Rattle.osdp_shared_line.proofs.Rounds.{fits_first, net_more}
+use Rattle.osdp_shared_line.proofs.Telling.{own_more}
+use Rattle.osdp_sim_bus.proofs.Counts.{same_many}
+use Rattle.osdp_sim_laws.specs.Accepted.{IsAccepted, commands_for, events_for, if_named}
+use Rattle.osdp_sim_laws.specs.Moves.{delivery}
+use Rattle.osdp_sim_bus_laws.proofs.Idling.{there_is}
+use Rattle.osdp_sim_bus_laws.proofs.Own.{one_if_other, one_if_same, one_own}
+use Rattle.osdp_sim_bus_laws.proofs.Beginning.{is_set_up}
+use Rattle.osdp_sim_bus_laws.proofs.Places.{within}
+use Rattle.osdp_sim_bus_laws.proofs.Rows.{account_at, answers, its_first, its_link, own_moves, told_by}
+use Rattle.osdp_sim_bus.specs.Runs as simulation
+
+-- ---- some of a list
+
+among_all : {A : Type 0} (xs : List A) → IsAmong xs xs
+among_all [] = refl
+among_all (x ∷ xs) = inr (xs, refl, among_all xs)
+
+among_none : {A : Type 0} (xs : List A) → IsAmong [] xs
+among_none [] = refl
+among_none (x ∷ xs) = inl (among_none xs)
+
+among_more : {A : Type 0} (xs ys zs ws : List A) → IsAmong xs ys → IsAmong zs ws → IsAmong (xs ++ zs) (ys ++ ws)
+among_more xs [] zs ws few more = subst (λ l. IsAmong (l ++ zs) ws) (sym few) more
+among_more xs (y ∷ ys) zs ws (inl few) more = inl (among_more xs ys zs ws few more)
+among_more xs (y ∷ ys) zs ws (inr (rest, is, few)) more = inr (rest ++ zs, ap (λ l. l ++ zs) is, among_more rest ys zs ws few more)
+
+among_front : {A : Type 0} (xs : List A) (z : A) (rest zs : List A) → ((ys : List A) → IsAmong ys rest → IsAmong ys zs) → IsAmong xs (z ∷ rest) → IsAmong xs (z ∷ zs)
+among_front xs z rest zs later (inl few) = inl (later xs few)
+among_front xs z rest zs later (inr (others, is, few)) = inr (others, is, later others few)
+
+among_then : {A : Type 0} (xs ys zs : List A) → IsAmong xs ys → IsAmong ys zs → IsAmong xs zs
+among_then xs ys [] few more = subst (IsAmong xs) more few
+among_then xs ys (z ∷ zs) few (inl more) = inl (among_then xs ys zs few more)
+among_then xs ys (z ∷ zs) few (inr (rest, is, more)) = among_front xs z rest zs (λ some first. among_then some rest zs first more) (subst (IsAmong xs) is few)
+
+module _ {H : Type 0} where
+  commands_both : (ms ns : List (Move H)) → commands_in (ms ++ ns) ≡ commands_in ms ++ commands_in ns
+  commands_both [] ns = refl
+  commands_both (link.Submit c ∷ ms) ns = ap (λ l. but_poll c ++ l) (commands_both ms ns) ∙ sym (append_assoc (but_poll c) (commands_in ms) (commands_in ns))
+  commands_both (m ∷ ms) ns = commands_both ms ns
+
+  events_both : (ms ns : List (Move H)) → events_in (ms ++ ns) ≡ events_in ms ++ events_in ns
+  events_both [] ns = refl
+  events_both (link.Queue e ∷ ms) ns = ap (λ l. e ∷ l) (events_both ms ns)
+  events_both (m ∷ ms) ns = events_both ms ns
+
+  -- moves order these commands, but for COMSETs that are refused before, and these events
+  record AreOrders (ms : List (Move H)) (cs : List Command) (es : List Event) : Type 0 where
+    pub among : IsAmong (commands_in ms) cs
+    pub all : Each IsNoComset cs → commands_in ms ≡ cs
+    pub events : events_in ms ≡ es
+
+  both_orders : (ms ns : List (Move H)) (cs ds : List Command) (es fs : List Event) → AreOrders ms cs es → AreOrders ns ds fs → AreOrders (ms ++ ns) (cs ++ ds) (es ++ fs)
+  both_orders ms ns cs ds es fs one more = record {
+    among = subst (λ l. IsAmong l (cs ++ ds)) (sym (commands_both ms ns)) (among_more (commands_in ms) cs (commands_in ns) ds one.among more.among);
+    all = λ plain.
+        commands_both ms ns ∙ ap (λ l. l ++ commands_in ns) (one.all (each_front IsNoComset cs ds plain)) ∙ ap (λ l. cs ++ l) (more.all (each_rest IsNoComset cs ds plain));
+    events = events_both ms ns ∙ ap (λ l. l ++ events_in ns) one.events ∙ ap (λ l. es ++ l) more.events;
+  }
+
+  no_orders : (ms : List (Move H)) → Each OrdersNone ms → AreOrders ms [] []
+  no_orders [] none = record { among = refl; all = λ plain. refl; events = refl }
+  no_orders (link.Submit c ∷ ms) none = absurd none.0
+  no_orders (link.Queue e ∷ ms) none = absurd none.0
+  no_orders (m ∷ ms) none = let rest = no_orders ms none.1 in record { among = rest.among; all = rest.all; events = rest.events }
+
+module _ {H : Type 0} (answer_of : H → Command → Answer) (after : H → Command → H) (k : ℕ) where
+  -- ---- moves that order nothing
+
+  abbrev NetOrdersNone : NetMove H → Type 0
+  NetOrdersNone (line.SetBusy i busy) = Unit {0}
+  NetOrdersNone (line.Tick i now) = Unit {0}
+  NetOrdersNone (line.ToReader i how) = Unit {0}
+  NetOrdersNone (line.ToPanel how now) = Unit {0}
+  NetOrdersNone (line.Reopen i now) = Unit {0}
+  NetOrdersNone m = ⊥
+
+  one_none : (i : ℕ) (m : Move H) → OrdersNone m → Each OrdersNone (one_if i k m)
+  one_none i m none = both (Each OrdersNone) (i == k) (m ∷ []) [] (none, tt) tt
+
+  front_none : (ps : List (ℕ × Packet)) (how : Delivery) → Each (OrdersNone {H = H}) (own_front k ps how)
+  front_none [] how = tt
+  front_none (p ∷ rest) how = one_none p.0 (link.ToReader how) tt
+
+  lost_none : (how : Delivery) (now : ℕ) → Each (OrdersNone {H = H}) (lost how now)
+  lost_none Delivered now = (tt, tt)
+  lost_none Lost now = (tt, tt)
+  lost_none Repeated now = tt
+
+  sees_none : (how : Delivery) (now : ℕ) → Each (OrdersNone {H = H}) (sees how now)
+  sees_none Delivered now = (tt, tt)
+  sees_none Lost now = tt
+  sees_none Repeated now = (tt, tt)
+
+  panel_none : (here : ℕ) (ps : List (ℕ × Packet)) (how : Delivery) (now : ℕ) → Each (OrdersNone {H = H}) (front_to_panel k here ps how now)
+  panel_none here [] how now = tt
+  panel_none here (p ∷ rest) how now =
+      both (Each OrdersNone) (p.0 == k) (own_reply here p.1 how now) (other_reply here p.1 how now)
+      (both (Each OrdersNone) (here == p.1.address) (link.ToController how now ∷ []) (lost how now) (tt, tt) (lost_none how now))
+      (both (Each OrdersNone) (here == p.1.address) (sees how now) [] (sees_none how now) tt)
+
+  own_none : (m : NetMove H) (t : Site H) (n : Net H) → NetOrdersNone m → Each OrdersNone (move_of k t m n)
+  own_none (line.SetBusy i busy) t n none = one_none i (link.SetBusy busy) tt
+  own_none (line.Tick i now) t n none = one_none i (link.Tick now) tt
+  own_none (line.ToReader i how) t n none = both (Each OrdersNone) (i == k) (own_front k t.coming how) [] (front_none t.coming how) tt
+  own_none (line.ToPanel how now) t n none = panel_none (line.address_of t) n.to_panel how now
+  own_none (line.Reopen i now) t n none = one_none i (link.Reopen now) tt
+  own_none m t n none = absurd none
+
+  all_none : (ms : List (NetMove H)) (n : Net H) → Each NetOrdersNone ms → Each OrdersNone (links.moves_of answer_of after k ms n)
+  all_none [] n none = tt
+  all_none (m ∷ ms) n none =
+      let next = after_net answer_of after m n in
+      each_append OrdersNone (links.moves_at answer_of after k (site_at k n.sites) m n) (links.moves_of answer_of after k ms next)
+      (by_site (site_at k n.sites)) (all_none ms next none.1)
+    where
+      by_site : (o : Option (Site H)) → Each OrdersNone (links.moves_at answer_of after k o m n)
+      by_site None = tt
+      by_site (Some t) = own_none m t n none.0
+
+  ticks_none : (o : Option ℕ) (now : ℕ) → Each NetOrdersNone (one_ticks o now)
+  ticks_none None now = tt
+  ticks_none (Some entry) now = (tt, tt)
+
+  reads_none : (how : Delivery) (i count : ℕ) → Each NetOrdersNone (each_reads how i count)
+  reads_none how i zero = tt
+  reads_none how i (suc more) = (tt, reads_none how (suc i) more)
+
+  step_none : (step : SimStep) (s : LineState H) → IsNoOrder step → Each NetOrdersNone (moves_for step s)
+  step_none (Issue number c) s idles = absurd idles
+  step_none (Queue number e) s idles = absurd idles
+  step_none (Busy number busy) s idles = both (Each NetOrdersNone) (is_there number s) (line.SetBusy (number - 1) busy ∷ []) [] (tt, tt) tt
+  step_none (Wait wait) s idles =
+      ticks_none (who_ticks (moment_after wait s.clock) s.bus) (moment_of (record s { clock = moment_after wait s.clock }))
+  step_none (ToReader move) s idles = reads_none (delivery move) 0 (length s.sites)
+  step_none (ToController move) s idles = (tt, tt)
+  step_none (Reopen number) s idles = both (Each NetOrdersNone) (is_there number s) (line.Reopen (number - 1) (moment_of s) ∷ []) [] (tt, tt) tt
+
+  -- ---- a command or an event
+
+  -- a move for the reader of a number is one for this site, or for none
+  own_for : (number : ℕ) (s : LineState H) (n : Net H) (t : Site H) → site_at k n.sites ≡ Some t → k < length s.sites → (move : ℕ → NetMove H) (mine : List (Move H))
+      → move_of k t (move k) n ≡ mine → ((j : ℕ) → (j ≡ k → ⊥) → move_of k t (move j) n ≡ [])
+      → links.moves_of answer_of after k (for_reader number s move) n ≡ (if number == suc k then mine else [])
+  own_for number s n t at few move mine here others = elim (eqb_tells number (suc k)) [
+    | inl same ↦
+        let there : is_there number s ≡ true = ap (λ i. is_there i s) same.1 ∙ there_is k s few in
+        let place : number - 1 ≡ k = omega (arith, same.1) in
+        ap (λ b. links.moves_of answer_of after k (if b then move (number - 1) ∷ [] else []) n) there
+        ∙ one_own answer_of after k t n at (move (number - 1)) ∙ ap (λ j. move_of k t (move j) n) place ∙ here ∙ sym (ap (λ b. if b then mine else []) same.0)
+    | inr other ↦ away number (is_there number s) refl other.1 ∙ sym (ap (λ b. if b then mine else []) other.0)
+  ]
+    where
+      away : (number : ℕ) (there : Bool) → is_there number s ≡ there → (number ≡ suc k → ⊥)
+          → links.moves_of answer_of after k (if there then move (number - 1) ∷ [] else []) n ≡ []
+      away number false is other = refl
+      away zero true is other = absurd cc
+      away (suc j) true is other = one_own answer_of after k t n at (move (suc j - 1)) ∙ others (suc j - 1) (λ e. other (omega (arith, e)))
+
+  plain_command : (c : Command) → Each IsNoComset (but_poll c) → comset_of c ≡ None
+  plain_command command.Poll plain = refl
+  plain_command c plain = plain.0
+
+  one_command : (named refused : Bool) (c : Command) → (comset_of c ≡ None → refused ≡ false)
+      → AreOrders {H = H} (if named then (if refused then [] else link.Submit c ∷ []) else []) (if named then but_poll c else []) []
+  one_command false refused c free = record { among = refl; all = λ plain. refl; events = refl }
+  one_command true false c free = record {
+    among = subst (λ l. IsAmong l (but_poll c)) (sym (append-nil (but_poll c))) (among_all (but_poll c));
+    all = λ plain. append-nil (but_poll c);
+    events = refl;
+  }
+  one_command true true c free = record {
+    among = among_none (but_poll c);
+    all = λ plain. absurd (let not_so = free (plain_command c plain) in cc);
+    events = refl;
+  }
+
+  one_event : (named : Bool) (e : Event) → AreOrders {H = H} (if named then link.Queue e ∷ [] else []) [] (if named then e ∷ [] else [])
+  one_event true e = record { among = refl; all = λ plain. refl; events = refl }
+  one_event false e = record { among = refl; all = λ plain. refl; events = refl }
+
+  issue_orders : (number : ℕ) (c : Command) (s : LineState H) (n : Net H) (t : Site H) → site_at k n.sites ≡ Some t → k < length s.sites
+      → AreOrders (links.moves_of answer_of after k (moves_for (Issue number c) s) n) (if_named (suc k) number (but_poll c)) []
+  issue_orders number c s n t at few =
+      let refused = is_comset_refused k (comset_of c) t n.sites in
+      let own = own_for number s n t at few (λ j. line.Submit j c) (if refused then [] else link.Submit c ∷ [])
+      (ap (λ l. if refused then [] else l) (one_if_same k k (link.Submit c) refl))
+      (λ j other. ap (λ l. if is_comset_refused j (comset_of c) t n.sites then [] else l) (one_if_other j k (link.Submit c) other)
+      ∙ none_both (is_comset_refused j (comset_of c) t n.sites)) in
+      subst (λ ms. AreOrders ms (if_named (suc k) number (but_poll c)) []) (sym own)
+      (one_command (number == suc k) refused c (λ none. ap (λ o. is_comset_refused k o t n.sites) none))
+    where
+      none_both : (b : Bool) → cond {A = List (Move H)} b [] [] ≡ []
+      none_both true = refl
+      none_both false = refl
+
+  queue_orders : (number : ℕ) (e : Event) (s : LineState H) (n : Net H) (t : Site H) → site_at k n.sites ≡ Some t → k < length s.sites
+      → AreOrders (links.moves_of answer_of after k (moves_for (Queue number e) s) n) [] (if_named (suc k) number (e ∷ []))
+  queue_orders number e s n t at few =
+      subst (λ ms. AreOrders ms [] (if_named (suc k) number (e ∷ [])))
+      (sym (own_for number s n t at few (λ j. line.Queue j e) (link.Queue e ∷ []) (one_if_same k k (link.Queue e) refl) (λ j other. one_if_other j k (link.Queue e) other)))
+      (one_event (number == suc k) e)
+
+  -- ---- a schedule
+
+  module _ (each : EachIsALink answer_of after) (first : Net H) (up : IsSetUp first) (t : Site H) (at : site_at k first.sites ≡ Some t) where
+    -- from each state that these steps are taken from, the site's moves order what they do
+    abbrev OwnOrders : List SimStep → Type 0
+    OwnOrders list = (s : LineState H) (ms : List (NetMove H)) → NetMovesFit answer_of after (ms ++ moves_of answer_of after list s) first → k < length s.sites
+        → AreOrders (links.moves_of answer_of after k (moves_of answer_of after list s) (run answer_of after ms first)) (commands_for (suc k) list) (events_for (suc k) list)
+
+    one_more : (x : SimStep) (list : List SimStep) → OwnOrders list → (s : LineState H) (ms : List (NetMove H))
+        → NetMovesFit answer_of after (ms ++ moves_of answer_of after (x ∷ list) s) first → k < length s.sites → (cs : List Command) (es : List Event)
+        → ((n : Net H) (u : Site H) → site_at k n.sites ≡ Some u → AreOrders (links.moves_of answer_of after k (moves_for x s) n) cs es)
+        → AreOrders (links.moves_of answer_of after k (moves_of answer_of after (x ∷ list) s) (run answer_of after ms first))
+        (cs ++ commands_for (suc k) list) (es ++ events_for (suc k) list)
+    one_more x list rest s ms fits few cs es here =
+        let n = run answer_of after ms first in
+        let mine = moves_for x s in
+        let next = after_step answer_of after x s in
+        let more = moves_of answer_of after list next in
+        let its = (each first ms up (fits_first answer_of after ms (mine ++ more) first fits) k t at).moved in
+        let later = rest next (ms ++ mine) (subst (λ l. NetMovesFit answer_of after l first) (sym (append_assoc ms mine more)) fits)
+        (omega (arith, few, same_many answer_of after x s)) in
+        subst (λ l. AreOrders l (cs ++ commands_for (suc k) list) (es ++ events_for (suc k) list)) (sym (own_more answer_of after k mine more n))
+        (both_orders (links.moves_of answer_of after k mine n) (links.moves_of answer_of after k more (run answer_of after mine n))
+        cs (commands_for (suc k) list) es (events_for (suc k) list) (here n its.site its.there)
+        (subst (λ m. AreOrders (links.moves_of answer_of after k more m) (commands_for (suc k) list) (events_for (suc k) list)) (net_more answer_of after ms mine first) later))
+
+    own_orders : (list : List SimStep) → OwnOrders list
+    own_orders [] s ms fits few = record { among = refl; all = λ plain. refl; events = refl }
+    own_orders (Issue number c ∷ list) s ms fits few =
+        one_more (Issue number c) list (own_orders list) s ms fits few (if_named (suc k) number (but_poll c)) [] (λ n u there. issue_orders number c s n u there few)
+    own_orders (Queue number e ∷ list) s ms fits few =
+        one_more (Queue number e) list (own_orders list) s ms fits few [] (if_named (suc k) number (e ∷ [])) (λ n u there. queue_orders number e s n u there few)
+    own_orders (x ∷ list) s ms fits few =
+        one_more x list (own_orders list) s ms fits few [] [] (λ n u there. no_orders _ (all_none (moves_for x s) n (step_none x s tt)))
 
 module _ {H : Type 0} (answer_of : H → Command → Answer) (after : H → Command → H) where
-  -- ---- commands
-
-  -- in the end the site at the place has these of the commands
-  pub record AcceptsIssued (room k : ℕ) (all before : List Command) (s : LineState H) : Type 0 where
-    pub site : ReaderSite H
-    pub there : slice_get s.sites k ≡ Some site
-    pub accepts : Accepts room all before site.account.issued
-
-  -- so from each state that these steps are taken from
-  abbrev RestAccepts : ℕ → List SimStep → Type 0
-  RestAccepts k list = (n : ℕ) (s : LineState H) (d : Entry) (u : ReaderSite H) → device_of k s.bus ≡ Some d → slice_get s.sites k ≡ Some u
-      → ShortCommands n d.controller → Each OrderFits list → Each IsNoComset (commands_for (suc k) list)
-      → AcceptsIssued (d.controller.capacity - n) k (commands_for (suc k) list) u.account.issued (run answer_of after list s)
-
-  carried : (k : ℕ) (list : List SimStep) → RestAccepts k list → (n : ℕ) (s t : LineState H) (d : Entry) (u : ReaderSite H) → device_of k s.bus ≡ Some d
-      → slice_get s.sites k ≡ Some u → ShortCommands n d.controller → Each OrderFits list → Each IsNoComset (commands_for (suc k) list)
-      → Keeps k s.bus.devices.entries t.bus.devices.entries → StaysAt (SameIssued answer_of after) k s.sites t.sites
-      → AcceptsIssued (d.controller.capacity - n) k (commands_for (suc k) list) u.account.issued (run answer_of after list t)
-  carried k list rest n s t d u at sited few fit none keeps stays =
-      let e = keeps d at in
-      let v = stays u sited in
-      let last = rest n t e.0 v.0 e.1 v.1 (commands_stay_short n d.controller e.0.controller e.2 few) fit none in
-      record {
-        site = last.site;
-        there = last.there;
-        accepts = subst (λ m. Accepts (m - n) (commands_for (suc k) list) u.account.issued last.site.account.issued) e.2.capacity
-            (subst (λ cs. Accepts (e.0.controller.capacity - n) (commands_for (suc k) list) cs last.site.account.issued) v.2 last.accepts);
-      }
-
-  idle_accepts : (k : ℕ) (list : List SimStep) → RestAccepts k list → (step : SimStep) → IsNoOrder step → (n : ℕ) (s : LineState H) (d : Entry) (u : ReaderSite H)
-      → device_of k s.bus ≡ Some d → slice_get s.sites k ≡ Some u → ShortCommands n d.controller → Each OrderFits list
-      → Each IsNoComset (commands_for (suc k) list)
-      → AcceptsIssued (d.controller.capacity - n) k (commands_for (suc k) list) u.account.issued (run answer_of after (step ∷ list) s)
-  idle_accepts k list rest step idles n s d u at sited few fit none =
-      carried k list rest n s (after_step answer_of after step s) d u at sited few fit none
-      ((idle_device answer_of after) k step s idles) ((idle_sites answer_of after) (SameIssued answer_of after) (issued_idle answer_of after) k step s idles)
-
-  refused_still : (b : Bool) (o : Option BusFault) → (o ≡ None → ⊥) → (if b then Some AddressTaken else o) ≡ None → ⊥
-  refused_still true o refused is = absurd cc
-  refused_still false o refused is = refused is
-
-  told_by_bus : (o : Option ControllerFault) → (o ≡ None → ⊥) → option_map bus_fault o ≡ None → ⊥
-  told_by_bus None refused is = refused refl
-  told_by_bus (Some fault) refused is = absurd cc
-
-  submitted_there : (k : ℕ) (c : Command) (s : LineState H) (d : Entry) → device_of k s.bus ≡ Some d
-      → slice_get (after_submit_at k c s.bus).devices.entries k ≡ Some (entry_submits c d)
-  submitted_there k c s d at =
-      ap (λ o. slice_get (option_map_or (λ x. record s.bus { devices = record s.bus.devices { entries = slice_set s.bus.devices.entries k (entry_submits c x) } }) o s.bus).devices.entries k) at
-      ∙ get_set k d (entry_submits c d) s.bus.devices.entries at
-
-  module _ (k : ℕ) (c : Command) (list : List SimStep) (rest : RestAccepts k list) (n : ℕ) (s : LineState H) (d : Entry) (u : ReaderSite H)
-      (at : device_of k s.bus ≡ Some d) (sited : slice_get s.sites k ≡ Some u) (few : ShortCommands n d.controller) (fits : CommandFits c) (fit : Each OrderFits list) where
-    abbrev Goal : List Command → Option BusFault → Type 0
-    Goal cs fault = AcceptsIssued (d.controller.capacity - n) k (cs ++ commands_for (suc k) list) u.account.issued (run answer_of after list (issued fault k c s))
-
-    put : Each IsNoComset (commands_for (suc k) list) → Goal (c ∷ []) None
-    put none =
-        let next = issued None k c s in
-        let last = rest (n + 1) next (entry_submits c d) (site_issues c u) (submitted_there k c s d at) (get_changed k (site_issues c) u s.sites sited)
-        (one_more_command n c d.controller fits few) fit none in
-        record {
-          site = last.site;
-          there = last.there;
-          accepts = one_accepted (d.controller.capacity - n) c (commands_for (suc k) list) u.account.issued last.site.account.issued
-              (subst (λ m. Accepts m (commands_for (suc k) list) (u.account.issued ++ c ∷ []) last.site.account.issued) (one_less d.controller.capacity n) last.accepts);
-        }
-
-    not_put : (fault : BusFault) → d.controller.capacity ≤ n → Each IsNoComset (commands_for (suc k) list) → Goal (c ∷ []) (Some fault)
-    not_put fault full none =
-        let last = rest n s d u at sited few fit none in
-        record {
-          site = last.site;
-          there = last.there;
-          accepts = one_refused (d.controller.capacity - n) c (commands_for (suc k) list) u.account.issued last.site.account.issued
-              (omega (arith, full)) last.accepts;
-        }
-
-    poll : (fault : Option BusFault) → (fault ≡ None → ⊥) → Each IsNoComset (commands_for (suc k) list) → Goal [] fault
-    poll None refused none = absurd (refused refl)
-    poll (Some fault) refused none = rest n s d u at sited few fit none
-
-    by_room : (room : Bool) → (room ≡ false → d.controller.capacity ≤ n) → Each IsNoComset (commands_for (suc k) list)
-        → Goal (c ∷ []) (option_map bus_fault (if room then None else Some Full))
-    by_room true full none = put none
-    by_room false full none = not_put (bus_fault Full) (full refl) none
-
-    by_command : Each IsNoComset (but_poll c ++ commands_for (suc k) list) → Goal (but_poll c) (submit_refusal_of k c (Some d) s.bus)
-    by_command none = elim (submit_is c d.controller) [
-      | inl (refused, no_order) ↦ subst (λ cs. Goal cs (submit_refusal_of k c (Some d) s.bus)) (sym no_order)
-          (poll (submit_refusal_of k c (Some d) s.bus)
-          (refused_still (is_comset_refused (comset_of c) k d s.bus) (option_map bus_fault (controllers.submit_refusal c d.controller))
-          (told_by_bus (controllers.submit_refusal c d.controller) refused))
-          (subst (λ cs. Each IsNoComset (cs ++ commands_for (suc k) list)) no_order none))
-      | inr (is, one) ↦
-          let plain : Each IsNoComset (c ∷ commands_for (suc k) list) = subst (λ cs. Each IsNoComset (cs ++ commands_for (suc k) list)) one none in
-          let fault : submit_refusal_of k c (Some d) s.bus ≡ option_map bus_fault (if controllers.has_room c d.controller then None else Some Full) =
-          ap (λ o. if is_comset_refused o k d s.bus then Some AddressTaken else option_map bus_fault (controllers.submit_refusal c d.controller)) plain.0
-          ∙ ap (option_map bus_fault) is in
-          subst (λ cs. Goal cs (submit_refusal_of k c (Some d) s.bus)) (sym one)
-          (subst (Goal (c ∷ [])) (sym fault) (by_room (controllers.has_room c d.controller) (no_room_for_command n c d.controller few fits) plain.1))
-    ]
-
-    order_here : Each IsNoComset (but_poll c ++ commands_for (suc k) list)
-        → AcceptsIssued (d.controller.capacity - n) k (but_poll c ++ commands_for (suc k) list) u.account.issued
-        (run answer_of after list (after_step answer_of after (Issue (suc k) c) s))
-    order_here none =
-        let less : suc k - 1 ≡ k = omega arith in
-        subst (λ j. AcceptsIssued (d.controller.capacity - n) k (but_poll c ++ commands_for (suc k) list) u.account.issued
-        (run answer_of after list (if is_there (suc k) s then issued (submit_refusal_at j c s.bus) j c s else s))) (sym less)
-        (subst (λ b. AcceptsIssued (d.controller.capacity - n) k (but_poll c ++ commands_for (suc k) list) u.account.issued
-        (run answer_of after list (if b then issued (submit_refusal_at k c s.bus) k c s else s))) (sym ((there_is answer_of after) k u s sited))
-        (subst (λ o. Goal (but_poll c) (submit_refusal_of k c o s.bus)) (sym at) (by_command none)))
-
-  issue_accepts : (k number : ℕ) (c : Command) (list : List SimStep) → RestAccepts k list → RestAccepts k (Issue number c ∷ list)
-  issue_accepts k number c list rest n s d u at sited few fit none = by_number (number == suc k) refl none
+  -- of what moves order, some is submitted
+  submitted_among : (ms : List (Move H)) (l : Link H) → IsAmong (sessions.all_submitted answer_of after ms l) (commands_in ms)
+  submitted_among [] l = refl
+  submitted_among (link.Submit c ∷ ms) l =
+      let fault = controllers.submit_refusal c l.controller in
+      let next = link.after_move answer_of after (link.Submit c) l in
+      among_more (sessions.accepted fault c) (but_poll c) (sessions.all_submitted answer_of after ms next) (commands_in ms) here (submitted_among ms next)
     where
-      by_number : (named : Bool) → (number == suc k) ≡ named → Each IsNoComset ((if named then but_poll c else []) ++ commands_for (suc k) list)
-          → AcceptsIssued (d.controller.capacity - n) k ((if named then but_poll c else []) ++ commands_for (suc k) list) u.account.issued
-          (run answer_of after list (after_step answer_of after (Issue number c) s))
-      by_number true is none =
-          subst (λ i. AcceptsIssued (d.controller.capacity - n) k (but_poll c ++ commands_for (suc k) list) u.account.issued
-          (run answer_of after list (after_step answer_of after (Issue i c) s))) (sym (counts number (suc k) is))
-          (order_here k c list rest n s d u at sited few fit.0 fit.1 none)
-      by_number false is none =
-          let other = (other_order answer_of after) k number c s (λ e. let named = eq-eqb number (suc k) e in absurd (let both = sym is ∙ named in cc)) in
-          carried k list rest n s (after_step answer_of after (Issue number c) s) d u at sited few fit.1 none other.0 other.1
+      refused : (fault : Option ControllerFault) → (fault ≡ None → ⊥) → sessions.accepted fault c ≡ []
+      refused None some = absurd (some refl)
+      refused (Some fault) some = refl
 
-  pub accepts_commands : (k : ℕ) (list : List SimStep) → RestAccepts k list
-  accepts_commands k [] n s d u at sited few fit none =
-      record { site = u; there = sited; accepts = none_accepted (d.controller.capacity - n) u.account.issued }
-  accepts_commands k (Issue number c ∷ list) n s d u at sited few fit none =
-      issue_accepts k number c list (accepts_commands k list) n s d u at sited few fit none
-  accepts_commands k (Queue number e ∷ list) n s d u at sited few fit none =
-      let both = (event_step answer_of after) k number e s in
-      carried k list (accepts_commands k list) n s (after_step answer_of after (Queue number e) s) d u at sited few fit.1 none both.0 both.1
-  accepts_commands k (step ∷ list) n s d u at sited few fit none = idle_accepts k list (accepts_commands k list) step tt n s d u at sited few fit.1 none
+      one : (fault : Option ControllerFault) → IsAmong (sessions.accepted fault c) (c ∷ [])
+      one None = inr ([], refl, refl)
+      one (Some fault) = inl refl
 
-  -- ---- whatever there is room for, some of the commands, in their order
-
-  abbrev RestAmong : ℕ → List SimStep → Type 0
-  RestAmong k list = (s : LineState H) (d : Entry) (u : ReaderSite H) → device_of k s.bus ≡ Some d → slice_get s.sites k ≡ Some u
-      → AcceptsIssued 0 k (commands_for (suc k) list) u.account.issued (run answer_of after list s)
-
-  carried_among : (k : ℕ) (list : List SimStep) → RestAmong k list → (s t : LineState H) (d : Entry) (u : ReaderSite H) → device_of k s.bus ≡ Some d
-      → slice_get s.sites k ≡ Some u → Keeps k s.bus.devices.entries t.bus.devices.entries → StaysAt (SameIssued answer_of after) k s.sites t.sites
-      → AcceptsIssued 0 k (commands_for (suc k) list) u.account.issued (run answer_of after list t)
-  carried_among k list rest s t d u at sited keeps stays =
-      let e = keeps d at in
-      let v = stays u sited in
-      let last = rest t e.0 v.0 e.1 v.1 in
-      record {
-        site = last.site;
-        there = last.there;
-        accepts = subst (λ cs. Accepts 0 (commands_for (suc k) list) cs last.site.account.issued) v.2 last.accepts;
-      }
-
-  idle_among : (k : ℕ) (list : List SimStep) → RestAmong k list → (step : SimStep) → IsNoOrder step → (s : LineState H) (d : Entry) (u : ReaderSite H)
-      → device_of k s.bus ≡ Some d → slice_get s.sites k ≡ Some u
-      → AcceptsIssued 0 k (commands_for (suc k) list) u.account.issued (run answer_of after (step ∷ list) s)
-  idle_among k list rest step idles s d u at sited =
-      carried_among k list rest s (after_step answer_of after step s) d u at sited
-      ((idle_device answer_of after) k step s idles) ((idle_sites answer_of after) (SameIssued answer_of after) (issued_idle answer_of after) k step s idles)
-
-  module _ (k : ℕ) (c : Command) (list : List SimStep) (rest : RestAmong k list) (s : LineState H) (d : Entry) (u : ReaderSite H)
-      (at : device_of k s.bus ≡ Some d) (sited : slice_get s.sites k ≡ Some u) where
-    abbrev Among : List Command → Option BusFault → Type 0
-    Among cs fault = AcceptsIssued 0 k (cs ++ commands_for (suc k) list) u.account.issued (run answer_of after list (issued fault k c s))
-
-    some_put : (fault : Option BusFault) → Among (c ∷ []) fault
-    some_put None =
-        let next = issued None k c s in
-        let last = rest next (entry_submits c d) (site_issues c u) (submitted_there k c s d at) (get_changed k (site_issues c) u s.sites sited) in
-        record {
-          site = last.site;
-          there = last.there;
-          accepts = one_accepted 0 c (commands_for (suc k) list) u.account.issued last.site.account.issued last.accepts;
-        }
-    some_put (Some fault) =
-        let last = rest s d u at sited in
-        record {
-          site = last.site;
-          there = last.there;
-          accepts = one_refused 0 c (commands_for (suc k) list) u.account.issued last.site.account.issued refl last.accepts;
-        }
-
-    no_poll : (fault : Option BusFault) → (fault ≡ None → ⊥) → Among [] fault
-    no_poll None refused = absurd (refused refl)
-    no_poll (Some fault) refused = rest s d u at sited
-
-    some_order : Among (but_poll c) (submit_refusal_of k c (Some d) s.bus)
-    some_order = elim (submit_is c d.controller) [
-      | inl (refused, no_order) ↦ subst (λ cs. Among cs (submit_refusal_of k c (Some d) s.bus)) (sym no_order)
-          (no_poll (submit_refusal_of k c (Some d) s.bus)
-          (refused_still (is_comset_refused (comset_of c) k d s.bus) (option_map bus_fault (controllers.submit_refusal c d.controller))
-          (told_by_bus (controllers.submit_refusal c d.controller) refused)))
-      | inr (is, one) ↦ subst (λ cs. Among cs (submit_refusal_of k c (Some d) s.bus)) (sym one) (some_put (submit_refusal_of k c (Some d) s.bus))
-    ]
-
-    some_here : AcceptsIssued 0 k (but_poll c ++ commands_for (suc k) list) u.account.issued
-        (run answer_of after list (after_step answer_of after (Issue (suc k) c) s))
-    some_here =
-        let less : suc k - 1 ≡ k = omega arith in
-        subst (λ j. AcceptsIssued 0 k (but_poll c ++ commands_for (suc k) list) u.account.issued
-        (run answer_of after list (if is_there (suc k) s then issued (submit_refusal_at j c s.bus) j c s else s))) (sym less)
-        (subst (λ b. AcceptsIssued 0 k (but_poll c ++ commands_for (suc k) list) u.account.issued
-        (run answer_of after list (if b then issued (submit_refusal_at k c s.bus) k c s else s))) (sym ((there_is answer_of after) k u s sited))
-        (subst (λ o. Among (but_poll c) (submit_refusal_of k c o s.bus)) (sym at) some_order))
-
-  issue_among : (k number : ℕ) (c : Command) (list : List SimStep) → RestAmong k list → RestAmong k (Issue number c ∷ list)
-  issue_among k number c list rest s d u at sited = by_number (number == suc k) refl
-    where
-      by_number : (named : Bool) → (number == suc k) ≡ named
-          → AcceptsIssued 0 k ((if named then but_poll c else []) ++ commands_for (suc k) list) u.account.issued
-          (run answer_of after list (after_step answer_of after (Issue number c) s))
-      by_number true is =
-          subst (λ i. AcceptsIssued 0 k (but_poll c ++ commands_for (suc k) list) u.account.issued
-          (run answer_of after list (after_step answer_of after (Issue i c) s))) (sym (counts number (suc k) is))
-          (some_here k c list rest s d u at sited)
-      by_number false is =
-          let other = (other_order answer_of after) k number c s (λ e. let named = eq-eqb number (suc k) e in absurd (let both = sym is ∙ named in cc)) in
-          carried_among k list rest s (after_step answer_of after (Issue number c) s) d u at sited other.0 other.1
-
-  pub some_commands : (k : ℕ) (list : List SimStep) → RestAmong k list
-  some_commands k [] s d u at sited = record { site = u; there = sited; accepts = none_accepted 0 u.account.issued }
-  some_commands k (Issue number c ∷ list) s d u at sited = issue_among k number c list (some_commands k list) s d u at sited
-  some_commands k (Queue number e ∷ list) s d u at sited =
-      let both = (event_step answer_of after) k number e s in
-      carried_among k list (some_commands k list) s (after_step answer_of after (Queue number e) s) d u at sited both.0 both.1
-  some_commands k (step ∷ list) s d u at sited = idle_among k list (some_commands k list) step tt s d u at sited
-
-  -- ---- events
-
-  pub record AcceptsQueued (room k : ℕ) (all before : List Event) (s : LineState H) : Type 0 where
-    pub site : ReaderSite H
-    pub there : slice_get s.sites k ≡ Some site
-    pub accepts : Accepts room all before site.account.queued
-
-  abbrev RestQueues : ℕ → List SimStep → Type 0
-  RestQueues k list = (n : ℕ) (s : LineState H) (u : ReaderSite H) → slice_get s.sites k ≡ Some u → ShortEvents n u.reader.queue → Each OrderFits list
-      → AcceptsQueued (u.reader.queue.capacity - n) k (events_for (suc k) list) u.account.queued (run answer_of after list s)
-
-  kept : (k : ℕ) (list : List SimStep) → RestQueues k list → (n : ℕ) (s t : LineState H) (u : ReaderSite H) → slice_get s.sites k ≡ Some u
-      → ShortEvents n u.reader.queue → Each OrderFits list → StaysAt (NoneQueued answer_of after) k s.sites t.sites
-      → AcceptsQueued (u.reader.queue.capacity - n) k (events_for (suc k) list) u.account.queued (run answer_of after list t)
-  kept k list rest n s t u sited few fit stays =
-      let v = stays u sited in
-      let last = rest n t v.0 v.1 (events_stay_short n u.reader.queue v.0.reader.queue v.2.waiting few) fit in
-      record {
-        site = last.site;
-        there = last.there;
-        accepts = subst (λ m. Accepts (m - n) (events_for (suc k) list) u.account.queued last.site.account.queued) v.2.waiting.capacity
-            (subst (λ es. Accepts (v.0.reader.queue.capacity - n) (events_for (suc k) list) es last.site.account.queued) v.2.queued last.accepts);
-      }
-
-  idle_kept : (k : ℕ) (list : List SimStep) → RestQueues k list → (step : SimStep) → IsNoOrder step → (n : ℕ) (s : LineState H) (u : ReaderSite H)
-      → slice_get s.sites k ≡ Some u → ShortEvents n u.reader.queue → Each OrderFits list
-      → AcceptsQueued (u.reader.queue.capacity - n) k (events_for (suc k) list) u.account.queued (run answer_of after (step ∷ list) s)
-  idle_kept k list rest step idles n s u sited few fit =
-      kept k list rest n s (after_step answer_of after step s) u sited few fit
-      ((idle_sites answer_of after) (NoneQueued answer_of after) (events_idle answer_of after) k step s idles)
-
-  order_leaves : (k number : ℕ) (c : Command) (s : LineState H) → StaysAt (NoneQueued answer_of after) k s.sites (after_step answer_of after (Issue number c) s).sites
-  order_leaves k number c s =
-      let fault = submit_refusal_at (number - 1) c s.bus in
-      (where_sites answer_of after) (NoneQueued answer_of after) (events_idle answer_of after) k (is_there number s) s (issued fault (number - 1) c s) (by_fault fault)
-    where
-      by_fault : (fault : Option BusFault) → StaysAt (NoneQueued answer_of after) k s.sites (issued fault (number - 1) c s).sites
-      by_fault (Some fault) = stays_all (NoneQueued answer_of after) (events_idle answer_of after).same k s.sites
-      by_fault None = stays_changed (NoneQueued answer_of after) (events_idle answer_of after).same k (number - 1) (site_issues c) s.sites (λ u. record { waiting = same_events u.reader.queue; queued = refl })
-
-  other_event : (k number : ℕ) (e : Event) (s : LineState H) → (number ≡ suc k → ⊥)
-      → StaysAt (NoneQueued answer_of after) k s.sites (after_step answer_of after (Queue number e) s).sites
-  other_event k zero e s other = stays_all (NoneQueued answer_of after) (events_idle answer_of after).same k s.sites
-  other_event k (suc j) e s other =
-      (where_sites answer_of after) (NoneQueued answer_of after) (events_idle answer_of after) k (is_there (suc j) s) s (record s { sites = changed_site (suc j - 1) (site_queues e) s.sites })
-      (other_changed (NoneQueued answer_of after) (events_idle answer_of after).same k (suc j - 1) (site_queues e) s.sites (λ is. other (omega (arith, is))))
-
-  module _ (k : ℕ) (e : Event) (list : List SimStep) (rest : RestQueues k list) (n : ℕ) (s : LineState H) (u : ReaderSite H)
-      (sited : slice_get s.sites k ≡ Some u) (few : ShortEvents n u.reader.queue) (fits : EventFits e) (fit : Each OrderFits list) where
-    abbrev queued_to : (ReaderSite H → ReaderSite H) → LineState H
-    queued_to change = record s { sites = changed_site k change s.sites }
-
-    by_full : (full : Bool) → (full ≡ true → u.reader.queue.capacity ≤ n) → (t : LineState H)
-        → slice_get t.sites k ≡ Some (site_queues_unless full e u)
-        → AcceptsQueued (u.reader.queue.capacity - n) k (e ∷ events_for (suc k) list) u.account.queued (run answer_of after list t)
-    by_full true is t there =
-        let last = rest n t u there few fit in
-        record {
-          site = last.site;
-          there = last.there;
-          accepts = one_refused (u.reader.queue.capacity - n) e (events_for (suc k) list) u.account.queued last.site.account.queued
-              (omega (arith, is refl)) last.accepts;
-        }
-    by_full false is t there =
-        let last = rest (n + 1) t (site_queues_unless false e u) there (one_more_event n e u.reader.queue fits few) fit in
-        record {
-          site = last.site;
-          there = last.there;
-          accepts = one_accepted (u.reader.queue.capacity - n) e (events_for (suc k) list) u.account.queued last.site.account.queued
-              (subst (λ m. Accepts m (events_for (suc k) list) (u.account.queued ++ e ∷ []) last.site.account.queued) (one_less u.reader.queue.capacity n) last.accepts);
-        }
-
-    event_here : AcceptsQueued (u.reader.queue.capacity - n) k (e ∷ events_for (suc k) list) u.account.queued
-        (run answer_of after list (after_step answer_of after (Queue (suc k) e) s))
-    event_here =
-        let less : suc k - 1 ≡ k = omega arith in
-        subst (λ j. AcceptsQueued (u.reader.queue.capacity - n) k (e ∷ events_for (suc k) list) u.account.queued
-        (run answer_of after list (if is_there (suc k) s then record s { sites = changed_site j (site_queues e) s.sites } else s))) (sym less)
-        (subst (λ b. AcceptsQueued (u.reader.queue.capacity - n) k (e ∷ events_for (suc k) list) u.account.queued
-        (run answer_of after list (if b then queued_to (site_queues e) else s))) (sym ((there_is answer_of after) k u s sited))
-        (by_full (lacks_room e u.reader.queue) (no_room_for_event n e u.reader.queue few fits)
-        (queued_to (site_queues e)) (get_changed k (site_queues e) u s.sites sited)))
-
-  queue_accepts : (k number : ℕ) (e : Event) (list : List SimStep) → RestQueues k list → RestQueues k (Queue number e ∷ list)
-  queue_accepts k number e list rest n s u sited few fit = by_number (number == suc k) refl
-    where
-      by_number : (named : Bool) → (number == suc k) ≡ named
-          → AcceptsQueued (u.reader.queue.capacity - n) k ((if named then e ∷ [] else []) ++ events_for (suc k) list) u.account.queued
-          (run answer_of after list (after_step answer_of after (Queue number e) s))
-      by_number true is =
-          subst (λ i. AcceptsQueued (u.reader.queue.capacity - n) k (e ∷ events_for (suc k) list) u.account.queued
-          (run answer_of after list (after_step answer_of after (Queue i e) s))) (sym (counts number (suc k) is))
-          (event_here k e list rest n s u sited few fit.0 fit.1)
-      by_number false is =
-          kept k list rest n s (after_step answer_of after (Queue number e) s) u sited few fit.1
-          (other_event k number e s (λ same. let named = eq-eqb number (suc k) same in absurd (let both = sym is ∙ named in cc)))
-
-  pub accepts_events : (k : ℕ) (list : List SimStep) → RestQueues k list
-  accepts_events k [] n s u sited few fit =
-      record { site = u; there = sited; accepts = none_accepted (u.reader.queue.capacity - n) u.account.queued }
-  accepts_events k (Issue number c ∷ list) n s u sited few fit =
-      kept k list (accepts_events k list) n s (after_step answer_of after (Issue number c) s) u sited few fit.1 (order_leaves k number c s)
-  accepts_events k (Queue number e ∷ list) n s u sited few fit = queue_accepts k number e list (accepts_events k list) n s u sited few fit
-  accepts_events k (step ∷ list) n s u sited few fit = idle_kept k list (accepts_events k list) step tt n s u sited few fit.1
-
-  -- ---- from the set-up on
+      here : IsAmong (sessions.accepted (controllers.submit_refusal c l.controller) c) (but_poll c)
+      here = elim (submit_is c l.controller) [
+        | inl (some, poll) ↦ subst (IsAmong (sessions.accepted (controllers.submit_refusal c l.controller) c)) (sym poll) (refused (controllers.submit_refusal c l.controller) some)
+        | inr (is, order) ↦ subst (IsAmong (sessions.accepted (controllers.submit_refusal c l.controller) c)) (sym order) (one (controllers.submit_refusal c l.controller))
+      ]
+  submitted_among (m ∷ ms) l = submitted_among ms (link.after_move answer_of after m l)
 
   order_fits : (step : SimStep) (s : LineState H) → StepFits answer_of after step s → OrderFits step
   order_fits (Issue number command) s fits = fits
   order_fits (Queue number event) s fits = fits
   order_fits step s fits = tt
 
-  module _ (config : BusConfig) (readers : List (Given H)) (list : List SimStep) (along : FitAlong answer_of after list (set_up config readers)) (k : ℕ) (given : Given H) (at : slice_get readers k ≡ Some given) where
-    device_at : device_of k (set_up config readers).bus ≡ Some (begun_device config given)
-    device_at = slice_get-map (begun_device config) readers k ∙ ap (option_map (begun_device config)) at
-
-    site_at : slice_get (set_up config readers).sites k ≡ Some (new_site given)
-    site_at = slice_get-map new_site readers k ∙ ap (option_map new_site) at
-
-    pub all_accepted : (a : Account) × (slice_get (told_by answer_of after config readers list) k ≡ Some a) × AcceptsFor config.room given.1 (suc k) list a
-    all_accepted =
+  module _ (schedules : SchedulesAreMoves answer_of after) (each : EachIsALink answer_of after) where
+    pub all_accepted : (config : BusConfig) (readers : List (Given H)) (list : List SimStep) → IsRun answer_of after config readers list → (k : ℕ) (given : Given H)
+        → slice_get readers k ≡ Some given → (a : Account) × (slice_get (told_by answer_of after config readers list) k ≡ Some a) × AcceptsFor config.room given.1 (suc k) list a
+    all_accepted config readers list is k given at =
         let s = set_up config readers in
-        let final = run answer_of after list s in
-        let fit = orders_fit (after_step answer_of after) (StepFits answer_of after) order_fits list s along in
-        let no_events : ShortEvents 0 (new_site given).reader.queue = record { few = omega arith; bytes = omega arith; ample = refl } in
-        let queued = accepts_events k list 0 s (new_site given) site_at no_events fit in
-        let a = queued.site.account in (
+        let its = its_link answer_of after schedules each config readers list is k given at in
+        let l = its_first config readers k given in
+        let ms = own_moves answer_of after config readers list k in
+        let a = its.site.account in
+        let few = within k (new_site given) s.sites (slice_get-map new_site readers k ∙ ap (option_map new_site) at) in
+        let orders = own_orders answer_of after k each (first_net config readers) (is_set_up config readers is.settings) (first_site config given) its.begins list s [] its.all_fit few in
+        let fit = orders_for_fit (suc k) list (orders_fit (after_step answer_of after) (StepFits answer_of after) order_fits list s is.fits) in (
           a,
-          slice_get-map (λ (u : ReaderSite H). u.account) final.sites k ∙ ap (option_map (λ (u : ReaderSite H). u.account)) queued.there,
+          account_at k its.site (simulation.run answer_of after list s).sites its.there,
           record {
-            among =
-                let orders = commands_for (suc k) list in
-                let issued = some_commands k list s (begun_device config given) (new_site given) device_at site_at in
-                subst (λ (v : ReaderSite H). IsAmong v.account.issued orders) (same_site (sym issued.there ∙ queued.there))
-                (subst (λ cs. IsAmong cs orders) (sym issued.accepts.list) issued.accepts.among);
+            among = subst (λ cs. IsAmong cs (commands_for (suc k) list)) (sym its.tells.issued)
+                (among_then (sessions.all_submitted answer_of after ms l) (commands_in ms) (commands_for (suc k) list) (submitted_among ms l) orders.among);
             issued = λ ample plain.
-                let orders = commands_for (suc k) list in
-                let no_commands : ShortCommands 0 (begun_device config given).controller = record {
-                  few = omega arith;
-                  bytes = omega arith;
-                  ample = ap (λ (room : Room). room.bytes) ample;
-                } in
-                let issued = accepts_commands k list 0 s (begun_device config given) (new_site given) device_at site_at no_commands fit
-                (each_of IsNoComset orders plain) in
-                let one : issued.site ≡ queued.site = same_site (sym issued.there ∙ queued.there) in
-                accepted config.room.messages orders a.issued
-                (subst (λ (v : ReaderSite H). Accepts config.room.messages orders [] v.account.issued) one
-                (subst (λ n. Accepts n orders [] issued.site.account.issued) (none_less config.room.messages) issued.accepts));
-            queued = accepted given.1 (events_for (suc k) list) a.queued
-                (subst (λ n. Accepts n (events_for (suc k) list) [] a.queued) (none_less given.1) queued.accepts);
+                let same = orders.all (each_of IsNoComset (commands_for (suc k) list) plain) in
+                subst (λ cs. IsAccepted config.room.messages cs a.issued) same (subst (IsAccepted config.room.messages (commands_in ms)) (sym its.tells.issued)
+                (commands_by_room answer_of after config.room.messages ms l its.run_of.steady refl refl (ap (λ (room : Room). room.bytes) ample)
+                (subst (Each CommandFits) (sym same) fit.0)));
+            queued = subst (λ es. IsAccepted given.1 es a.queued) orders.events (subst (IsAccepted given.1 (events_in ms)) (sym its.tells.queued)
+                (events_by_room answer_of after given.1 ms l its.run_of.steady refl refl refl (subst (Each EventFits) (sym orders.events) fit.1)));
           },
         )
-      where
-        same_site : {u v : ReaderSite H} → Some u ≡ Some v → u ≡ v
-        same_site is = cc
 
-        none_less : (n : ℕ) → n - 0 ≡ n
-        none_less n = omega arith
-
-  pub each_accepts : EachAccepts answer_of after
-  each_accepts config readers steps answer is was k given at =
-      answers answer_of after (λ told. (a : Account) × (slice_get told k ≡ Some a) × AcceptsFor config.room given.1 (suc k) (steps_done steps answer) a)
-      config readers steps answer is was (λ taken. all_accepted config readers (steps_done steps answer) is.fits k given at)
+    pub each_accepts : EachAccepts answer_of after
+    each_accepts config readers steps answer is was k given at =
+        answers answer_of after (λ told. (a : Account) × (slice_get told k ≡ Some a) × AcceptsFor config.room given.1 (suc k) (steps_done steps answer) a)
+        config readers steps answer is was (λ so. all_accepted config readers (steps_done steps answer) so k given at)

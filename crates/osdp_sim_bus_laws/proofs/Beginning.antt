@@ -1,10 +1,9 @@
 -- The line on which the first sessions of a bus's readers begin, as sites: it is set up, and the simulation begins as these.
-use Rattle.osdp_sim_bus_laws.proofs.Common.{◌≡◌, ◌≢◌, ◌<◌, ◌&&◌, ◌||◌, not, ℕ, zero, suc, Bool, true, false, All, List, [], ◌∷◌, length, map, Some, None, refl, sym, subst, ap, ◌∙◌, arith, leb-true, nat_le, slice_get, list_all, list_any, new_reader, most_entries, BusConfig, Begins, Each, is_true, Net, site_at, IsSetUp, view, device_of, NothingIsKept, AreSettings, are_apart, is_at, is_reader_in_range, Given, address_of, begun_device, new_site, set_up, begins, FollowsSites, SitesOf}
+use Rattle.osdp_sim_bus_laws.proofs.Common.{◌≡◌, ◌≢◌, ◌<◌, ◌&&◌, ◌||◌, not, ℕ, zero, suc, Bool, true, false, All, List, [], ◌∷◌, length, map, Some, None, refl, sym, subst, ap, ◌∙◌, arith, leb-true, nat_le, slice_get, list_all, list_any, most_entries, BusConfig, Begins, Each, is_true, site_at, IsSetUp, view, device_of, NothingIsKept, AreSettings, are_apart, is_at, is_reader_in_range, Given, address_of, begun_device, new_site, set_up, begins, FollowsSites, SitesOf, first_net, first_site}
 use Rattle.osdp_bus.specs.Settings.{controller_config}
 use Rattle.osdp_link_laws.specs.Progress.{NoComset}
 use Rattle.osdp_shared_line.specs.Line as line
 use Rattle.osdp_reader_laws.specs.Storing.{StoresItsOwn}
-use Rattle.osdp_sim.specs.State.{room_for}
 
 -- ---- tests of lists
 
@@ -59,19 +58,8 @@ module _ {H : Type 0} where
 
   -- ---- the sites
 
-  abbrev pub first_site : BusConfig → Given H → line.Site H
-  first_site config given = record {
-    controller = (begun_device config given).controller;
-    reserved = None;
-    reader = new_reader given.0 given.2 (room_for given.1);
-    coming = [];
-  }
-
-  abbrev pub first_sites : BusConfig → List (Given H) → List (line.Site H)
+  abbrev first_sites : BusConfig → List (Given H) → List (line.Site H)
   first_sites config readers = map (first_site config) readers
-
-  abbrev pub first_net : BusConfig → List (Given H) → Net H
-  first_net config readers = record { sites = first_sites config readers; to_panel = [] }
 
   -- each of them is that of a reader, and each reader has one
   site_of : (config : BusConfig) (k : ℕ) (s : line.Site H) (readers : List (Given H)) → site_at k (first_sites config readers) ≡ Some s

@@ -11,7 +11,6 @@ pub mod Telling
 pub mod Beginning
 pub mod Rows
 pub mod OneSession
-pub mod Waiting
 pub mod Accepting
 pub mod Places
 pub mod Idling

@@ -13,12 +13,20 @@ use Rattle.osdp_link_laws.specs.Reports.{taken_as, taken_by, taken_by_front, tol
 use Rattle.osdp_shared_line.specs.Line as line
 use Rattle.osdp_shared_line.specs.Line.{Tick, ToReader, address_of}
 use Rattle.osdp_shared_line.specs.Runs as runs
-use Rattle.osdp_shared_line.specs.Views.{HeardByOwn, front_to_panel, lost, move_of, other_reply, own_front, own_reply, sees}
+use Rattle.osdp_shared_line.specs.Views.{HeardByOwn, front_to_panel, lost, move_of, one_if, other_reply, own_front, own_reply, sees}
 use Rattle.osdp_shared_line.proofs.Hearing.{closed_hears, for_reader}
 use Rattle.osdp_shared_line.proofs.Sites.{at_other, own_first}
 use Rattle.osdp_bus_links.specs.Links.{told_by_first, told_by_one, told_by_tick}
 use Rattle.osdp_bus_links.proofs.Telling.{for_entry, for_others}
 use Rattle.osdp_sim_laws.proofs.Accounts.{Added, added_by, all_added, and_nothing, nothing_added}
+
+-- ---- a move for one site
+
+pub one_if_same : {H : Type 0} (j k : ℕ) (m : Move H) → j ≡ k → one_if j k m ≡ m ∷ []
+one_if_same j k m same = ap (λ b. cond b (m ∷ []) []) (is_true j k same)
+
+pub one_if_other : {H : Type 0} (j k : ℕ) (m : Move H) → (j ≡ k → ⊥) → one_if j k m ≡ []
+one_if_other j k m other = ap (λ b. cond b (m ∷ []) []) (is_false j k other)
 
 -- ---- who is told
 

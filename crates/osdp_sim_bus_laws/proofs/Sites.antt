@@ -1,19 +1,14 @@
 -- The readers of a simulated line and the sites whose readers they are, place by place.
-use Rattle.osdp_sim_bus_laws.proofs.Common.{◌≡◌, ◌<◌, ◌+◌, ℕ, zero, suc, Bool, true, false, cond, List, [], ◌∷◌, ◌++◌, length, map, Option, Some, None, refl, sym, subst, ap, ◌∙◌, arith, map-append, option_map_or, flat_map, Packet, spelling, Command, is_closed, Report, ReaderState, Answer, Delivered, is_false, is_true, Each, changed, site_at, tagged, IsNoRefusalOf, IsTold, TellsFrom, packets_on, report_for, with_report, sent, ReaderSite, changed_site, site_hears, site_is_told, site_says, IsSiteOf, SitesOf, count}
+use Rattle.osdp_sim_bus_laws.proofs.Common.{◌≡◌, ◌<◌, ◌+◌, ℕ, zero, suc, Bool, true, false, cond, List, [], ◌∷◌, ◌++◌, length, map, Option, Some, None, refl, sym, subst, ap, ◌∙◌, arith, map-append, option_map_or, flat_map, Packet, spelling, Command, is_closed, Report, ReaderState, Answer, Delivered, is_false, is_true, Each, changed, site_at, tagged, IsNoRefusalOf, IsTold, TellsFrom, packets_on, report_for, with_report, sent, ReaderSite, changed_site, site_hears, site_is_told, site_says, IsSiteOf, SitesOf}
 use Rattle.std.specs.Prelude.{slice_get, slice_set, option_to_list, ◌==◌}
 use Rattle.osdp_reader.specs.Table as reader
 use Rattle.osdp_link_laws.specs.Refusals as refusals
-use Rattle.osdp_link_laws.specs.Ends as ends
 use Rattle.osdp_shared_line.specs.Line as line
 use Rattle.osdp_sim_bus_laws.proofs.Reading.{hearing, said_from}
 use Rattle.osdp_sim_laws.proofs.Accounts.{adds_report}
 use Rattle.osdp_sim_laws.proofs.Ends.{ends_after}
 
--- ---- reports and ends
-
-pub counts_alike : (closed : Bool) → count closed ≡ ends.count closed
-counts_alike true = refl
-counts_alike false = refl
+-- ---- reports
 
 plain_for : (k : ℕ) (r : Option (ℕ × Report)) → IsNoRefusalOf r → Each refusals.IsNoRefusal (option_to_list (report_for k r))
 plain_for k None plain = tt
@@ -73,12 +68,7 @@ module _ {H : Type 0} where
   site_told r said u s t is plain h = record {
     reader = h.reader ∙ sym is.reader;
     ended =
-        let was = counts_alike (is_closed s.controller.session.state) in
-        let now = counts_alike (is_closed t.controller.session.state) in
-        let before = h.ended in
-        let later = ends_after r u.account (is_closed s.controller.session.state) (is_closed t.controller.session.state) is.closes is.once
-        (omega (arith, before, was)) in
-        omega (arith, later, now);
+        ends_after r u.account (is_closed s.controller.session.state) (is_closed t.controller.session.state) is.closes is.once h.ended;
     causes = (adds_report r u.account).causes plain h.causes;
   }
 

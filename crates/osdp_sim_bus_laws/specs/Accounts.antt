@@ -53,6 +53,7 @@ module _ {H : Type 0} where
     abbrev pub IsOneSession : List SimStep → ℕ → Given H → Account → Type 0
     IsOneSession steps k given a = reopens_in (suc k) steps ≡ 0 → HoldsInOneSession answer_of after given.0 given.2 a
 
+    -- whatever the steps are, for each reader
     abbrev pub AccountsAreOnce : Type 0
     AccountsAreOnce = (config : BusConfig) (readers : List (Given H)) (steps : List SimStep) (answer : BusAnswer)
         → IsAnswer config readers steps answer → WasSetUp answer → OfEach (IsOneSession (steps_done steps answer)) readers (accounts_in answer)

@@ -1,12 +1,14 @@
 -- What the steps of a schedule are to several links: a simulated line with a bus, seen as sites on a line of packets.
 use Rattle.std.specs.List.{AllByRecursion}
-use Rattle.std.specs.Prelude.{◌≡◌, ◌+◌, ◌-◌, ℕ, zero, suc, Bool, true, false, All, if◌then◌else◌, List, [], ◌∷◌, ◌++◌, length, map, max, None, Some, slice_get}
+use Rattle.std.specs.Prelude.{◌≡◌, ◌+◌, ◌-◌, ℕ, zero, suc, true, All, if◌then◌else◌, List, [], ◌∷◌, ◌++◌, length, map, max, None, Some, slice_get}
 use Rattle.osdp_frame.specs.Bytes.{AreBytes}
 use Rattle.osdp_frame.specs.Packet.{IsPacket, Packet}
 use Rattle.osdp_frame.specs.Spelling.{spelling}
 use Rattle.osdp_msg.specs.declared.command.Command.{Command}
 use Rattle.osdp_controller.specs.States.{is_closed}
+use Rattle.osdp_reader.specs.State.{new_reader}
 use Rattle.osdp_reader.specs.declared.handler.Answer.{Answer}
+use Rattle.osdp_link_laws.specs.Ends.{count}
 use Rattle.osdp_link_laws.specs.Link.{Delivery}
 use Rattle.osdp_link_laws.specs.Peers.{IsPlainlySaid}
 use Rattle.osdp_shared_line.specs.Addresses.{IsSetUp, NetMovesFit}
@@ -18,20 +20,17 @@ use Rattle.osdp_bus.specs.declared.config.BusConfig.{BusConfig}
 use Rattle.osdp_bus_links.specs.Links.{CallsAreMoves, IsBusOf, packets_on, tick_moves}
 use Rattle.osdp_bus_links.specs.Premises.{AllOthersFit, BusSuffices, IsScheduled, NothingIsKept}
 use Rattle.osdp_sim.specs.Account.{empty_account, with_session}
+use Rattle.osdp_sim.specs.State.{room_for}
 use Rattle.osdp_sim.specs.Steps.{moment_after}
 use Rattle.osdp_sim.specs.declared.step.SimStep.{SimStep}
 use Rattle.osdp_sim.specs.declared.step.SimStep.TheVariants.{Issue, Queue, Busy, Wait, ToReader, ToController, Reopen}
 use Rattle.osdp_sim_bus.specs.Runs as simulation
 use Rattle.osdp_sim_bus.specs.Runs.{AreSettings, FitAlong}
-use Rattle.osdp_sim_bus.specs.State.{Given, LineState, ReaderSite, set_up}
+use Rattle.osdp_sim_bus.specs.State.{Given, LineState, ReaderSite, begun_device, set_up}
 use Rattle.osdp_sim_bus.specs.Steps.{StepFits, after_step, fault_of, is_there}
 use Rattle.osdp_sim_laws.specs.Accounts.{IsNoRefusal}
 use Rattle.osdp_sim_laws.specs.Moves.{TellsOfMoves, delivery}
 use Rattle.osdp_sim_laws.specs.OneLink.{ReadsPackets}
-
-abbrev pub count : Bool → ℕ
-count true = 1
-count false = 0
 
 -- the bytes of a packet are bytes
 abbrev pub SpellsBytes : Type 0
@@ -53,6 +52,7 @@ module _ {H : Type 0} where
   abbrev pub moment_of : LineState H → ℕ
   moment_of s = max s.bus.greatest s.clock
 
+  -- the moves that a step is, at the state before it
   abbrev pub moves_for : SimStep → LineState H → List (NetMove H)
   moves_for (Issue number command) s = for_reader number s (λ k. line.Submit k command)
   moves_for (Queue number event) s = for_reader number s (λ k. line.Queue k event)
@@ -70,6 +70,7 @@ module _ {H : Type 0} where
     pub ended : length u.account.ends + 1 ≡ length u.account.sessions + count (is_closed t.controller.session.state)
     pub causes : AllByRecursion IsNoRefusal u.account.ends
 
+  -- as many readers as sites, each that of the site at its place
   abbrev pub SitesOf : List (ReaderSite H) → List (line.Site H) → Type 0
   SitesOf [] [] = Unit {0}
   SitesOf (u ∷ us) (t ∷ ts) = IsSiteOf u t × SitesOf us ts
@@ -137,6 +138,20 @@ module _ {H : Type 0} where
     SchedulesAreMoves = (steps : List SimStep) (s : LineState H) (first : Net H) → IsSetUp first → NothingIsKept first → FollowsSites s first
         → simulation.is_well answer_of after steps s ≡ true → FitAlong answer_of after steps s
         → AreItsMoves steps s first
+
+module _ {H : Type 0} where
+  -- the site of a reader whose first session begins: nothing was said to it yet, and no address is kept for a COMSET
+  abbrev pub first_site : BusConfig → Given H → line.Site H
+  first_site config given = record {
+    controller = (begun_device config given).controller;
+    reserved = None;
+    reader = new_reader given.0 given.2 (room_for given.1);
+    coming = [];
+  }
+
+  -- the line on which the first sessions begin
+  abbrev pub first_net : BusConfig → List (Given H) → Net H
+  first_net config readers = record { sites = map (first_site config) readers; to_panel = [] }
 
 -- where the settings are in their ranges, the line that is set up follows sites on which the first sessions begin
 abbrev pub BeginsAsSites : Type 0 → Type 0

@@ -57,11 +57,17 @@ pub fn each_account_holds_once<H: Handler>()
 /// that; else the first of them, as many as may wait. So it is of its events, with the room that it has for them.
 pub fn each_accepts_by_room<H: Handler>()
     ensures { EachAccepts H.answer_of H.after }
-{}
+{
+    schedules_are_moves::<H>();
+    osdp_shared_line::each_is_a_link::<H>();
+}
 
 /// Whatever a schedule over a bus says, once the line was set up, for each reader: its account has one session more than the steps taken had Reopens of
 /// this reader, whatever the others' sessions did. The first began with nothing. Each other one began after what the steps before its Reopen come to for
 /// it: the account keeps how long all its lists were then, and its commands and events begin with those that these steps had accepted.
 pub fn each_sessions_begin_by_reopens<H: Handler>()
     ensures { EachBeginsByReopens H.answer_of H.after }
-{}
+{
+    schedules_are_moves::<H>();
+    osdp_shared_line::each_is_a_link::<H>();
+}

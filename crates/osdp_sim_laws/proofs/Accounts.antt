@@ -5,8 +5,9 @@ use Rattle.osdp_controller.specs.declared.report.Report.TheVariants as report
 use Rattle.osdp_reader.specs.declared.kind.Kind.TheVariants as kind
 use Rattle.osdp_link_laws.specs.Link as link
 use Rattle.osdp_link_laws.specs.Refusals as refusals
-use Rattle.osdp_link_laws.specs.Reports.{Told, all_taken, reports, taken_as, taken_in, told_by, with_reports}
+use Rattle.osdp_link_laws.specs.Reports.{all_taken, reports, taken_as, taken_in, told_by, with_reports}
 use Rattle.osdp_link_laws.specs.Sessions.{all_begun, all_queued, all_submitted, begins, queued, submitted}
+use Rattle.osdp_link_ledger.proofs.Told.{reports_more}
 use Rattle.osdp_sim.specs.declared.account.End.TheVariants as ending
 use Rattle.osdp_sim_laws.proofs.Ends.{sessions_of_report}
 
@@ -57,10 +58,6 @@ and_more x y z =
       begun = count i;
     }
 
-told_more : (rs more : List Report) (y : Told) → with_reports (rs ++ more) y ≡ with_reports more (with_reports rs y)
-told_more [] more y = refl
-told_more (r ∷ rs) more y = told_more rs more _
-
 -- ---- an account that goes on
 
 pub record Adds (a : Account) (x : Added) (b : Account) : Type 0 where
@@ -91,7 +88,7 @@ adds_then a b c x y first next = record {
   issued = on a.issued x.submitted y.submitted b.issued c.issued first.issued next.issued;
   taken = on a.taken x.taken y.taken b.taken c.taken first.taken next.taken;
   queued = on a.queued x.queued y.queued b.queued c.queued first.queued next.queued;
-  told = next.told ∙ ap (with_reports y.told) first.told ∙ sym (told_more x.told y.told (told_of a));
+  told = next.told ∙ ap (with_reports y.told) first.told ∙ sym (reports_more x.told y.told (told_of a));
   sessions = omega (arith, first.sessions, next.sessions);
   causes = λ told well.
       next.causes (each_rest refusals.IsNoRefusal x.told y.told told) (first.causes (each_front refusals.IsNoRefusal x.told y.told told) well);

@@ -1,18 +1,14 @@
 -- What `run_session` answers after a line that was cleared and rounds that lose nothing.
-use Rattle.osdp_sim_laws.proofs.Common.{◌≡◌, ◌≤◌, ◌+◌, ◌++◌, ℕ, All, List, [], ◌∷◌, length, Ok, refl, sym, subst, ap, ◌∙◌, arith, append-nil, length-append, Command, ReaderConfig, Answer, with_answers, SetsNoAddress, each_append, each_of, Account, lists_of, rounds, SimStep, AnswersHoldOnce, IsInSession, HoldsInOneSession, reopens_in, AnswerRecovers, IsDone, Recovers, clear, done}
+use Rattle.osdp_sim_laws.proofs.Common.{◌≡◌, ◌≤◌, ◌+◌, ◌++◌, ℕ, All, List, [], length, Ok, sym, subst, ap, ◌∙◌, arith, append-nil, length-append, Command, ReaderConfig, Answer, with_answers, SetsNoAddress, each_append, each_of, Account, lists_of, rounds, SimStep, AnswersHoldOnce, IsInSession, HoldsInOneSession, reopens_in, AnswerRecovers, IsDone, Recovers, clear, done}
 use Rattle.std.specs.Prelude.{◌-◌, min}
 use Rattle.osdp_sim_laws.proofs.Begun.{none_reopen}
-use Rattle.osdp_sim_laws.proofs.Clearing.{losses_within}
+use Rattle.osdp_sim_laws.proofs.Clearing.{losses_within, no_more}
 use Rattle.osdp_sim_laws.proofs.Coming.{rounds_within}
 use Rattle.osdp_link_laws.proofs.Clean.{as_many}
 
-none_more : {A : Type 0} (xs : List A) → length xs ≤ 0 → xs ≡ []
-none_more [] few = refl
-none_more (x ∷ xs) few = absurd (omega (arith, few))
-
 -- a list that is as long as its beginning is that beginning
 whole : {A : Type 0} (xs ys rest : List A) → ys ≡ xs ++ rest → length rest ≤ 0 → ys ≡ xs
-whole xs ys rest is few = is ∙ ap (λ l. xs ++ l) (none_more rest few) ∙ append-nil xs
+whole xs ys rest is few = is ∙ ap (λ l. xs ++ l) (no_more rest few) ∙ append-nil xs
 
 module _ {H : Type 0} (answer_of : H → Command → Answer) (after : H → Command → H) where
   -- what is settled and reported is all, where it is as much

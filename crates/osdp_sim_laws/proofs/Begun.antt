@@ -1,15 +1,15 @@
 -- How many sessions an account has, and how long its lists were where each of them began.
-use Rattle.osdp_sim_laws.proofs.Common.{◌≡◌, ◌+◌, ◌==◌, if◌then◌else◌, ℕ, arith, Bool, true, false, List, [], ◌∷◌, ◌++◌, length, Option, Some, None, refl, sym, subst, ap, ◌∙◌, append_assoc, append-nil, length-append, eq-eqb, slice_get, packets_in, Packet, Command, Event, ticks, ControllerFault, Report, Answer, lacks_room, IsBeginning, Each, Account, lengths_of, with_issued, with_queued, with_report, with_session, handed, left, FitAlong, run, steps_done, SimState, set_up, StepFits, after_step, controller_hears, moment_after, reader_hears, SimConfig, SimStep, Busy, Issue, Queue, Reopen, ToController, ToReader, Wait, holds_on, runs_on, IsAcceptedByRoom, IsInSession, no_lengths, reopens, reopens_in}
+use Rattle.osdp_sim_laws.proofs.Common.{◌≡◌, ◌+◌, ◌==◌, if◌then◌else◌, ℕ, arith, Bool, true, false, List, [], ◌∷◌, ◌++◌, length, Option, Some, None, refl, sym, subst, ap, ◌∙◌, append_assoc, append-nil, length-append, eq-eqb, slice_get, packets_in, Packet, Command, Event, ticks, ControllerFault, Report, Answer, lacks_room, IsBeginning, Each, Account, lengths_of, with_issued, with_queued, with_report, with_session, handed, left, run, steps_done, SimState, set_up, after_step, controller_hears, moment_after, reader_hears, SimConfig, SimStep, Busy, Issue, Queue, Reopen, ToController, ToReader, Wait, runs_on, IsAcceptedByRoom, IsRun, OneLink, IsInSession, no_lengths, reopens, reopens_in}
 use Rattle.osdp_controller.specs.Hearing as controller
 use Rattle.osdp_controller.specs.Machine as controllers
 use Rattle.osdp_sim.specs.Schedules as schedules
 use Rattle.osdp_sim.specs.Steps as steps
 use Rattle.osdp_sim.specs.declared.account.Lengths.{Lengths}
 use Rattle.osdp_sim_laws.specs.Begun.{AreBegun, BeginsAfter, BeginsByReopens, CameTo}
-use Rattle.osdp_sim_laws.proofs.Accepting.{from_set_up}
+use Rattle.osdp_sim_laws.proofs.Accepting.{accepted}
 use Rattle.osdp_sim_laws.proofs.Accounts.{report_leaves}
 use Rattle.osdp_sim_laws.proofs.Ends.{sessions_of_report}
-use Rattle.osdp_sim_laws.proofs.Holding.{answers}
+use Rattle.osdp_sim_laws.proofs.Holding.{answers, run_first}
 
 -- ---- lists
 
@@ -220,17 +220,16 @@ module _ {H : Type 0} (answer_of : H → Command → Answer) (after : H → Comm
       let all = has_grown (after_step answer_of after) Tells one_account 1 grow list start start.account refl in
       omega (arith, ap (λ (a : Account). length a.sessions) all.tells, ap length all.grows.sessions, length-append start.account.sessions all.more, all.count)
 
-  pub begins_by_reopens : BeginsByReopens answer_of after
-  begins_by_reopens config handler list answer is was =
+  pub begins_by_reopens : OneLink answer_of after → BeginsByReopens answer_of after
+  begins_by_reopens given config handler list answer is was =
       let start = set_up config handler in
       let done = steps_done list answer in
       answers answer_of after (AreBegun 1 (CameTo answer_of after config handler) done) config handler list answer is was
       (λ taken. are_begun (after_step answer_of after) Tells one_account 1 grow start start.account refl refl done (run answer_of after done start).account refl
       (CameTo answer_of after config handler)
       (λ before more part a told.
-      let along = holds_on (after_step answer_of after) (StepFits answer_of after) before more start
-      (subst (λ l. FitAlong answer_of after l start) part is.fits) in
+      let first = run_first answer_of after config handler before more (subst (IsRun answer_of after config handler) part taken) in
       record {
         run = told;
-        room = subst (λ b. IsAcceptedByRoom config before b) (sym told) (from_set_up answer_of after config handler before along.0);
+        room = subst (λ b. IsAcceptedByRoom config before b) (sym told) (accepted answer_of after given config handler before first);
       }))

@@ -1,20 +1,21 @@
 -- Schedules without losses, over bytes: which commands are settled and which events are reported.
-use Rattle.osdp_sim_laws.proofs.Common.{◌≡◌, ◌≤◌, ◌<◌, ◌+◌, ◌-◌, ◌*◌, ℕ, zero, suc, arith, Bool, true, false, ◌==◌, if◌then◌else◌, All, List, [], ◌∷◌, ◌++◌, length, take, drop, Option, Some, None, Ok, Err, inl, inr, refl, sym, subst, ap, ◌∙◌, append-nil, length-append, length-take, most_data, Command, Event, is_closed, ControllerFault, Full, longest_wait, bytes_waiting, lacks_room, Answer, MovesFit, Delivered, Link, with_answers, SetsNoAddress, all_queued, all_submitted, reports, each_all, each_append, each_of, Each, count, Account, lists_of, clean_rounds, rounds, AreSettings, Stops, run, first_fault, SimState, room_for, set_up, after_step, fault_of, moment_after, SimConfig, Cause, HoldsPacket, NoMemory, NotQuiet, OutOfRange, SimStep, Issue, Queue, commands_of, events_of, IsInSession, told_of, clock_after, first_link, moves_of, OneLink, IsRun, runs_on}
+use Rattle.osdp_sim_laws.proofs.Common.{◌≡◌, ◌≤◌, ◌<◌, ◌+◌, ◌-◌, ℕ, zero, suc, arith, Bool, true, false, ◌==◌, if◌then◌else◌, All, List, [], ◌∷◌, ◌++◌, length, take, drop, Option, Some, None, Ok, Err, inl, inr, refl, sym, subst, ap, ◌∙◌, append_assoc, append-nil, length-append, length-take, Command, Event, is_closed, ControllerFault, Full, longest_wait, lacks_room, Answer, MovesFit, Delivered, Link, with_answers, SetsNoAddress, all_queued, all_submitted, reports, each_all, each_append, each_of, Each, count, Account, lists_of, clean_rounds, rounds, AreSettings, Stops, run, first_fault, SimState, set_up, fault_of, moment_after, SimConfig, Cause, HoldsPacket, NoMemory, NotQuiet, OutOfRange, SimStep, Issue, Queue, IsAccepted, commands_of, events_of, IsInSession, told_of, clock_after, first_link, moves_of, OneLink, IsRun}
 use Rattle.osdp_controller.specs.Machine as controllers
 use Rattle.osdp_link_laws.specs.Clean as clean
 use Rattle.osdp_link_laws.specs.Link as link
 use Rattle.osdp_link_laws.specs.Progress as progress
+use Rattle.osdp_link_laws.specs.Sessions as sessions
 use Rattle.osdp_link_laws.specs.Reports.{Told, all_taken, nothing_told, with_reports}
-use Rattle.osdp_sim.specs.Steps as steps
 use Rattle.osdp_sim_laws.specs.Clean.{GoesInTurn, IsInTurn, IsOrder}
-use Rattle.osdp_sim_laws.proofs.Accepting.{Accepts, among_few, accepts_commands, accepts_events, each_order_fits, none_commands, none_events, submit_is}
+use Rattle.osdp_sim_laws.proofs.Accepting.{accepted, among_few, submit_is}
 use Rattle.osdp_sim_laws.proofs.Accounts.{Added, all_added, and_then}
-use Rattle.osdp_sim_laws.proofs.Coming.{added, count_of, issued_before, its_account, joined, link_after, moments_of, next_fit, one_session, round_in_time, rounds_are, rounds_within, run_first, state_is, steps_in_time}
+use Rattle.osdp_sim_laws.proofs.Clearing.{no_more}
+use Rattle.osdp_sim_laws.proofs.Coming.{added, count_of, issued_before, its_account, joined, link_after, moments_of, next_fit, one_session, round_in_time, rounds_are, rounds_within, state_is, steps_in_time}
 use Rattle.osdp_sim_laws.proofs.Ends.{HaveEnded, run_ended}
-use Rattle.osdp_sim_laws.proofs.Holding.{run_of}
+use Rattle.osdp_sim_laws.proofs.Holding.{run_first, run_of}
 use Rattle.osdp_sim_laws.proofs.Left.{order_nothing}
 use Rattle.osdp_sim_laws.proofs.Moments.{LinkInTime, clock_on, last_moment}
-use Rattle.osdp_sim_laws.proofs.Room.{OrderFits, ShortCommands, ShortEvents, place_for_command, place_for_event}
+use Rattle.osdp_sim_laws.proofs.Room.{place_for_command, place_for_event}
 
 -- ---- orders
 
@@ -42,11 +43,6 @@ orders_are H (Queue number e ∷ orders) clock are =
     (each_append clean.IsOrder _ (moves_of orders clock) (there_order (number == 1) (link.Queue e) tt) rest.0, rest.1)
 orders_are H (_ ∷ orders) clock are = absurd are.0
 
--- rounds order nothing
-rounds_order : (m wait : ℕ) → (commands_of (rounds m wait) ≡ []) × (events_of (rounds m wait) ≡ [])
-rounds_order zero wait = (refl, refl)
-rounds_order (suc m) wait = rounds_order m wait
-
 clean_within : (n : ℕ) → Each IsInSession (clean_rounds n)
 clean_within n = (tt, (tt, (tt, rounds_within n 50)))
 
@@ -56,17 +52,13 @@ clean_are n =
     let now = moment_after 400 0 in
     ap (λ ms. link.Tick now ∷ link.ToReader Delivered ∷ link.ToController Delivered now ∷ ms) (rounds_are n 50 now)
 
-no_more : {A : Type 0} (xs : List A) → length xs ≤ 0 → xs ≡ []
-no_more [] few = refl
-no_more (x ∷ xs) few = absurd (omega (arith, few))
-
 -- where no more are accepted than there is room for, they are the first
-exactly : {A : Type 0} (room : ℕ) (all later : List A) → Accepts room all [] later → length later ≤ room → later ≡ take room all
-exactly room all later is few =
+exactly : {A : Type 0} (room : ℕ) (all some : List A) → IsAccepted room all some → length some ≤ room → some ≡ take room all
+exactly room all some is few =
     let rest = is.first.0 in
-    let many = ap length (is.list ∙ is.first.1) in
-    let none = no_more rest (omega (arith, many, few, length-append (take room all) rest, length-take room all, among_few is.new all is.among, ap length is.list)) in
-    is.list ∙ is.first.1 ∙ ap (λ l. take room all ++ l) none ∙ append-nil (take room all)
+    let many = ap length is.first.1 in
+    let none = no_more rest (omega (arith, many, few, length-append (take room all) rest, length-take room all, among_few some all is.among)) in
+    is.first.1 ∙ ap (λ l. take room all ++ l) none ∙ append-nil (take room all)
 
 module _ {H : Type 0} (answer_of : H → Command → Answer) (after : H → Command → H) where
   -- ---- no step is refused
@@ -106,148 +98,65 @@ module _ {H : Type 0} (answer_of : H → Command → Answer) (after : H → Comm
 
   -- ---- what was accepted
 
-  -- no order was taken from where it waits
-  record IsFilled (config : SimConfig) (s : SimState H) : Type 0 where
-    pub commands : s.controller.capacity ≡ config.commands
-    pub events : s.reader.queue.capacity ≡ config.events
-    pub command_room : s.controller.room ≡ (room_for config.commands).bytes
-    pub event_room : s.reader.queue.room ≡ (room_for config.events).bytes
-    pub waiting : s.account.issued ≡ s.controller.waiting
-    pub queue : s.account.queued ≡ s.reader.queue.events
-    pub issued : length s.account.issued ≤ config.commands
-    pub queued : length s.account.queued ≤ config.events
+  -- no order is taken from where it waits, and no more wait than may
+  record IsFilled (l n : Link H) (commands : List Command) (events : List Event) : Type 0 where
+    pub waiting : n.controller.waiting ≡ l.controller.waiting ++ commands
+    pub queue : n.reader.queue.events ≡ l.reader.queue.events ++ events
+    pub few : length n.controller.waiting ≤ l.controller.capacity
+    pub short : length n.reader.queue.events ≤ l.reader.queue.capacity
 
-  issued_filled : (config : SimConfig) (fault : Option ControllerFault) (c : Command) (s : SimState H)
-      → (fault ≡ None → length s.controller.waiting < s.controller.capacity) → IsFilled config s → IsFilled config (steps.issued fault c s)
-  issued_filled config (Some fault) c s room h = h
-  issued_filled config None c s room h =
-      let less = room refl in
-      record {
-        commands = h.commands;
-        events = h.events;
-        command_room = h.command_room;
-        event_room = h.event_room;
-        waiting = ap (λ cs. cs ++ c ∷ []) h.waiting;
-        queue = h.queue;
-        issued = omega (arith, ap length h.waiting, h.commands, less, length-append s.account.issued (c ∷ []));
-        queued = h.queued;
-      }
-
-  queued_filled : (config : SimConfig) (full : Bool) (e : Event) (s : SimState H)
-      → (full ≡ false → length s.reader.queue.events < s.reader.queue.capacity) → IsFilled config s → IsFilled config (steps.queued full e s)
-  queued_filled config true e s room h = h
-  queued_filled config false e s room h =
-      let less = room refl in
-      record {
-        commands = h.commands;
-        events = h.events;
-        command_room = h.command_room;
-        event_room = h.event_room;
-        waiting = h.waiting;
-        queue = ap (λ es. es ++ e ∷ []) h.queue;
-        issued = h.issued;
-        queued = omega (arith, ap length h.queue, h.events, less, length-append s.account.queued (e ∷ []));
-      }
-
-  has_room : (c : Command) (s : SimState H) → controllers.submit_refusal c s.controller ≡ None → length s.controller.waiting < s.controller.capacity
-  has_room c s none = elim (submit_is c s.controller) [
+  has_room : (c : Command) (m : controllers.Machine) → controllers.submit_refusal c m ≡ None → length m.waiting < m.capacity
+  has_room c m none = elim (submit_is c m) [
     | inl (refused, poll) ↦ absurd (refused none)
-    | inr (is, one) ↦ place_for_command c s.controller (accepted (controllers.has_room c s.controller) (sym is ∙ none))
+    | inr (is, one) ↦ place_for_command c m (so (controllers.has_room c m) (sym is ∙ none))
   ]
     where
-      accepted : (b : Bool) → (if b then None else Some Full) ≡ None → b ≡ true
-      accepted true e = refl
-      accepted false e = absurd cc
+      so : (b : Bool) → (if b then None else Some Full) ≡ None → b ≡ true
+      so true e = refl
+      so false e = absurd cc
 
-  there_filled : (config : SimConfig) (there : Bool) (s t : SimState H) → IsFilled config s → IsFilled config t → IsFilled config (if there then t else s)
-  there_filled config true s t before later = later
-  there_filled config false s t before later = before
+  abbrev Fills : List (link.Move H) → Type 0
+  Fills ms = (l : Link H) → length l.controller.waiting ≤ l.controller.capacity → length l.reader.queue.events ≤ l.reader.queue.capacity
+      → IsFilled l (link.run answer_of after ms l) (all_submitted answer_of after ms l) (all_queued answer_of after ms l)
 
-  orders_filled : (config : SimConfig) (orders : List SimStep) (s : SimState H) → Each IsOrder orders → IsFilled config s → IsFilled config (run answer_of after orders s)
-  orders_filled config [] s are h = h
-  orders_filled config (Issue number c ∷ orders) s are h =
-      let fault = controllers.submit_refusal c s.controller in
-      orders_filled config orders _ are.1
-      (there_filled config (number == 1) s (steps.issued fault c s) h (issued_filled config fault c s (has_room c s) h))
-  orders_filled config (Queue number e ∷ orders) s are h =
-      let full = lacks_room e s.reader.queue in
-      orders_filled config orders _ are.1
-      (there_filled config (number == 1) s (steps.queued full e s) h
-      (queued_filled config full e s (place_for_event e s.reader.queue) h))
-  orders_filled config (_ ∷ orders) s are h = absurd are.0
+  submit_fills : (fault : Option ControllerFault) (c : Command) (ms : List (link.Move H)) → Fills ms → (l : Link H)
+      → (fault ≡ None → length l.controller.waiting < l.controller.capacity) → length l.controller.waiting ≤ l.controller.capacity
+      → length l.reader.queue.events ≤ l.reader.queue.capacity → let next = link.submits fault c l in
+      IsFilled l (link.run answer_of after ms next) (sessions.accepted fault c ++ all_submitted answer_of after ms next) (all_queued answer_of after ms next)
+  submit_fills (Some fault) c ms fills l room few short = fills l few short
+  submit_fills None c ms fills l room few short =
+      let next = link.submits None c l in
+      let rest = fills next (omega (arith, room refl, length-append l.controller.waiting (c ∷ []))) short in
+      record {
+        waiting = rest.waiting ∙ append_assoc l.controller.waiting (c ∷ []) (all_submitted answer_of after ms next);
+        queue = rest.queue;
+        few = rest.few;
+        short = rest.short;
+      }
 
-  -- the orders that were accepted are the first, and the rounds after them accept no more
-  abbrev AreIssued : SimConfig → List SimStep → Account → Type 0
-  AreIssued config orders a = (a.issued ≡ take config.commands (commands_of orders)) × (a.queued ≡ take config.events (events_of orders))
+  queue_fills : (full : Bool) (e : Event) (ms : List (link.Move H)) → Fills ms → (l : Link H)
+      → (full ≡ false → length l.reader.queue.events < l.reader.queue.capacity) → length l.controller.waiting ≤ l.controller.capacity
+      → length l.reader.queue.events ≤ l.reader.queue.capacity → let next = link.queues full e l in
+      IsFilled l (link.run answer_of after ms next) (all_submitted answer_of after ms next) (sessions.unless_full full e ++ all_queued answer_of after ms next)
+  queue_fills true e ms fills l room few short = fills l few short
+  queue_fills false e ms fills l room few short =
+      let next = link.queues false e l in
+      let rest = fills next few (omega (arith, room refl, length-append l.reader.queue.events (e ∷ []))) in
+      record {
+        waiting = rest.waiting;
+        queue = rest.queue ∙ append_assoc l.reader.queue.events (e ∷ []) (all_queued answer_of after ms next);
+        few = rest.few;
+        short = rest.short;
+      }
 
-  all_filled : (config : SimConfig) (handler : H) (orders : List SimStep) → Each IsOrder orders → IsFilled config (run answer_of after orders (set_up config handler))
-  all_filled config handler orders are =
-      orders_filled config orders (set_up config handler) are
-      (record {
-        commands = refl;
-        events = refl;
-        command_room = refl;
-        event_room = refl;
-        waiting = refl;
-        queue = refl;
-        issued = omega arith;
-        queued = omega arith;
-      })
-
-  orders_issued : (config : SimConfig) (handler : H) (orders : List SimStep) → Each IsOrder orders → Each OrderFits orders
-      → AreIssued config orders (run answer_of after orders (set_up config handler)).account
-  orders_issued config handler orders are fit =
-      let s = set_up config handler in
-      let last = (run answer_of after orders s).account in
-      let filled = all_filled config handler orders are in (
-        exactly config.commands (commands_of orders) last.issued
-            (subst (λ n. Accepts n (commands_of orders) [] last.issued) (all_of config.commands)
-            (accepts_commands answer_of after orders 0 s (none_commands answer_of after config handler) fit)) filled.issued,
-        exactly config.events (events_of orders) last.queued
-            (subst (λ n. Accepts n (events_of orders) [] last.queued) (all_of config.events)
-            (accepts_events answer_of after orders 0 s (none_events answer_of after config handler) fit)) filled.queued,
-      )
-    where
-      all_of : (n : ℕ) → n - 0 ≡ n
-      all_of n = omega arith
-
-  nothing_new : {A : Type 0} (room : ℕ) (all before later : List A) → Accepts room all before later → all ≡ [] → later ≡ before
-  nothing_new room all before later is none =
-      let few = among_few is.new all is.among in
-      is.list ∙ ap (λ l. before ++ l) (no_more is.new (omega (arith, few, ap length none))) ∙ append-nil before
-
-  -- no message of a round is out of its range: there is none
-  clean_fit : (n : ℕ) → Each OrderFits (clean_rounds n)
-  clean_fit n = (tt, (tt, (tt, rounds_fit n)))
-    where
-      rounds_fit : (n : ℕ) → Each OrderFits (rounds n 50)
-      rounds_fit zero = tt
-      rounds_fit (suc n) = (tt, (tt, (tt, rounds_fit n)))
-
-  clean_issued : (config : SimConfig) (handler : H) (orders : List SimStep) (n : ℕ) → Each IsOrder orders → Each OrderFits orders
-      → AreIssued config orders (run answer_of after (clean_rounds n) (run answer_of after orders (set_up config handler))).account
-  clean_issued config handler orders n are fit =
-      let s = run answer_of after orders (set_up config handler) in
-      let last = (run answer_of after (clean_rounds n) s).account in
-      let first = orders_issued config handler orders are fit in
-      let filled = all_filled config handler orders are in
-      let k = length s.controller.waiting + controllers.bytes_waiting s.controller.waiting in
-      let j = length s.reader.queue.events + bytes_waiting s.reader.queue.events in
-      let commands : ShortCommands k s.controller = record {
-        few = omega arith;
-        bytes = omega arith;
-        ample = filled.command_room ∙ ap (λ (places : ℕ). places * (1 + most_data)) (sym filled.commands);
-      } in
-      let events : ShortEvents j s.reader.queue = record {
-        few = omega arith;
-        bytes = omega arith;
-        ample = filled.event_room ∙ ap (λ (places : ℕ). places * (1 + most_data)) (sym filled.events);
-      } in (
-        nothing_new (s.controller.capacity - k) (commands_of (clean_rounds n)) s.account.issued last.issued
-            (accepts_commands answer_of after (clean_rounds n) k s commands (clean_fit n)) (rounds_order n 50).0 ∙ first.0,
-        nothing_new (s.reader.queue.capacity - j) (events_of (clean_rounds n)) s.account.queued last.queued
-            (accepts_events answer_of after (clean_rounds n) j s events (clean_fit n)) (rounds_order n 50).1 ∙ first.1,
-      )
+  filled : (ms : List (link.Move H)) → Each clean.IsOrder ms → Fills ms
+  filled [] are l few short =
+      record { waiting = sym (append-nil l.controller.waiting); queue = sym (append-nil l.reader.queue.events); few = few; short = short }
+  filled (link.Submit c ∷ ms) are l few short =
+      submit_fills (controllers.submit_refusal c l.controller) c ms (filled ms are.1) l (has_room c l.controller) few short
+  filled (link.Queue e ∷ ms) are l few short =
+      queue_fills (lacks_room e l.reader.queue) e ms (filled ms are.1) l (place_for_event e l.reader.queue) few short
+  filled (m ∷ ms) are l few short = absurd are.0
 
   -- ---- the rounds
 
@@ -280,6 +189,10 @@ module _ {H : Type 0} (answer_of : H → Command → Answer) (after : H → Comm
     pub queued : a.queued ≡ events
     pub taken : a.taken ≡ acted
     pub told : told_of a ≡ t
+
+  -- the orders that were accepted are the first
+  abbrev AreIssued : SimConfig → List SimStep → Account → Type 0
+  AreIssued config orders a = (a.issued ≡ take config.commands (commands_of orders)) × (a.queued ≡ take config.events (events_of orders))
 
   in_turn : (config : SimConfig) (handler : H) (orders : List SimStep) (n m : ℕ) (commands : List Command) (events : List Event) (acted : List Command) (t : Told)
       (a : Account) → m ≡ n → AreIssued config orders a → HasTold commands events acted t a
@@ -315,9 +228,10 @@ module _ {H : Type 0} (answer_of : H → Command → Answer) (after : H → Comm
       let moments = moments_of n 50 opening in
       let ns : List (link.Move H) = progress.rounds (opening ∷ moments) in
       let clean_moves : moves_of more (clock_after orders 0) ≡ ns = ap (λ c. moves_of more c) are_moves.1 ∙ clean_are n in
-      let there = state_is answer_of after given config handler orders first in
-      let filled = all_filled config handler orders are in
-      let waiting = filled.waiting ∙ ap (λ (s : SimState H). s.controller.waiting) there in
+      let old = (run answer_of after orders start).account in
+      let before = its_account answer_of after given config handler orders first in
+      let full = filled ms are_moves.0 l (omega arith) (omega arith) in
+      let waiting = before.issued ∙ sym full.waiting in
       let none_before = subst (Each SetsNoAddress) waiting (issued_before answer_of after given config handler orders more is SetsNoAddress none) in
       let longest = longest_wait config.controller in
       let timely = steps_in_time answer_of after longest orders 0 l (omega arith) (omega arith, omega arith) in
@@ -328,17 +242,20 @@ module _ {H : Type 0} (answer_of : H → Command → Answer) (after : H → Comm
       let found = law l ms opening 50 moments its.begins (each_all clean.IsOrder ms are_moves.0) its.fits same refl (omega (arith, quiet)) poll
       (each_all SetsNoAddress later.controller.waiting none_before) spaced moves in
       let end = run answer_of after (orders ++ more) start in
-      let before = its_account answer_of after given config handler orders first in
       let whole = its_account answer_of after given config handler (orders ++ more) is in
       let both = added answer_of after given config handler orders more is ∙ ap (λ list. and_then (all_added answer_of after ms l) (all_added answer_of after list later)) clean_moves in
       let nothing = order_nothing answer_of after (opening ∷ moments) later in
       let untold = orders_tell ms l are_moves.0 in
+      let issued : end.account.issued ≡ old.issued =
+      whole.issued ∙ ap (λ (x : Added). x.submitted) both ∙ ap (λ cs. all_submitted answer_of after ms l ++ cs) nothing.submitted
+      ∙ append-nil (all_submitted answer_of after ms l) ∙ sym before.issued in
+      let queued : end.account.queued ≡ old.queued =
+      whole.queued ∙ ap (λ (x : Added). x.queued) both ∙ ap (λ es. all_queued answer_of after ms l ++ es) nothing.queued
+      ∙ append-nil (all_queued answer_of after ms l) ∙ sym before.queued in
       let has : HasTold later.controller.waiting later.reader.queue.events (all_taken answer_of after ns later)
       (with_reports (reports answer_of after ns later) nothing_told) end.account = record {
-        issued = whole.issued ∙ ap (λ (x : Added). x.submitted) both ∙ ap (λ cs. all_submitted answer_of after ms l ++ cs) nothing.submitted
-            ∙ append-nil (all_submitted answer_of after ms l) ∙ sym before.issued ∙ waiting;
-        queued = whole.queued ∙ ap (λ (x : Added). x.queued) both ∙ ap (λ es. all_queued answer_of after ms l ++ es) nothing.queued
-            ∙ append-nil (all_queued answer_of after ms l) ∙ sym before.queued ∙ filled.queue ∙ ap (λ (s : SimState H). s.reader.queue.events) there;
+        issued = issued ∙ waiting;
+        queued = queued ∙ before.queued ∙ sym full.queue;
         taken = whole.taken ∙ ap (λ (x : Added). x.taken) both ∙ ap (λ cs. cs ++ all_taken answer_of after ns later) untold.0;
         told = whole.told ∙ ap (λ (x : Added). with_reports x.told nothing_told) both
             ∙ ap (λ rs. with_reports (rs ++ reports answer_of after ns later) nothing_told) untold.1;
@@ -349,10 +266,15 @@ module _ {H : Type 0} (answer_of : H → Command → Answer) (after : H → Comm
       ∙ ap (λ (k : Link H). is_closed k.controller.session.state) ended ∙ found.1 in
       let one = one_session answer_of after config handler (orders ++ more)
       (each_append IsInSession orders more (orders_within orders are) (clean_within n)) in
-      let accepted = subst (λ (s : SimState H). AreIssued config orders s.account) (sym (runs_on (after_step answer_of after) orders more start))
-      (clean_issued config handler orders n are (each_order_fits answer_of after orders start first.fits)) in
+      let room = accepted answer_of after given config handler orders first in
+      let few : length old.issued ≤ config.commands = subst (λ cs. length cs ≤ config.commands) (sym waiting) full.few in
+      let short : length old.queued ≤ config.events = subst (λ es. length es ≤ config.events) (sym (before.queued ∙ sym full.queue)) full.short in
+      let are_issued : AreIssued config orders end.account = (
+        issued ∙ exactly config.commands (commands_of orders) old.issued room.issued few,
+        queued ∙ exactly config.events (events_of orders) old.queued room.queued short,
+      ) in
       in_turn config handler orders n (length moments) later.controller.waiting later.reader.queue.events (all_taken answer_of after ns later)
-      (with_reports (reports answer_of after ns later) nothing_told) end.account (count_of n 50 opening) accepted has found.0
+      (with_reports (reports answer_of after ns later) nothing_told) end.account (count_of n 50 opening) are_issued has found.0
       (no_end end lasts (run_ended answer_of after given.told (orders ++ more) start is.well refl) one)
 
   pub goes_in_turn : OneLink answer_of after → clean.GoesInTurn answer_of after → GoesInTurn answer_of after

@@ -1,14 +1,15 @@
 -- A line that is cleared, whatever the steps before were.
-use Rattle.osdp_sim_laws.proofs.Common.{◌≡◌, ◌≤◌, ◌+◌, ℕ, Bool, true, false, ◌==◌, if◌then◌else◌, arith, List, [], ◌∷◌, ◌++◌, length, Option, Some, None, refl, sym, subst, ap, length-append, option_to_list, Packet, Command, Event, ticks, ControllerFault, Answer, lacks_room, Delivered, Delivery, Link, Lost, Repeated, Each, SimStep, Issue, Queue, Busy, Wait, ToReader, ToController, Reopen, IsInSession, step_clock, delivery, move_of, moves_of, clear, losses}
+use Rattle.osdp_sim_laws.proofs.Common.{◌≡◌, ◌≤◌, ◌+◌, ℕ, Bool, true, false, ◌==◌, if◌then◌else◌, arith, List, [], ◌∷◌, length, Option, Some, None, refl, sym, subst, ap, length-append, option_to_list, Packet, Command, Event, ticks, ControllerFault, Answer, lacks_room, Delivered, Delivery, Link, Lost, Repeated, Each, SimStep, Issue, Queue, Busy, Wait, ToReader, ToController, Reopen, IsInSession, step_clock, delivery, move_of, moves_of, clear, losses}
 use Rattle.osdp_controller.specs.Machine as controllers
 use Rattle.osdp_reader.specs.Table as reader
 use Rattle.osdp_link_laws.specs.Link as link
+use Rattle.osdp_sim_laws.proofs.Schedules.{run_both}
 
 one_at_most : {A : Type 0} (o : Option A) → length (option_to_list o) ≤ 1
 one_at_most None = omega arith
 one_at_most (Some x) = omega arith
 
-no_more : {A : Type 0} (xs : List A) → length xs ≤ 0 → xs ≡ []
+pub no_more : {A : Type 0} (xs : List A) → length xs ≤ 0 → xs ≡ []
 no_more [] few = refl
 no_more (x ∷ xs) few = absurd (omega (arith, few))
 
@@ -78,16 +79,12 @@ module _ {H : Type 0} where
     step_few n (Reopen number) clock l few =
         where_few n (number == 1) (link.Reopen clock) l few (begins_few n (controllers.begin_refusal l.controller) l.to_reader l.to_controller clock l few)
 
-    on_both : (ms ns : List (link.Move H)) (l : Link H) → link.run answer_of after (ms ++ ns) l ≡ link.run answer_of after ns (link.run answer_of after ms l)
-    on_both [] ns l = refl
-    on_both (m ∷ ms) ns l = on_both ms ns (link.after_move answer_of after m l)
-
     pub steps_few : (n : ℕ) (steps : List SimStep) (clock : ℕ) (l : Link H) → AtMost n l → AtMost (n + length steps) (link.run answer_of after (moves_of steps clock) l)
     steps_few n [] clock l few = (omega (arith, few.0), omega (arith, few.1))
     steps_few n (step ∷ steps) clock l few =
         let now = step_clock step clock in
         let rest = steps_few (n + 1) steps now (link.run answer_of after (move_of step clock) l) (step_few n step clock l few) in
-        subst (AtMost (n + length (step ∷ steps))) (sym (on_both (move_of step clock) (moves_of steps now) l))
+        subst (AtMost (n + length (step ∷ steps))) (sym (run_both answer_of after (move_of step clock) (moves_of steps now) l))
         (omega (arith, rest.0), omega (arith, rest.1))
 
     -- ---- losses

@@ -1,8 +1,8 @@
 -- Rounds that lose nothing, over bytes.
-use Rattle.osdp_sim_laws.proofs.Common.{◌≡◌, ◌≤◌, ◌+◌, ℕ, zero, suc, Bool, true, false, ◌==◌, if◌then◌else◌, arith, List, [], ◌∷◌, ◌++◌, length, inl, inr, refl, sym, subst, ap, ◌∙◌, append_assoc, append-nil, map, Packet, spelling, Command, is_closed, IsInRange, StaysInRange, Begin, new_machine, Answer, lacks_room, MovesFit, Delivered, Link, Move, after_move, SetsNoAddress, all_queued, all_submitted, reports, each_all, each_append, each_front, each_of, set_no_other, Each, count, rounds, run, SimState, room_for, set_up, StepFits, after_step, fault_of, moment_after, SimConfig, SimStep, Issue, Queue, Busy, Wait, ToReader, ToController, Reopen, IsInSession, clock_after, step_clock, delivery, first_link, in_bytes, move_of, moves_of, OneLink, ComesThrough, IsClear, IsRun, Recovers, TellsOfMoves, clear, holds_on, well_on}
+use Rattle.osdp_sim_laws.proofs.Common.{◌≡◌, ◌≤◌, ◌+◌, ℕ, zero, suc, Bool, true, false, ◌==◌, if◌then◌else◌, arith, List, [], ◌∷◌, ◌++◌, length, inl, inr, refl, sym, subst, ap, ◌∙◌, append_assoc, append-nil, map, Packet, spelling, Command, is_closed, IsInRange, StaysInRange, Begin, new_machine, Answer, lacks_room, MovesFit, Delivered, Link, Move, after_move, SetsNoAddress, all_queued, all_submitted, reports, each_all, each_append, each_front, each_of, set_no_other, Each, count, rounds, run, SimState, room_for, set_up, moment_after, SimConfig, SimStep, Issue, Queue, Busy, Wait, ToReader, ToController, Reopen, IsInSession, clock_after, step_clock, delivery, first_link, in_bytes, move_of, moves_of, OneLink, ComesThrough, IsClear, IsRun, Recovers, TellsOfMoves, clear}
 use Rattle.osdp_controller.specs.Machine as controllers
 use Rattle.osdp_link_laws.specs.Addresses.{StayWhereTheyAre}
-use Rattle.osdp_link_laws.specs.Ahead.{ahead, left}
+use Rattle.osdp_link_laws.specs.Ahead.{ahead, count_ahead}
 use Rattle.osdp_link_laws.specs.Link as link
 use Rattle.osdp_link_laws.specs.Progress as progress
 use Rattle.osdp_link_laws.specs.Reports.{told_in}
@@ -10,7 +10,7 @@ use Rattle.osdp_sim_laws.proofs.Accounts.{Added, added_both, all_added, and_then
 use Rattle.osdp_sim_laws.proofs.Begun.{none_reopen, sessions_counted}
 use Rattle.osdp_sim_laws.proofs.Clearing.{AtMost, Cleared, clears, losses_within, steps_few}
 use Rattle.osdp_sim_laws.proofs.Ends.{run_ended}
-use Rattle.osdp_sim_laws.proofs.Holding.{follows_all, run_of, schedule_is_moves}
+use Rattle.osdp_sim_laws.proofs.Holding.{follows_all, run_first, run_of, schedule_is_moves}
 use Rattle.osdp_sim_laws.proofs.Ledger.{ahead_among}
 use Rattle.osdp_sim_laws.proofs.Left.{Brings, OrdersNothing, brings, order_nothing}
 use Rattle.osdp_sim_laws.proofs.Moments.{LinkInTime, begins_in_time, clock_on, controller_in_time, last_moment, queues_in_time, reader_in_time, submits_in_time, tick_in_time}
@@ -117,15 +117,6 @@ module _ {H : Type 0} (answer_of : H → Command → Answer) (after : H → Comm
   moves_then [] ns l fits = fits
   moves_then (m ∷ ms) ns l fits = moves_then ms ns (after_move answer_of after m l) fits.1
 
-  -- the steps before
-  pub run_first : (config : SimConfig) (handler : H) (steps more : List SimStep) → IsRun answer_of after config handler (steps ++ more)
-      → IsRun answer_of after config handler steps
-  run_first config handler steps more is = record {
-    settings = is.settings;
-    well = (well_on (after_step answer_of after) fault_of steps more (set_up config handler) is.well).0;
-    fits = (holds_on (after_step answer_of after) (StepFits answer_of after) steps more (set_up config handler) is.fits).0;
-  }
-
   module _ (given : OneLink answer_of after) (config : SimConfig) (handler : H) where
     abbrev start : SimState H
     start = set_up config handler
@@ -178,7 +169,7 @@ module _ {H : Type 0} (answer_of : H → Command → Answer) (after : H → Comm
       pub issued_before : (P : Command → Type 0) → Each P (run answer_of after (steps ++ more) start).account.issued
           → Each P (run answer_of after steps start).account.issued
       issued_before P all =
-          subst (Each P) (sym (its_account steps (run_first config handler steps more is)).issued)
+          subst (Each P) (sym (its_account steps (run_first answer_of after config handler steps more is)).issued)
           (each_front P (all_submitted answer_of after (moves_of steps 0) l)
           (all_submitted answer_of after (moves_of more (clock_after steps 0)) (link_after config handler steps))
           (subst (Each P) ((its_account (steps ++ more) is).issued ∙ ap (λ (x : Added). x.submitted) added) all))
@@ -186,7 +177,7 @@ module _ {H : Type 0} (answer_of : H → Command → Answer) (after : H → Comm
       -- where the simulation is clear its link is
       pub clear_link : IsClear (run answer_of after steps start) → progress.IsClear (link_after config handler steps)
       clear_link clear =
-          let first = run_first config handler steps more is in
+          let first = run_first answer_of after config handler steps more is in
           let a = (run answer_of after steps start).account in
           let later = link_after config handler steps in
           let there = state_is steps first in
@@ -217,12 +208,12 @@ module _ {H : Type 0} (answer_of : H → Command → Answer) (after : H → Comm
       -- what they bring to the account
       pub rounds_bring : StaysInRange → progress.ForgetsNone answer_of after → Each IsInSession steps
           → let last = (run answer_of after (steps ++ rounds m wait) start).account in last.ends ≡ []
-          → Brings (run answer_of after steps start).account last (told_in (reports answer_of after (progress.rounds moments) later)) (left later)
+          → Brings (run answer_of after steps start).account last (told_in (reports answer_of after (progress.rounds moments) later)) (count_ahead later)
       rounds_bring ranges forgets inside none =
           let more = rounds m wait in
           let ms = moves_of steps 0 in
           let all = steps ++ more in
-          let first = run_first config handler steps more is in
+          let first = run_first answer_of after config handler steps more is in
           let before = (run answer_of after steps start).account in
           let last = (run answer_of after all start).account in
           let tells = its_account steps first in
@@ -247,7 +238,7 @@ module _ {H : Type 0} (answer_of : H → Command → Answer) (after : H → Comm
       let more = rounds m wait in
       let later = link_after config handler steps in
       let clock = clock_after steps 0 in
-      let its = run_of answer_of after given config handler steps (run_first config handler steps more is) in
+      let its = run_of answer_of after given config handler steps (run_first answer_of after config handler steps more is) in
       let timely = steps_in_time wait steps 0 l (omega arith) (omega arith, long) in
       let range : IsInRange l.controller.session = ranges.later (new_machine config.controller config.commands (room_for config.commands).bytes) (Begin 0 ∷ []) (ranges.new config.controller config.commands (room_for config.commands).bytes) in
       let found = in_time l (moves_of steps 0) (moments_of m wait clock) its.begins range its.fits (clear_link given config handler steps more is clear)
@@ -285,7 +276,7 @@ module _ {H : Type 0} (answer_of : H → Command → Answer) (after : H → Comm
       let all_steps = steps ++ clear steps in
       let more = rounds m wait in
       let ms = moves_of all_steps 0 in
-      let first = run_first config handler all_steps more is in
+      let first = run_first answer_of after config handler all_steps more is in
       let before = run answer_of after all_steps (set_up config handler) in
       let issued = (run answer_of after (all_steps ++ more) (set_up config handler)).account.issued in
       let none_before = issued_before given config handler all_steps more is SetsNoAddress (each_of SetsNoAddress issued none) in

@@ -1,7 +1,7 @@
 -- The names that most proofs of this crate cite, passed on from one place. Declares nothing.
 pub use Rattle.std.proofs.Common.{[], All, ap, append_assoc, arith, Bool, drop, eqb, Err, false, flat_map, IfSome, if◌then◌else◌, inl, inr, leb, length, List, ltb, max, None, not, Ok, Option, refl, Result, Some, subst, suc, sym, take, true, zero, ℕ, ◌&&◌, ◌*◌, ◌++◌, ◌+◌, ◌-◌, ◌<◌, ◌==◌, ◌^◌, ◌||◌, ◌∙◌, ◌∷◌, ◌≡◌, ◌≤◌, ◌⊎◌}
-pub use Rattle.std.proofs.lemmas.Bool.Decides.{eqb_tells, leb_tells}
-pub use Rattle.std.proofs.lemmas.List.{append-nil, length-append, length-map, length-take, map-append, take_all}
+pub use Rattle.std.proofs.lemmas.Bool.Decides.{leb_tells}
+pub use Rattle.std.proofs.lemmas.List.{append-nil, length-append, length-map, length-take, map-append}
 pub use Rattle.std.specs.Prelude.{map, option_to_list, slice_get}
 pub use Rattle.std.proofs.lemmas.Bool.{eq-eqb, le-leb, lt-ltb, ltb-true, ne_eqb}
 pub use Rattle.osdp_frame.specs.Items.{packets_in, reading}
@@ -12,7 +12,7 @@ pub use Rattle.osdp_controller.specs.Machine.{is_due, Machine, new_machine}
 pub use Rattle.osdp_controller.specs.Ticking.{begins, gives_up, sends_frame, stays, Ticked, ticks, ticks_in, tries_again}
 pub use Rattle.osdp_controller.specs.declared.fault.ControllerFault.{ControllerFault}
 pub use Rattle.osdp_controller.specs.declared.fault.ControllerFault.TheVariants.{Full}
-pub use Rattle.osdp_reader.specs.Queue.{bytes_waiting, lacks_room, Queue as EventQueue}
+pub use Rattle.osdp_reader.specs.Queue.{lacks_room, Queue as EventQueue}
 pub use Rattle.osdp_reader.specs.declared.handler.Answer.{Answer, Answer as HandlerAnswer}
 pub use Rattle.osdp_reader.specs.declared.kind.Kind.{Kind}
 pub use Rattle.osdp_link_laws.specs.Beginning.{Begins, MovesFit, SaysWhatFitsIf}
@@ -28,7 +28,7 @@ pub use Rattle.osdp_sim.specs.declared.config.SimConfig.{SimConfig}
 pub use Rattle.osdp_sim.specs.declared.fault.Cause.{Cause}
 pub use Rattle.osdp_sim.specs.declared.step.SimStep.{SimStep}
 pub use Rattle.osdp_sim.specs.declared.step.SimStep.TheVariants.{Busy, Issue, Queue, Reopen, ToController, ToReader, Wait}
-pub use Rattle.osdp_sim_laws.specs.Accepted.{AcceptsByRoom, but_poll, commands_of, events_of, IsAccepted, IsAcceptedByRoom}
+pub use Rattle.osdp_sim_laws.specs.Accepted.{AcceptsByRoom, commands_of, events_of, IsAccepted, IsAcceptedByRoom}
 pub use Rattle.osdp_sim_laws.specs.Accounts.{account_in, AnswersEndOnce, AnswersHoldOnce, SessionsEndOnce, IsAnswer, IsInSession, IsNoRefusal, HoldsInOneSession, no_lengths, reopens, reopens_in, told_of, WasSetUp}
 pub use Rattle.osdp_msg.specs.declared.reply.Reply.{Reply}
 pub use Rattle.osdp_controller.specs.declared.report.Report.{Report}
@@ -53,7 +53,7 @@ pub use Rattle.osdp_sim_laws.specs.OneLink.{EndsAreTold, KeepsLedger, OneLink, R
 pub use Rattle.osdp_controller.specs.declared.state.State.TheVariants.{Closed, Idle, Pausing, Quiet, Waiting}
 pub use Rattle.osdp_controller_laws.specs.Runs.{Begin}
 pub use Rattle.osdp_link_laws.proofs.OrdinaryRuns.{keep_reader, set_no_other, steady_handler, steady_ordinary}
-pub use Rattle.osdp_link_laws.specs.Reports.{reports, told_by_front}
+pub use Rattle.osdp_link_laws.specs.Reports.{command_taken as but_poll, reports, told_by_front}
 pub use Rattle.osdp_controller.specs.Hearing.{Heard, hears}
 pub use Rattle.osdp_controller.specs.Sessions.{seen}
 pub use Rattle.osdp_link_laws.specs.Ordinary.{IsSteady}

@@ -1,5 +1,5 @@
 -- What holds of each schedule.
-use Rattle.osdp_sim_laws.proofs.Common.{◌≡◌, ◌<◌, ℕ, Bool, true, false, arith, List, length, refl, sym, subst, Result, Ok, Err, ◌≤◌, ◌-◌, zero, suc, take, inl, inr, ◌+◌, ◌⊎◌, Command, is_closed, Answer, Begins, each_all, each_of, keep_reader, count, Account, empty_account, lists_of, with_session, FitAlong, Stops, run, steps_done, set_up, Cause, SimConfig, SimStep, AnswersEndOnce, AnswersHoldOnce, SessionsEndOnce, IsAnswer, IsNoRefusal, HoldsInOneSession, WasSetUp, account_in, reopens_in, OneLink, IsRun, ScheduleIsMoves, clock_after, first_link, moves_of}
+use Rattle.osdp_sim_laws.proofs.Common.{◌≡◌, ◌<◌, ℕ, Bool, true, false, arith, List, length, refl, sym, subst, Result, Ok, Err, ◌≤◌, ◌-◌, zero, suc, take, inl, inr, ◌+◌, ◌⊎◌, Command, is_closed, Answer, Begins, each_all, each_of, keep_reader, count, Account, empty_account, lists_of, with_session, FitAlong, Stops, run, steps_done, set_up, StepFits, after_step, fault_of, holds_on, well_on, ◌++◌, Cause, SimConfig, SimStep, AnswersEndOnce, AnswersHoldOnce, SessionsEndOnce, IsAnswer, IsNoRefusal, HoldsInOneSession, WasSetUp, account_in, reopens_in, OneLink, IsRun, ScheduleIsMoves, clock_after, first_link, moves_of}
 use Rattle.osdp_link_laws.specs.Refusals as refusals
 use Rattle.osdp_link_laws.specs.Reports.{reports}
 use Rattle.osdp_sim.specs.declared.account.Account as declared
@@ -33,6 +33,15 @@ last_one true a ended = inr (omega (arith, ended))
 last_one false a ended = inl (omega (arith, ended))
 
 module _ {H : Type 0} (answer_of : H → Command → Answer) (after : H → Command → H) where
+  -- the steps before
+  pub run_first : (config : SimConfig) (handler : H) (steps more : List SimStep) → IsRun answer_of after config handler (steps ++ more)
+      → IsRun answer_of after config handler steps
+  run_first config handler steps more is = record {
+    settings = is.settings;
+    well = (well_on (after_step answer_of after) fault_of steps more (set_up config handler) is.well).0;
+    fits = (holds_on (after_step answer_of after) (StepFits answer_of after) steps more (set_up config handler) is.fits).0;
+  }
+
   -- the moves of a whole run
   pub follows_all : OneLink answer_of after → (config : SimConfig) (handler : H) (steps : List SimStep) → IsRun answer_of after config handler steps
       → Follows answer_of after (run answer_of after steps (set_up config handler)) (moves_of steps 0) (first_link config handler) (clock_after steps 0) no_account

@@ -45,19 +45,19 @@ module _ {H : Type 0} (answer_of : H → Command → Answer) (after : H → Comm
   -- ---- moves of one session
 
   -- at first all that waits is left: nothing
-  none_left : (ms : List (Move H)) (l : Link H) → IsRunOf answer_of after ms l → ahead.left l ≡ 0
+  none_left : (ms : List (Move H)) (l : Link H) → IsRunOf answer_of after ms l → ahead.count_ahead l ≡ 0
   none_left ms l is =
       let s = l.controller.session in
       let count : State → ℕ = λ state. length (ahead.ahead (record l.controller { session = record s { state = state } }))
       + length (ahead.offered_to (ahead.is_polling state) (ahead.has_number s.number l.reader.last) l.reader.stored
       ++ ahead.unoffered_events (ahead.is_unopened state) l.reader.queue) in
-      let quiet : ahead.left l ≡ length l.controller.waiting + length l.reader.queue.events = ap count is.begins.quiet.1 in
+      let quiet : ahead.count_ahead l ≡ length l.controller.waiting + length l.reader.queue.events = ap count is.begins.quiet.1 in
       omega (arith, quiet, ap length is.commands, ap length is.events)
 
   -- what was accepted is done or left, while the session lasts
   done_or_left : progress.ForgetsNone answer_of after → (ms : List (Move H)) (l : Link H) (a : Account) → IsRunOf answer_of after ms l
       → TellsOfMoves answer_of after a ms l → length a.sessions ≡ 1 → is_closed (link.run answer_of after ms l).controller.session.state ≡ false
-      → done a + ahead.left (link.run answer_of after ms l) ≡ length a.issued + length a.queued
+      → done a + ahead.count_ahead (link.run answer_of after ms l) ≡ length a.issued + length a.queued
   done_or_left forgets ms l a is tells one lasts =
       let kept = forgets l ms is.begins is.fits (each_all IsOrdinary ms (steady_ordinary ms is.steady)) (omega (arith, tells.sessions, one)) lasts in
       let told : done a ≡ many (with_reports (reports answer_of after ms l) nothing_told) = ap many tells.told in
@@ -91,7 +91,7 @@ module _ {H : Type 0} (answer_of : H → Command → Answer) (after : H → Comm
   left_before : StaysInRange → progress.ForgetsNone answer_of after → (ms : List (Move H)) (moments : List ℕ) (l : Link H) → IsRunOf answer_of after ms l
       → all_begun answer_of after ms l ≡ 0 → let later = link.run answer_of after ms l in let last = link.run answer_of after (progress.rounds moments) later in
       MovesFit answer_of after (progress.rounds moments) later → is_closed last.controller.session.state ≡ false
-      → ahead.left later ≡ told_in (reports answer_of after (progress.rounds moments) later) + ahead.left last
+      → ahead.count_ahead later ≡ told_in (reports answer_of after (progress.rounds moments) later) + ahead.count_ahead last
   left_before ranges forgets ms moments l is none fits lasts =
       let ns = progress.rounds moments in
       let later = link.run answer_of after ms l in
@@ -109,7 +109,7 @@ module _ {H : Type 0} (answer_of : H → Command → Answer) (after : H → Comm
       ap (λ (x : Added). length x.queued) both in
       let told : told_in (reports answer_of after (ms ++ ns) l) ≡ told_in (reports answer_of after ms l ++ reports answer_of after ns later) =
       ap (λ (x : Added). told_in x.told) both in
-      let left : ahead.left (link.run answer_of after (ms ++ ns) l) ≡ ahead.left (link.run answer_of after ns later) = ap ahead.left joined in
+      let left : ahead.count_ahead (link.run answer_of after (ms ++ ns) l) ≡ ahead.count_ahead (link.run answer_of after ns later) = ap ahead.count_ahead joined in
       omega (
         arith,
         first,
@@ -131,11 +131,11 @@ module _ {H : Type 0} (answer_of : H → Command → Answer) (after : H → Comm
       → length a.sessions ≡ 1 → length b.sessions ≡ 1 → let later = link.run answer_of after ms l in let last = link.run answer_of after (progress.rounds moments) later in
       link.run answer_of after all l ≡ last → MovesFit answer_of after (progress.rounds moments) later → is_closed last.controller.session.state ≡ false
       → length b.issued ≡ length a.issued → length b.queued ≡ length a.queued
-      → Brings a b (told_in (reports answer_of after (progress.rounds moments) later)) (ahead.left later)
+      → Brings a b (told_in (reports answer_of after (progress.rounds moments) later)) (ahead.count_ahead later)
   brings ranges forgets ms all moments l a b its whole tells told one both joined fits lasts issued queued =
       let later = link.run answer_of after ms l in
       let before = left_before ranges forgets ms moments l its (omega (arith, tells.sessions, one)) fits lasts in
       let old = done_or_left forgets ms l a its tells one (open_before ranges moments later lasts) in
       let new = done_or_left forgets all l b whole told both (subst (λ (k : Link H). is_closed k.controller.session.state ≡ false) (sym joined) lasts) in
-      let left : ahead.left (link.run answer_of after all l) ≡ ahead.left (link.run answer_of after (progress.rounds moments) later) = ap ahead.left joined in
+      let left : ahead.count_ahead (link.run answer_of after all l) ≡ ahead.count_ahead (link.run answer_of after (progress.rounds moments) later) = ap ahead.count_ahead joined in
       record { more = omega (arith, old, new, before, left, issued, queued); all = omega (arith, old, issued, queued) }

@@ -7,8 +7,8 @@ use Rattle.osdp_link_laws.proofs.Counting.{none_in_session}
 use Rattle.osdp_link_laws.proofs.Due.{closed_rests}
 use Rattle.osdp_link_laws.proofs.InTime.{late_due, rounds_closed, run_range}
 use Rattle.osdp_sim_laws.specs.Resting.{BringsOneMore, ClearsTheLine, EachRoundBringsOneMore, EachRoundRests}
-use Rattle.osdp_sim_laws.proofs.Coming.{are_late, clear_link, is_cleared, lasts_at, link_after, moments_of, rounds_bring, rounds_fit, rounds_joined, rounds_within, run_first, state_is, steps_in_time}
-use Rattle.osdp_sim_laws.proofs.Holding.{run_of}
+use Rattle.osdp_sim_laws.proofs.Coming.{are_late, clear_link, is_cleared, lasts_at, link_after, moments_of, rounds_bring, rounds_fit, rounds_joined, rounds_within, state_is, steps_in_time}
+use Rattle.osdp_sim_laws.proofs.Holding.{run_first, run_of}
 use Rattle.osdp_sim_laws.proofs.Schedules.{moves_both, run_both}
 
 -- one round after the others

@@ -135,52 +135,28 @@ one_more_event k e q fits is = record {
 }
 
 -- no more wait than before, with no more bytes, and there is room for as many
-pub record FewCommands (m n : Machine) : Type 0 where
-  pub waiting : length n.waiting ≤ length m.waiting
-  pub bytes : controllers.bytes_waiting n.waiting ≤ controllers.bytes_waiting m.waiting
-  pub capacity : n.capacity ≡ m.capacity
-  pub room : n.room ≡ m.room
+pub record IsFewer (count size places room count_now size_now places_now room_now : ℕ) : Type 0 where
+  pub messages : count_now ≤ count
+  pub bytes : size_now ≤ size
+  pub capacity : places_now ≡ places
+  pub ample : room_now ≡ room
 
-pub record FewEvents (q p : EventQueue) : Type 0 where
-  pub events : length p.events ≤ length q.events
-  pub bytes : reader.bytes_waiting p.events ≤ reader.bytes_waiting q.events
-  pub capacity : p.capacity ≡ q.capacity
-  pub room : p.room ≡ q.room
+abbrev pub FewCommands : Machine → Machine → Type 0
+FewCommands m n =
+    IsFewer (length m.waiting) (controllers.bytes_waiting m.waiting) m.capacity m.room (length n.waiting) (controllers.bytes_waiting n.waiting) n.capacity n.room
 
-pub same_commands : (m : Machine) → FewCommands m m
-same_commands m = record { waiting = omega arith; bytes = omega arith; capacity = refl; room = refl }
+abbrev pub FewEvents : EventQueue → EventQueue → Type 0
+FewEvents q p = IsFewer (length q.events) (reader.bytes_waiting q.events) q.capacity q.room (length p.events) (reader.bytes_waiting p.events) p.capacity p.room
 
-pub same_events : (q : EventQueue) → FewEvents q q
-same_events q = record { events = omega arith; bytes = omega arith; capacity = refl; room = refl }
+pub same_few : {count size places room : ℕ} → IsFewer count size places room count size places room
+same_few = record { messages = omega arith; bytes = omega arith; capacity = refl; ample = refl }
 
-pub fewer_commands : (m n o : Machine) → FewCommands m n → FewCommands n o → FewCommands m o
-fewer_commands m n o one more = record {
-  waiting = omega (arith, one.waiting, more.waiting);
-  bytes = omega (arith, one.bytes, more.bytes);
-  capacity = more.capacity ∙ one.capacity;
-  room = more.room ∙ one.room;
-}
-
-pub fewer_events : (q p o : EventQueue) → FewEvents q p → FewEvents p o → FewEvents q o
-fewer_events q p o one more = record {
-  events = omega (arith, one.events, more.events);
-  bytes = omega (arith, one.bytes, more.bytes);
-  capacity = more.capacity ∙ one.capacity;
-  room = more.room ∙ one.room;
-}
-
-pub commands_stay_short : (k : ℕ) (m n : Machine) → FewCommands m n → ShortCommands k m → ShortCommands k n
-commands_stay_short k m n few is = record {
-  few = omega (arith, is.few, few.waiting);
+pub stay_short : {count size places room count_now size_now places_now room_now : ℕ} (k : ℕ) → IsFewer count size places room count_now size_now places_now room_now
+    → IsShort k count size places room → IsShort k count_now size_now places_now room_now
+stay_short k few is = record {
+  few = omega (arith, is.few, few.messages);
   bytes = omega (arith, is.bytes, few.bytes);
-  ample = few.room ∙ is.ample ∙ ap (λ (places : ℕ). places * (1 + most_data)) (sym few.capacity);
-}
-
-pub events_stay_short : (k : ℕ) (q p : EventQueue) → FewEvents q p → ShortEvents k q → ShortEvents k p
-events_stay_short k q p few is = record {
-  few = omega (arith, is.few, few.events);
-  bytes = omega (arith, is.bytes, few.bytes);
-  ample = few.room ∙ is.ample ∙ ap (λ (places : ℕ). places * (1 + most_data)) (sym few.capacity);
+  ample = few.ample ∙ is.ample ∙ ap (λ (n : ℕ). n * (1 + most_data)) (sym few.capacity);
 }
 
 -- ---- what a tick and a packet leave

@@ -1,11 +1,10 @@
 -- What is accepted: which of the commands that a schedule issues, and which of the events that it queues.
 use Rattle.std.specs.Prelude.{◌≡◌, ◌≤◌, ℕ, ◌==◌, if◌then◌else◌, List, [], ◌∷◌, ◌++◌, length, take, Result}
 use Rattle.osdp_msg.specs.declared.command.Command.{Command}
-use Rattle.osdp_msg.specs.declared.command.Command.TheVariants.{Poll}
 use Rattle.osdp_msg.specs.declared.event.Event.{Event}
 use Rattle.osdp_reader.specs.declared.handler.Answer.{Answer}
-use Rattle.osdp_link_laws.specs.Sessions.{IsBeginning}
-use Rattle.osdp_link_laws.specs.Sessions.{IsAmong}
+use Rattle.osdp_link_laws.specs.Reports.{command_taken as but_poll}
+use Rattle.osdp_link_laws.specs.Sessions.{IsAmong, IsBeginning}
 use Rattle.osdp_sim.specs.Account.{Account}
 use Rattle.osdp_sim.specs.Runs.{steps_done}
 use Rattle.osdp_sim.specs.declared.account.Account as declared
@@ -19,26 +18,23 @@ use Rattle.osdp_sim_laws.specs.Accounts.{IsAnswer, account_in}
 abbrev pub if_named : {A : Type 0} → ℕ → ℕ → List A → List A
 if_named reader number items = if number == reader then items else []
 
--- a POLL is no order
-abbrev pub but_poll : Command → List Command
-but_poll Poll = []
-but_poll command = command ∷ []
-
--- the commands that a schedule issues for a reader, but POLL, and the events that it queues for it, in their order
+-- the commands that a schedule issues for the reader of this number, but POLL, in their order
 abbrev pub commands_for : ℕ → List SimStep → List Command
 commands_for reader [] = []
 commands_for reader (Issue number command ∷ steps) = if_named reader number (but_poll command) ++ commands_for reader steps
 commands_for reader (step ∷ steps) = commands_for reader steps
 
+-- the events that a schedule queues for the reader of this number, in their order
 abbrev pub events_for : ℕ → List SimStep → List Event
 events_for reader [] = []
 events_for reader (Queue number event ∷ steps) = if_named reader number (event ∷ []) ++ events_for reader steps
 events_for reader (step ∷ steps) = events_for reader steps
 
--- .. and for the reader that is alone on its line
+-- the commands for the reader that is alone on its line, whose number is 1
 abbrev pub commands_of : List SimStep → List Command
 commands_of steps = commands_for 1 steps
 
+-- the events for the reader that is alone on its line
 abbrev pub events_of : List SimStep → List Event
 events_of steps = events_for 1 steps
 

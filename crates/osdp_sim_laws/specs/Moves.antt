@@ -28,6 +28,7 @@ delivery Drop = Lost
 delivery Repeat = Repeated
 delivery (Damage bytes) = Lost
 
+-- the move of a step that names a reader: none unless it names the one that there is, whose number is 1
 abbrev pub where_there : {H : Type 0} → ℕ → link.Move H → List (link.Move H)
 where_there number move = if number == 1 then move ∷ [] else []
 
@@ -46,10 +47,12 @@ abbrev pub step_clock : SimStep → ℕ → ℕ
 step_clock (Wait wait) clock = moment_after wait clock
 step_clock _ clock = clock
 
+-- the moment after a list of steps
 abbrev pub clock_after : List SimStep → ℕ → ℕ
 clock_after [] clock = clock
 clock_after (step ∷ steps) clock = clock_after steps (step_clock step clock)
 
+-- the moves that a list of steps is, each at the moment that the steps before it have come to
 abbrev pub moves_of : {H : Type 0} → List SimStep → ℕ → List (link.Move H)
 moves_of [] clock = []
 moves_of (step ∷ steps) clock = move_of step clock ++ moves_of steps (step_clock step clock)

@@ -30,6 +30,7 @@ pub record KeepsLedger {H : Type 0} (answer_of : H → Command → Answer) (afte
   pub acts : ActsHaveAnswersOfOneHandler answer_of after
   pub session : OneSessionHolds
 
+-- all that the laws of accounts stand on. The reader refuses no number where it has not restarted.
 pub record OneLink {H : Type 0} (answer_of : H → Command → Answer) (after : H → Command → H) : Type 0 where
   pub reads : ReadsPackets
   pub ledger : KeepsLedger answer_of after

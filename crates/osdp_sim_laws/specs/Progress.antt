@@ -17,14 +17,16 @@ use Rattle.osdp_sim.specs.declared.step.SimStep.{SimStep}
 use Rattle.osdp_sim.specs.declared.step.SimStep.TheVariants.{Busy, ToController, ToReader}
 use Rattle.osdp_sim_laws.specs.Accounts.{IsAnswer, IsInSession}
 
--- the reader isn't busy any more, and what is on the line is lost: no more than a burst in each direction for each of these steps
+-- what is on the line is lost: no more than a burst in each direction for each of these steps
 abbrev pub losses : List SimStep → List SimStep
 losses [] = []
 losses (step ∷ steps) = ToReader Drop ∷ ToController Drop ∷ losses steps
 
+-- the steps that clear the line after these: the reader is not busy any more, and what is on the line is lost
 abbrev pub clear : List SimStep → List SimStep
 clear steps = Busy 1 false ∷ losses steps
 
+-- how many commands are settled and events are reported
 abbrev pub done : Account → ℕ
 done a = length a.settled + length a.reported
 

@@ -62,7 +62,9 @@ pub fn schedule_holds_once<H: Handler>()
 /// commands and events begin with those that these steps had accepted, by the room that there was.
 pub fn sessions_begin_by_reopens<H: Handler>()
     ensures { BeginsByReopens H.answer_of H.after }
-{}
+{
+    stands_on_one_link::<H>();
+}
 
 /// After steps of one session that leave nothing on the line, both ends at one address, the reader not busy and no COMSET to a device's
 /// address issued: over m rounds that lose nothing, each as long as the longest of the controller's waits or longer, m - 1 more commands
@@ -105,7 +107,9 @@ pub fn rests_between_rounds<H: Handler>()
 /// each once and in their order.
 pub fn accepts_by_room<H: Handler>()
     ensures { AcceptsByRoom H.answer_of H.after }
-{}
+{
+    stands_on_one_link::<H>();
+}
 
 /// Any orders and events, and then rounds without losses: the answer is out of memory, or an account of exactly what each round does, a
 /// command settled, the oldest first, with its own answer, and once all are settled an event reported, the oldest first. Premises:

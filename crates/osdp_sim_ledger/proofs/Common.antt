@@ -1,23 +1,19 @@
 -- The names that most proofs of this crate cite, passed on from one place. Declares nothing.
-pub use Rattle.std.proofs.Common.{[], ap, Bool, false, if◌then◌else◌, List, refl, Some, subst, sym, true, ℕ, ◌++◌, ◌==◌, ◌∙◌, ◌∷◌, ◌≡◌}
-pub use Rattle.std.specs.Prelude.{option_map, slice_get}
+pub use Rattle.std.proofs.Common.{[], ap, Bool, false, if◌then◌else◌, List, refl, Some, subst, sym, true, ℕ, ◌==◌, ◌∷◌, ◌≡◌}
+pub use Rattle.std.specs.Prelude.{slice_get}
 pub use Rattle.osdp_msg.specs.declared.command.Command.{Command}
 pub use Rattle.osdp_reader.specs.declared.handler.Answer.{Answer}
 pub use Rattle.osdp_ledger.specs.Laws.{TellsInTurn}
 pub use Rattle.osdp_link_laws.specs.Link.{Link, Move}
 pub use Rattle.osdp_link_laws.specs.Ordinary.{IsOrdinary, IsSteady}
-pub use Rattle.osdp_link_laws.proofs.Lines.{each_all, each_append, each_of}
-pub use Rattle.osdp_link_laws.proofs.OrdinaryRuns.{steady_handler, steady_ordinary}
+pub use Rattle.osdp_link_laws.proofs.Lines.{each_all, each_append}
+pub use Rattle.osdp_link_laws.proofs.OrdinaryRuns.{steady_ordinary}
 pub use Rattle.osdp_link_laws.proofs.Stages.{Each}
 pub use Rattle.osdp_link_ledger.specs.Ordinary.{OrdinaryMovesEndTold}
 pub use Rattle.osdp_sim.specs.declared.step.SimStep.{SimStep}
 pub use Rattle.osdp_sim.specs.declared.step.SimStep.TheVariants.{Busy, Issue, Queue, Reopen}
-pub use Rattle.osdp_sim.proofs.Schedules.{holds_on, well_on}
 pub use Rattle.osdp_sim_ledger.specs.Telling.{TellsByLedger}
-pub use Rattle.osdp_shared_line.specs.Views.{view}
-pub use Rattle.osdp_bus_links.specs.Premises.{IsScheduled}
-pub use Rattle.osdp_sim_bus.specs.Steps.{after_step, fault_of, StepFits}
-pub use Rattle.osdp_sim_bus_laws.specs.Moves.{moves_of, SchedulesAreMoves}
+pub use Rattle.osdp_sim_bus_laws.specs.Moves.{SchedulesAreMoves}
 pub use Rattle.osdp_sim.specs.Account.{Account}
 pub use Rattle.osdp_sim_laws.specs.Moves.{TellsOfMoves}
 pub use Rattle.osdp_sim_laws.specs.OneLink.{KeepsLedger}

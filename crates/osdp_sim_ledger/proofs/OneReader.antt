@@ -1,13 +1,12 @@
 -- The run over a line with one reader.
-use Rattle.osdp_sim_ledger.proofs.Common.{◌≡◌, ◌==◌, ℕ, Bool, true, false, if◌then◌else◌, List, [], ◌∷◌, ◌++◌, refl, subst, Command, Answer, TellsInTurn, Move, IsSteady, each_append, Each, OrdinaryMovesEndTold, SimStep, Busy, Issue, Queue, Reopen, holds_on, well_on, KeepsLedger, TellsByLedger}
+use Rattle.osdp_sim_ledger.proofs.Common.{◌==◌, ℕ, Bool, true, false, if◌then◌else◌, List, [], ◌∷◌, refl, subst, Command, Answer, TellsInTurn, Move, IsSteady, each_append, Each, OrdinaryMovesEndTold, SimStep, Busy, Issue, Queue, Reopen, KeepsLedger, TellsByLedger}
 use Rattle.osdp_link_laws.specs.Link as link
-use Rattle.osdp_sim.specs.Runs.{FitAlong, is_well, run, steps_done}
+use Rattle.osdp_sim.specs.Runs.{run, steps_done}
 use Rattle.osdp_sim.specs.State.{set_up}
-use Rattle.osdp_sim.specs.Steps.{StepFits, after_step, fault_of}
 use Rattle.osdp_sim.specs.declared.config.SimConfig.{SimConfig}
 use Rattle.osdp_sim_laws.specs.Moves.{ScheduleIsMoves, first_link, move_of, moves_of, step_clock}
 use Rattle.osdp_sim_laws.specs.Progress.{IsRun}
-use Rattle.osdp_sim_laws.proofs.Holding.{answers}
+use Rattle.osdp_sim_laws.proofs.Holding.{answers, run_first}
 use Rattle.osdp_sim_ledger.specs.OneReader.{RunTellsLedger, RunKeepsLedger, steps_of_run}
 use Rattle.osdp_sim_ledger.proofs.Telling.{tells_by_ledger}
 
@@ -29,17 +28,6 @@ steps_steady H (x ∷ xs) clock =
     each_append IsSteady (move_of x clock) (moves_of xs (step_clock x clock)) (step_steady H x clock) (steps_steady H xs (step_clock x clock))
 
 module _ {H : Type 0} (answer_of : H → Command → Answer) (after : H → Command → H) where
-  -- a run until one of its steps is a run
-  until : (config : SimConfig) (handler : H) (steps before later : List SimStep) → steps ≡ before ++ later → IsRun answer_of after config handler steps
-      → IsRun answer_of after config handler before
-  until config handler steps before later same is =
-      let s = set_up config handler in
-      record {
-        settings = is.settings;
-        well = (well_on (after_step answer_of after) fault_of before later s (subst (λ xs. is_well answer_of after xs s ≡ true) same is.well)).0;
-        fits = (holds_on (after_step answer_of after) (StepFits answer_of after) before later s (subst (λ xs. FitAlong answer_of after xs s) same is.fits)).0;
-      }
-
   module _ (moves : ScheduleIsMoves answer_of after) (ledger : KeepsLedger answer_of after) (told : OrdinaryMovesEndTold answer_of after) (in_turn : TellsInTurn) where
     one_run : (config : SimConfig) (handler : H) (steps : List SimStep) → IsRun answer_of after config handler steps → RunTellsLedger answer_of after config handler steps
     one_run config handler steps is =
@@ -53,5 +41,5 @@ module _ {H : Type 0} (answer_of : H → Command → Answer) (after : H → Comm
           config handler steps answer is was (one_run config handler (steps_done steps answer));
       until = λ before later same.
           answers answer_of after (λ a. RunTellsLedger answer_of after config handler before) config handler steps answer is was
-          (λ done. one_run config handler before (until config handler (steps_done steps answer) before later same done));
+          (λ done. one_run config handler before (run_first answer_of after config handler before later (subst (IsRun answer_of after config handler) same done)));
     }

@@ -1,5 +1,5 @@
 -- What the ledger of a link says, the account of a run over it says too.
-use Rattle.osdp_sim_ledger.proofs.Common.{List, sym, ap, Command, TellsInTurn, Answer, Link, Move, IsOrdinary, each_all, steady_handler, steady_ordinary, OrdinaryMovesEndTold, Account, KeepsLedger, TellsOfMoves, IsRunOf, tells_all, TellsByLedger}
+use Rattle.osdp_sim_ledger.proofs.Common.{List, Command, TellsInTurn, Answer, Link, Move, IsOrdinary, each_all, steady_ordinary, OrdinaryMovesEndTold, Account, KeepsLedger, TellsOfMoves, IsRunOf, tells_all, TellsByLedger}
 use Rattle.osdp_link_ledger.specs.Steps.{steps_from}
 
 module _ {H : Type 0} (answer_of : H → Command → Answer) (after : H → Command → H) where
@@ -7,19 +7,12 @@ module _ {H : Type 0} (answer_of : H → Command → Answer) (after : H → Comm
       → IsRunOf answer_of after ms l → TellsOfMoves answer_of after a ms l
       → TellsByLedger answer_of after l.reader.config l.reader.handler a (steps_from answer_of after ms l)
   tells_by_ledger given told in_turn ms l a is tells =
-      let all = tells_all answer_of after given.tells ms l a is tells in
       let allowed = (given.keeps l ms is.begins is.fits).0 in
       let holds = given.holds l ms is.begins is.fits in
       record {
         allowed = allowed;
         tells = record {
-          issued = sym all.orders;
-          queued = sym all.cards;
-          taken = sym all.acted;
-          answers = given.acts l ms (steady_handler answer_of after ms l is.steady);
-          settled = ap (λ t. t.settled) (sym all.told);
-          unsettled = ap (λ t. t.in_doubt) (sym all.told);
-          reported = ap (λ t. t.reported) (sym all.told);
+          all = tells_all answer_of after given ms l a is tells;
           orders = holds.0;
           cards = holds.1;
           ends = told l ms (each_all IsOrdinary ms (steady_ordinary ms is.steady));

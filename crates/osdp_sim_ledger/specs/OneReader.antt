@@ -15,6 +15,7 @@ use Rattle.osdp_sim_laws.specs.Moves.{first_link, moves_of}
 use Rattle.osdp_sim_ledger.specs.Telling.{TellsByLedger}
 
 module _ {H : Type 0} (answer_of : H → Command → Answer) (after : H → Command → H) where
+  -- the steps of the ledger in a run of these steps of a schedule
   abbrev pub steps_of_run : SimConfig → H → List SimStep → List Step
   steps_of_run config handler steps = steps_from answer_of after (moves_of steps 0) (first_link config handler)
 
@@ -28,6 +29,7 @@ module _ {H : Type 0} (answer_of : H → Command → Answer) (after : H → Comm
     pub whole : TellsByLedger answer_of after config.reader handler (account_in answer) (steps_of_run config handler (steps_done steps answer))
     pub until : (before later : List SimStep) → steps_done steps answer ≡ before ++ later → RunTellsLedger config handler before
 
+  -- whatever the steps of the schedule are
   abbrev pub RunKeepsLedger : Type 0
   RunKeepsLedger = (config : SimConfig) (handler : H) (steps : List SimStep) (answer : Result Account (Fault Account))
       → IsAnswer answer_of after config handler steps answer → WasSetUp answer → RunKeeps config handler steps answer

@@ -1,4 +1,4 @@
-use Rattle.osdp_calls_instance.proofs.TwoCalls.{two_keep}
+use Rattle.osdp_calls_instance.proofs.Keeping.{two_keep}
 use Rattle.osdp_calls_instance.proofs.premises_are_met_by_two.Goals as goal
 
 pub returns : goal.returns

@@ -1,4 +1,4 @@
-use Rattle.osdp_calls_instance.proofs.RuleKept.{two_keep_rule}
+use Rattle.osdp_calls_instance.proofs.Keeping.{two_keep_rule}
 use Rattle.osdp_calls_instance.proofs.rule_is_kept_by_two.Goals as goal
 
 pub returns : goal.returns

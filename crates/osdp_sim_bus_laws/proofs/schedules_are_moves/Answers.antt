@@ -1,5 +1,5 @@
-use Rattle.osdp_sim_bus_laws.proofs.Common.{refl, arith, spelling}
-use Rattle.osdp_sim_bus_laws.proofs.Beginning.{first_net, follows_first, is_set_up, nothing_is_kept}
+use Rattle.osdp_sim_bus_laws.proofs.Common.{refl, arith, spelling, first_net}
+use Rattle.osdp_sim_bus_laws.proofs.Beginning.{follows_first, is_set_up, nothing_is_kept}
 use Rattle.osdp_sim_bus_laws.proofs.Telling.{schedules_are_moves}
 use Rattle.osdp_sim_bus_laws.proofs.Stepping.{steps_are_moves}
 use Rattle.osdp_sim_bus_laws.proofs.schedules_are_moves.Goals as goal
