@@ -226,6 +226,11 @@ def main():
 
     cites = {"IsLeast": {"IsLess", "n"}, "IsLess": {"m"}, "IsOther": {"IsLess"}}
     assert lawless.reached({"IsLeast", "of"}, cites) == {"IsLeast", "IsLess"}, "what a law reaches is told wrongly"
+    taken = "use Rattle.osdp_bus.specs.Machine.{add_refusal, after_add as bus_after_add}\nuse Rattle.osdp_c_values.specs.Panels as panel\n"
+    names = lawless.taken(taken)[0]
+    assert names == {"add_refusal": ("osdp_bus", "add_refusal"), "bus_after_add": ("osdp_bus", "after_add"), "panel": ("osdp_c_values", "")}, f"taken: {names}"
+    told = lawless.named("NewEnds config ∷ panel.NewEnds config ∷ bus_after_add p", "osdp_panel", names)
+    assert {("osdp_panel", "NewEnds"), ("osdp_c_values", "NewEnds"), ("osdp_bus", "after_add")} <= told, f"definitions of one name aren't told apart: {told}"
     asked = "fn f(n: u8)\n    requires small { n < (2 : ℕ) → { A } }\n    requires { B }\n    ensures { C }\n"
     assert lawless.words_of(lawless.without_unsaid(asked)) & {"A", "B", "C"} == {"C"}, "what a function requires is told as a statement"
     ring, bus = "crates/osdp_ring/specs/Ring.antt", "crates/osdp_bus/src/deadlines.rt"

@@ -1,6 +1,6 @@
 """Which statements contracts of code make that no law reaches: one that says less passes where no other function's proof needs what is left out.
 
-It goes by names: what has the name of a definition that a law reaches counts as reached. Left out is what is no promise to another crate: a type of values; what a
+A definition is told by its crate and its name, as each file takes it. Left out is what is no promise to another crate: a type of values; what a
 function requires (one that asks less is proved from less, and one that asks more is refused where it is called); an invariant, and the contract of a function that no
 other crate can call (where these say less, what is proved from them is refused, or says what it said). What docs/EDITS.md says needs no law, since a function stands on it, isn't told."""
 import functools
@@ -10,6 +10,9 @@ import re
 from . import generated
 
 WORD = re.compile(r"[^\W\d][\w'-]*")
+# the same with one of a module
+NAME = re.compile(r"[^\W\d][\w'-]*(?:\.[^\W\d][\w'-]*)?")
+TAKEN = re.compile(r"^ *(pub )?(?:ghost )?use Rattle\.(\w+)\.specs\.([\w.]+?)(?:\.\{([^}]*)\}|(?: as (\w+))?);?$", re.M)
 
 
 # a requirement or an invariant up to its clause
@@ -71,32 +74,69 @@ def is_of_types(units, text):
     return all("." in it.name for it in units) and not any(re.search(r"[≡≢≤<↔]|\b[a-z]", it) for it in fields)
 
 
+def taken(text):
+    """Returns the definitions that a file takes, each by its name there: its crate and its own name. A module has no name of its own."""
+    found, passed = {}, {}
+    for is_passed, crate, module, names, other in TAKEN.findall(text):
+        for it in names.split(",") if names else (f" as {other or module.rpartition('.')[2]}",):
+            name, _, here = it.partition(" as ")
+            found[(here or name).strip()] = crate, name.strip()
+            if is_passed:
+                passed[(here or name).strip()] = crate, name.strip()
+    return found, passed
+
+
+@functools.cache
+def passed_on():
+    """Returns what specs pass on of other crates, by the crate and the name under which it is taken from there."""
+    found = {}
+    for path in generated.all_paths("specs"):
+        crate = path.split("/")[1]
+        found.update({(crate, name): it for name, it in taken(generated.read(path))[1].items() if it[0] != crate})
+    return found
+
+
+def named(text, crate, names):
+    """Returns the definitions that a text of a crate may name, each by its crate and its name."""
+    found = set()
+    for word in NAME.findall(text):
+        head, _, rest = word.partition(".")
+        of, name = names.get(head, (crate, head))
+        place = of, name or rest
+        found.add(passed_on().get(place, place))
+        # what stands behind a point may be a word by itself
+        found.add(passed_on().get(names.get(rest, (crate, rest)), names.get(rest, (crate, rest))))
+    return found
+
+
 def cited():
-    """Returns what each definition cites, by its name, and the crates in which a statement of that name stands."""
+    """Returns what each definition cites, by its crate and its name, and the crates in which a statement of a name stands."""
     cites, crates = {}, {}
     for path in generated.all_paths("specs"):
-        text, parts = generated.read(path), {}
+        text, crate, parts = generated.read(path), path.split("/")[1], {}
         for unit in generated.parsed(path).units:
             parts.setdefault(unit.name.partition(".")[0], []).append(unit)
+        names = taken(text)[0]
         for name, units in parts.items():
-            cites.setdefault(name, set()).update(*(words_of(text[it.start:it.end]) for it in units))
+            cites.setdefault((crate, name), set()).update(*(named(text[it.start:it.end], crate, names) for it in units))
             if not is_of_types(units, text):
-                crates.setdefault(name, set()).add(path.split("/")[1])
+                crates.setdefault(name, set()).add(crate)
     return cites, crates
 
 
 def said():
-    """Returns the words of the contracts of laws, and of those of code, its traits and its models."""
+    """Returns what the contracts of laws name, and those of code, its traits and its models."""
     laws, code = set(), set()
     for path in generated.all_paths("src"):
-        text = generated.read(path)
+        text, crate = generated.read(path), path.split("/")[1]
+        names = taken(text)[0]
         for unit in generated.parsed(path).units:
             if unit.kind == "fn":
                 is_law = generated.is_law(unit) or os.path.basename(path) == "laws.rt"
                 if is_law or is_promise(unit, path, text):
-                    (laws if is_law else code).update(words_of(without_unsaid(text[unit.head:unit.start])))
+                    (laws if is_law else code).update(named(without_unsaid(text[unit.head:unit.start]), crate, names))
         for it in re.finditer(r"ghost (?!invariant)\w+ = \{[^}]*\}|\bensures[^{;]*\{[^}]*\}\s*;", text):
-            code |= words_of(it[0]) if is_shown_trait(path, text, it.start()) is not False else set()
+            code |= named(it[0], crate, names) if is_shown_trait(path, text, it.start()) is not False else set()
     return laws, code
 
 
@@ -126,10 +166,9 @@ def lawless():
     cites, crates = cited()
     laws, code = said()
     excuses, found = excused(), {}
-    for name in reached(code, cites) - reached(laws, cites):
-        for crate in crates.get(name, ()) if name[0].isupper() else ():
-            if not re.search(r"_tests$|_test_packets$", crate) and name not in excuses.get(crate, ()):
-                found.setdefault(crate, []).append(name)
+    for crate, name in reached(code, cites) - reached(laws, cites):
+        if name[0].isupper() and crate in crates.get(name, ()) and not re.search(r"_tests$|_test_packets$", crate) and name not in excuses.get(crate, ()):
+            found.setdefault(crate, []).append(name)
     return {crate: sorted(found[crate]) for crate in sorted(found)}
 
 

@@ -41,10 +41,13 @@ reached_along config (call ∷ calls) x r =
 pub reached_config : (config : BusConfig) (b : BusState) → Reached config b → b.config ≡ config
 reached_config config b r = ap (λ (c : BusState). c.config) r.is ∙ config_along r.calls (new_bus config)
 
-room_at : (config : BusConfig) (entry : ℕ) (d : Entry) (b : BusState) → Reached config b → device_of entry b ≡ Some d → d.controller.room ≡ config.room.bytes
-room_at config entry d b r at =
-    let rooms : HasRooms b = subst HasRooms (sym r.is) (always_rooms config r.calls) in
-    ap (λ (room : Room). room.bytes) (rooms entry d at) ∙ ap (λ (c : BusConfig). c.room.bytes) (reached_config config b r)
+pub rooms_at : (config : BusConfig) (entry : ℕ) (d : Entry) (b : BusState) → Reached config b → device_of entry b ≡ Some d
+    → (d.controller.capacity ≡ config.room.messages) × (d.controller.room ≡ config.room.bytes)
+rooms_at config entry d b r at =
+    let rooms : HasRooms b = subst HasRooms (sym r.is) (always_rooms config r.calls) in (
+      ap (λ (room : Room). room.messages) (rooms entry d at) ∙ ap (λ (c : BusConfig). c.room.messages) (reached_config config b r),
+      ap (λ (room : Room). room.bytes) (rooms entry d at) ∙ ap (λ (c : BusConfig). c.room.bytes) (reached_config config b r),
+    )
 
 -- ---- what is let go is in the controller
 
@@ -73,7 +76,7 @@ module _ (config : BusConfig) (entry : ℕ) (d : Entry) (q : Queue) (x : PanelSt
   good_goes bytes rest empty items =
       let good = (subst (λ (l : List (List ℕ)). AreGood config.room.bytes l) items fits.good).0 in
       let capacity = (sound.devices.devices entry d at.device).machine.capacity in
-      let room : d.controller.room ≡ config.room.bytes = room_at config entry d x.bus reached at.device in
+      let room : d.controller.room ≡ config.room.bytes = (rooms_at config entry d x.bus reached at.device).1 in
       let size = good.size in
       not_refused entry (command_kept bytes) d x.bus at.device sent empty capacity.0 good.no_poll good.no_comset (omega (arith, size, room))
 

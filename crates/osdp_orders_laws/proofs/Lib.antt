@@ -10,8 +10,10 @@ mod Keeping
 mod Along
 mod Telling
 mod Without
+mod Queues
 mod Fitting
 mod Freeing
+mod Rooms
 mod Onward
 mod Walking
 mod Shapes

@@ -6,3 +6,4 @@ pub mod OfTheBus
 pub mod InTime
 pub mod Instances
 pub mod Ended
+pub mod Rooms

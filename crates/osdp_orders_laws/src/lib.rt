@@ -7,6 +7,7 @@ ghost use Rattle.osdp_orders_laws.specs.Freeing.{GoAsSoonAsTheyMay};
 ghost use Rattle.osdp_orders_laws.specs.OfTheBus.{AreCallsOfTheBus, WithoutTheSetting};
 ghost use Rattle.osdp_orders_laws.specs.Pacing.{PollsStandBetween};
 ghost use Rattle.osdp_orders_laws.specs.Places.{OrdersKeepTheirPlaces, TellAllThatWaits};
+ghost use Rattle.osdp_orders_laws.specs.Rooms.{EntriesKeepTheirRoom};
 
 mod in_time;
 
@@ -44,4 +45,11 @@ pub fn orders_are_calls_of_their_bus()
 /// Where orders wait for no POLL, each call does to the bus what the bus's own does, and is refused and told as there.
 pub fn without_the_setting_orders_are_the_buses()
     ensures { WithoutTheSetting }
+{}
+
+/// An entry has the room of its panel's settings, as it is added and whatever is called then: so many orders and so many of their bytes may wait in its controller, and as many
+/// may be held back for POLLs.
+#[tactic(auto, using(crate::proofs::Rooms::keep_their_room))]
+pub fn entries_keep_their_room()
+    ensures { EntriesKeepTheirRoom }
 {}

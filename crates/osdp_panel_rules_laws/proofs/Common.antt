@@ -1,7 +1,7 @@
 -- The names that most proofs of this crate cite, passed on from one place. Declares nothing.
 pub use Rattle.std.proofs.Common.{[], ap, arith, Bool, cond, eqb, Err, false, inl, inr, List, None, not, Ok, Option, refl, Result, Some, subst, sym, true, ℕ, ◌&&◌, ◌+◌, ◌<◌, ◌||◌, ◌∙◌, ◌∷◌, ◌≡◌, ◌≢◌, ◌⊎◌}
-pub use Rattle.std.proofs.lemmas.Bool.{and_parts, cond-false, cond-true, cond_both, eq-eqb, eqb-true, false_from_ne_true, false≢true, leb-true, ne_eqb, or_cases}
-pub use Rattle.std.specs.Prelude.{drop, nat_le, nat_lt, slice_index}
+pub use Rattle.std.proofs.lemmas.Bool.{and_parts, cond-false, cond-true, cond_both, eq-eqb, eqb-true, false_from_ne_true, false≢true, leb-true, ne_eqb, or_cases, le-leb}
+pub use Rattle.std.specs.Prelude.{◌≤◌, drop, nat_le, nat_lt, slice_index}
 pub use Rattle.osdp_controller.specs.Answers.{is_not_taken, meaning_by_reading, meaning_by_reason, meaning_by_reply, meaning_of}
 pub use Rattle.osdp_controller.specs.declared.config.ControllerConfig.{ControllerConfig}
 pub use Rattle.osdp_controller.specs.declared.session.Session.{Session}
@@ -12,15 +12,15 @@ pub use Rattle.osdp_controller.specs.Sessions.{later, seen}
 pub use Rattle.osdp_frame.specs.Packet.{next_sequence, Packet}
 pub use Rattle.osdp_msg.specs.declared.reply.Reply.{Reply}
 pub use Rattle.osdp_panel_rules.specs.declared.known.Known.{Known}
-pub use Rattle.osdp_panel_rules_laws.specs.Laws.{AnsweredBreaksNothing, Answers, BreaksNoRule, CopyBreaksNothing, FindsAltered, FindsHaste, FindsLateness, FindsOutOfTurn, FindsReply, FindsUnanswered, FirstBreaksNothing, Follows, IsAnswer, IsFrom, KnowsAnswers, KnowsBusyWithZero, KnowsCopies, KnowsNewPackets, KnowsNoOthers, KnowsWhatWasSaid, LooksAt, needs_clock, Puts, ZeroBreaksNothing}
-pub use Rattle.osdp_panel_rules.specs.Findings.{is_order, online_finding, sequel_of, taken_finding, wait_finding}
+pub use Rattle.osdp_panel_rules_laws.specs.Laws.{AnsweredBreaksNothing, Answers, BreaksNoRule, CopyBreaksNothing, DamageBreaksNothing, FindsAltered, FindsHaste, FindsLateness, FindsOutOfTurn, FindsReply, FindsUnanswered, FirstBreaksNothing, Follows, IsAnswer, IsFrom, KeepsOnline, KeepsWait, KnowsAnswers, KnowsBusyWithZero, KnowsCopies, KnowsNewPackets, KnowsNoOthers, KnowsOrders, KnowsQuestions, KnowsWhatWasSaid, LooksAt, needs_clock, Puts, ZeroBreaksNothing}
+pub use Rattle.osdp_panel_rules.specs.Findings.{damage_finding, is_order, online_finding, sequel_of, taken_finding, wait_finding}
 pub use Rattle.osdp_panel_rules.specs.Judging.{after_judged, judged, last_judged, online_judged, reply_judged, sent_judged, unanswered_judged, wait_judged}
 pub use Rattle.osdp_panel_rules.specs.declared.aspect.Aspect.{Aspect}
 pub use Rattle.osdp_panel_rules.specs.declared.said.Said.{Said}
 pub use Rattle.osdp_panel_rules.specs.declared.said.Said.TheVariants.{Astray, Busy, Damage, Noise, Refusal, Silence}
 pub use Rattle.osdp_panel_rules.specs.declared.sequel.Sequel.{Sequel}
 pub use Rattle.osdp_panel_rules.specs.declared.sequel.Sequel.TheVariants.{Again, Altered, Anew, Next, Out}
-pub use Rattle.osdp_rules.specs.Packets.{same_packet}
+pub use Rattle.osdp_rules.specs.Packets.{code_of, same_packet}
 pub use Rattle.osdp_rules.specs.declared.finding.Finding.TheVariants.{Broken, Either, Kept, Nothing}
 pub use Rattle.osdp_rules_laws.proofs.Fine.{AreFine, fine_both, fine_true, fine_unbroken, IsFine, never_broken}
 pub use Rattle.osdp_rules.proofs.Comparing.{is_packet, packet_is}

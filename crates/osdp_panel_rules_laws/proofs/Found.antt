@@ -1,5 +1,5 @@
 -- What each rule finds, and what the standard leaves open.
-use Rattle.osdp_panel_rules_laws.proofs.Common.{◌≡◌, ◌≢◌, ◌<◌, ℕ, false, cond, eqb, Option, Some, None, refl, sym, subst, ap, ◌∙◌, arith, cond-false, cond-true, cond_both, eq-eqb, false_from_ne_true, leb-true, ne_eqb, nat_le, Packet, next_sequence, is_order, online_finding, sequel_of, wait_finding, after_judged, judged, last_judged, online_judged, reply_judged, sent_judged, unanswered_judged, wait_judged, Aspect, Known, Said, Silence, Noise, Astray, Busy, Refusal, Sequel, Again, Anew, Altered, Next, Out, same_packet, Nothing, Kept, Either, Broken, IsFine, fine_both, fine_true, fine_unbroken, packet_is, AnsweredBreaksNothing, CopyBreaksNothing, FindsAltered, FindsHaste, FindsLateness, FindsOutOfTurn, FindsReply, FindsUnanswered, FirstBreaksNothing, Follows, LooksAt, ZeroBreaksNothing}
+use Rattle.osdp_panel_rules_laws.proofs.Common.{◌≡◌, ◌≢◌, ◌<◌, ◌≤◌, ℕ, true, false, cond, eqb, Option, Some, None, refl, sym, subst, ap, ◌∙◌, arith, cond-false, cond-true, cond_both, eq-eqb, false_from_ne_true, leb-true, le-leb, ne_eqb, nat_le, Packet, next_sequence, damage_finding, is_order, online_finding, sequel_of, wait_finding, after_judged, judged, last_judged, online_judged, reply_judged, sent_judged, unanswered_judged, wait_judged, Aspect, Known, Said, Silence, Noise, Astray, Busy, Damage, Refusal, Sequel, Again, Anew, Altered, Next, Out, code_of, same_packet, Nothing, Kept, Either, Broken, IsFine, fine_both, fine_true, fine_unbroken, packet_is, AnsweredBreaksNothing, CopyBreaksNothing, DamageBreaksNothing, FindsAltered, FindsHaste, FindsLateness, FindsOutOfTurn, FindsReply, FindsUnanswered, FirstBreaksNothing, Follows, KeepsOnline, KeepsWait, KnowsOrders, KnowsQuestions, LooksAt, ZeroBreaksNothing}
 use Rattle.osdp_panel_rules.specs.declared.aspect.Aspect.TheVariants as rule
 use Rattle.osdp_panel_rules_laws.proofs.Suiting.{IsInOrder, again, judged_fine, last_fine, next_above_zero, next_differs, next_in_order, zero_in_order}
 
@@ -104,21 +104,70 @@ too_late wait late =
     (λ early. let le = leb-true wait 8000 early in absurd (omega (arith, late, le)))
     (λ _. cond_both (nat_le wait 8500) Either Broken (λ f. f ≡ Broken) (λ early. let le = leb-true wait 8500 early in absurd (omega (arith, late, le))) (λ _. refl))
 
-pub finds_haste : FindsHaste
-finds_haste address k q wait follows silent none above soon =
+copy_judged : (address : ℕ) (k : Known) (q : Packet) (wait : ℕ) → Follows address k q q → k.said ≡ Silence → k.answered ≡ false
+    → q.sequence ≢ 0 → judged rule.Wait address k q wait ≡ wait_finding wait
+copy_judged address k q wait follows silent none above =
     at_last rule.Wait address k q q wait follows
     ∙ by_sequel rule.Wait k q q wait Again follows.last (again q q refl)
     ∙ cond-false k.answered Nothing (wait_judged k.said Again q.sequence wait) none
     ∙ ap (λ s. wait_judged s Again q.sequence wait) silent
     ∙ cond-false (eqb q.sequence 0) Nothing (wait_finding wait) (ne_eqb q.sequence 0 above)
-    ∙ too_soon wait soon
 
-pub finds_lateness : FindsLateness
-finds_lateness address k p q wait follows answered is late =
+next_judged : (address : ℕ) (k : Known) (p q : Packet) (wait : ℕ) → Follows address k p q → k.answered ≡ true
+    → q.sequence ≡ next_sequence p.sequence → judged rule.Online address k q wait ≡ online_finding wait
+next_judged address k p q wait follows answered is =
     at_last rule.Online address k p q wait follows
     ∙ by_sequel rule.Online k p q wait Next follows.last (next p q is)
     ∙ cond-true k.answered (online_judged Next wait) Nothing answered
-    ∙ too_late wait late
+
+pub finds_haste : FindsHaste
+finds_haste address k q wait follows silent none above soon = copy_judged address k q wait follows silent none above ∙ too_soon wait soon
+
+pub finds_lateness : FindsLateness
+finds_lateness address k p q wait follows answered is late = next_judged address k p q wait follows answered is ∙ too_late wait late
+
+-- ---- what keeps the rules that are judged by the clock
+
+long_enough : (wait : ℕ) → 200 ≤ wait → wait_finding wait ≡ Kept
+long_enough wait long = cond-true (nat_le 200 wait) Kept (cond (nat_le 150 wait) Either Broken) (le-leb 200 wait long)
+
+nearly_long : (wait : ℕ) → 150 ≤ wait → wait < 200 → wait_finding wait ≡ Either
+nearly_long wait long short =
+    cond_both (nat_le 200 wait) Kept (cond (nat_le 150 wait) Either Broken) (λ f. f ≡ Either)
+    (λ longer. let le = leb-true 200 wait longer in absurd (omega (arith, short, le)))
+    (λ _. cond-true (nat_le 150 wait) Either Broken (le-leb 150 wait long))
+
+soon_enough : (wait : ℕ) → wait ≤ 8000 → online_finding wait ≡ Kept
+soon_enough wait soon = cond-true (nat_le wait 8000) Kept (cond (nat_le wait 8500) Either Broken) (le-leb wait 8000 soon)
+
+nearly_soon : (wait : ℕ) → 8000 < wait → wait ≤ 8500 → online_finding wait ≡ Either
+nearly_soon wait late soon =
+    cond_both (nat_le wait 8000) Kept (cond (nat_le wait 8500) Either Broken) (λ f. f ≡ Either)
+    (λ sooner. let le = leb-true wait 8000 sooner in absurd (omega (arith, late, le)))
+    (λ _. cond-true (nat_le wait 8500) Either Broken (le-leb wait 8500 soon))
+
+pub keeps_wait : KeepsWait
+keeps_wait address k q wait follows silent none above = record {
+  kept = λ long. copy_judged address k q wait follows silent none above ∙ long_enough wait long;
+  open_by_clocks = λ long short. copy_judged address k q wait follows silent none above ∙ nearly_long wait long short;
+}
+
+pub keeps_online : KeepsOnline
+keeps_online address k p q wait follows answered is = record {
+  kept = λ soon. next_judged address k p q wait follows answered is ∙ soon_enough wait soon;
+  open_by_clocks = λ late soon. next_judged address k p q wait follows answered is ∙ nearly_soon wait late soon;
+}
+
+-- ---- which packets are orders
+
+with_code : (code : ℕ) (p : Packet) → code_of p ≡ code → is_order p ≡ nat_le 0x68 code
+with_code code p is = ap (λ c. nat_le 0x68 c) is
+
+pub knows_orders : KnowsOrders
+knows_orders = (with_code 0x68, (with_code 0x69, (with_code 0x6A, (with_code 0x6B, (with_code 0x6E, (with_code 0x80, tt))))))
+
+pub knows_questions : KnowsQuestions
+knows_questions = (with_code 0x60, (with_code 0x61, (with_code 0x62, (with_code 0x64, (with_code 0x65, (with_code 0x66, (with_code 0x67, tt)))))))
 
 -- ---- what is left open
 
@@ -196,3 +245,27 @@ answered_breaks_nothing aspect address k p q wait unless asks last answered is =
 
 pub first_breaks_nothing : FirstBreaksNothing
 first_breaks_nothing aspect address k q wait asks none = open_by aspect address k q wait asks (λ p last. absurd cc)
+
+-- ---- after NAK 1
+
+any_sequel : (s : Sequel) → IsFine (damage_finding s)
+any_sequel Again = tt
+any_sequel Anew = tt
+any_sequel Altered = tt
+any_sequel Next = tt
+any_sequel Out = tt
+
+after_damage : (said : Said) (p : Packet) (number : ℕ) (s : Sequel) → IsFine (unanswered_judged rule.Damage said p number s)
+after_damage Damage p number s = any_sequel s
+after_damage said p number s = tt
+
+after_packet_fine : (last : Option Packet) (k : Known) (q : Packet) (wait : ℕ) → IsFine (after_judged last rule.Damage k q wait)
+after_packet_fine None k q wait = tt
+after_packet_fine (Some p) k q wait =
+    fine_both k.answered Nothing (unanswered_judged rule.Damage k.said p q.sequence (sequel_of p q)) tt (after_damage k.said p q.sequence (sequel_of p q))
+
+pub damage_breaks_nothing : DamageBreaksNothing
+damage_breaks_nothing address k q wait =
+    fine_unbroken (judged rule.Damage address k q wait)
+    (fine_both (eqb q.address address) (cond q.reply Nothing (sent_judged rule.Damage k q wait)) Nothing
+    (fine_both q.reply Nothing (sent_judged rule.Damage k q wait) tt (after_packet_fine k.last k q wait)) tt)

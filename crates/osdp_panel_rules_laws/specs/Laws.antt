@@ -1,5 +1,5 @@
 -- What the rules of panels come to: whom they never accuse, and what they find.
-use Rattle.std.specs.Prelude.{◌≡◌, ◌≢◌, ◌<◌, ℕ, Bool, true, false, List, Some, None}
+use Rattle.std.specs.Prelude.{◌≡◌, ◌≢◌, ◌<◌, ◌≤◌, ℕ, Bool, true, false, List, [], ◌∷◌, Some, None}
 use Rattle.osdp_controller.specs.Answers.{meaning_of}
 use Rattle.osdp_controller.specs.declared.config.ControllerConfig.{ControllerConfig}
 use Rattle.osdp_controller.specs.declared.meaning.ReplyMeaning.{ReplyMeaning}
@@ -15,7 +15,8 @@ use Rattle.osdp_panel_rules.specs.declared.known.Known.{Known}
 use Rattle.osdp_panel_rules.specs.declared.said.Said.{Said}
 use Rattle.osdp_panel_rules.specs.declared.said.Said.TheVariants.{Silence, Noise, Astray, Busy, Damage, Refusal}
 use Rattle.osdp_rules.specs.Verdicts.{verdict_along}
-use Rattle.osdp_rules.specs.declared.finding.Finding.TheVariants.{Broken}
+use Rattle.osdp_rules.specs.Packets.{code_of}
+use Rattle.osdp_rules.specs.declared.finding.Finding.TheVariants.{Kept, Either, Broken}
 use Rattle.osdp_rules.specs.declared.verdict.Verdict.TheVariants as verdict
 use Rattle.osdp_panel_rules_laws.specs.Runs.{AreAllowed, Move, findings, new_tested}
 
@@ -105,6 +106,10 @@ abbrev pub FirstBreaksNothing : Type 0
 FirstBreaksNothing = (aspect : Aspect) (address : ℕ) (k : Known) (q : Packet) (wait : ℕ) → q.reply ≡ false → k.last ≡ None
     → judged aspect address k q wait ≢ Broken
 
+-- after NAK 1 a panel may send the packet again, begin anew or go on: whatever it does breaks no rule about it
+abbrev pub DamageBreaksNothing : Type 0
+DamageBreaksNothing = (address : ℕ) (k : Known) (q : Packet) (wait : ℕ) → judged rule.Damage address k q wait ≢ Broken
+
 -- ---- what each rule finds
 
 -- a packet to the device after another one
@@ -153,3 +158,38 @@ FindsHaste = (address : ℕ) (k : Known) (q : Packet) (wait : ℕ) → Follows a
 abbrev pub FindsLateness : Type 0
 FindsLateness = (address : ℕ) (k : Known) (p q : Packet) (wait : ℕ) → Follows address k p q → k.answered ≡ true
     → q.sequence ≡ next_sequence p.sequence → 8500 < wait → judged rule.Online address k q wait ≡ Broken
+
+-- ---- what keeps the rules that are judged by the clock
+
+-- a copy to which nothing was said before: from 200 ms on the panel has waited; from 150 ms on it may have, by its own clock
+pub record WaitsLongEnough (address : ℕ) (k : Known) (q : Packet) (wait : ℕ) : Type 0 where
+  pub kept : 200 ≤ wait → judged rule.Wait address k q wait ≡ Kept
+  pub open_by_clocks : 150 ≤ wait → wait < 200 → judged rule.Wait address k q wait ≡ Either
+
+abbrev pub KeepsWait : Type 0
+KeepsWait = (address : ℕ) (k : Known) (q : Packet) (wait : ℕ) → Follows address k q q → k.said ≡ Silence → k.answered ≡ false
+    → q.sequence ≢ 0 → WaitsLongEnough address k q wait
+
+-- the next packet of a session: up to 8 seconds it comes in time; up to 8.5 seconds it may have, by the panel's own clock
+pub record ComesSoonEnough (address : ℕ) (k : Known) (q : Packet) (wait : ℕ) : Type 0 where
+  pub kept : wait ≤ 8000 → judged rule.Online address k q wait ≡ Kept
+  pub open_by_clocks : 8000 < wait → wait ≤ 8500 → judged rule.Online address k q wait ≡ Either
+
+abbrev pub KeepsOnline : Type 0
+KeepsOnline = (address : ℕ) (k : Known) (p q : Packet) (wait : ℕ) → Follows address k p q → k.answered ≡ true
+    → q.sequence ≡ next_sequence p.sequence → ComesSoonEnough address k q wait
+
+-- ---- which packets are orders
+
+-- packets with these codes are orders, or aren't
+abbrev pub AreOrders : Bool → List ℕ → Type 0
+AreOrders are [] = Unit {0}
+AreOrders are (code ∷ codes) = ((p : Packet) → code_of p ≡ code → is_order p ≡ are) × AreOrders are codes
+
+-- OUT, LED, BUZ, TEXT, COMSET and MFG are
+abbrev pub KnowsOrders : Type 0
+KnowsOrders = AreOrders true (0x68 ∷ 0x69 ∷ 0x6A ∷ 0x6B ∷ 0x6E ∷ 0x80 ∷ [])
+
+-- POLL, ID, CAP, LSTAT, ISTAT, OSTAT and RSTAT aren't
+abbrev pub KnowsQuestions : Type 0
+KnowsQuestions = AreOrders false (0x60 ∷ 0x61 ∷ 0x62 ∷ 0x64 ∷ 0x65 ∷ 0x66 ∷ 0x67 ∷ [])

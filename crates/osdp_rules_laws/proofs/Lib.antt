@@ -8,3 +8,4 @@ pub mod Along
 pub mod Found
 pub mod Open
 mod Claims
+mod Shares

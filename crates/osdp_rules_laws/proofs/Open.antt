@@ -1,11 +1,16 @@
 -- What the standard leaves open breaks no rule.
-use Rattle.osdp_rules_laws.proofs.Common.{◌≡◌, ◌≢◌, ◌⊎◌, ℕ, true, false, cond, eqb, ◌||◌, Option, Some, Result, refl, sym, subst, inl, inr, and_left, eq-eqb, eqb-true, or_left, or_right, Packet, Command, MsgFault, UnknownCode, Length, Count, again_finding, block_finding, code_finding, fit_read, kept_if, length_finding, new_finding, quiet_finding, refusal_finding, repeat_finding, taken_finding, turned_away, wrong_finding, answer_judged, judged, sent_judged, turn_judged, last_number, turn_of, asked, code_of, has_reason, is_busy, is_nak, is_to, same_packet, Aspect, Nothing, Kept, Either, Broken, Known, Gone, Took, Turn, New, Again, Out, NobodyKnows, AnyRefusalIsOne, MayBeBusy}
+use Rattle.osdp_rules_laws.proofs.Common.{◌≡◌, ◌≢◌, ◌⊎◌, ℕ, true, false, cond, eqb, ◌||◌, Option, Some, Result, refl, sym, subst, inl, inr, and_left, eq-eqb, eqb-true, or_left, or_right, Packet, Command, MsgFault, UnknownCode, Length, Count, again_finding, block_finding, code_finding, fit_read, kept_if, length_finding, new_finding, quiet_finding, refusal_finding, repeat_finding, taken_finding, turned_away, wrong_finding, answer_judged, judged, sent_judged, turn_judged, last_number, turn_of, asked, code_of, has_reason, is_busy, is_nak, is_to, same_packet, Aspect, Nothing, Kept, Either, Broken, Known, Gone, Took, Turn, New, Again, Out, NobodyKnows, AnyRefusalIsOne, DevicesMayDiffer, MayBeBusy, OtherCodesBreakNothing}
 use Rattle.osdp_rules.specs.declared.aspect.Aspect.TheVariants as rule
 use Rattle.osdp_rules_laws.proofs.Fine.{IsFine, fine_both, fine_false, fine_true, fine_unbroken}
 use Rattle.osdp_rules_laws.proofs.Reading.{busy_fits}
 use Rattle.osdp_rules_laws.proofs.Replies.{nak_fits}
 use Rattle.osdp_rules_laws.proofs.Steps.{block_fine}
-use Rattle.std.specs.Prelude.{Ok, Err}
+use Rattle.std.specs.Prelude.{Ok, Err, nat_lt, ◌≤◌, suc}
+use Rattle.std.proofs.Common.{arith}
+use Rattle.osdp_msg.specs.declared.reply.Reply.{Reply}
+use Rattle.osdp_rules.specs.Findings.{deaf_finding, is_answer, is_fitting, read_finding}
+use Rattle.osdp_rules.specs.Packets.{told}
+use Rattle.std.proofs.lemmas.Bool.{lt-leb}
 
 -- fine where the device's place is known, and elsewhere nothing is judged
 anywhere : (aspect : Aspect) (address : ℕ) (k : Known) (p : Packet) (heard : Option Packet) → IsFine (sent_judged aspect address k p heard)
@@ -114,3 +119,36 @@ may_be_busy aspect address k p a to busy number (inr (inr (inr (inr (inr is)))))
     (unbroken rule.Fit address k p a to
     (busy_new rule.Fit p a busy
     (subst (λ (code : ℕ). IsFine (fit_read (asked p) code)) (sym (eqb-true (code_of a) 0x79 busy)) (busy_fits (asked p)))) tt tt)
+
+-- a code that the standard may give to a command
+from_60 : (read : Result Command MsgFault) (code : ℕ) (a : Packet) → 0x60 ≤ code → IsFine (code_finding read code a)
+from_60 (Err UnknownCode) code a at =
+    fine_false (nat_lt code 0x60) (refusal_finding 3 a) Nothing (lt-leb (suc code) 0x60 (omega (arith, at))) tt
+from_60 read code a at = tt
+
+pub other_codes : OtherCodesBreakNothing
+other_codes address k p a to at =
+    unbroken rule.Code address k p a to (fine_both (has_reason 4 a) Nothing (code_finding (asked p) (code_of p) a) tt (from_60 (asked p) (code_of p) a at)) tt tt
+
+-- whatever is taken shows nothing that is broken by this rule
+taken_fine : (aspect : Aspect) (p a : Packet) → turned_away aspect ≡ Nothing → IsFine (taken_finding aspect p a) → IsFine (new_finding aspect p a)
+taken_fine aspect p a away fine =
+    fine_both (has_reason 4 a) (turned_away aspect) (taken_finding aspect p a) (subst IsFine (sym away) tt) fine
+
+other_fits : (read : Result Command MsgFault) (code : ℕ) → is_answer code ≡ false → IsFine (fit_read read code)
+other_fits (Ok c) code none =
+    fine_both (is_fitting c code) Kept (cond (is_answer code) Broken Either) tt (fine_false (is_answer code) Broken Either none tt)
+other_fits (Err fault) code none = tt
+
+other_reads : (read : Result Reply MsgFault) → read ≡ Err UnknownCode → IsFine (read_finding read)
+other_reads read unknown = subst (λ r. IsFine (read_finding r)) (sym unknown) tt
+
+pub devices_may_differ : DevicesMayDiffer
+devices_may_differ address k p a to = record {
+  own_address = λ all. unbroken rule.Address address k p a to
+      (taken_fine rule.Address p a refl (fine_true (eqb p.address 127) Either (kept_if (eqb a.address p.address)) (eq-eqb p.address 127 all) tt)) tt tt;
+  other_answers = λ none. unbroken rule.Fit address k p a to (taken_fine rule.Fit p a refl (other_fits (asked p) (code_of a) none)) tt tt;
+  other_replies = λ unknown. unbroken rule.Read address k p a to (taken_fine rule.Read p a refl (other_reads (told a) unknown)) tt tt;
+  block = unbroken rule.Block address k p a to (taken_fine rule.Block p a refl tt) tt tt;
+  noise = λ nak. fine_unbroken (deaf_finding rule.Deaf a) (fine_true (is_nak a) Either Broken nak tt);
+}

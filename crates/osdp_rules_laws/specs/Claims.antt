@@ -11,7 +11,7 @@ use Rattle.osdp_msg.specs.declared.reply.Reply.TheVariants.{Ack, Nak, Inputs, Ou
 use Rattle.osdp_reader.specs.declared.handler.Answer.{Answer}
 use Rattle.osdp_reader.specs.declared.handler.Answer.TheVariants as answer
 use Rattle.osdp_reader.specs.State.{ReaderState}
-use Rattle.osdp_rules.specs.Claiming.{are_leds, are_outputs, claim_judged}
+use Rattle.osdp_rules.specs.Claiming.{are_leds, are_outputs, claim_judged, text_room}
 use Rattle.osdp_rules.specs.Claims.{claims_after, claims_of, no_claims}
 use Rattle.osdp_rules.specs.Known.{known_after}
 use Rattle.osdp_rules.specs.Packets.{asked, is_busy, told}
@@ -101,3 +101,9 @@ RefusalIsNoLie = (aspect : Aspect) (address : ℕ) (k : Known) (claims : Claims)
 abbrev pub ReadersAreOpen : Type 0
 ReadersAreOpen = (aspect : Aspect) (address : ℕ) (k : Known) (claims : Claims) (p a : Packet) → asked p ≡ Ok ReaderStatus
     → claim_judged aspect address k claims p (Some a) ≢ Broken
+
+-- a text is longer than a display where it has more characters than 16, 32 or 64, by the levels of the standard
+pub record KnowsDisplays : Type 0 where
+  pub one : text_room 1 ≡ 16
+  pub two : text_room 2 ≡ 32
+  pub three : text_room 3 ≡ 64

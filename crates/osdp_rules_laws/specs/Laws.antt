@@ -1,11 +1,12 @@
 -- What the rules come to: whom they never accuse, and what they find.
-use Rattle.std.specs.Prelude.{◌≡◌, ◌≢◌, ◌⊎◌, ◌↔◌, ◌<◌, ◌≤◌, ℕ, true, false, List, Some, None, Ok, Err}
+use Rattle.std.specs.Prelude.{◌≡◌, ◌≢◌, ◌⊎◌, ◌↔◌, ◌<◌, ◌≤◌, ◌+◌, ◌*◌, ℕ, Bool, true, false, List, [], ◌∷◌, sum, take, Some, None, Ok, Err}
 use Rattle.osdp_frame.specs.Packet.{Packet}
 use Rattle.osdp_msg.specs.declared.command.Command.{Command}
+use Rattle.osdp_msg.specs.declared.command.Command.TheVariants.{Poll, Id, Cap}
 use Rattle.osdp_msg.specs.declared.fault.MsgFault.TheVariants.{UnknownCode, Length, Count}
 use Rattle.osdp_reader.specs.declared.handler.Answer.{Answer}
 use Rattle.osdp_reader.specs.State.{ReaderState}
-use Rattle.osdp_rules.specs.Delays.{delays_finding}
+use Rattle.osdp_rules.specs.Delays.{delays_finding, median, most}
 use Rattle.osdp_rules.specs.Findings.{is_answer, is_fitting, must_have, prompt_finding}
 use Rattle.osdp_rules.specs.Judging.{count_judged, judged, noise_judged}
 use Rattle.osdp_rules.specs.Known.{last_number, turn_of}
@@ -51,6 +52,23 @@ MayBeBusy = (aspect : Aspect) (address : ℕ) (k : Known) (p a : Packet) → is_
     → (aspect ≡ rule.Number) ⊎ (aspect ≡ rule.Busy) ⊎ (aspect ≡ rule.Repeat) ⊎ (aspect ≡ rule.Wrong) ⊎ (aspect ≡ rule.Turn) ⊎ (aspect ≡ rule.Fit)
     → judged aspect address k p (Some a) ≢ Broken
 
+-- a command from code 60 on that our tables don't have may be one that the standard has, or a maker's: whatever is answered
+abbrev pub OtherCodesBreakNothing : Type 0
+OtherCodesBreakNothing = (address : ℕ) (k : Known) (p a : Packet) → is_to address p ≡ true → 0x60 ≤ code_of p
+    → judged rule.Code address k p (Some a) ≢ Broken
+
+-- What else is left to a device: from 127 it may answer with its own address. A reply that our tables don't have is no answer of another command, and its maker reads it.
+-- A security block may be answered by anything, and noise by a NAK.
+pub record MayDiffer (address : ℕ) (k : Known) (p a : Packet) : Type 0 where
+  pub own_address : p.address ≡ 127 → judged rule.Address address k p (Some a) ≢ Broken
+  pub other_answers : is_answer (code_of a) ≡ false → judged rule.Fit address k p (Some a) ≢ Broken
+  pub other_replies : told a ≡ Err UnknownCode → judged rule.Read address k p (Some a) ≢ Broken
+  pub block : judged rule.Block address k p (Some a) ≢ Broken
+  pub noise : is_nak a ≡ true → noise_judged rule.Deaf (Some a) ≢ Broken
+
+abbrev pub DevicesMayDiffer : Type 0
+DevicesMayDiffer = (address : ℕ) (k : Known) (p a : Packet) → is_to address p ≡ true → MayDiffer address k p a
+
 -- ---- what each rule finds
 
 -- an answer to a packet with a new number that is to the device; NAK 1 and NAK 4 are rules of their own
@@ -86,6 +104,19 @@ FindsUnfit = Finds rule.Fit (λ p a. (c : Command) × (asked p ≡ Ok c) × (is_
 -- POLL, ID or CAP is refused
 abbrev pub FindsUnserved : Type 0
 FindsUnserved = Finds rule.Served (λ p a. (must_have (asked p) ≡ true) × (is_nak a ≡ true))
+
+-- codes that are answers to commands, or tell events; or that aren't
+abbrev pub AreAnswers : Bool → List ℕ → Type 0
+AreAnswers are [] = Unit {0}
+AreAnswers are (code ∷ codes) = (is_answer code ≡ are) × AreAnswers are codes
+
+-- ACK, PDID, PDCAP, the four states, RAW, FMT, KEYPAD and COM are such codes. NAK, BUSY and MFGREP aren't, and POLL, ID and CAP are what each device has
+pub record KnowsAnswers : Type 0 where
+  pub answers : AreAnswers true (0x40 ∷ 0x45 ∷ 0x46 ∷ 0x48 ∷ 0x49 ∷ 0x4A ∷ 0x4B ∷ 0x50 ∷ 0x51 ∷ 0x53 ∷ 0x54 ∷ [])
+  pub others : AreAnswers false (0x41 ∷ 0x79 ∷ 0x90 ∷ [])
+  pub poll : must_have (Ok Poll) ≡ true
+  pub id : (kept : ℕ) → must_have (Ok (Id kept)) ≡ true
+  pub cap : (kept : ℕ) → must_have (Ok (Cap kept)) ≡ true
 
 -- an unknown code, and a wrong length or count, are neither refused nor put off
 abbrev pub FindsTakenCode : Type 0
@@ -142,3 +173,14 @@ KeepsInTime = (delay : ℕ) → (prompt_finding delay ≡ Kept) ↔ (delay ≤ 2
 -- over a run the longest time decides
 abbrev pub FindsLateRun : Type 0
 FindsLateRun = (run : Delays) (longest : ℕ) → run.greatest ≡ Some longest → (delays_finding run ≡ Broken) ↔ (200 < longest)
+
+-- Of each 100 of these answers so many took no longer than this, and fewer took less: by how many took each number of milliseconds.
+pub record IsShare (of_hundred milliseconds : ℕ) (counts : List ℕ) : Type 0 where
+  pub no_longer : of_hundred * sum counts ≤ 100 * sum (take (milliseconds + 1) counts)
+  pub less : 100 * sum (take milliseconds counts) < of_hundred * sum counts
+
+-- half of the answers of a run are told so, and 95 of 100
+abbrev pub TellsShares : Type 0
+TellsShares = (run : Delays) (milliseconds : ℕ) → run.total ≡ sum run.counts → 0 < run.total
+    → (median run ≡ Some milliseconds → IsShare 50 milliseconds run.counts)
+    × (most run ≡ Some milliseconds → IsShare 95 milliseconds run.counts)

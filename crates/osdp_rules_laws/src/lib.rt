@@ -2,8 +2,8 @@
 //! functions do nothing: their contracts are laws.
 #![tactic(auto)]
 
-ghost use Rattle.osdp_rules_laws.specs.Laws.{AnyRefusalIsOne, BreaksNoRule, DamageBreaksNothing, FindsAddress, FindsAnotherAnswer, FindsBlock, FindsBusyNumber, FindsCheck, FindsHeardNoise, FindsLate, FindsLateRun, FindsNumber, FindsSecondAnswer, FindsTakenCode, FindsTakenLength, FindsTakenOutOfTurn, FindsTalk, FindsTurnedAway, FindsUnfit, FindsUnread, FindsUnserved, KeepsInTime, MayBeBusy, SilenceBreaksNothing};
-ghost use Rattle.osdp_rules_laws.specs.Claims.{BreaksNoClaim, FindsDoneLed, FindsDoneOutput, FindsDoneText, FindsInputs, FindsOutputs, ReadersAreOpen, RefusalIsNoLie};
+ghost use Rattle.osdp_rules_laws.specs.Laws.{AnyRefusalIsOne, BreaksNoRule, DamageBreaksNothing, DevicesMayDiffer, FindsAddress, FindsAnotherAnswer, FindsBlock, FindsBusyNumber, FindsCheck, FindsHeardNoise, FindsLate, FindsLateRun, FindsNumber, FindsSecondAnswer, FindsTakenCode, FindsTakenLength, FindsTakenOutOfTurn, FindsTalk, FindsTurnedAway, FindsUnfit, FindsUnread, FindsUnserved, KeepsInTime, KnowsAnswers, MayBeBusy, OtherCodesBreakNothing, SilenceBreaksNothing, TellsShares};
+ghost use Rattle.osdp_rules_laws.specs.Claims.{BreaksNoClaim, FindsDoneLed, FindsDoneOutput, FindsDoneText, FindsInputs, FindsOutputs, KnowsDisplays, ReadersAreOpen, RefusalIsNoLie};
 
 use osdp_reader::Handler;
 
@@ -22,10 +22,13 @@ pub fn losses_break_nothing()
     ensures damage { DamageBreaksNothing }
 {}
 
-/// What the standard leaves open breaks no rule: any reason of a refusal, BUSY at any packet and with either number.
+/// What the standard leaves open breaks no rule: any reason of a refusal, BUSY at any packet and with either number, and any answer to a code from 60 on that our tables
+/// don't have. A device may answer 127 with its own address, with replies that our tables don't have, a security block with anything, and noise with a NAK.
 pub fn leaves_open()
     ensures refusals { AnyRefusalIsOne }
     ensures busy { MayBeBusy }
+    ensures codes { OtherCodesBreakNothing }
+    ensures devices { DevicesMayDiffer }
 {}
 
 /// An answer with another address, check or number than its packet, or with a security block, breaks its rule.
@@ -36,12 +39,13 @@ pub fn finds_wrong_heads()
     ensures block { FindsBlock }
 {}
 
-/// So does the answer of another command, the refusal of POLL, ID or CAP, and a reply with a wrong length or count.
+/// So does the answer of another command, the refusal of POLL, ID or CAP, and a reply with a wrong length or count. NAK, BUSY and MFGREP answer no command more than another.
 pub fn finds_wrong_replies()
     ensures unfit { FindsUnfit }
     ensures unserved { FindsUnserved }
     ensures unread { FindsUnread }
     ensures busy { FindsBusyNumber }
+    ensures answers { KnowsAnswers }
 {}
 
 /// A command that isn't one and is neither refused nor put off breaks its rule.
@@ -64,11 +68,13 @@ pub fn finds_talk()
     ensures second { FindsSecondAnswer }
 {}
 
-/// An answer that begins after more than 200 ms breaks its rule, and each other keeps it. Over a run the longest time decides.
+/// An answer that begins after more than 200 ms breaks its rule, and each other keeps it. Over a run the longest time decides. Of the answers of
+/// a run half took no longer than is told of them, and fewer took less; so it is with 95 of 100.
 pub fn finds_late()
     ensures late { FindsLate }
     ensures in_time { KeepsInTime }
     ensures run { FindsLateRun }
+    ensures shares { TellsShares }
 {}
 
 /// Where the handler of a reader of ours does what its CAP says, no rule about CAP is broken: whatever is sent to it, in whatever state it is, and
@@ -89,8 +95,10 @@ pub fn finds_lies()
     ensures done_text { FindsDoneText }
 {}
 
-/// What the rules about CAP leave open: to refuse is no lie, and neither is any number of readers.
+/// What the rules about CAP leave open: to refuse is no lie, and neither is any number of readers. Nor is what a display does with a text that is longer than itself, of 16,
+/// 32 or 64 characters by its level.
 pub fn leaves_claims_open()
     ensures refusals { RefusalIsNoLie }
     ensures readers { ReadersAreOpen }
+    ensures displays { KnowsDisplays }
 {}

@@ -4,4 +4,4 @@ pub use Rattle.std.specs.Prelude.{option_and_then}
 pub use Rattle.osdp_words.specs.Reading.{ReadsWords}
 pub use Rattle.osdp_words.specs.Word.{AllStandFor, texts, Word}
 pub use Rattle.osdp_settings.specs.Settings.{after, Entry, Give, Make, ReadsSettings, setting_words, SettingFits}
-pub use Rattle.osdp_settings.specs.Wrong.{Begin, IsWrong}
+pub use Rattle.osdp_settings.specs.Wrong.{Begin, IsNoSetting, IsTold, LacksRoom, LacksValue, Told}

@@ -2,3 +2,4 @@ pub mod Common
 mod FirstWrong
 pub mod Reading
 mod Once
+mod Saying

@@ -7,7 +7,7 @@ mod settings;
 mod values;
 mod wrong;
 
-pub use laws::tells_once;
+pub use laws::{sets_what_is_said, tells_once};
 pub use settings::{Configured, read_settings};
 pub use values::{number_within, read_switch};
 pub use wrong::WrongSetting;

@@ -43,6 +43,18 @@ fn wants(site: &mut Site, entry: EntryNumber, text: &str) -> Result<(), SiteFaul
     }
 }
 
+/// A site of one entry with room for so many states, and a panel that has room for as many commands.
+fn with_room(alloc: Global, states: usize) -> Option<(Site, Panel)> {
+    let commands = Room::of(16);
+    let config = SiteConfig {
+        pause: 300,
+        room: states,
+        bytes: commands.bytes,
+    };
+    let site = Site::new(alloc, 1, config, 1000).ok()?;
+    Some((site, new_panel(alloc, commands)?))
+}
+
 fn opened() -> Report<'static> {
     Report::Opened(PdId {
         vendor: [1, 2, 3],
@@ -155,4 +167,70 @@ fn what_is_too_long_keeps_no_state_waiting(rt: HostRuntime) {
     let _ = site.heed(DOOR, &opened(), 1500);
     site.act(&mut panel, 1500);
     assert!(rt; panel.waiting(DOOR) == Some(2) && site.is_refreshed(DOOR) == Some(true));
+}
+
+/// An output by controls 1 to 4, an LED that takes its temporary state back, a buzzer that is off whatever its count, and a text with and without a new line.
+#[test]
+fn what_lasts_is_a_state(rt: HostRuntime) {
+    let states =
+        "OUT 0:1:0\nOUT 0:2:0\nOUT 0:3:0\nOUT 0:4:0\nLED 0:0:0:0:0:0:0:0:1:1:0:1:1\nLED 0:0:1:0:0:0:0:0:1:1:0:1:1\nBUZ 0 1 5 5 3\nBUZ 0 2 5 5 0\nTEXT 0 1 0 1 1 41\nTEXT 0 2 0 1 1 41";
+    for text in states.lines() {
+        let mut site = new_site(rt.alloc(), Room::of(2)).expect(&rt, "memory");
+        assert!(rt; wants(&mut site, DOOR, text).is_ok());
+    }
+}
+
+/// What differs in one number alone is another output, LED, buzzer or text.
+#[test]
+fn each_has_a_state_of_its_own(rt: HostRuntime) {
+    let (mut site, mut panel) = with_room(rt.alloc(), 11).expect(&rt, "memory");
+    let states =
+        "OUT 0:2:0\nOUT 1:2:0\nLED 0:0:0:0:0:0:0:0:1:1:0:1:1\nLED 0:1:0:0:0:0:0:0:1:1:0:1:1\nLED 1:0:0:0:0:0:0:0:1:1:0:1:1\nBUZ 0 2 5 5 0\nBUZ 1 2 5 5 0\nTEXT 0 1 0 1 1 41\nTEXT 1 1 0 1 1 41\nTEXT 0 1 0 2 1 41\nTEXT 0 1 0 1 2 41";
+    for text in states.lines() {
+        assert!(rt; wants(&mut site, DOOR, text).is_ok());
+    }
+    assert!(rt; wants(&mut site, DOOR, "OUT 2:2:0").err() == Some(SiteFault::Full));
+    for text in states.lines() {
+        assert!(rt; wants(&mut site, DOOR, text).is_ok()); // in place of itself
+    }
+    site.act(&mut panel, 1000);
+    let _ = site.heed(DOOR, &opened(), 1500);
+    site.act(&mut panel, 1500);
+    assert!(rt; panel.waiting(DOOR) == Some(11) && site.is_refreshed(DOOR) == Some(true));
+}
+
+/// Two states were submitted. A third one is wanted otherwise before it is submitted: it alone is, once.
+#[test]
+fn a_state_that_is_due_changes(rt: HostRuntime) {
+    let (mut site, mut panel) = with_room(rt.alloc(), 3).expect(&rt, "memory");
+    assert!(rt; wants(&mut site, DOOR, "OUT 0:2:0").is_ok());
+    assert!(rt; wants(&mut site, DOOR, "OUT 1:2:0").is_ok());
+    site.act(&mut panel, 1000);
+    let _ = site.heed(DOOR, &opened(), 1500);
+    site.act(&mut panel, 1500);
+    assert!(rt; panel.waiting(DOOR) == Some(2));
+    assert!(rt; wants(&mut site, DOOR, "OUT 2:2:0").is_ok());
+    assert!(rt; wants(&mut site, DOOR, "OUT 2:1:0").is_ok());
+    site.act(&mut panel, 1600);
+    assert!(rt; panel.waiting(DOOR) == Some(3) && site.is_refreshed(DOOR) == Some(true));
+}
+
+/// Orders that wait as a session begins are stale: none of them goes out in it.
+#[test]
+fn orders_that_wait_are_taken_back(rt: HostRuntime) {
+    let (mut site, mut panel) = with_room(rt.alloc(), 1).expect(&rt, "memory");
+    for _ in 0..3 {
+        assert!(rt; panel.submit(DOOR, &Command::LocalStatus).is_ok());
+    }
+    site.act(&mut panel, 999);
+    assert!(rt; panel.waiting(DOOR) == Some(3)); // no session is due yet
+    site.act(&mut panel, 1000);
+    assert!(rt; panel.waiting(DOOR) == Some(0) && panel.is_closed(DOOR) == Some(false));
+}
+
+/// A pause of a second, and room for 16 states.
+#[test]
+fn a_site_has_its_defaults(rt: HostRuntime) {
+    let config = SiteConfig::new(twelve_bytes());
+    assert!(rt; config.pause == 1000 && config.room == 16 && config.bytes == 12);
 }

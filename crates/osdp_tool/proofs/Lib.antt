@@ -6,3 +6,4 @@ pub mod Names
 pub mod Orders
 pub mod Ordered
 pub mod Printing
+mod InTurn

@@ -4,6 +4,7 @@
 ghost use Rattle.osdp_tool.specs.Job.{Words, ChoosesJobByWords};
 ghost use Rattle.osdp_tool.specs.Choice.{ChoosesByWords};
 ghost use Rattle.osdp_tool.specs.Help.{HasOneTopic};
+ghost use Rattle.osdp_tool.specs.InTurn.{EndsInTurn};
 ghost use Rattle.osdp_tool.specs.Laws.{HasOneOrder, ReadsBack};
 
 /// Words choose a job exactly where they are its words: `make` and any words but a lone flag for help, or `sim` alone. They are bad exactly where
@@ -30,6 +31,12 @@ pub fn reads_back()
     osdp_frame_laws::one_spelling();
     osdp_frame_laws::reading_of_spelling();
 }
+
+/// `make` refuses exactly the words that order no packet, unless a write failed. The line of the packet is printed, or a beginning of it, or nothing.
+#[tactic(auto, using(crate::proofs::InTurn::ends_in_turn))]
+pub fn make_ends_in_turn()
+    ensures { EndsInTurn }
+{}
 
 /// A text is the help of one topic at most.
 pub fn one_topic()

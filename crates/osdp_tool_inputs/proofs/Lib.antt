@@ -11,3 +11,4 @@ pub mod Telling
 pub mod Echoing
 pub mod OneByOne
 pub mod WholeText
+mod OneTask

@@ -5,5 +5,6 @@ pub mod Echoes
 pub mod Places
 pub mod Ears
 pub mod Asked
+pub mod OneTask
 pub mod Done
 pub mod Laws

@@ -2,6 +2,7 @@
 
 ghost use Rattle.osdp_tool_inputs.specs.Echoes.{KeepsOthers, LeavesAllElse, LeavesEchoOut, SortsAll};
 ghost use Rattle.osdp_tool_inputs.specs.Laws.{MomentsLeaveLines, StampsOneRun, TellsInOrder, TimesByRuns};
+ghost use Rattle.osdp_tool_inputs.specs.OneTask.{AskOnce};
 
 /// The moments that the runtime's clock tells are in order.
 pub fn tells_in_order()
@@ -42,4 +43,10 @@ pub fn leaves_all_else()
 /// What is left of a capture and its echoes are together all its lines, each once and in their order.
 pub fn sorts_all()
     ensures { SortsAll }
+{}
+
+/// The words of a command that reads captures ask for one thing at most.
+#[tactic(auto, using(crate::proofs::OneTask::ask_once))]
+pub fn words_ask_once()
+    ensures { AskOnce }
 {}

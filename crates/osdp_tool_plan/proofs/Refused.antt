@@ -1,10 +1,7 @@
 -- Words are refused for one thing at most.
-use Rattle.osdp_tool_plan.proofs.Common.{◌≡◌, ◌∙◌, ℕ, Bool, true, false, List, [], ◌∷◌, ◌++◌, Some, None, Result, Ok, Err, inl, inr, refl, sym, ap, subst, IfErr, TooShort, Plan, HasOneJudgement, IsLongEnough, Judges, some_same, Give, SettingFits, setting_words, AllStandFor, PlanSetting, Plans, PlansNone, RefusesPlan, RefusesWords, AreSameRefusal, RefusesOnce, ArePlan, defaults, entry, put}
+use Rattle.osdp_tool_plan.proofs.Common.{◌≡◌, ◌∙◌, ℕ, List, [], ◌∷◌, ◌++◌, Some, None, Result, Ok, Err, inl, inr, refl, sym, ap, subst, IfErr, TooShort, Plan, HasOneJudgement, IsLongEnough, Judges, some_same, Give, SettingFits, setting_words, AllStandFor, PlanSetting, Plans, PlansNone, RefusesPlan, RefusesWords, AreSameRefusal, RefusesOnce, ArePlan, defaults, entry, put}
 use Rattle.osdp_plan.specs.declared.judging.TooShort.TheVariants as short
-use Rattle.osdp_settings.specs.Laws.{AreAlike}
-use Rattle.osdp_settings.specs.Wrong.{IsWrong}
-use Rattle.osdp_settings.specs.declared.wrong.WrongSetting.{WrongSetting}
-use Rattle.osdp_settings.specs.declared.wrong.WrongSetting.TheVariants.{NoValue, NoSetting, OneTooMany}
+use Rattle.osdp_settings.specs.Wrong.{IsNoSetting, IsTold, LacksRoom, LacksValue, Told, told_by}
 use Rattle.osdp_tool_plan.specs.declared.command.WrongPlan.{WrongPlan}
 use Rattle.osdp_tool_plan.specs.declared.command.WrongPlan.TheVariants.{Setting, PacketPasses, AnswerComes, LineIsQuiet}
 use Rattle.osdp_tool_plan.proofs.OneLine.{none_short, one_plan}
@@ -13,8 +10,8 @@ use Rattle.osdp_tool_plan.proofs.Ranges.{are_in_range}
 abbrev Gives : List (List ℕ) → List PlanSetting → Type 0
 Gives given settings = Give (setting_words entry) (SettingFits entry) given settings
 
-abbrev GoesWrong : List (List ℕ) → WrongSetting → Type 0
-GoesWrong given wrong = IsWrong (setting_words entry) (SettingFits entry) put defaults given wrong
+abbrev IsToldOf : List (List ℕ) → Told → Type 0
+IsToldOf given told = IsTold (setting_words entry) (SettingFits entry) put defaults given told
 
 -- words whose first name with its value is no setting
 abbrev IsStuck : List (List ℕ) → Type 0
@@ -54,62 +51,40 @@ same_left (n ∷ v ∷ first) left (m ∷ []) right (x ∷ xs) (y ∷ ys) g h st
 same_left (n ∷ v ∷ first) left (m ∷ w ∷ other) right (x ∷ xs) (y ∷ ys) g h stuck stays e =
     same_left first left other right xs ys (record { stand = g.stand.1.1; fit = g.fit.1 }) (record { stand = h.stand.1.1; fit = h.fit.1 }) stuck stays (ap after_two e)
 
--- what is told stands first of them
-abbrev Leads : WrongSetting → List (List ℕ) → Type 0
-Leads (NoValue name) left = left ≡ name.now ∷ []
-Leads (NoSetting name value) left = (rest : List (List ℕ)) × (left ≡ name.now ∷ value.now ∷ rest)
-Leads (OneTooMany name value) left = ⊥
+-- what is told of such words
+abbrev told_at : List (List ℕ) → Told
+told_at [] = LacksValue []
+told_at (n ∷ []) = LacksValue n
+told_at (n ∷ v ∷ rest) = IsNoSetting n v
 
-record Leaves (given : List (List ℕ)) (wrong : WrongSetting) : Type 0 where
+record Leaves (given : List (List ℕ)) (told : Told) : Type 0 where
   first : List (List ℕ)
   left : List (List ℕ)
   split : given ≡ first ++ left
   settings : List PlanSetting
   gives : Gives first settings
   stuck : IsStuck left
-  leads : Leads wrong left
+  leads : told_at left ≡ told
 
-leaves : (given : List (List ℕ)) (wrong : WrongSetting) → GoesWrong given wrong → Leaves given wrong
-leaves given (NoValue name) w =
-    record { first = w.1.first; left = name.now ∷ []; split = w.1.split; settings = w.1.settings; gives = w.1.give; stuck = tt; leads = refl }
-leaves given (NoSetting name value) w =
-    record { first = w.2.first; left = name.now ∷ value.now ∷ w.1; split = w.2.split; settings = w.2.settings; gives = w.2.give; stuck = w.3; leads = (w.1, refl) }
-leaves given (OneTooMany name value) w = absurd (let full = w.3.3 in cc)
+leaves : (given : List (List ℕ)) (told : Told) → IsToldOf given told → Leaves given told
+leaves given (LacksValue name) w =
+    record { first = w.1.first; left = name ∷ []; split = w.1.split; settings = w.1.settings; gives = w.1.give; stuck = tt; leads = refl }
+leaves given (IsNoSetting name value) w =
+    record { first = w.2.first; left = name ∷ value ∷ w.1; split = w.2.split; settings = w.2.settings; gives = w.2.give; stuck = w.3; leads = refl }
+leaves given (LacksRoom name value) w = absurd (let full = w.3.3 in cc)
 
-abbrev name_at : List (List ℕ) → List ℕ
-name_at (n ∷ rest) = n
-name_at [] = []
-
-abbrev value_at : List (List ℕ) → List ℕ
-value_at (n ∷ v ∷ rest) = v
-value_at given = []
-
-abbrev is_pair : List (List ℕ) → Bool
-is_pair (n ∷ v ∷ rest) = true
-is_pair given = false
-
-no_pair : (n m v : List ℕ) (rest : List (List ℕ)) → n ∷ [] ≡ m ∷ v ∷ rest → ⊥
-no_pair n m v rest e = let differ : false ≡ true = ap is_pair e in cc
-
-alike : (a b : WrongSetting) (left right : List (List ℕ)) → Leads a left → Leads b right → left ≡ right → AreAlike a b
-alike (NoValue a) (NoValue b) left right h g e = ap name_at (sym h ∙ e ∙ g)
-alike (NoSetting a v) (NoSetting b w) left right h g e = let same = sym h.1 ∙ e ∙ g.1 in (ap name_at same, ap value_at same)
-alike (NoValue a) (NoSetting b w) left right h g e = absurd (no_pair a.now b.now w.now g.0 (sym h ∙ e ∙ g.1))
-alike (NoSetting a v) (NoValue b) left right h g e = absurd (no_pair b.now a.now v.now h.0 (sym g ∙ sym e ∙ h.1))
-alike (OneTooMany a v) b left right h g e = absurd h
-alike a (OneTooMany b w) left right h g e = absurd g
-
-one_wrong : (given : List (List ℕ)) (a b : WrongSetting) → GoesWrong given a → GoesWrong given b → AreAlike a b
-one_wrong given a b h g =
+one_told : (given : List (List ℕ)) (a b : Told) → IsToldOf given a → IsToldOf given b → a ≡ b
+one_told given a b h g =
     let one = leaves given a h in
     let other = leaves given b g in
-    alike a b one.left other.left one.leads other.leads
-    (same_left one.first one.left other.first other.left one.settings other.settings one.gives other.gives one.stuck other.stuck (sym one.split ∙ other.split))
+    sym one.leads
+    ∙ ap told_at (same_left one.first one.left other.first other.left one.settings other.settings one.gives other.gives one.stuck other.stuck (sym one.split ∙ other.split))
+    ∙ other.leads
 
 -- words that are settings aren't told as none
-no_line : (given : List (List ℕ)) (wrong : WrongSetting) (p : Plan) → GoesWrong given wrong → ArePlan given p → ⊥
-no_line given wrong p w (settings, give, is) =
-    let so = leaves given wrong w in
+no_line : (given : List (List ℕ)) (told : Told) (p : Plan) → IsToldOf given told → ArePlan given p → ⊥
+no_line given told p w (settings, give, is) =
+    let so = leaves given told w in
     stuck_none so.first so.left so.settings settings so.gives so.stuck (subst (λ (l : List (List ℕ)). Gives l settings) so.split give)
 
 -- a setting that is too short is told in one way
@@ -122,7 +97,7 @@ told_once p (short.LineIsQuiet time) a b h g =
     subst (λ (x : WrongPlan). AreSameRefusal x b) (sym h) (subst (λ (y : WrongPlan). AreSameRefusal (LineIsQuiet p.quiet_wait time) y) (sym g) refl)
 
 pub not_refused : (given : List (List ℕ)) (wrong : WrongPlan) (p : Plan) → RefusesWords given wrong → Plans given p → ⊥
-not_refused given wrong p (inl h) plans = no_line given h.first p h.found plans.are
+not_refused given wrong p (inl h) plans = no_line given (told_by h.first) p h.found plans.are
 not_refused given wrong p (inr h) plans =
     let same : p ≡ h.plan = one_plan given p h.plan plans.are h.are in
     let none : Some h.short ≡ None = none_short h.plan (Some h.short) (subst IsLongEnough same plans.long_enough) h.judged in
@@ -137,9 +112,9 @@ module _ (one_judgement : HasOneJudgement) where
   one_refusal : (given : List (List ℕ)) (a b : WrongPlan) → RefusesWords given a → RefusesWords given b → AreSameRefusal a b
   one_refusal given a b (inl h) (inl g) =
       subst (λ (x : WrongPlan). AreSameRefusal x b) (sym h.told)
-      (subst (λ (y : WrongPlan). AreSameRefusal (Setting h.first) y) (sym g.told) (one_wrong given h.first g.first h.found g.found))
-  one_refusal given a b (inl h) (inr g) = absurd (no_line given h.first g.plan h.found g.are)
-  one_refusal given a b (inr h) (inl g) = absurd (no_line given g.first h.plan g.found h.are)
+      (subst (λ (y : WrongPlan). AreSameRefusal (Setting h.first) y) (sym g.told) (one_told given (told_by h.first) (told_by g.first) h.found g.found))
+  one_refusal given a b (inl h) (inr g) = absurd (no_line given (told_by h.first) g.plan h.found g.are)
+  one_refusal given a b (inr h) (inl g) = absurd (no_line given (told_by g.first) h.plan g.found h.are)
   one_refusal given a b (inr h) (inr g) =
       let same : g.plan ≡ h.plan = one_plan given g.plan h.plan g.are h.are in
       let judged : Judges h.plan (Some g.short) = subst (λ (p : Plan). Judges p (Some g.short)) same g.judged in

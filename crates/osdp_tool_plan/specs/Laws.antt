@@ -4,9 +4,13 @@ use Rattle.osdp_plan.specs.declared.judging.TooShort.{TooShort}
 use Rattle.osdp_plan.specs.declared.plan.Plan.{Plan}
 use Rattle.osdp_plan.specs.Judging.{Judges}
 use Rattle.osdp_plan.specs.Plans.{IsPlan}
-use Rattle.osdp_settings.specs.Laws.{AreAlike}
+use Rattle.osdp_settings.specs.Settings.{SettingFits}
+use Rattle.osdp_settings.specs.Wrong.{told_by}
 use Rattle.osdp_tool_plan.specs.declared.command.WrongPlan.{WrongPlan}
 use Rattle.osdp_tool_plan.specs.declared.command.WrongPlan.TheVariants.{Setting}
+use Rattle.osdp_tool_plan.specs.declared.setting.PlanSetting.{PlanSetting}
+use Rattle.osdp_tool_plan.specs.declared.setting.PlanSetting.TheVariants.{Longest}
+use Rattle.osdp_tool_plan.specs.Settings.{entry, with_setting}
 use Rattle.osdp_tool_plan.specs.Ending.{Ends, Plans, PlansNone, Prints, RefusesWords}
 use Rattle.osdp_tool_plan.specs.Text.{plan_text}
 use Rattle.osdp_tool_streams.specs.declared.fault.ToolFault.{ToolFault}
@@ -23,9 +27,17 @@ pub record ArePlannedOnce (given : List (List ℕ)) : Type 0 where
 abbrev pub PlansOnce : Type 0
 PlansOnce = (given : List (List ℕ)) → ArePlannedOnce given
 
--- the same is told
+-- a setting fits exactly where it leaves a plan in its ranges. Packets of 7 bytes are in range too, as those of POLLs with a sum, and no words set them
+pub record FitsExactly (s : PlanSetting) (p : Plan) : Type 0 where
+  pub keeps : SettingFits entry s → IsPlan (with_setting s p)
+  pub fits : IsPlan (with_setting s p) → SettingFits entry s ⊎ (s ≡ Longest 7)
+
+abbrev pub RangesAreOfSettings : Type 0
+RangesAreOfSettings = (s : PlanSetting) (p : Plan) → IsPlan p → FitsExactly s p
+
+-- the same is told: the same of the same words, or the same times
 abbrev pub AreSameRefusal : WrongPlan → WrongPlan → Type 0
-AreSameRefusal (Setting a) (Setting b) = AreAlike a b
+AreSameRefusal (Setting a) (Setting b) = told_by a ≡ told_by b
 AreSameRefusal a b = a ≡ b
 
 -- the words are refused for one thing at most, and for none where they plan a line

@@ -10,3 +10,4 @@ pub mod Ranges
 pub mod Written
 pub mod OneText
 pub mod OneAccount
+mod InTurn

@@ -28,19 +28,24 @@ command_line name command = plain name ∷ command_words command
 abbrev pub settled_words : Command × Reply → List Word
 settled_words (command, answer) = command_words command ++ plain (codes "=") ∷ reply_words answer
 
+-- the line of a command that was settled, with its answer
 abbrev pub settled_line : Command × Reply → List Word
 settled_line pair = plain (codes "settled") ∷ settled_words pair
 
+-- the line of an event that was reported
 abbrev pub reported_line : Event → List Word
 reported_line event = plain (codes "reported") ∷ event_words event
 
+-- the word for how a session ended: the name of the cause of its loss, or "moved"
 abbrev pub end_name : End → List ℕ
 end_name (Lost cause) = cause_name cause
 end_name Moved = codes "moved"
 
+-- the words of an end, which is one
 abbrev pub end_words : End → List Word
 end_words end = plain (end_name end) ∷ []
 
+-- the line of an end
 abbrev pub ended_line : End → List Word
 ended_line end = plain (codes "ended") ∷ end_words end
 
@@ -57,6 +62,7 @@ account_lines reader a =
 abbrev pub line_text : List Word → List ℕ
 line_text words = text_of words ++ codes "\n"
 
+-- the text of these lines, one after the other
 abbrev pub lines_text : List (List Word) → List ℕ
 lines_text [] = []
 lines_text (line ∷ lines) = line_text line ++ lines_text lines
@@ -70,6 +76,7 @@ abbrev pub AddsNext : List (List Word) → List (List Word) → List ℕ → Lis
 AddsNext [] after name old new added = (added ≡ false) × (after ≡ []) × (new ≡ old)
 AddsNext (words ∷ others) after name old new added = (added ≡ true) × (after ≡ others) × (new ≡ old ++ line_text (plain name ∷ words))
 
+-- the text of an account, whose reader has this number
 abbrev pub account_text : ℕ → Account → List ℕ
 account_text reader a = lines_text (account_lines reader a)
 

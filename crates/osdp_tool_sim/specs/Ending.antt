@@ -28,6 +28,7 @@ SaysTold text end before after failed result =
     ((result ≡ end) × Appends before after text × (failed ≡ false))
     ⊎ ((result ≡ Err WriteFailed) × AppendsPart before after text × (failed ≡ true))
 
+-- what is answered to a script of these bytes: it was run and told, or one of its lines is bad and is named, or memory did not suffice
 abbrev pub SaysOf : List ℕ → Option (List ℕ) → Option (List ℕ) → Bool → Result (Unit {0}) ToolFault → Type 0
 SaysOf bytes before after failed result =
     ((text : List ℕ) × (end : Result (Unit {0}) ToolFault) × Tells bytes text end × SaysTold text end before after failed result)

@@ -6,3 +6,4 @@ pub mod Told
 pub mod Ending
 pub mod AccountText
 pub mod Laws
+pub mod InTurn

@@ -26,6 +26,7 @@ pub record ReadsSome (limit : ℕ) (before after : Option (List ℕ)) : Type 0 w
   pub taken : Consumes before after read
   pub within : length read ≤ limit
 
+-- what is answered where the input is read: all of it; that it is longer than the limit; that it failed; or that memory did not suffice
 abbrev pub ReadsAll : ℕ → Option (List ℕ) → Option (List ℕ) → Bool → Bool → Result (Vec ℕ) ToolFault → Type 0
 ReadsAll limit before after was_failed failed (Ok bytes) = ReadsToEnd limit before after bytes.items × (failed ≡ was_failed)
 ReadsAll limit before after was_failed failed (Err TooLong) = ReadsPastLimit limit before after × (failed ≡ was_failed)

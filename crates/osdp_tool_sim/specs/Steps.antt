@@ -11,6 +11,7 @@ use Rattle.osdp_tool_streams.specs.declared.fault.ToolFault.TheVariants.{WriteFa
 
 -- a run comes to this: over all steps, or up to the step that is refused, counted from 1
 module _ {S A : Type 0} (after_step : SimStep → S → S) (fault_of : SimStep → S → Option Cause) (account_of : S → A) where
+  -- all steps were taken, or the step that is named was refused for the cause that is told
   abbrev pub RunTells : Result (Unit {0}) ToolFault → A → List SimStep → S → Type 0
   RunTells (Ok done) told steps start = (is_well after_step fault_of steps start ≡ true) × (told ≡ account_of (run after_step steps start))
   RunTells (Err (HoldsPacket step)) told steps start = (1 ≤ step) × StopsAt after_step fault_of account_of step cause.HoldsPacket told steps start

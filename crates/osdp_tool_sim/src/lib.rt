@@ -13,4 +13,4 @@ mod told;
 
 pub use account::account_text;
 pub use command::sim;
-pub use laws::{has_one_account, has_one_each};
+pub use laws::{ends_in_turn, has_one_account, has_one_each, input_decides};

@@ -1,0 +1,46 @@
+-- How a panel comes about, and how a device is added to it.
+use Rattle.std.specs.Prelude.{◌≡◌, ◌⊎◌, ℕ, Bool, [], ◌∷◌, ◌++◌, length, replicate, Some, None, Result, Ok, Err}
+use Rattle.osdp_bus.specs.declared.config.BusConfig.{BusConfig}
+use Rattle.osdp_bus.specs.declared.fault.BusFault.{BusFault}
+use Rattle.osdp_bus.specs.declared.fault.BusFault.TheVariants.{NoMemory, OutOfRange}
+use Rattle.osdp_bus.specs.Machine.{add_refusal, new_device}
+use Rattle.osdp_bus.specs.Remembering.{nothing_yet}
+use Rattle.osdp_bus.specs.Settings.{IsBusConfig}
+use Rattle.osdp_orders.specs.Orders.{AddEnds, PanelState}
+use Rattle.osdp_panel.specs.Panels.{NewEnds}
+
+-- a panel with these settings that has no device and no queue of orders, has read nothing, and has nothing to report
+pub record IsNew (between : Bool) (config : BusConfig) (p : PanelState) : Type 0 where
+  pub settings : p.bus.config ≡ config
+  pub between_polls : p.orders.on ≡ between
+  pub room : p.orders.room ≡ config.room
+  pub no_device : p.bus.devices.entries ≡ []
+  pub no_queue : p.orders.queues ≡ []
+  pub no_bytes : p.bus.held ≡ []
+  pub no_moment : p.bus.greatest ≡ 0
+  pub no_report : p.bus.devices.report ≡ None
+  pub no_event : p.bus.remembered ≡ replicate 16 nothing_yet
+
+-- Settings that are out of range are refused as such, whether there is memory or not. Of settings in range such a panel comes, or there is no memory.
+abbrev pub ComesOfItsSettings : Type 0
+ComesOfItsSettings = (between : Bool) (config : BusConfig) (r : Result PanelState BusFault) → NewEnds between config r
+    → ((IsBusConfig config → ⊥) × (r ≡ Err OutOfRange))
+    ⊎ (IsBusConfig config × ((r ≡ Err NoMemory) ⊎ ((p : PanelState) × (r ≡ Ok p) × IsNew between config p)))
+
+-- The device comes after those that are there, and its entry has the next number. Nothing of these has changed, no report, no moment and no setting.
+pub record IsLast (address entry : ℕ) (x y : PanelState) : Type 0 where
+  pub accepted : add_refusal address x.bus ≡ None
+  pub next : entry ≡ length x.bus.devices.entries
+  pub devices : y.bus.devices.entries ≡ x.bus.devices.entries ++ new_device address x.bus.config ∷ []
+  pub report : y.bus.devices.report ≡ x.bus.devices.report
+  pub settings : y.bus.config ≡ x.bus.config
+  pub greatest : y.bus.greatest ≡ x.bus.greatest
+
+-- it is refused for what a bus refuses it, or there is no memory; the panel is as before then
+pub record IsRefused (address : ℕ) (x y : PanelState) (fault : BusFault) : Type 0 where
+  pub cause : (fault ≡ NoMemory) ⊎ (add_refusal address x.bus ≡ Some fault)
+  pub unchanged : y ≡ x
+
+abbrev pub AddsAsLast : Type 0
+AddsAsLast = (address : ℕ) (x y : PanelState) (r : Result ℕ BusFault) → AddEnds address x y r
+    → ((entry : ℕ) × (r ≡ Ok entry) × IsLast address entry x y) ⊎ ((fault : BusFault) × (r ≡ Err fault) × IsRefused address x y fault)

@@ -1,0 +1,5 @@
+use Rattle.osdp_tool_sim.proofs.InTurn.{ends_in_turn}
+use Rattle.osdp_tool_sim.proofs.laws.ends_in_turn.Goals as goal
+
+pub returns : goal.returns
+returns c = ends_in_turn
