@@ -20,7 +20,7 @@ pub use Rattle.osdp_test_script.specs.declared.call.ScriptCall.TheVariants.{Chec
 pub use Rattle.osdp_test_script.specs.Laws.{AwaitsByName, count_of, CountsEachVerdict, IsUnanswered, TriesAgain}
 pub use Rattle.osdp_frame.specs.Packet.{Packet, packet_length}
 pub use Rattle.osdp_frame.specs.Reading.{item_size, PacketItem, RefusedItem, RunItem, SkippedItem, Stands}
-pub use Rattle.osdp_test_script.specs.Answers.{EndsWith, is_passed, IsAnswerIn, PassesTo}
+pub use Rattle.osdp_test_script.specs.Answers.{EndsWith, is_reply_to, is_passed, IsAnswerIn, PassesTo}
 pub use Rattle.arrayvec.specs.ArrayVec.{ArrayVec}
 pub use Rattle.osdp_frame.specs.Times.{longest_time}
 pub use Rattle.osdp_test_script.specs.Texts.{text_in, wrong_word_text}

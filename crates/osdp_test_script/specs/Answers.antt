@@ -1,25 +1,31 @@
--- The answer in what was heard: the first packet of a device.
-use Rattle.std.specs.Prelude.{◌≡◌, ℕ, Bool, true, not, List, [], ◌∷◌, drop, Option, Some, None}
+-- The answer in what was heard: the first reply from the address to which the last packet went.
+use Rattle.std.specs.Prelude.{◌≡◌, ◌==◌, ◌&&◌, ℕ, Bool, true, false, not, List, [], ◌∷◌, drop, Option, Some, None}
 use Rattle.osdp_frame.specs.Packet.{Packet}
 use Rattle.osdp_frame.specs.Reading.{RunItem, PacketItem, Stands, item_size}
+use Rattle.osdp_test_script.specs.declared.run.Exchange.{Exchange}
 
--- an item that is no packet of a device
-abbrev pub is_passed : RunItem → Bool
-is_passed (PacketItem p) = not p.reply
-is_passed part = true
+-- a reply from the address to which the last packet went; where no packet went out, nothing answers it
+abbrev pub is_reply_to : Option Exchange → Packet → Bool
+is_reply_to None p = false
+is_reply_to (Some x) p = p.reply && p.address == x.sent.address
 
--- these items stand first, none of them a packet of a device, and these bytes follow them
-abbrev pub PassesTo : List ℕ → List RunItem → List ℕ → Type 0
-PassesTo bytes [] rest = bytes ≡ rest
-PassesTo bytes (part ∷ parts) rest = Stands bytes part × (is_passed part ≡ true) × PassesTo (drop (item_size part) bytes) parts rest
+-- an item that is no such reply: another byte, a command, or a reply from another address
+abbrev pub is_passed : Option Exchange → RunItem → Bool
+is_passed x (PacketItem p) = not (is_reply_to x p)
+is_passed x part = true
 
--- what stands then: a packet of a device, or nothing
-abbrev pub EndsWith : List ℕ → Option Packet → Type 0
-EndsWith rest (Some a) = Stands rest (PacketItem a) × (a.reply ≡ true)
-EndsWith rest None = rest ≡ []
+-- these items stand first, none of them an answer, and these bytes follow them
+abbrev pub PassesTo : Option Exchange → List ℕ → List RunItem → List ℕ → Type 0
+PassesTo x bytes [] rest = bytes ≡ rest
+PassesTo x bytes (part ∷ parts) rest = Stands bytes part × (is_passed x part ≡ true) × PassesTo x (drop (item_size part) bytes) parts rest
 
-pub record IsAnswerIn (bytes : List ℕ) (answer : Option Packet) : Type 0 where
+-- what stands then: an answer, or nothing
+abbrev pub EndsWith : Option Exchange → List ℕ → Option Packet → Type 0
+EndsWith x rest (Some a) = Stands rest (PacketItem a) × (is_reply_to x a ≡ true)
+EndsWith x rest None = rest ≡ []
+
+pub record IsAnswerIn (x : Option Exchange) (bytes : List ℕ) (answer : Option Packet) : Type 0 where
   pub parts : List RunItem
   pub rest : List ℕ
-  pub passed : PassesTo bytes parts rest
-  pub ends : EndsWith rest answer
+  pub passed : PassesTo x bytes parts rest
+  pub ends : EndsWith x rest answer

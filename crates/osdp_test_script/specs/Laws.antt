@@ -54,7 +54,11 @@ MovesNothingUnsaid = (command : Command) (address : ℕ) (s : ScriptRun) → is_
 
 -- of what was heard one answer alone fits, or none
 abbrev pub OneAnswer : Type 0
-OneAnswer = (heard : List ℕ) (a b : Option Packet) → IsAnswerIn heard a → IsAnswerIn heard b → a ≡ b
+OneAnswer = (last : Option Exchange) (heard : List ℕ) (a b : Option Packet) → IsAnswerIn last heard a → IsAnswerIn last heard b → a ≡ b
+
+-- what counts as the answer is a reply from the address to which the packet went: no other device answers for it
+abbrev pub AnswersItself : Type 0
+AnswersItself = (x : Exchange) (heard : List ℕ) (a : Packet) → IsAnswerIn (Some x) heard (Some a) → (a.reply ≡ true) × (a.address ≡ x.sent.address)
 
 -- what is awaited by its code has the name with which a reply of that code is printed
 abbrev pub AwaitsByName : Type 0

@@ -332,10 +332,10 @@ then_does does c = after_text c.text (does (counted_line c.run))
 abbrev pub is_ready : ScriptRun → Called
 is_ready s = record { text = codes "ready\n"; run = s }
 
--- what a line comes to; of what was heard the first packet of a device counts
+-- what a line comes to; of what was heard the first reply from the address to which the last packet went counts
 abbrev pub Does : ScriptCall → ScriptRun → Called → Type 0
 Does (Heard moment delay list) s c =
-    (answer : Option Packet) × IsAnswerIn list.items answer × (c ≡ hears (record { moment = moment; delay = delay; answer = answer }) s)
+    (answer : Option Packet) × IsAnswerIn s.exchange list.items answer × (c ≡ hears (record { moment = moment; delay = delay; answer = answer }) s)
 Does Ready s c = c ≡ is_ready s
 Does call s c = c ≡ then_does (says call) (settled s)
 

@@ -157,7 +157,7 @@ impl ScriptRun {
                 let heard = Heard {
                     moment: *moment,
                     delay: *delay,
-                    answer: answer_in(list.as_slice()),
+                    answer: answer_in(&self.exchange, list.as_slice()),
                 };
                 self.hear(alloc, heard, text)
             }

@@ -2,7 +2,7 @@
 
 ghost use Rattle.osdp_refused_words.specs.Laws.{OnePlace, StaysRefused, TellsMissingWords};
 ghost use Rattle.osdp_test_script.specs.Lines.{SaysLine};
-ghost use Rattle.osdp_test_script.specs.Laws.{AwaitsByName, CountsEachVerdict, MovesNothingUnsaid, OneAnswer, PutsOff, SeesItsReply, SeesTheSame, SilenceBreaksNothing, TriesAgain};
+ghost use Rattle.osdp_test_script.specs.Laws.{AnswersItself, AwaitsByName, CountsEachVerdict, MovesNothingUnsaid, OneAnswer, PutsOff, SeesItsReply, SeesTheSame, SilenceBreaksNothing, TriesAgain};
 
 /// Silence breaks no expectation, and neither do BUSY and NAK 1 where a reply is expected.
 pub fn breaks_nothing_unheard()
@@ -28,6 +28,11 @@ pub fn moves_nothing_unsaid()
 /// Of what was heard one answer alone fits, or none.
 pub fn one_answer()
     ensures { OneAnswer }
+{}
+
+/// What counts as the answer is a reply from the address to which the packet went: no other device answers for it.
+pub fn answers_itself()
+    ensures { AnswersItself }
 {}
 
 /// One word of a line, at most, is the first that cannot stand where it is.

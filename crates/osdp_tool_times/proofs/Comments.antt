@@ -1,10 +1,12 @@
 -- Comments that are read where they stand.
-use Rattle.osdp_tool_times.proofs.Common.{◌≡◌, ℕ, ◌+◌, ◌-◌, ◌≤◌, ◌==◌, inl, inr, Bool, true, false, cond, List, [], ◌∷◌, ◌++◌, codes, Option, None, Some, length, take, drop, refl, sym, ap, ◌∙◌, arith, length-append, cases_Bool, drop_all, take_all, kept, kept-append, Heard, after_line, from_start, item_after, item_told, line_told, moment_or, run_after, start_in, Times, Nothing, TellsEachWay, before_way, ends_so, moment_in, stamp_in, way_length}
+use Rattle.osdp_tool_times.proofs.Common.{◌≡◌, ℕ, ◌+◌, ◌-◌, ◌≤◌, ◌==◌, inl, inr, Bool, true, false, cond, List, [], ◌∷◌, ◌++◌, codes, Option, None, Some, length, take, drop, refl, sym, ap, ◌∙◌, arith, length-append, cases_Bool, drop_all, take_all, kept, kept-append, Heard, after_line, from_start, item_told, line_told, moment_or, run_after, start_in, Times, Nothing, TellsEachWay, before_way, ends_so, moment_in, stamp_in, way_length}
 use Rattle.std.proofs.Math.Seq.{drop-append-add, take-append_seam}
 use Rattle.std.specs.Cmp.Lexicographic.{pointwise}
 use Rattle.std.proofs.lemmas.Bool.Decides.{Decides-eqb}
 use Rattle.std.proofs.lemmas.Slice.Eq.{ends_is}
-use Rattle.osdp_frame.specs.Held.{by_itself, decided}
+use Rattle.osdp_frame.specs.Held.{decided}
+use Rattle.osdp_tool_times.specs.Captures.{begun_after, item_at}
+use Rattle.osdp_tool_times.proofs.Further.{begun_nothing}
 
 -- what the last of some characters are tells whether all of them end so
 ends_last : (front last end : List ℕ) → length end ≤ length last → ends_so (front ++ last) end ≡ ends_so last end
@@ -98,12 +100,11 @@ start_none None = refl
 start_none (Some place) = drop_all place [] (omega arith)
 
 run_none : (moment : Option ℕ) (times : List Times) → run_after [] moment times ≡ times
-unfolding decided
-run_none moment times = ap (λ l. item_after (by_itself (decided false l)) moment times) (start_none (start_in []))
+run_none moment times = ap (λ l. begun_after l moment times) (start_none (start_in [])) ∙ begun_nothing moment times
 
 pub told_of_comment : (h : Heard) (text : List ℕ) → Nothing ≡ line_told h (35 ∷ text)
 unfolding decided
-told_of_comment h text = sym (ap (λ l. item_told (by_itself (decided false l)) h.moment h.times) (start_none (start_in [])))
+told_of_comment h text = sym (ap (λ l. item_told (item_at l) h.moment h.times) (start_none (start_in [])))
 
 abbrev heard : Option ℕ → List Times → Heard
 heard moment times = record { moment = moment; times = times }

@@ -5,6 +5,7 @@ pub mod Exchanges
 pub mod GoingBack
 pub mod Rows
 pub mod Comments
+pub mod Further
 pub mod DayTimes
 pub mod Presences
 pub mod Plain

@@ -2,10 +2,11 @@
 use Rattle.std.specs.Prelude.{ℕ, ◌==◌, not, ◌&&◌, Bool, if◌then◌else◌, false, List, [], ◌∷◌, drop, replicate, slice_index_or, Option, None, Some}
 use Rattle.memchr.specs.Find.{first_of, is_byte, places}
 use Rattle.osdp_frame.specs.Held.{by_itself, decided}
-use Rattle.osdp_frame.specs.Reading.{RunItem, PacketItem, SkippedItem, RefusedItem}
+use Rattle.osdp_frame.specs.Items.{packets_in}
+use Rattle.osdp_frame.specs.Reading.{RunItem, PacketItem, SkippedItem, RefusedItem, item_size}
 use Rattle.osdp_tool_streams.specs.Line.{is_blank, kept, line_bytes}
 use Rattle.osdp_tool_times.specs.Moments.{moment_in}
-use Rattle.osdp_tool_times.specs.Times.{all_after, no_times, packet_told}
+use Rattle.osdp_tool_times.specs.Times.{all_after, all_further, no_times, packet_told}
 use Rattle.osdp_tool_times.specs.declared.capture.Timed.{Timed}
 use Rattle.osdp_tool_times.specs.declared.table.Times.{Times}
 use Rattle.osdp_tool_times.specs.declared.waits.Told.{Told}
@@ -37,6 +38,15 @@ abbrev pub from_start : Option ℕ → List ℕ → List ℕ
 from_start None run = []
 from_start (Some place) run = drop place run
 
+-- the item that begins there, where its own bytes decide it
+abbrev pub item_at : List ℕ → Option RunItem
+item_at bytes = by_itself (decided false bytes)
+
+-- how many bytes it has: where they don't decide it, its byte 53 alone is passed over
+abbrev pub size_at : Option RunItem → ℕ
+size_at None = 1
+size_at (Some part) = item_size part
+
 -- a moment is that of the packet that begins there
 abbrev pub item_after : Option RunItem → Option ℕ → List Times → List Times
 item_after None moment times = times
@@ -44,8 +54,12 @@ item_after (Some (PacketItem p)) moment times = all_after p moment times
 item_after (Some (SkippedItem b)) moment times = times
 item_after (Some (RefusedItem fault)) moment times = times
 
+-- each packet after it is a further one of the run
+abbrev pub begun_after : List ℕ → Option ℕ → List Times → List Times
+begun_after bytes moment times = all_further (packets_in (drop (size_at (item_at bytes)) bytes)) moment (item_after (item_at bytes) moment times)
+
 abbrev pub run_after : List ℕ → Option ℕ → List Times → List Times
-run_after run moment times = item_after (by_itself (decided false (from_start (start_in run) run))) moment times
+run_after run moment times = begun_after (from_start (start_in run) run) moment times
 
 -- a bad line says nothing
 abbrev pub bytes_after : Option (List ℕ) → Option ℕ → List Times → List Times
@@ -64,7 +78,7 @@ item_told (Some (SkippedItem b)) moment times = Nothing
 item_told (Some (RefusedItem fault)) moment times = Nothing
 
 abbrev pub run_told : List ℕ → Option ℕ → List Times → Told
-run_told run moment times = item_told (by_itself (decided false (from_start (start_in run) run))) moment times
+run_told run moment times = item_told (item_at (from_start (start_in run) run)) moment times
 
 abbrev pub bytes_told : Option (List ℕ) → Option ℕ → List Times → Told
 bytes_told None moment times = Nothing

@@ -1,7 +1,10 @@
--- Which device is told offline, and how often one restarted, in the words of the line.
+-- Which device is told offline, how often one restarted, and what answers count, in the words of the line.
 use Rattle.std.specs.Prelude.{◌≡◌, ◌≤◌, ◌<◌, ◌+◌, ◌*◌, ◌^◌, ℕ, zero, suc, Bool, true, false, Some}
+use Rattle.osdp_frame.specs.Packet.{Packet}
 use Rattle.osdp_tool_times.specs.Presence.{after_answer, after_asked, is_offline, not_heard, restart_seconds}
+use Rattle.osdp_tool_times.specs.Times.{after_further}
 use Rattle.osdp_tool_times.specs.declared.presence.Presence.{Presence}
+use Rattle.osdp_tool_times.specs.declared.table.Times.{Times}
 
 -- so many packets are sent to a device, which doesn't answer
 unfoldable pub after_packets : ℕ → Presence → Presence
@@ -46,3 +49,12 @@ CountsRestarts = (first seconds count : ℕ) → suc (suc count) < 2 ^ 64 → Re
 -- Several NAK 4 in a row are one restart.
 abbrev pub CountsARowOnce : Type 0
 CountsARowOnce = (moment later : ℕ) (w : Presence) → (after_answer true later (after_answer true moment w)).restarts ≡ (after_answer true moment w).restarts
+
+-- An answer that stands further in its run, as behind its packet, is an answer: its device is not told offline then. No time is told of it.
+pub record IsHeardFurther (p : Packet) (moment : ℕ) (t : Times) : Type 0 where
+  pub online : p.reply ≡ true → is_offline (after_further p (Some moment) t).presence ≡ false
+  pub answers : (after_further p (Some moment) t).answers ≡ t.answers
+  pub late : (after_further p (Some moment) t).late ≡ t.late
+
+abbrev pub HearsFurtherAnswers : Type 0
+HearsFurtherAnswers = (p : Packet) (moment : ℕ) (t : Times) → IsHeardFurther p moment t

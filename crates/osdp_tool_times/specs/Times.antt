@@ -64,6 +64,19 @@ after_packet p (Some moment) t =
 abbrev pub all_after : Packet → Option ℕ → List Times → List Times
 all_after p moment times = slice_set times p.address (after_packet p moment (slice_index_or times p.address no_times))
 
+-- A further packet of a run has no moment of its own: it leaves nothing open, and tells no time. The presence of its device counts it at the run's moment.
+abbrev pub after_further : Packet → Option ℕ → Times → Times
+after_further p None t = record t { waits = no_waits }
+after_further p (Some moment) t = record t { waits = no_waits; presence = presence_after p moment t.presence }
+
+abbrev pub further_after : Packet → Option ℕ → List Times → List Times
+further_after p moment times = slice_set times p.address (after_further p moment (slice_index_or times p.address no_times))
+
+-- further packets of a run, in their order
+unfoldable pub all_further : List Packet → Option ℕ → List Times → List Times
+all_further [] moment times = times
+all_further (p ∷ packets) moment times = all_further packets moment (further_after p moment times)
+
 -- ---- how many answers took no longer
 
 -- the step in which the answer of this rank stands, the fastest being of rank 1

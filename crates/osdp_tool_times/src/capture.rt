@@ -6,11 +6,10 @@ ghost use Rattle.osdp_tool_streams.specs.Line.{line_bytes};
 use crate::line::begins;
 use crate::moment::{comment_moment, moment_after, moment_or};
 use crate::object::push_objects;
-use crate::run::from_start;
+use crate::run::{from_start, hear_first, hear_further};
 use crate::table::Times;
 use crate::text::push_times;
 use crate::waits::Told;
-use osdp_frame::{Item, whole_item};
 use osdp_tool_streams::{Digits, keep, read_line};
 use std::alloc::{AllocError, Global};
 
@@ -67,11 +66,12 @@ impl Timed {
         ensures said { last_said self.new ≡ last_said self.old }
     {
         let bytes = from_start(&self.bytes);
-        if let Some(Item::Packet(packet)) = whole_item(bytes) {
-            let times = &mut self.times[usize::from(packet.address().get())];
-            return times.take(&packet, moment);
+        if bytes.is_empty() {
+            return Told::Nothing;
         }
-        Told::Nothing
+        let (told, size) = hear_first(&mut self.times, bytes, moment);
+        hear_further(&mut self.times, &bytes[size..], moment);
+        told
     }
 
     /// A comment comes, with these characters after the #. It is read where it stands.

@@ -2,7 +2,7 @@
 
 ghost use Rattle.osdp_tool_times.specs.DayTime.{ComesAgain, TellsMomentsApart};
 ghost use Rattle.osdp_tool_times.specs.MomentLaws.{TellsDays, TellsEachWay, TellsSeconds};
-ghost use Rattle.osdp_tool_times.specs.PresenceLaws.{CountsARowOnce, CountsRestarts, TellsOffline, TellsOnline};
+ghost use Rattle.osdp_tool_times.specs.PresenceLaws.{CountsARowOnce, CountsRestarts, HearsFurtherAnswers, TellsOffline, TellsOnline};
 ghost use Rattle.osdp_tool_times.specs.Laws.{NeverTellsLate, TellsLate, TellsLateCopies, TellsLateFurther, TellsLateSeconds, TellsNothingBefore};
 ghost use Rattle.osdp_tool_times.specs.TimesLaws.{CountsThoseBelow, TellsTheLongest};
 
@@ -77,4 +77,9 @@ pub fn counts_restarts()
 /// Several NAK 4 in a row are told as one restart.
 pub fn counts_a_row_once()
     ensures { CountsARowOnce }
+{}
+
+/// An answer that stands further in its run is an answer: its device is not told offline. No time is told of it.
+pub fn hears_further_answers()
+    ensures { HearsFurtherAnswers }
 {}

@@ -1,7 +1,7 @@
 //! What is counted of the answers of a device.
 
 ghost use Rattle.std.specs.Prelude.{◌≡◌, ◌<◌, ◌≤◌, length};
-ghost use Rattle.osdp_tool_times.specs.Times.{after_in_time, after_late, after_missed, after_packet, after_told, below, greater, half_below, lesser, most_below, no_times, one_more, packet_told, step_at, step_of};
+ghost use Rattle.osdp_tool_times.specs.Times.{after_further, after_in_time, after_late, after_missed, after_packet, after_told, below, greater, half_below, lesser, most_below, no_times, one_more, packet_told, step_at, step_of};
 
 use crate::presence::Presence;
 use crate::waits::{Sent, Told, Waits};
@@ -171,6 +171,19 @@ impl Times {
             self.presence = presence;
             Told::Nothing
         }
+    }
+
+    /// A further packet of a run comes, at this moment of the run where it is known.
+    pub fn take_further(&mut self, packet: &FrameView<'_>, moment: Option<u64>)
+        ensures { self.new ≡ after_further packet.now moment self.old }
+    {
+        self.waits = Waits::NONE;
+        let Some(moment) = moment else {
+            return;
+        };
+        let mut presence = self.presence;
+        presence.take(packet, moment);
+        self.presence = presence;
     }
 
     /// All answers up to this rank, the fastest being of rank 1, took less than so many milliseconds.

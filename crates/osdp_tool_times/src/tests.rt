@@ -29,9 +29,26 @@ const OBJECTS: &str =
 {\"kind\":\"online\",\"address\":5,\"since\":\"00:00:01.020\",\"last\":\"00:00:02.250\"}
 ";
 
-fn heard(rt: &impl Abort, alloc: Global) -> Timed {
+/// Packets of which each has its answer in one run with it. A last one has none.
+const TOGETHER: [&str; 10] = [
+    "# 1.000 trace",
+    "53050700016040538507000140E0",
+    "# 2.000 trace",
+    "5305070002603F538507000240DF",
+    "# 3.000 trace",
+    "5305070003603E538507000340DE",
+    "# 4.000 trace",
+    "53050700016040538507000140E0",
+    "# 5.000 out",
+    "5305070002603F",
+];
+
+const TOGETHER_TEXT: &str = "times: 5 online since 00:00:01.000, last answer at 00:00:04.000
+";
+
+fn heard(rt: &impl Abort, alloc: Global, capture: &[&str]) -> Timed {
     let mut timed = Timed::new(alloc).expect(rt, "memory");
-    for line in CAPTURE {
+    for line in capture {
         let _ = timed.hear_line(line.as_bytes()).expect(rt, "memory");
     }
     timed
@@ -39,7 +56,7 @@ fn heard(rt: &impl Abort, alloc: Global) -> Timed {
 
 #[test]
 fn tells_answer_times(rt: HostRuntime) {
-    let timed = heard(&rt, rt.alloc());
+    let timed = heard(&rt, rt.alloc(), &CAPTURE);
     let mut text = String::new(rt.alloc());
     timed.push_times(&mut text).expect(&rt, "memory");
     assert_eq!(rt; text.as_str(), TEXT);
@@ -47,8 +64,16 @@ fn tells_answer_times(rt: HostRuntime) {
 
 #[test]
 fn tells_objects(rt: HostRuntime) {
-    let timed = heard(&rt, rt.alloc());
+    let timed = heard(&rt, rt.alloc(), &CAPTURE);
     let mut text = String::new(rt.alloc());
     timed.push_objects(&mut text).expect(&rt, "memory");
     assert_eq!(rt; text.as_str(), OBJECTS);
+}
+
+#[test]
+fn tells_no_time_of_answers_in_one_run_with_their_packets(rt: HostRuntime) {
+    let timed = heard(&rt, rt.alloc(), &TOGETHER);
+    let mut text = String::new(rt.alloc());
+    timed.push_times(&mut text).expect(&rt, "memory");
+    assert_eq!(rt; text.as_str(), TOGETHER_TEXT);
 }
