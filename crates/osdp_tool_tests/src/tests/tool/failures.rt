@@ -109,6 +109,18 @@ fn parts_are_shown_up_to_a_failed_read(rt: HostRuntime) {
     expect(&rt, &shown, Err(ToolFault::ReadFailed), SKIP_TEXT);
 }
 
+/// Once a bad line has ended nothing more is read: the read after it would fail, and that would be told.
+#[test]
+fn nothing_is_read_after_a_bad_line(rt: HostRuntime) {
+    let alloc = rt.alloc();
+    let parts: [&[u8]; 2] = [b"FF\n", b"5\n"];
+    let bad = Err(ToolFault::NotHex(2));
+    for job in [SHOW_LINES, SHOW_JOINED] {
+        let shown = told_from(alloc, job, &mut Parts { left: &parts });
+        expect(&rt, &shown, bad, SKIP_TEXT);
+    }
+}
+
 /// The output of a check whose write of this number fails, or each flush, and what it answers.
 fn checked_to(alloc: Global, failing_write: u64, refusal: Refusal, flush_fails: bool) -> Shown {
     let mut sink = make_sink(alloc, 3, failing_write, refusal, flush_fails);
