@@ -9,7 +9,7 @@
   Each file of src/ and specs/, but for tests, says at its head what it holds.
 - docs/PREMISES.md quotes the premises and definitions that they name, as they stand in the file named above them, and quotes no other, in at most 300 lines.
   What these name and it doesn't quote stands in its table of words, with the file that has it, and no other word does. The crates of its last table
-  have the laws and definitions that the rows name. docs/HEADLINE.md does the same of law `ledger_holds_once` and of the ledger's steps, in at most 300 lines.
+  have the laws and definitions that the rows name. docs/LEDGER.md does the same of law `ledger_holds_once` and of the ledger's steps, in at most 200 lines.
 - Each block of code of a page is text of the file that the line above it names. Each link of a page goes to a file, and to a heading of it.
   Where a page begins with its contents they have each of its parts.
 - Each topic that docs/PROFILE.md names is one of docs/PROTOCOL.md, and each topic there that has a choice of our own is named.
@@ -20,8 +20,8 @@
 - Each crate, script and folder that any page names is there; a name with `osdp_` may be one of the header for C too.
 - Each call, law and type that running text of any page names between backticks is a word of the tree's sources, or of the toolchain's.
 - No page, manual page or script says "behind" or "want of memory". No sentence of a page has more than 60 words, but in the list of what is left to do.
-- README has lines of at most 120 characters. docs/DEVELOPING.md has at most 120 lines, docs/ARCHITECTURE.md 300, docs/GUIDE.md and docs/PROOFS.md 500, docs/HEADLINE.md 300, docs/PROGRAMS.md 120, and no row of
-  a table has more than 200 characters."""
+- README has lines of at most 120 characters. docs/DEVELOPING.md has at most 120 lines, docs/ARCHITECTURE.md 300, docs/GUIDE.md and docs/PROOFS.md 500, docs/LEDGER.md 200, docs/PROGRAMS.md 120, and no row of
+  a table has more than 200 characters. docs/HEADLINE.md has at most 1,650 words, which are read in some seven minutes."""
 import re
 import runpy
 import subprocess
@@ -431,9 +431,11 @@ def judge_lengths():
     readme = (TOP / "README.md").read_text().splitlines()
     if max(map(len, readme)) > 120:
         faults.append("README.md: a line of more than 120 characters")
-    for page, most in (("docs/DEVELOPING.md", 120), ("docs/ARCHITECTURE.md", 300), ("docs/GUIDE.md", 500), ("docs/PROOFS.md", 500), ("docs/HEADLINE.md", 300), ("docs/PREMISES.md", 300), ("docs/PROGRAMS.md", 120)):
+    for page, most in (("docs/DEVELOPING.md", 120), ("docs/ARCHITECTURE.md", 300), ("docs/GUIDE.md", 500), ("docs/PROOFS.md", 500), ("docs/LEDGER.md", 200), ("docs/PREMISES.md", 300), ("docs/PROGRAMS.md", 120)):
         if len((TOP / page).read_text().splitlines()) > most:
             faults.append(f"{page}: more than {most} lines")
+    if len(re.findall(r"[\w`]\S*", (TOP / "docs/HEADLINE.md").read_text())) > 1650:
+        faults.append("docs/HEADLINE.md: more than 1,650 words")
 
 
 if __name__ == "__main__":
@@ -447,7 +449,7 @@ if __name__ == "__main__":
     judge_manual()
     judge_quotes("docs/PREMISES.md", {"AllKeep", "IsSetUp"}, 15, "## From the statement")
     judge_carriers("docs/PREMISES.md")
-    judge_quotes("docs/HEADLINE.md", {"LedgerHoldsOnce", "Ledger", "May"}, 5, "## To the letter")
+    judge_quotes("docs/LEDGER.md", {"LedgerHoldsOnce", "Ledger", "May"}, 5, "## To the letter")
     judge_profile()
     every_word = words_of_sources()
     for each_page in PAGES:
