@@ -58,6 +58,14 @@ class Port:
             pass
         return False
 
+    def can_have(self, rate):
+        """Whether the port takes this rate: it is set to it, and back."""
+        before = termios.tcgetattr(self.end)
+        takes = self.set_rate(rate)
+        if takes:
+            termios.tcsetattr(self.end, termios.TCSADRAIN, before)
+        return takes
+
     def write(self, burst):
         try:
             while burst:

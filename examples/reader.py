@@ -13,14 +13,15 @@ Events leave that are older than 10 s while no panel is there: by a card of long
 and came. `withdrawn` and an event: the panel hasn't got it, and never will. `in doubt` and an event: the panel may have it. `expire 0` keeps them all.
 
 The reader has eight outputs, which an OUT switches; the time of an output is counted here. `moved` is a new address and rate. The file of `--keep` keeps
-them, before the panel is told, and a reader that starts again goes by it, and not by the address and the rate that it is given.
+them, before the panel is told, and a reader that starts again goes by it, and not by the address and the rate that it is given. After `no rate` it hasn't
+moved, since the port hasn't that rate: the panel isn't told, and the reader begins anew where it was. Events that waited are gone then.
 
 Status: 2 bad words or settings, 3 the port or standard output fails, 4 out of memory, 127 there is no such program, 130 at Ctrl-C.
 """
 from kept import take_kept
 from lines import Lines, Program, moment, number, take_words, tell
 from outputs import Output
-from port import Port, has_rate
+from port import Port
 
 TURN = 0.01  # how long a read waits, in seconds
 NAK = 0x41  # the code of a reply that says that nothing was done
@@ -29,10 +30,14 @@ CALLS = ("event", "busy", "inputs", "readers", "local")  # what a line of standa
 
 
 class Reader:
-    def __init__(self, port, rate, program, kept):
-        self.port, self.rate, self.program, self.kept, self.lines = port, rate, program, kept, Lines()
+    def __init__(self, port, settings, address, kept):
+        self.port, self.settings, self.address, self.kept, self.lines = port, settings, address, kept, Lines()
         self.outputs = [Output() for _ in range(8)]
-        self.told = None  # what the program was told of them
+        self.starts()
+
+    def starts(self):
+        """Starts the program, as a reader that is where this one is."""
+        self.program, self.told = Program("reader", self.settings, ABSENT, self.address), None  # `told`: what it was told of the outputs
         self.tell_outputs()
 
     def call(self, line):
@@ -55,18 +60,17 @@ class Reader:
                 burst = b""
 
     def move(self, address, rate, burst):
-        """Goes to another place, once the panel is told: where it is kept before, it isn't lost with the power. A rate that the port doesn't take isn't kept."""
-        self.keep(address, rate if has_rate(rate) else self.rate)
-        self.port.write(burst)
-        if self.port.set_rate(rate):
-            self.rate = rate
-        else:
+        """Goes to another place, once the panel is told: where it is kept before, it isn't lost with the power. Where the port hasn't its rate nobody is told."""
+        if not self.port.can_have(rate):
             tell(f"no rate {rate}")
-            self.keep(address, self.rate)
-
-    def keep(self, address, rate):
+            self.program.process.stdin.close()
+            self.starts()
+            return
         if not self.kept.keep(address, rate):
             tell(f"not kept {address} {rate}")
+        self.port.write(burst)
+        self.address = ["address", str(address)]
+        self.port.set_rate(rate)
 
     def tell_outputs(self):
         """Tells the program which outputs are on, where that has changed: by it OSTAT is answered."""
@@ -80,20 +84,16 @@ class Reader:
         read, lines = self.port.wait(self.lines, TURN)
         self.call(f"at {moment()}")
         self.tell_outputs()
-        if read:
-            self.call(f"bytes {read.hex()}")
+        self.call(f"bytes {read.hex() or 'none'}")
         for line in lines:
             tell(line)
-            if line.startswith(CALLS):
-                self.call(line)
-            else:
-                tell("refused line")
+            self.call(line) if line.startswith(CALLS) else tell("refused line")
         self.call("tick")
 
 
 if __name__ == "__main__":
     kept, (path, word, *settings) = take_kept(take_words(__doc__, 2, "--keep"))
-    place, rate = kept.first(number(word, "rate"))
-    reader = Reader(Port(path, rate), rate, Program("reader", settings, ABSENT, place), kept)
+    address, rate = kept.first(number(word, "rate"))
+    reader = Reader(Port(path, rate), settings, address, kept)
     while True:
         reader.turn()

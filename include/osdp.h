@@ -971,9 +971,10 @@ struct osdp_device_config {
  * `capabilities` is what the device answers to CAP. Each has three bytes, those of a `struct osdp_capability`, so an array of these may be given as bytes.
  * `length` is how many bytes there are. At first the device has no inputs, outputs and readers, no tamper and no failure of power.
  *
- * The device answers POLL, ID, CAP and COMSET by itself, a COMSET at whatever rate. Before each other command `osdp_device_step` stops, and the program may set
- * the answer (`osdp_device_answer_done` and the others). Where it sets none, LSTAT, ISTAT, OSTAT and RSTAT are answered by the states that are set below. LED,
- * BUZ and TEXT are answered ACK, and so is an OUT whose outputs are all there, whatever its controls are. Any other OUT is answered NAK 9, and so is each MFG.
+ * The device answers POLL, ID, CAP and COMSET by itself, a COMSET at whatever rate (see `moved`). Before each other command `osdp_device_step` stops, and the
+ * program may set the answer (`osdp_device_answer_done` and the others). Where it sets none, LSTAT, ISTAT, OSTAT and RSTAT are answered by the states that
+ * are set below. LED, BUZ and TEXT are answered ACK, and so is an OUT whose outputs are all there, whatever its controls are. Any other OUT is answered NAK
+ * 9, and so is each MFG.
  *
  * OSDP_IN_USE: the handle holds a device, which stays. OSDP_BAD_LENGTH (M2): the capabilities have more than 1,432 bytes, or a number that isn't a
  * multiple of three. OSDP_DEVICE_OUT_OF_RANGE (N3): the address, the capacity or the gap is out of its range. OSDP_DEVICE_NO_MEMORY (N1). In the last
@@ -1134,6 +1135,9 @@ struct osdp_answer {
     /*
      * 1 where a COMSET was accepted, else 0. Before the program writes the burst it keeps the address and the rate in memory that stays, since a device that
      * restarts is to be where it was. It writes the burst at the old rate, and then sets the port to the new one.
+     *
+     * Where the port hasn't that rate, the program doesn't write the burst, since no panel would find the device at that rate. It frees the device and makes it
+     * anew at the address where it was, as after a loss of power: its panel loses the session, and finds it there.
      */
     uint32_t moved;
     /* The address and the rate, in bits per second, that the COMSET set; else 0. */

@@ -67,7 +67,7 @@ for language in "-std=c99 -xc" "-std=c11 -xc" "-std=c2x -xc" "-std=c++11 -xc++" 
 done
 # parts of the examples, which need no archive: a port that hasn't a rate, bytes of long ago, and files that are written where they would change
 build ports tests/c/ports.c examples/c/{port,owner}.c -Iexamples/c "${checked[@]}" -Wl,--wrap=clock_gettime,--wrap=tcsetattr,--wrap=write,--wrap=ppoll && passes "$work/ports"
-mkdir "$work/places" && build kept tests/c/kept.c examples/c/kept.c -Iexamples/c "${checked[@]}" -Wl,--wrap=fsync && passes "$work/kept" "$work/places"
+mkdir "$work/places" && build kept tests/c/kept.c examples/c/{journal,kept}.c -Iexamples/c "${checked[@]}" -Wl,--wrap=fsync && passes "$work/kept" "$work/places"
 build texts tests/c/texts.c c/osdp_texts.c && passes "$work/texts"
 build structs tests/c/structs.c c/heap_malloc.c "$archive" && passes "$work/structs"
 build structs_checked tests/c/structs.c c/heap_malloc.c "$archive" "${checked[@]}" && passes "$work/structs_checked"
@@ -120,7 +120,8 @@ for file in examples/c/*.c; do
     { cat "$work/said"; fail "$file for 32 bits says something"; }
 done
 passes python3 tests/c_monitor.py "$work/monitor_checked" "$work/listen"
-for words in "listen" "listen /dev/null 9600 gap 30" "panel" "panel /dev/null 9600 5 gap" "panel /dev/null 9600 5 check none" "reader /dev/null 9600 cap 1:2" "reader /dev/null"; do
+for words in "listen" "listen /dev/null 9600 gap 30" "panel" "panel /dev/null 9600 5 gap" "panel /dev/null 9600 5 check none" "reader /dev/null 9600 cap 1:2" "reader /dev/null" \
+  "door_panel /dev/null 9600 address 7" "door_device /dev/null 9600 address 7" "keypad_reader /dev/null 9600 5 gap 30" "stored_panel /dev/null /dev/null 9600 a b" "three_doors /dev/null 9600 a b"; do
   "$work/"$words >"$work/said" 2>&1
   [ $? -eq 2 ] || fail "$words: the words are not refused"
 done

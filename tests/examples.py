@@ -291,7 +291,7 @@ class Device:
 
 
 def strange_rates(words):
-    """A COM, and a COMSET, with a rate that the port hasn't: the examples say so, and go on."""
+    """A COM, and a COMSET, with a rate that the port hasn't: the panel says so, and goes on. The reader says so, answers nothing, and begins anew where it was."""
     with Line(words) as line:
         panel = line.panel("5")
         device = Device(line.panel_end, {5: com(5, 12345)})
@@ -304,12 +304,14 @@ def strange_rates(words):
         end, reader = line.reader_ends[0], line.reader(0, 5)
         os.write(end.end, packet(5, 0, ID, b"\0"))
         end.next_burst()
-        os.write(end.end, packet(5, 1, COMSET, com(5, 12345)))
-        asks(end.next_burst()[5:6] == bytes([COM]), "strange: a COMSET isn't answered by a COM")
+        os.write(end.end, packet(5, 1, COMSET, com(7, 12345)))
+        asks(not select.select([end.end], [], [], 0.5)[0], "strange: a COMSET to a rate that the port hasn't is answered")
         os.write(end.end, packet(5, 2, POLL))
-        asks(end.next_burst() == packet(0x85, 2, ACK), "strange: the reader doesn't go on")
+        asks(end.next_burst() == packet(0x85, 2, NAK, b"\4"), "strange: the reader doesn't begin anew")
+        os.write(end.end, packet(5, 0, ID, b"\0"))
+        asks(end.next_burst()[5:6] == bytes([PDID]), "strange: the reader isn't where it was")
         reader.read()
-        asks(reader.lines[-2:] == ["moved 5 12345", "no rate 12345"], f"strange: the reader tells {reader.lines}")
+        asks("no rate 12345" in reader.lines, f"strange: the reader tells {reader.lines}")
 
 
 def refused_rate(words):

@@ -90,7 +90,7 @@ def compare(what, words, data):
 
 
 inputs = 0
-for file in ("monitor", "forms"):
+for file in ("monitor", "answer_times", "forms"):
     for row in rows.rows_of(TOP / f"tests/rows/{file}.txt"):
         for words in row.words:
             if words[0] == "monitor" and "--json" not in words:

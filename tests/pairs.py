@@ -4,7 +4,7 @@
 The programs are those of examples/, of crates/ and of python/: a panel that opens a door for two cards, and a device with two outputs, in C, in Rust, in Rattle and
 in Python. Those in C, Rust and Python run on a terminal. Those in Rattle are called by lines, as a program on a port calls them. In each pair a card that is unknown opens nothing,
 and each of the two that are known opens the door once. Before that each device in C, Rust and Python keeps
-its place over a COMSET, before the panel is told, and starts there again."""
+its place over a COMSET, before the panel is told, and starts there again; and stays in its place where its port hasn't the rate of a COMSET."""
 import os
 import select
 import subprocess
@@ -137,6 +137,26 @@ def keeps_place(program):
     return None if ended.returncode and "the kept place can't be read" in ended.stderr else f"of a file that keeps something else it says {ended.stderr!r}"
 
 
+def stays_in_place(program, address, event, *rest):
+    """What is wrong where a device gets a COMSET to a rate that its port hasn't, if anything is. It answers nothing and keeps nothing, and begins anew where it was. The
+    event that waits is told as withdrawn."""
+    with tempfile.TemporaryDirectory() as folder:
+        kept, terminal = Path(folder) / "place", Terminal()
+        device = Script(program, "--keep", kept, terminal.path, 9600, *rest)
+        answers = [asked(terminal, address, 0, 0x61, b"\0", seconds=20)]
+        device.say(event)
+        time.sleep(0.5)  # until it has read that
+        answers += [asked(terminal, address, 1, 0x6E, bytes([7]) + (12345).to_bytes(4, "little")), kept.exists(), asked(terminal, address, 2, 0x60),
+                    asked(terminal, address, 0, 0x61, b"\0"), asked(terminal, 7, 0, 0x61, b"\0", seconds=1)]
+        device.read()
+        device.process.kill()
+        device.process.wait()
+        terminal.close()
+    if answers != [b"\x45", b"", False, b"\x41", b"\x45", b""]:
+        return f"it answers {answers}"
+    return None if "no rate 12345" in device.lines and any(line.lower().startswith("withdrawn") for line in device.lines) else f"it tells {device.lines}"
+
+
 def main():
     c, rust, crates, python = (Path(word) for word in sys.argv[1:])
     ends = {}
@@ -154,6 +174,13 @@ def main():
         if why:
             faults += 1
             print(f"the device in {name} doesn't keep its place: {why}")
+    card, keys = "card 12345640", "KEYPAD 0 31"
+    for name, *words in (("C", c / "door_device", 5, card), ("Rust", rust / "door_device", 5, card), ("Python", python / "door_device.py", 5, card),
+                         ("C, with keys,", c / "keypad_reader", 3, keys, 3), ("Rust, with keys,", rust / "keypad_reader", 1, keys)):
+        why = stays_in_place(*words)
+        if why:
+            faults += 1
+            print(f"the device in {name} doesn't stay in its place: {why}")
     for one, new_panel in ends["panel"].items():
         for other, new_device in ends["device"].items():
             panel, device = new_panel(), new_device()

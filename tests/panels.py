@@ -620,6 +620,47 @@ def small_panel(c, rust, language):
         asks(done.returncode in (1, 2) and "device 6, which is kept, may be" in done.stderr, f"{language}: at a place of another device it ends with {done.returncode}, {done.stderr!r}")
 
 
+def other_at_one_place(c, rust, name):
+    """A door may be at two places, since its COMSET wasn't answered, and another device stands at one of them: the door is found at the other place. Where it is at
+    neither, the other device is told once, and is taken for the door where a line says so."""
+    has_numbers = name == "panel in C"
+    card, order = "event RAW 0 0 26 12345640", "taken OUT 0:5:30"
+
+    def runs(line, kept, *places):
+        kept.write_text("5 at 7 9600 or 5 9600 is 53494D 1 1\n")
+        rattle = [sys.executable, "-B", TOP / "tests/carry.py", Path(CRATES) / "osdp_example_panel/out/osdp_example_panel"]
+        programs = {"panel in C": [f"{c}/panel"], "door_panel in C": [f"{c}/door_panel"], "door_panel in Rust": [f"{rust}/door_panel"], "panel in Rattle": rattle}
+        panel = Script(*programs[name], "--keep", kept, line.panel_end.path, 9600, *(["5", *FAST] if has_numbers else []))
+        devices = [Script(f"{c}/reader", end.path, 9600, "address", address, "serial", serial, *examples.READER) for end, (address, serial) in zip(line.reader_ends, places)]
+        line.scripts += [panel, *devices]
+        return panel, devices
+
+    def opens(line, panel, device):
+        panel.say("1 OUT 0:5:30") if has_numbers else device.say(card)
+        asks(line.run(has(device, order)), f"one place, {name}: the door gets no order: {panel.lines[-12:]}")
+
+    told = lambda panel: [each for each in panel.lines if each.startswith("another device")]
+    keeps = lambda kept, text: lambda: kept.read_text() == text
+    opened_often = lambda panel: lambda: sum(each.lower().removeprefix("report ").startswith("opened") for each in panel.lines) > 2
+    with tempfile.TemporaryDirectory() as folder, Line(all_words(c), 2) as line:
+        kept = Path(folder) / "panel"
+        panel, (other, door) = runs(line, kept, (7, 2), (5, 1))
+        asks(line.run(keeps(kept, "5 at 5 9600 is 53494D 1 1\n")), f"one place, {name}: the door isn't found: {panel.lines[-12:]}, {kept.read_text()!r}")
+        asks(len(told(panel)) == 1 and " at 7" in told(panel)[0], f"one place, {name}: told is {told(panel)}")
+        opens(line, panel, door)
+        asks(taken(other) == [], f"one place, {name}: another device has taken {taken(other)}")
+    with tempfile.TemporaryDirectory() as folder, Line(all_words(c)) as line:
+        kept = Path(folder) / "panel"
+        panel, (other,) = runs(line, kept, (7, 2))
+        asks(line.run(opened_often(panel)), f"one place, {name}: the place is not tried again: {panel.lines[-12:]}")
+        asks(len(told(panel)) == 1, f"one place, {name}: it is told {len(told(panel))} times")
+        asks(" or " in kept.read_text() and taken(other) == [], f"one place, {name}: it was taken for the door: {kept.read_text()!r}, {taken(other)}")
+        panel.say("1 accept" if has_numbers else "accept")
+        asks(line.run(keeps(kept, "5 at 7 9600 is 53494D 1 2\n")), f"one place, {name}: after the word the file has {kept.read_text()!r}")
+        line.rests(0.1)
+        opens(line, panel, other)
+
+
 def deed_first(c, rust, name):
     """An order is answered after its deed: while what a device does can't be done, here to print it, its answer doesn't go out."""
     program = {"reader in C": [f"{c}/reader", "{}", 9600, "address", 5], "door_device in C": [f"{c}/door_device", "{}", 9600], "door_device in Rust": [f"{rust}/door_device", "{}", 9600]}[name]
@@ -690,6 +731,8 @@ def cases():
         yield "stopped_device", (name,)
     for language in ("C", "Rust", "Rattle"):
         yield "small_panel", (language,)
+    for name in ("panel in C", "door_panel in C", "door_panel in Rust", "panel in Rattle"):
+        yield "other_at_one_place", (name,)
     for name in ("reader in C", "door_device in C", "door_device in Rust"):
         yield "deed_first", (name,)
     for settings in SETTINGS:

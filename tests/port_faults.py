@@ -58,7 +58,7 @@ def refused_rate():
 
 
 class Told:
-    """A program that is told a COMSET of another rate, at a tick."""
+    """A program that is told a COMSET of another rate, at its first tick."""
 
     def __init__(self):
         self.told = [f"send {packet(0x85, 1, 0x54, bytes.fromhex('07004B0000')).hex()}", "moved 7 19200"]
@@ -67,15 +67,43 @@ class Told:
         told, self.told = (self.told, []) if line == "tick" else ([], self.told)
         return [*told, "waiting 0"]
 
+    def close(self):
+        pass
+
 
 def reader_stays():
-    """A reader whose port doesn't take the rate of a COMSET keeps the rate that the port has."""
-    for takes, text in ((True, "7 19200\n"), (False, "7 9600\n")):
+    """A COMSET to a rate that the reader's port hasn't isn't answered, and nothing is kept of it: the program starts anew where the reader is."""
+    for takes in (True, False):
         with tempfile.TemporaryDirectory() as folder:
-            said, kept, port = [], Path(folder) / "place", SimulatedPort(SimulatedLine(port_line.osdp), 9600)
-            port.set_rate = lambda rate, takes=takes: takes
-            Reader(port, Told(), lambda: 0, said.append, ReaderPlace(str(kept))).turn(b"", [])
-            asks(kept.read_text() == text and ("no rate 19200" in said) != takes, f"reader stays: {kept.read_text()!r}, {said}")
+            said, sent, at, kept, port = [], [], [], Path(folder) / "place", SimulatedPort(SimulatedLine(port_line.osdp), 9600)
+            port.can_have, port.write = lambda rate, takes=takes: takes, sent.append
+            Reader(port, lambda address: at.append(address) or Told(), 5, lambda: 0, said.append, ReaderPlace(str(kept))).turn(b"", [])
+            found = (port.rate, kept.read_text() if kept.exists() else None, len(sent), at)
+            asks(found == ((19200, "7 19200\n", 1, [5]) if takes else (9600, None, 0, [5, 5])), f"reader stays: {found}")
+            asks(("refused COMSET 7 19200: the port has no rate 19200; the reader stays at 5 9600, and its session ends" in said) != takes, f"reader stays: {said}")
+
+
+def found_where_it_stays():
+    """A panel whose device can't be set to a rate loses its session, and finds it where it was: what waited there is told once, and its states hold."""
+    line = SimulatedLine(port_line.osdp)
+    name = line.add_reader(5, serial=1)
+    reader = line.readers[name]
+    reader.port.can_have = lambda rate: rate == 9600
+    line.add_panel([5])
+    asks(line.run(line.all_open, 20), "found where it stays: the session doesn't open")
+    reader.line("inputs 0100")
+    for code in ("31", "32"):
+        reader.line(f"event KEYPAD 0 {code}")
+    line.order("5 rate 19200")
+    asks(line.run(lambda: any(told.startswith("lost 5") and told.endswith("COMSET 5 19200") for told in line.told), 20), f"found where it stays: no COMSET is lost: {line.told}")
+    asks(line.run(lambda: line.all_open() and len(line.panel.devices[0].places) == 1, 60), f"found where it stays: it isn't found: {line.told[-6:]}")
+    line.order("5 inputs")
+    asks(line.run(lambda: "settled 5 ISTAT = ISTATR 0100" in line.told, 20), f"found where it stays: its inputs are others: {line.told[-4:]}")
+    line.run(lambda: False, 2)
+    events = [told for told in line.told if told.startswith("event 5 KEYPAD")]
+    asks(events == ["event 5 KEYPAD 0 31 keys 1", "event 5 KEYPAD 0 32 keys 2"], f"found where it stays: told are {events}: {line.told}")
+    asks((reader.port.rate, line.panel.port.rate) == (9600, 9600), f"found where it stays: the ports are at {reader.port.rate} and {line.panel.port.rate}")
+    line.close()
 
 
 def panel_stays():
@@ -94,6 +122,25 @@ def panel_stays():
         asks(sum(told.startswith("lost 5") for told in line.told) > 3, f"panel stays: the device isn't tried again: {line.told}")
         line.add_reader(5)
         asks(line.run(line.all_open, 20), f"panel stays: the device isn't found: {line.told[-4:]}")
+        line.close()
+
+
+def others_come_back():
+    """Of two devices one can't be set to the rate of a COMSET: it is found at the old rate again and again, the other comes back to it, and both take orders."""
+    for stays, moves in ((5, 6), (6, 5)):
+        line = SimulatedLine(port_line.osdp)
+        readers = {address: line.readers[line.add_reader(address, serial=address)] for address in (5, 6)}
+        readers[stays].port.can_have = lambda rate: rate == 9600
+        line.add_panel([5, 6])
+        asks(line.run(line.all_open, 20), "come back: the sessions don't open")
+        line.order("5 rate 19200")
+        asks(line.run(lambda: readers[moves].port.rate == 19200, 60), f"come back, {stays}: the other doesn't move: {line.told[-6:]}")
+        together = lambda: line.all_open() and readers[moves].port.rate == 9600 and not any(device.orders or device.move for device in line.panel.devices)
+        asks(line.run(together, 300), f"come back, {stays}: not together: {line.told[-12:]}")
+        asks(f"back to 9600: device {stays} stays there" in line.told, f"come back, {stays}: it isn't told: {line.told[-12:]}")
+        for address in (5, 6):
+            line.order(f"{address} off")
+            asks(line.run(lambda: f"settled {address} OUT 0:1:0 = ACK" in line.told, 20), f"come back, {stays}: {address} takes no order: {line.told[-4:]}")
         line.close()
 
 
@@ -153,6 +200,52 @@ def full_output():
         came += len(os.read(out, 65536))
     thread.join(30)
     asks(not thread.is_alive() and came == 1000000, f"full output: {came} bytes come")
+
+
+def is_full(out):
+    """Waits until a pipe of 4096 bytes has no room for another line. Whether that is so."""
+    counts = []
+
+    def holds():
+        counts.append(struct.unpack("i", fcntl.ioctl(out, termios.FIONREAD, bytes(4)))[0])
+        return len(counts) > 25 and counts[-1] > 3000 and len(set(counts[-25:])) == 1
+
+    return until(holds)
+
+
+def unread_output():
+    """Where nobody reads what is printed, the first SIGTERM ends a program within a second, or two on a busy machine: of its trace nothing is missing, and a line on standard error says so."""
+    burst = packet(5, 0, ID, b"\0")
+    for words, more in ((["panel", "5"], ["--trace"]), (["reader", "5"], ["--trace"]), (["monitor"], ["--all"]), (["show"], ["--all"])):
+        with tempfile.TemporaryDirectory() as folder:
+            terminal, (out, into), trace = Terminal(), os.pipe(), Path(folder) / "trace"
+            options = [*more, *([str(trace)] if more == ["--trace"] else [])]
+            script = subprocess.Popen([PORT, "--osdp", port_line.osdp, *options, terminal.path, "9600", *words], stdin=subprocess.PIPE, stdout=into, stderr=subprocess.PIPE)
+            os.close(into)
+            fcntl.fcntl(out, 1031, 4096)  # F_SETPIPE_SZ
+            asks(select.select([out], [], [], 60)[0], f"unread: {words} prints nothing")
+            time.sleep(0.3)
+            if words[0] in ("panel", "reader"):
+                os.set_blocking(script.stdin.fileno(), False)
+                with contextlib.suppress(BlockingIOError):
+                    os.write(script.stdin.fileno(), b"this is no order\n" * 3000)
+            for _ in range(30 if words[0] in ("monitor", "show") else 1):
+                os.write(terminal.end, 20 * burst)
+                time.sleep(0.03)
+            asks(is_full(out), f"unread: {words}: the pipe isn't full")
+            begun = time.monotonic()
+            script.send_signal(signal.SIGTERM)
+            try:
+                status = script.wait(20)
+            except subprocess.TimeoutExpired:
+                script.kill()
+                status = script.wait()
+            took, said = time.monotonic() - begun, script.stderr.read().decode()
+            asks(status == 3 and took < 2.0, f"unread: {words} ends with {status} after {took:.1f} s")
+            asks("nobody reads standard output" in said and "Traceback" not in said, f"unread: {words} says {said!r}")
+            asks(more != ["--trace"] or trace.read_text().endswith("\n"), f"unread: {words}: the trace is cut: {trace.read_text()[-60:] if trace.exists() else None!r}")
+            os.close(out)
+            terminal.close()
 
 
 def service_ends():
@@ -329,7 +422,7 @@ def away():
         terminal.close()
 
 
-PARTS = (refused_rate, reader_stays, panel_stays, devices_stay, find_stays, sleeps, full_output, service_ends, many_stops, unwritten_help, cursor, kept_at_a_server, whole_bursts, gone_in_a_search, deaf_server, away)
+PARTS = (refused_rate, reader_stays, found_where_it_stays, others_come_back, panel_stays, devices_stay, find_stays, sleeps, full_output, unread_output, service_ends, many_stops, unwritten_help, cursor, kept_at_a_server, whole_bursts, gone_in_a_search, deaf_server, away)
 
 
 def main(path, *names):

@@ -173,7 +173,7 @@ def refusing():
 
             if any(name.startswith(f"{refuser}.") and each is reader for name, each in line.readers.items()):
                 reader.port.write = refuses
-                reader.move = lambda place: None
+                reader.port.set_rate = lambda rate: False
         line.order("5 rate 19200")
         line.run(lambda: any(told.startswith(f"settled {refuser} COMSET") for told in line.told), 30)
         asks(line.run(lambda: is_settled(line), 60), f"refusing {refuser} of {count}: {line.told[-6:]}")
@@ -304,6 +304,41 @@ def another_device(folder):
     line.close()
 
 
+def other_at_one_place(folder):
+    """A device may be at two places, and another one stands at one of them: it is found at the other, also at another rate. Where it is at neither, the other one is
+    told once, gets no order, and is accepted by its address."""
+    for at, (first, second) in enumerate((("7 9600", "5 9600"), ("5 9600", "7 19200"), ("7 19200", "5 9600"))):
+        keep = Path(folder) / f"one_place{at}"
+        keep.write_text(f"5 at {first} or {second} is 000000 0 1\n6 at 6 9600 is 000000 0 2\n")
+        line = Line(osdp)
+        other, here = (tuple(map(int, place.split())) for place in (first, second))
+        stranger = line.add_reader(other[0], rate=other[1], serial=99)
+        line.add_reader(here[0], rate=here[1], serial=1)
+        line.add_reader(6, serial=2)
+        line.add_panel([5, 6], keep=keep)
+        what = f"one place, {first} and {second}"
+        asks(line.run(lambda: line.all_open() and not line.panel.devices[0].other and len({device.place.rate for device in line.panel.devices}) == 1, 120), f"{what}: not found: {line.told[-8:]}")
+        asks(" or " not in keep.read_text() and "is 000000 0 1\n" in keep.read_text(), f"{what}: the file has {keep.read_text()!r}")
+        order_each(line, what)
+        asks(not any("OUT" in told for told in line.acted[stranger]), f"{what}: another device got an order")
+        line.close()
+    keep = Path(folder) / "neither"
+    keep.write_text("5 at 5 9600 or 7 9600 is 000000 0 1\n")
+    line = Line(osdp)
+    line.add_reader(7, serial=99)
+    line.add_panel([5], keep=keep)
+    asks(line.run(lambda: line.told.count("lost 7 left") > 2, 60), f"neither: not tried again: {line.told[-8:]}")
+    asks(sum(told.startswith("another device at 7") for told in line.told) == 1, "neither: the other one isn't told once")
+    line.run(lambda: False, 1)
+    line.order("5 accept")
+    line.order("7 accept")
+    asks("not taken 5 accept" in line.told[-2] and line.told[-1] == "accepted 7", f"neither: the words are answered {line.told[-2:]}")
+    asks(line.run(lambda: line.all_open() and not line.panel.devices[0].is_left, 60), f"neither: its session doesn't open: {line.told[-8:]}")
+    order_each(line, "neither")
+    asks(keep.read_text().endswith("5 at 7 9600 is 000000 0 99\n"), f"neither: the file has {keep.read_text()!r}")
+    line.close()
+
+
 class Told:
     """A program that tells what it was given, once, at a tick."""
 
@@ -327,7 +362,7 @@ def new_lines():
     asks(not panel.devices[0].orders, "new lines: an order was made")
     said.clear()
     told = ["offline", "online", "withdrawn KEYPAD 0 31", "in doubt KEYPAD 0 31", "strange 1 2"]
-    Reader(Port(line, 9600), Told("waiting 0", *told), line.clock, said.append).turn(b"", [])
+    Reader(Port(line, 9600), lambda address: Told("waiting 0", *told), 5, line.clock, said.append).turn(b"", [])
     means = ["offline: no panel has asked for 8 seconds", "online: a panel asks", "withdrawn KEYPAD 0 31: too old while no panel asked; no panel will get it",
              "in doubt KEYPAD 0 31: too old while no panel asked; the panel may have got it or not", "strange 1 2"]
     asks(said == means, f"new lines: the reader prints {said}")
@@ -362,6 +397,7 @@ def main(path):
         swapped_places(folder)
         killed_in_doubt(folder)
         another_device(folder)
+        other_at_one_place(folder)
         bad_files(folder)
     print(f"port places: {runs} COMSETs, {len(faults)} faults in {time.monotonic() - begun:.1f} s", *faults[:40], sep="\n")
     return 1 if faults else 0

@@ -113,7 +113,7 @@ def bad_words():
     for words in BAD_PORTS:
         ends(words, 3)
     for words, status, wanted in ((["--help"], 0, "usage: osdp-port"), (["--version"], 0, f"osdp-port {version()}\n"), (["PORT", "9600", "show", "--help"], 0, "usage: osdp-port"),
-                                  (["--osdp", "/nowhere/osdp", terminal.path, "9600", "show"], 127, "/nowhere/osdp"),
+                                  (["PORT", "9600", "panel", "5", "7"], 2, "several addresses are one word, as 5,7"), (["--osdp", "/nowhere/osdp", terminal.path, "9600", "show"], 127, "/nowhere/osdp"),
                                   (["--osdp", "/nowhere/osdp", terminal.path, "9600", "find"], 127, "/nowhere/osdp")):
         done = subprocess.run([PORT, *words], capture_output=True, text=True, timeout=60, stdin=subprocess.DEVNULL)
         asks(done.returncode == status and wanted in done.stdout + done.stderr, f"{words}: {done}")
@@ -180,6 +180,16 @@ def any_words():
                 pass
             except Exception as error:  # any other one would end the program
                 asks(False, f"any words: {[word[:20] for word in words]}: {error!r}")
+    for words, text in (("open", "OUT 0:5:30"), ("open 500ms output 2", "OUT 2:5:5"), ("open 2m", "OUT 0:5:1200"), ("open 109m", "OUT 0:5:65400"), ("on output 1", "OUT 1:2:0"),
+                        ("off", "OUT 0:1:0"), ("led amber", "LED 0:0:0:0:0:0:0:0:1:1:0:3:0"), ("led blue 5s", "LED 0:0:2:1:0:4:0:50:0:0:0:0:0"), ("beep 3", "BUZ 0 2 1 1 3"),
+                        ("text AB", "TEXT 0 1 0 1 1 4142"), ("move 7", "COMSET 7 9600"), ("rate 19200", "COMSET 5 19200"), ("tamper", "LSTAT")):
+        said = doors.command(words.split(), Place(5, 9600))
+        asks(said == text, f"words of an order: {words}: {said}, and not {text}")
+    for words in ("open 50ms", "open 0s", "open 110m", "move 127", "led pink"):
+        try:
+            asks(False, f"words of an order: {words} is {doors.command(words.split(), Place(5, 9600))}")
+        except Refused:
+            pass
 
 
 def no_permission():

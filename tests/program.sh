@@ -68,6 +68,10 @@ expect 'a closed input' 3 '' $'osdp: read failed\n' show <&-
 expect 'noise that fills all rooms' 0 "$(seq -f '1:%g skip FE' 0 8999)"$'\n' '' show --raw < <(printf '\xFE%.0s' {1..9000})
 expect 'as many bytes as are read' 0 $'runs 1 packets 0 skipped 67108864 refused 0\n' '' check --raw < <(head -c 67108864 /dev/zero)
 expect 'one byte more' 2 '' $'osdp: input too long\n' check --raw < <(head -c 67108865 /dev/zero)
+expect 'a script of as many bytes' 2 '' $'osdp: line 2: bad step\n' sim < <(head -c 67108864 /dev/zero | tr '\0' ' ')
+expect 'a script of one byte more' 2 '' $'osdp: input too long\n' sim < <(head -c 67108865 /dev/zero | tr '\0' ' ')
+expect 'lines of one byte more' 2 $'1:0 skip FF\n' $'osdp: input too long\n' show < <(printf 'FF\n#'; head -c 67108865 /dev/zero | tr '\0' ' ')
+expect 'a bad line before the limit' 2 '' $'osdp: line 1: not hex\n' show < <(printf '5\n'; head -c 67108865 /dev/zero | tr '\0' ' ')
 
 # $1: what is tried; $2: the status that is wanted; $3: standard error; then the words. The output is the
 # caller's.

@@ -4,6 +4,7 @@
 - Its structs, functions and numbers are those of include/osdp.h.
 - Each public name has a docstring, and each public call types.
 - A session between both ends: an order is done once, an event is told once, where answers are lost too; a device keeps what it is told, and lets old events go.
+- Each kind of report, each answer that a program sets, and the defaults of a device are those that the docstrings say; a closed machine gives its memory back.
 - Each refusal comes as an OsdpError with its status, also to another process, and changes nothing; what ctypes would cut is no number for it.
 - A machine can't be copied.
 - A monitor tells what the rows of `osdp monitor` have.
@@ -12,8 +13,10 @@
 import copy
 import ctypes
 import inspect
+import os
 import pickle
 import re
+import select
 import subprocess
 import sys
 import tempfile
@@ -191,6 +194,7 @@ def judge_refusals():
     refused("a POLL", osdp.Status.POLL_SUBMITTED, panel.submit, entry, "POLL")
     refused("no command", osdp.Status.BAD_TEXT, panel.submit, entry, "OPEN")
     refused("no code", osdp.Status.UNKNOWN_CODE, panel.submit_message, entry, 0x00)
+    refused("code 255", osdp.Status.UNKNOWN_CODE, panel.submit_message, entry, 0xFF)
     panel.submit_message(entry, 0x68, bytes.fromhex("00051E00"))
     refused("one command too many", osdp.Status.COMMANDS_FULL, panel.submit, entry, "ID 0")
     tell("withdrawn", "OUT 0:5:30", str(panel.withdraw(entry)))
@@ -216,7 +220,7 @@ def judge_refusals():
                        ("an address of 2**32", lambda: osdp.Device(2**32)), ("a vendor of two bytes", lambda: osdp.Device(5, vendor=b"SI")),
                        ("an entry below 0", lambda: osdp.Panel().begin(-1, 0)), ("an entry of 2**64", lambda: osdp.Panel().waiting(2**64)),
                        ("a tamper of 256", lambda: osdp.Device(5).set_local(256, 0)), ("a busy of 2**32", lambda: osdp.Device(5).set_busy(2**32)),
-                       ("a text of code 0x168", lambda: str(osdp.Message(0x168, bytes.fromhex("00051E00"), False)))):
+                       ("an address of 2**32 of a panel", lambda: osdp.Panel().add(2**32)), ("a text of code 0x168", lambda: str(osdp.Message(0x168, bytes.fromhex("00051E00"), False)))):
         try:
             call()
             faults.append(f"{what} is taken")
@@ -299,7 +303,103 @@ def judge_device():
         device.event("KEYPAD 0 31")
         tell("lapsed", [], list(device.expire_events(5000, 1)))
         tell("withdrawn", [(osdp.Expired.WITHDRAWN, "KEYPAD 0 31")], [(how, str(event)) for how, event in device.expire_events(14000, 1)])
+        device.event("KEYPAD 0 32")
+        tell("never offered", (None, "KEYPAD 0 32", None), (device.lapse_event(), str(device.withdraw_event()), device.withdraw_event()))
+        device.event("KEYPAD 0 33")
+        tell("the answer that is lost", ["KEYPAD"], [{0x53: "KEYPAD"}.get(answer.data[5]) for answer in device.hear(panel.tick(14000), 14000)])
+        tell("offered", (None, "KEYPAD 0 33", None), (device.withdraw_event(), str(device.lapse_event()), device.lapse_event()))
     tell("replies", ["PDID 53494D 1 2 3 4 5 6", "PDCAP 2:1:4", "LSTATR 1 0", "ISTATR 0100", "OSTATR 0001", "RSTATR 00", "NAK 9", "MFGREP 53494D 02", "NAK 3"], replies)
+
+
+def checked(packet):
+    """The packet with its sum: all its bytes together are a multiple of 256."""
+    return packet + bytes([-sum(packet) & 255])
+
+
+def judge_reports():
+    """What a panel is told by `silence` and `set_moment`, and what a report says of an answer that isn't the expected one."""
+    busy, pdid = checked(bytes.fromhex("538507000079")), checked(bytes.fromhex("538513000045") + bytes(range(12)))
+    raw_of_none, nak_3 = checked(bytes.fromhex("53850800015000")), checked(bytes.fromhex("53850800024103"))
+    with osdp.Panel(check=0, quiet_wait=410, reply_wait=230, poll_interval=90, busy_wait=170, busy_limit=0, gap=30) as panel:
+        door = panel.add(5)
+        panel.submit_message(door, 0x80, bytes(range(3, 12)))
+        tell("the data of a command", bytes(range(3, 12)), panel.withdraw(door).data)
+        panel.begin(door, 0)
+        panel.tick(410)
+        panel.hear(b"\x53", 500)
+        tell("a run is over", 530, panel.next_deadline())
+        panel.silence(501)
+        tell("an answer is waited for", 640, panel.next_deadline())
+        panel.hear(busy, 510)
+        tell("too busy", [(osdp.Kind.LOST, osdp.Cause.TOO_BUSY, None)], [(each.kind, each.cause, each.code) for each in panel.reports()])
+        panel.begin(door, 600)
+        panel.tick(1010)
+        panel.hear(pdid, 1020)
+        tell("opened", [osdp.Kind.OPENED], [each.kind for each in panel.reports()])
+        panel.tick(1110)
+        panel.hear(raw_of_none, 1120)
+        tell("unread", [(osdp.Kind.UNREAD, None, None, 0x50)], [(each.kind, each.command, each.cause, each.code) for each in panel.reports()])
+        panel.tick(1210)
+        panel.hear(nak_3, 1220)
+        tell("answered", [(osdp.Kind.ANSWERED, "NAK 3", None)], [(each.kind, str(each.reply), each.code) for each in panel.reports()])
+        late = 3 * 86_400_000
+        refused("after a sleep", osdp.Status.MOMENT_TOO_FAR, panel.tick, late)
+        panel.set_moment(late)
+        tell("a POLL after a sleep", 7, len(panel.tick(late)))
+
+
+def judge_answers():
+    """Each answer that a program sets, a COMSET, the defaults of a device, and its `silence` and `set_moment`."""
+    asked = {"LSTAT": lambda: device.answer_local(False, True), "RSTAT": lambda: device.answer_list(b"\1\0\1"), "MFG 53494D 01": lambda: device.answer_done()}
+    replies, moved = [], []
+    with osdp.Panel(check=0) as panel, osdp.Device(5) as device:
+        door = panel.add(5)
+        for text in (*asked, "COMSET 7 19200"):
+            panel.submit(door, text)
+        panel.begin(door, 0)
+        for now in range(0, 4000, 10):
+            for answer in device.hear(panel.tick(now), now):
+                if answer.order is osdp.Order.PENDING:
+                    asked[str(answer.command)]()
+                moved += [answer.moved] if answer.moved else []
+                panel.hear(answer.data, now)
+            replies += [str(each.reply) for each in panel.reports() if each.kind in (osdp.Kind.SETTLED, osdp.Kind.MOVED)]
+        tell("answers that are set", ["LSTATR 0 1", "RSTATR 010001", "ACK", "COM 7 19200"], replies)
+        tell("moved", [(7, 19200)], moved)
+        for _ in range(64):
+            device.event_message(0x53, bytes([0, 2, 0x31, 0x32]))
+        refused("an event more than 64", osdp.Status.EVENTS_FULL, device.event, "KEYPAD 0 31")
+        tell("the data of an event", "KEYPAD 0 3132", str(device.withdraw_event()))
+    identify, cut = bytes.fromhex("530508000061003F"), bytes.fromhex("5305280000")
+    for ends, now in ((lambda: device.tick(1019), 0), (lambda: device.tick(1020), 1), (lambda: device.silence(1001), 1)):
+        with osdp.Device(5) as device:
+            tell("a packet within a run", 0, len(list(device.hear(cut + identify, 1000))))
+            tell("a packet of a run that is over, or isn't yet", now, len(list(ends())))
+    with osdp.Device(5) as device:
+        device.set_busy(True)
+        busy = [each.said for each in device.hear(identify, 0)]
+        device.set_busy(False)
+        tell("a device that is busy for a while", ([osdp.Said.BUSY], [osdp.Said.ZERO]), (busy, [each.said for each in device.hear(identify, 1000)]))
+        refused("a device after a sleep", osdp.Status.MOMENT_TOO_FAR, lambda: list(device.tick(10**12)))
+        device.set_moment(10**12)
+        tell("a packet after a sleep", 1, len(list(device.hear(identify, 10**12))))
+
+
+def judge_memory():
+    """Machines that are closed give their memory back: a thousand of each take no more than a few do."""
+    def resident():
+        return int(Path("/proc/self/statm").read_text().split()[1]) * os.sysconf("SC_PAGE_SIZE")
+
+    def makes(count):
+        for _ in range(count):
+            with osdp.Panel() as panel, osdp.Device(5), osdp.Monitor() as monitor:
+                panel.add(5)
+                monitor.hear(bytes.fromhex("53050700006041"))
+
+    makes(20)
+    before = resident()
+    makes(1000)
+    tell("memory is given back", True, resident() - before < 2_000_000)
 
 
 def judge_monitor():
@@ -332,19 +432,31 @@ def judge_example():
         tell(f"{name} with a word too many", (2, "bad words: --help tells the right ones\n"), (done.returncode, done.stderr))
 
 
+def judge_no_library():
+    """Where the library isn't there, or is another one, a line says what to do."""
+    for path, said in (("/nowhere/libosdp.so.0", "the library of osdp can't be opened"), ("libc.so.6", "the library of osdp is of another version than this package")):
+        for name in ("session", "door_panel", "door_device", "stored_panel"):
+            words = [sys.executable, "-B", TOP / f"python/examples/{name}.py", "--help"]
+            done = subprocess.run(words, capture_output=True, text=True, env={**os.environ, "OSDP_LIBRARY": path})
+            tell(f"{name} with {path}", (1, "", True, 1), (done.returncode, done.stdout, done.stderr.startswith(said), len(done.stderr.splitlines())))
+
+
 def judge_door():
-    """A door of the examples keeps a rate that its port has taken, and no other: an adapter may stay at its rate without a fault."""
+    """A door of the examples goes to a rate that its port takes, and keeps it. A COMSET to another one isn't answered, nor kept: an adapter may stay at its rate without
+    a fault."""
     sys.path[:0] = [str(TOP / "python/examples")]
     import door_device
     from kept import Kept
     from terminals import Terminal
     sets, stays = termios.tcsetattr, lambda end, when, found: sets(end, when, [*found[:4], termios.B9600, termios.B9600, found[6]])
-    for sets_rate, rate in ((sets, 19200), (stays, 9600)):
+    for sets_rate, place in ((sets, (7, "7 19200\n", True)), (stays, (5, None, False))):
         with tempfile.TemporaryDirectory() as folder:
-            terminal, termios.tcsetattr = Terminal(), sets_rate
-            door = door_device.Door(terminal.path, 9600, Kept(f"{folder}/place"))
-            door.take([osdp.Answer(osdp.Said.TAKEN, osdp.Order.NONE, None, b"", (7, 19200))])
-            tell("a door's rate, and the one that it keeps", (rate, f"7 {rate}\n"), (door.rate, Path(f"{folder}/place").read_text()))
+            terminal, termios.tcsetattr, kept = Terminal(), sets_rate, Path(folder) / "place"
+            door = door_device.Door(terminal.path, 9600, Kept(str(kept)))
+            door.take([osdp.Answer(osdp.Said.TAKEN, osdp.Order.NONE, None, b"COM", (7, 19200))])
+            found = (door.address, kept.read_text() if kept.exists() else None, bool(select.select([terminal.end], [], [], 0.2)[0]))
+            tell("a door's address, what it keeps, and whether it answers", place, found)
+            tell("a door's device", 5, door.device.address())
             termios.tcsetattr = sets
             terminal.close()
 
@@ -353,6 +465,6 @@ if __name__ == "__main__":
     judge_structs(header()), judge_functions(header()), judge_numbers(header()), judge_docs()
     for lost in ([], [41], [46], [30, 61, 66]):
         judge_session(lost)
-    judge_again(), judge_pieces(), judge_refusals(), judge_copies(), judge_rooms(), judge_between(), judge_device(), judge_monitor(), judge_door(), judge_example()
+    judge_again(), judge_pieces(), judge_refusals(), judge_copies(), judge_rooms(), judge_between(), judge_device(), judge_reports(), judge_answers(), judge_memory(), judge_monitor(), judge_door(), judge_example(), judge_no_library()
     print(f"python: {len(faults)} faults", *faults, sep="\n")
     sys.exit(1 if faults else 0)

@@ -26,9 +26,9 @@ fi
 
 # the card that no panel asks for leaves in time, and isn't told later; the one that was told leaves as in doubt
 wanted='29950 withdrawn RAW 0 0 26 12345640 30050 sent 45 sent 40 sent 50 61150 in doubt RAW 0 0 26 65432180 61250 sent 45 sent 40'
-build device examples/c/{door_device,kept}.c tests/c/stale.c && passes "$work/device" PORT 9600 &&
+build device examples/c/{devices,door_device,kept}.c tests/c/stale.c && passes "$work/device" PORT 9600 &&
   { [ "$(tr '\n' ' ' <"$work/said")" = "$wanted " ] || { cat "$work/said"; fail 'the device lets cards go otherwise'; }; }
-build keypad examples/c/{keypad_reader,kept}.c tests/c/stale.c '-DCARD="RAW 0 0 26 "' && passes "$work/keypad" PORT 9600 5 &&
+build keypad examples/c/{devices,keypad_reader,kept}.c tests/c/stale.c '-DCARD="RAW 0 0 26 "' && passes "$work/keypad" PORT 9600 5 &&
   { [ "$(tr '\n' ' ' <"$work/said")" = "relay off $wanted relay off " ] || { cat "$work/said"; fail 'the reader with keys lets cards go otherwise'; }; }
 
 timeout 100 python3 -B tests/repeated.py "$crates"/osdp_example_panel/out/osdp_example_panel "$crates"/osdp_example_device/out/osdp_example_device 400 1 || failed=1

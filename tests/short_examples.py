@@ -10,7 +10,7 @@ import time
 from pathlib import Path
 
 import port_line
-from port_line import ACK, COM, COMSET, ID, OUT, PANEL, PDID, Device, asks, faults, has, opened, tells
+from port_line import ACK, COM, COMSET, ID, NAK, OUT, PANEL, PDID, Device, asks, faults, has, opened, tells
 from terminals import Script, Terminal, commands, packet
 
 TOP = Path(__file__).resolve().parent.parent
@@ -194,16 +194,17 @@ termios.tcsetattr = lambda end, when, found: sets(end, when, [*found[:4], termio
 
 
 def refused_rate(reader_words):
-    """An adapter that stays at its rate without a fault: a reader that is to leave it stays, says so, and keeps the rate that it has; at the start it ends."""
+    """An adapter that stays at its rate without a fault: a reader that is to leave it answers nothing, says so, and begins anew where it was; at the start it ends."""
     example, program = reader_words
     with tempfile.TemporaryDirectory() as folder:
         Path(folder, "sitecustomize.py").write_text(PINNED)
         terminal, kept, streams = Terminal(), Path(folder) / "place", {"env": {**os.environ, "PYTHONPATH": folder}}
         reader = Script(*example, "--keep", kept, terminal.path, 9600, *program, "address", 5, **streams)
         asks(asked(terminal, 5, 0, ID, b"\0") == bytes([PDID]), "refused rate: ID isn't answered")
-        asks(asked(terminal, 5, 1, COMSET, bytes([7]) + (19200).to_bytes(4, "little")) == bytes([COM]), "refused rate: the COMSET isn't answered")
-        asks(until(reader, lambda: "no rate 19200" in reader.lines and kept.read_text() == "7 9600\n"), f"refused rate: {kept.read_text()!r}, {reader.lines}")
-        asks(asked(terminal, 7, 0, ID, b"\0") == bytes([PDID]), "refused rate: the reader isn't at its new address")
+        asks(not asked(terminal, 5, 1, COMSET, bytes([7]) + (19200).to_bytes(4, "little")), "refused rate: the COMSET is answered")
+        asks(until(reader, has(reader, "no rate 19200")) and not kept.exists(), f"refused rate: {kept.exists()}, {reader.lines}")
+        asks(asked(terminal, 5, 2, 0x60) == bytes([NAK]), "refused rate: the session hasn't ended")
+        asks(asked(terminal, 5, 0, ID, b"\0") == bytes([PDID]), "refused rate: the reader isn't where it was")
         reader.process.kill()
         reader.process.wait()
         ended(Script(*example, terminal.path, 19200, *program, stderr=subprocess.PIPE, **streams), 3, "the port has no such rate", "refused rate: at the start")

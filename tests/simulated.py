@@ -64,8 +64,8 @@ class Line:
         address, rate = (place.address, place.rate) if place else (address, rate)
         name, told = f"{address}.{len(self.readers)}", []
         self.acted[name] = told
-        program = Lines(self.osdp, ["reader", "address", str(address), "serial", str(serial), *words])
-        self.readers[name] = Reader(Port(self, rate), program, self.clock, told.append, kept)
+        starts = lambda at: Lines(self.osdp, ["reader", "address", str(at), "serial", str(serial), *words])
+        self.readers[name] = Reader(Port(self, rate), starts, address, self.clock, told.append, kept)
         return name
 
     def goes(self, port, burst):

@@ -11,7 +11,8 @@ to it meanwhile. At last the panel isn't ended any more, until each order has an
   ended between a card and its order.
 - The numbers of the orders go on from each start to the next.
 
-A journal that is cut within its last line is read as if that line was never written, another one isn't read, and a second program may not write it."""
+A POLL that is answered by a code which nobody can read ends no order and no session; an order that is answered so is in doubt, and the device is asked for its state
+at once. A journal that is cut within its last line is read as if that line was never written, another one isn't read, and a second program may not write it."""
 import os
 import random
 import select
@@ -27,10 +28,11 @@ sys.path.insert(0, str(TOP / "python"))
 sys.dont_write_bytecode = True
 
 import osdp  # noqa: E402
+from terminals import Script, Terminal  # noqa: E402
 
 ENDS, MOST, LIMIT = 12, 60, 60.0  # the panel is ended so often at least, and at most; seconds after which what is waited for has failed to come
 SETTLED, DOUBTED = 40, 6  # so many orders are wanted at least
-OUT = 0x68
+OUT, POLL, UNKNOWN = 0x68, 0x60, 0x99  # a command, another, and a code that no reply has
 MAY_ENTER = ("12345640", "65432180")
 program = [sys.executable, "-B", TOP / "python/examples/stored_panel.py"]
 faults = []
@@ -165,6 +167,70 @@ def many_ends(chance, folder):
     print(f"stored, {Path(program[-1]).name}: {len(orders)} orders {kinds}, {len(world.acted)} acted on, {len(world.shown)} cards, {len(told)} told, ended {world.ended} times")
 
 
+def with_code(burst, code):
+    """A packet of CRC with another code."""
+    whole, crc = burst[:5] + bytes([code]) + burst[6:-2], 0x1D0F
+    for byte in whole:
+        crc ^= byte << 8
+        for _ in range(8):
+            crc = (crc << 1 ^ (0x1021 if crc & 0x8000 else 0)) & 0xFFFF
+    return whole + crc.to_bytes(2, "little")
+
+
+class Spoiled:
+    """A line without losses. The answer to the next command of one kind gets a code that nobody can read."""
+
+    def __init__(self, journal):
+        self.terminal, self.device, self.acted, self.polls = Terminal(), osdp.Device(5, serial=1), [], 0
+        self.device.set_outputs(bytes(2))
+        self.spoils = None
+        self.panel = Script(*program, journal, self.terminal.path, "9600")
+
+    def turn(self):
+        for burst in self.terminal.bursts() if select.select([self.terminal.end], [], [], 0.01)[0] else ():
+            for each in self.device.hear(burst, int(time.monotonic() * 1000)):
+                if each.order is osdp.Order.ONCE and each.command.code == OUT:
+                    self.acted.append(str(each.command))
+                is_spoiled = each.data and burst[5] == self.spoils
+                if each.data:
+                    os.write(self.terminal.end, with_code(each.data, UNKNOWN) if is_spoiled else each.data)
+                    self.spoils = None if is_spoiled else self.spoils
+                    self.polls += burst[5] == POLL
+        self.panel.read()
+
+    def until(self, holds):
+        limit = time.monotonic() + LIMIT
+        while not holds() and time.monotonic() < limit:
+            self.turn()
+        return holds()
+
+    def has(self, line):
+        return lambda: line in self.panel.lines
+
+
+def unread(folder):
+    """A POLL, and then an order, are answered by a code that nobody can read."""
+    journal = Path(folder) / "unread"
+    line = Spoiled(journal)
+    asks(line.until(lambda: line.polls > 2), "unread: the device isn't polled")
+    line.spoils = POLL
+    asks(line.until(line.has(f"unread code {UNKNOWN:02X}")), f"unread: that of a POLL isn't told: {line.panel.lines}")
+    asks(journal.read_text() == "", f"unread: by that of a POLL the journal has {journal.read_text()!r}")
+    line.panel.say("OUT 1:5:7")
+    asks(line.until(line.has("settled ACK 1 OUT 1:5:7")), f"unread: after it no order is settled: {line.panel.lines}")
+    line.device.event(f"RAW 0 0 26 {MAY_ENTER[0]}")
+    asks(line.until(line.has("settled ACK 2 OUT 0:5:30")), f"unread: after it no card opens the door: {line.panel.lines}")
+    line.spoils = OUT
+    line.panel.say("OUT 1:5:8")
+    asks(line.until(line.has("doubt 3 OUT 1:5:8")), f"unread: that of an order isn't in doubt: {line.panel.lines}")
+    asks(line.until(line.has("state OSTATR 0000")), f"unread: after it the device isn't asked for its state: {line.panel.lines}")
+    asks(sum(each.startswith("opened") for each in line.panel.lines) == 1, f"unread: the session has ended: {line.panel.lines}")
+    asks(line.acted == ["OUT 1:5:7", "OUT 0:5:30", "OUT 1:5:8"], f"unread: the device has acted on {line.acted}")
+    line.panel.process.kill()
+    line.panel.process.wait()
+    line.terminal.close()
+
+
 def journals(folder):
     """What is read of a journal, and which isn't."""
     _, other = os.openpty()
@@ -188,6 +254,7 @@ def main(seed=1, path=None):
     program = [path] if path else program
     with tempfile.TemporaryDirectory() as folder:
         many_ends(random.Random(int(seed)), folder)
+        unread(folder)
         journals(folder)
     for fault in faults:
         print(f"stored: {fault}")

@@ -32,14 +32,41 @@ osdp_status add_door(osdp_panel *panel, struct door *door, const char *kept, uin
     return osdp_panel_add(panel, place_of(door->stand).address, &door->entry);
 }
 
-/* The device is there, and is the one that has answered. */
-static void note_door(struct door *door)
+/* The device is there, and is the door. */
+static void note_door(struct door *door, const struct osdp_pd_id *id)
 {
     door->may_order = !door->is_left;
     door->is_other = false;
     door->stand->is_known = true;
-    door->stand->id = door->seen;
+    door->stand->id = *id;
     stands_at(door->stand, place_of(door->stand));
+    (void)keep_door();
+}
+
+/* Another device has answered, which is told once while it stands there. Of two places the door may be at the other one. */
+static void meet_other(struct door *door, const struct osdp_pd_id *id)
+{
+    struct place there = place_of(door->stand);
+    if (!door->is_other || !is_same_device(&door->other, id) || !is_same_place(door->there, there)) {
+        tell("another device at %u: it gets no order until `accept`\n", (unsigned)there.address);
+    }
+    door->is_other = true;
+    door->other = *id;
+    door->there = there;
+    if (door->stand->count > 1) {
+        leave_door(door);
+    }
+}
+
+/* The other device that was told last is the door from now on. Where it is, is known once its session opens again, if that doesn't stay open. */
+static void accept_door(struct door *door)
+{
+    if (door->place.is_online && !door->is_left) {
+        note_door(door, &door->other);
+        return;
+    }
+    door->is_other = false;
+    door->stand->id = door->other;
     (void)keep_door();
 }
 
@@ -71,23 +98,23 @@ static void note_move(struct door *door, const struct osdp_message *reply)
 
 void heed_door(struct door *door, const struct osdp_report *report, uint64_t now)
 {
+    struct osdp_pd_id id;
     (void)osdp_site_heed(&door->site, report, now);
-    if (report->kind == OSDP_REPORT_OPENED && osdp_pd_id_of(&report->reply, &door->seen) == OSDP_OK) {
-        door->is_other = !is_same(door->stand, &door->seen);
-        if (door->is_other) {
-            tell("another device: it gets no order until `accept`\n");
+    if (report->kind == OSDP_REPORT_OPENED && osdp_pd_id_of(&report->reply, &id) == OSDP_OK) {
+        if (is_same(door->stand, &id)) {
+            note_door(door, &id);
         } else {
-            note_door(door);
+            meet_other(door, &id);
         }
     } else if (report->kind == OSDP_REPORT_MOVED) {
         note_move(door, &report->reply);
     } else if (report->kind == OSDP_REPORT_SETTLED && report->command.code == OSDP_COMSET && report->reply.code == OSDP_NAK) {
-        note_door(door);
+        note_door(door, &door->stand->id);
     } else if (report->kind != OSDP_REPORT_LOST && report->command.code == OSDP_COMSET) {
         leave_door(door); /* its answer is no COM that can be read */
     }
     if (report->kind == OSDP_REPORT_LOST || report->kind == OSDP_REPORT_MOVED) {
-        door->may_order = door->is_other = door->is_left = false;
+        door->may_order = door->is_left = false;
     }
 }
 
@@ -115,7 +142,7 @@ void take_line(osdp_panel *panel, struct door *door, const char *line)
     static struct osdp_message comset;
     unsigned address, rate;
     if (strcmp(line, "accept") == 0 && door->is_other) {
-        note_door(door);
+        accept_door(door);
     } else if (sscanf(line, "move %3u %6u", &address, &rate) == 2 && address <= 126 && has_rate(rate) && door->may_order && door->stand->count == 1
         && !is_taken(stands, count, door->stand, address) && osdp_comset(address, rate, &comset) == OSDP_OK) {
         may_move(door->stand, (struct place){ address, rate });

@@ -9,18 +9,20 @@ struct door {
     osdp_size entry;
     struct stand *stand;
     bool may_order;         /* whether its session is open, and it is the device that stood there before */
-    bool is_other;          /* whether another device than that one answers there */
+    bool is_other;          /* whether another device than that one has answered last: */
+    struct osdp_pd_id other; /* what that is, */
+    struct place there;     /* and where it stands */
     bool is_left;           /* whether nothing more is said to it, so that its session ends */
     osdp_site site;         /* which says when its next session begins */
     struct osdp_site_entry place;
-    struct osdp_pd_id seen; /* what the device is that has answered the last opening */
 };
 
 /* Adds the device that was at an address when it was first used, where the file has it, if one is named, or else at that address and this rate. Ends the
  * program where the file has another device there. */
 osdp_status add_door(osdp_panel *panel, struct door *door, const char *kept, uint32_t name, uint32_t rate);
 
-/* Does what a report asks for about its place and its session. */
+/* Does what a report asks for about its place and its session. Another device that answers is told, and gets no order. Where the door may be at two places, and
+ * another device stands at one of them, that session is let end, and the door is looked for at the other place too. */
 void heed_door(struct door *door, const struct osdp_report *report, uint64_t now);
 
 /* Lets its open session end, by leaving out what the panel says: there is no call for it. So its next session begins at a place that is known, no order goes out
@@ -34,7 +36,7 @@ void write_door(const struct door *door, int port, const struct osdp_burst *burs
 /* Begins a session whose moment has come, at each of its places in turn. The orders that waited are stale. */
 void begin_door(osdp_panel *panel, struct door *door, int port, uint64_t now);
 
-/* Does what a line says: `move 7 9600` gives the device another address and rate, and `accept` takes another device for it. */
+/* Does what a line says: `move 7 9600` gives the device another address and rate, and `accept` takes the other device that was told last for it. */
 void take_line(osdp_panel *panel, struct door *door, const char *line);
 
 #endif

@@ -2,7 +2,9 @@
  * card was read. Each output that is switched on is printed, and so is a card that was too old: `withdrawn`, or `in doubt` where the panel may have it. */
 #include <string.h>
 
+#include "devices.h"
 #include "kept.h"
+#include "osdp_site.h"
 #include "port.h"
 #include "words.h"
 
@@ -22,9 +24,10 @@ int main(void)
 #else
 #define TOO_OLD 30000 /* how long a card may wait while no panel is there, in milliseconds */
 
+/* each device has a serial number of its own, by which a panel knows it; the address is where the device is */
+static struct osdp_device_config config = { .address = 5, .capacity = 64, .gap = 20, .serial = 1, .product.vendor = { 'S', 'I', 'M' } };
 static osdp_device device;
 static int port;
-static uint32_t rate;    /* of the port */
 static const char *kept; /* the file that keeps address and rate, if one is named */
 
 /* An OUT that may not be done is refused before it is answered; one that was confirmed is done. All else is answered as it was set. */
@@ -40,39 +43,26 @@ static void take_out(const struct osdp_message *out, uint32_t order)
     }
 }
 
-/* The device does what it is to do, and then what it says goes out: so an order that is answered was done, also where power is lost in between. */
-static void take_answer(const struct osdp_answer *answer)
+/* Makes the device where it is. */
+static void make_device(void)
 {
-    if (answer->moved) { /* kept before the panel is told, so that it isn't lost with the power */
-        keep(kept, answer->address, has_rate(answer->baud_rate) ? answer->baud_rate : rate);
+    static const uint8_t outputs[2] = { 0, 0 };
+    osdp_status status = osdp_device_new(&device, &config, outputs, 0);
+    if (status != OSDP_OK || osdp_device_set_outputs(&device, outputs, 2) != OSDP_OK) {
+        stop(OUT_OF_MEMORY, "%s", osdp_status_text(status));
+    }
+}
+
+/* The device does what it is to do, and then what it says goes out: so an order that is answered was done, also where power is lost in between. */
+static void take_answer(const struct osdp_answer *answer, uint64_t now)
+{
+    (void)now;
+    if (refuses_rate(&device, answer)) {
+        make_device();
+        return;
     }
     take_out(&answer->command, answer->order);
-    write_all(port, &answer->burst);
-    rate = answer->moved && set_rate(port, answer->baud_rate) ? answer->baud_rate : rate;
-}
-
-/* Hands bytes to the device, until nothing is said to them. */
-static void hear(const uint8_t *bytes, size_t length, uint64_t now)
-{
-    static struct osdp_answer answer;
-    osdp_size at = 0, taken;
-    while (osdp_device_step(&device, bytes + at, length - at, now, &taken, &answer) == OSDP_OK) {
-        at += taken;
-        take_answer(&answer);
-        if (at == length && answer.kind == OSDP_SAID_NONE) {
-            return;
-        }
-    }
-}
-
-/* A card that has waited for too long, while no panel was there, is told to nobody any more: it would open the door when the panel comes back. */
-static void let_go(uint64_t now)
-{
-    static struct osdp_message event;
-    uint32_t expired;
-    while (osdp_device_expire_event(&device, now, TOO_OLD, &expired, &event) == OSDP_OK && expired != OSDP_EXPIRED_NONE) {
-        tell("%s %s\n", expired == OSDP_EXPIRED_WITHDRAWN ? "withdrawn" : "in doubt", reply_text(&event));
-    }
+    send_answer(port, kept, &config, answer);
 }
 
 /* A card of 26 bits was read, where a line says so: it is told to the next POLL. */
@@ -80,7 +70,9 @@ static void take_line(const char *line)
 {
     static struct osdp_raw card = { .format = OSDP_CARD_RAW, .bits = 26, .length = 4 };
     static struct osdp_message event;
-    if (strncmp(line, "card ", 5) == 0 && digits(line + 5, card.bytes, 4) == 4 && osdp_raw(&card, &event) == OSDP_OK && !is_too_old(reply_text(&event))) {
+    if (strncmp(line, "card ", 5) != 0 || digits(line + 5, card.bytes, 4) != 4 || osdp_raw(&card, &event) != OSDP_OK) {
+        (void)tell_refusal(OSDP_BAD_TEXT);
+    } else if (!is_too_old(reply_text(&event))) {
         (void)tell_refusal(osdp_device_event(&device, event.code, event.data, event.length));
     }
 }
@@ -88,31 +80,19 @@ static void take_line(const char *line)
 int main(int count, char **words)
 {
     static struct lines lines;
-    static struct osdp_answer answer;
-    /* each device has a serial number of its own, by which a panel knows it */
-    struct osdp_device_config config = { .address = 5, .capacity = 64, .gap = 20, .serial = 1, .product.vendor = { 'S', 'I', 'M' } };
-    const uint8_t outputs[2] = { 0, 0 };
     uint8_t bytes[4096];
-    words = take_words(&count, words, 2, "door_device [--keep FILE] PORT RATE\n", &kept);
-    rate = number(words[1], "rate");
+    words = take_just(count, words, 2, "door_device [--keep FILE] PORT RATE\n", &kept);
+    uint32_t rate = number(words[1], "rate");
     (void)read_kept(kept, &config.address, &rate);
-    osdp_status status = osdp_device_new(&device, &config, outputs, 0);
-    if (status != OSDP_OK || osdp_device_set_outputs(&device, outputs, 2) != OSDP_OK) {
-        stop(OUT_OF_MEMORY, "%s", osdp_status_text(status));
-    }
+    make_device();
     port = open_port(words[0], rate);
     for (;;) {
         size_t length = read_port(port, &lines, 10, bytes, sizeof bytes);
         uint64_t now = moment(); /* after the read: not before it */
-        (void)osdp_device_set_moment(&device, now); /* also where the program was stopped for more than a day */
-        let_go(now);
-        hear(bytes, length, now);
+        let_go(&device, now, TOO_OLD); /* before anything is heard: so a panel that is back gets no card of long ago */
+        osdp_device_turn(&device, bytes, length, now, take_answer);
         for (const char *line = next_line(&lines); line != NULL; line = next_line(&lines)) {
             take_line(line);
-        }
-        if (osdp_device_tick(&device, now, &answer) == OSDP_OK) {
-            take_answer(&answer);
-            hear(bytes, 0, now);
         }
     }
 }

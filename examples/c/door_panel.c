@@ -56,7 +56,7 @@ int main(int count, char **words)
     struct osdp_panel_config config;
     uint8_t bytes[4096];
     const char *kept = NULL;
-    words = take_words(&count, words, 2, "door_panel [--keep FILE] PORT RATE\n", &kept);
+    words = take_just(count, words, 2, "door_panel [--keep FILE] PORT RATE\n", &kept);
     uint32_t rate = number(words[1], "rate");
     osdp_panel_defaults(&config);
     config.poll_between_orders = 1; /* a card waits for no orders */

@@ -226,17 +226,27 @@ struct place place_of(const struct stand *stand)
     return stand->places[stand->count - 1];
 }
 
+bool is_same_place(struct place one, struct place other)
+{
+    return one.address == other.address && one.rate == other.rate;
+}
+
 void try_place(struct stand *stand, struct place place)
 {
     struct place last = place_of(stand);
-    if (last.address != place.address || last.rate != place.rate) {
+    if (!is_same_place(last, place)) {
         stand->places[0] = last;
         stand->places[stand->count - 1] = place;
     }
 }
 
+bool is_same_device(const struct osdp_pd_id *one, const struct osdp_pd_id *other)
+{
+    return one->serial == other->serial && one->product.model == other->product.model &&
+           memcmp(one->product.vendor, other->product.vendor, sizeof one->product.vendor) == 0;
+}
+
 bool is_same(const struct stand *stand, const struct osdp_pd_id *id)
 {
-    return !stand->is_known || (stand->id.serial == id->serial && stand->id.product.model == id->product.model &&
-                                   memcmp(stand->id.product.vendor, id->product.vendor, sizeof id->product.vendor) == 0);
+    return !stand->is_known || is_same_device(&stand->id, id);
 }

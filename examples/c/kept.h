@@ -51,13 +51,16 @@ void stands_at(struct stand *stand, struct place place);
 /* The place of a device that is in use. */
 struct place place_of(const struct stand *stand);
 
+bool is_same_place(struct place one, struct place other);
+
 /* Takes the place that is in use after the others: of two places each is tried in its turn. */
 void try_place(struct stand *stand, struct place place);
 
 /* Writes to the disk that the folder of a file has that file. The path is cut. */
 void note_folder(char *path);
 
-/* Whether a device is the one that stood here before, as far as that is known. */
+/* Whether two devices are one, by vendor, model and serial number; and whether a device is the one that stood here before, as far as that is known. */
+bool is_same_device(const struct osdp_pd_id *one, const struct osdp_pd_id *other);
 bool is_same(const struct stand *stand, const struct osdp_pd_id *id);
 
 #endif

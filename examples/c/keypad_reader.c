@@ -5,6 +5,7 @@
 #include <stdlib.h>
 #include <string.h>
 
+#include "devices.h"
 #include "kept.h"
 #include "osdp_site.h"
 #include "port.h"
@@ -12,9 +13,10 @@
 
 #define TOO_OLD 30000 /* how long an event may wait while no panel is there, in milliseconds */
 
+static struct osdp_device_config config = { .capacity = 64, .gap = 20, .serial = 1, .product.vendor = { 'S', 'I', 'M' } }; /* the address is where the device is */
+static uint8_t contact[1]; /* the door's: 1 where it is open */
 static osdp_device device;
 static int port;
-static uint32_t rate;    /* of the port */
 static const char *kept; /* the file that keeps address and rate, if one is named */
 static uint64_t relay_ends = UINT64_MAX; /* when the relay goes off; UINT64_MAX while it is off */
 
@@ -24,12 +26,29 @@ static bool may_be_done(const struct osdp_output *record)
     return record->output == 0 && (record->control == OSDP_OUTPUT_OFF || record->control == OSDP_OUTPUT_ON_FOR_A_TIME);
 }
 
+/* Tells the device the states of relay and contact, by which it answers OSTAT and ISTAT. */
+static void tell_states(void)
+{
+    const uint8_t states[1] = { relay_ends != UINT64_MAX };
+    (void)osdp_device_set_outputs(&device, states, 1);
+    (void)osdp_device_set_inputs(&device, contact, 1);
+}
+
 static void switch_relay(bool on, uint64_t ends)
 {
-    const uint8_t states[1] = { on };
     relay_ends = ends;
-    (void)osdp_device_set_outputs(&device, states, 1);
+    tell_states();
     tell("relay %s\n", on ? "on" : "off");
+}
+
+/* Makes the device where it is. */
+static void make_device(void)
+{
+    osdp_status status = osdp_device_new(&device, &config, NULL, 0);
+    if (status != OSDP_OK) {
+        stop(status == OSDP_DEVICE_OUT_OF_RANGE ? BAD_WORDS : OUT_OF_MEMORY, "%s", osdp_status_text(status));
+    }
+    tell_states();
 }
 
 /* However the program ends, the relay goes off: nobody else would switch it. What is told here may fail. */
@@ -52,65 +71,52 @@ static void take_out(const struct osdp_answer *answer, uint64_t now)
     }
 }
 
-/* The device does what it is to do, and then what it says goes out: so an order that is answered was done. A new place is kept before the panel is told. */
+/* The device does what it is to do, and then what it says goes out: so an order that is answered was done. */
 static void take_answer(const struct osdp_answer *answer, uint64_t now)
 {
-    if (answer->moved) {
-        keep(kept, answer->address, has_rate(answer->baud_rate) ? answer->baud_rate : rate);
+    if (refuses_rate(&device, answer)) {
+        make_device();
+        return;
     }
     take_out(answer, now);
     if (answer->order == OSDP_ORDER_ONCE && (answer->command.code == OSDP_LED || answer->command.code == OSDP_BUZ)) {
         tell("%s\n", command_text(&answer->command));
     }
-    write_all(port, &answer->burst);
-    rate = answer->moved && set_rate(port, answer->baud_rate) ? answer->baud_rate : rate;
-}
-
-/* A card that has waited for too long, while no panel was there, would open the door when the panel comes back. */
-static void let_go(uint64_t now)
-{
-    static struct osdp_message event;
-    uint32_t expired;
-    while (osdp_device_expire_event(&device, now, TOO_OLD, &expired, &event) == OSDP_OK && expired != OSDP_EXPIRED_NONE) {
-        tell("%s %s\n", expired == OSDP_EXPIRED_WITHDRAWN ? "withdrawn" : "in doubt", reply_text(&event));
-    }
+    send_answer(port, kept, &config, answer);
 }
 
 /* A card, keys or the contact, by its text: it is told to the next POLL. What the contact is from now on is the answer to ISTAT, also where as many events wait
  * as may. */
 static void take_line(const char *line)
 {
-    uint8_t contact[1];
+    uint8_t state[1];
     if (is_too_old(line)) {
         return;
     }
     osdp_status status = osdp_device_event_text(&device, line, strlen(line));
     (void)tell_refusal(status);
-    if (status != OSDP_BAD_TEXT && strncmp(line, "ISTATR ", 7) == 0 && digits(line + 7, contact, 1) == 1) {
-        (void)osdp_device_set_inputs(&device, contact, 1);
+    if (status != OSDP_BAD_TEXT && strncmp(line, "ISTATR ", 7) == 0 && digits(line + 7, state, 1) == 1) {
+        contact[0] = state[0];
+        tell_states();
     }
 }
 
 int main(int count, char **words)
 {
     static struct lines lines;
-    static const uint8_t closed[1] = { 0 };
     uint8_t bytes[4096];
-    words = take_words(&count, words, 3, "keypad_reader [--keep FILE] PORT RATE ADDRESS\n", &kept);
-    struct osdp_device_config config = { .address = number(words[2], "address"), .capacity = 64, .gap = 20, .serial = 1, .product.vendor = { 'S', 'I', 'M' } };
-    rate = number(words[1], "rate");
+    words = take_just(count, words, 3, "keypad_reader [--keep FILE] PORT RATE ADDRESS\n", &kept);
+    uint32_t rate = number(words[1], "rate");
+    config.address = number(words[2], "address");
     (void)read_kept(kept, &config.address, &rate);
-    osdp_status status = osdp_device_new(&device, &config, NULL, 0);
-    if (status != OSDP_OK || osdp_device_set_inputs(&device, closed, 1) != OSDP_OK) {
-        stop(status == OSDP_DEVICE_OUT_OF_RANGE ? BAD_WORDS : OUT_OF_MEMORY, "%s", osdp_status_text(status));
-    }
+    make_device();
     port = open_port(words[0], rate);
     switch_relay(false, UINT64_MAX); /* the program before this one may have left it on */
     (void)atexit(release);
     for (;;) {
         size_t length = read_port(port, &lines, 10, bytes, sizeof bytes);
         uint64_t now = moment(); /* after the read: not before it */
-        let_go(now); /* before anything is heard: so a panel that is back gets no card of long ago */
+        let_go(&device, now, TOO_OLD); /* before anything is heard: so a panel that is back gets no card of long ago */
         if (relay_ends <= now) {
             switch_relay(false, UINT64_MAX);
         }

@@ -46,10 +46,7 @@ int main(int count, char **words)
 {
     static struct lines lines;
     uint8_t bytes[4096];
-    words = take_words(&count, words, 2, "listen PORT RATE\n", NULL);
-    if (count > 2) {
-        stop(BAD_WORDS, "bad words: --help tells the right ones");
-    }
+    words = take_just(count, words, 2, "listen PORT RATE\n", NULL);
     demand_heard(osdp_monitor_new(&monitor, OSDP_PRINTS_FOUND, 0));
     int port = open_port(words[0], number(words[1], "rate"));
     hear_all();

@@ -88,23 +88,34 @@ static void note_device(struct stand *stand, const struct osdp_pd_id *id)
 bool tell_other(struct known *reader, const struct osdp_report *opened)
 {
     struct stand *stand = reader->stand;
-    (void)osdp_pd_id_of(&opened->reply, &reader->other);
-    reader->is_other = !is_same(stand, &reader->other);
-    if (reader->is_other) {
-        size_t which = (size_t)opened->entry + 1;
-        tell("another device %zu at %u: it gets no order until `%zu accept`\n", which, (unsigned)place_of(stand).address, which);
-    } else if (!stand->is_known) {
-        note_device(stand, &reader->other);
-        try_keep();
+    struct place there = place_of(stand);
+    struct osdp_pd_id id = { 0 };
+    (void)osdp_pd_id_of(&opened->reply, &id);
+    if (is_same(stand, &id)) {
+        reader->is_other = false;
+        if (!stand->is_known) {
+            note_device(stand, &id);
+            try_keep();
+        }
+        return false;
     }
-    return reader->is_other;
+    if (!reader->is_other || !is_same_device(&reader->other, &id) || !is_same_place(reader->there, there)) {
+        size_t which = (size_t)opened->entry + 1;
+        tell("another device %zu at %u: it gets no order until `%zu accept`\n", which, (unsigned)there.address, which);
+    }
+    reader->is_other = true;
+    reader->other = id;
+    reader->there = there;
+    return true;
 }
 
 void reader_opened(struct known *reader, const struct osdp_report *opened)
 {
     reader->state = OPEN;
     reader->refuses = reader->is_told = false;
-    if (!tell_other(reader, opened) && reader->stand->count > 1) {
+    if (tell_other(reader, opened)) {
+        reader->is_left = reader->stand->count > 1;
+    } else if (reader->stand->count > 1) {
         comset_over(reader);
     }
 }
@@ -113,10 +124,10 @@ void allow_other(struct known *reader)
 {
     reader->is_other = false;
     note_device(reader->stand, &reader->other);
-    if (reader->state == OPEN) {
+    if (is_open(reader)) {
         comset_over(reader);
     } else {
-        try_keep(); /* it was found at another rate: where it is, is known once it has come back */
+        try_keep(); /* where it is, is known once its session opens here */
     }
 }
 

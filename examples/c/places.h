@@ -19,8 +19,9 @@ struct known {
     bool refuses;    /* whether it has refused the rate of the others */
     bool is_moving;  /* whether a COMSET to it waits or is under way */
     bool is_told;    /* whether it was told out of reach */
-    bool is_other;   /* whether another device than before has answered there last: it gets no order */
-    struct osdp_pd_id other;
+    bool is_other;   /* whether another device than before has answered last: it gets no order; */
+    struct osdp_pd_id other; /* what that is, */
+    struct place there;      /* and where it stands */
     bool is_left;    /* whether nothing more is said to it, so that its session ends */
 };
 
@@ -44,7 +45,8 @@ size_t reader_at(uint32_t address);
 /* Whether a device that is kept, and isn't in the list, may have an address: it may be on the line still. */
 bool is_kept_apart(uint32_t address);
 
-/* Whether another device than the reader has answered its opening, which is told: it gets no order, unless it is allowed. Else the device is the reader. */
+/* Whether another device than the reader has answered its opening, which is told once while it stands there: it gets no order, unless it is allowed. Else the
+ * device is the reader. One that is allowed is the reader from then on. */
 bool tell_other(struct known *reader, const struct osdp_report *opened);
 void allow_other(struct known *reader);
 
@@ -54,7 +56,8 @@ void leave_reader(struct known *reader);
 /* Whether its session is open, and isn't left. */
 bool is_open(const struct known *reader);
 
-/* Its session is open: it is where it was found, if it is no other device. */
+/* Its session is open: it is where it was found, if it is no other device. Of two places where another device stands at one, that session is let end: the reader is
+ * looked for at the other place. */
 void reader_opened(struct known *reader, const struct osdp_report *opened);
 
 /* Its session has ended, and begins again at a moment. */

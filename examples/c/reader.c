@@ -2,6 +2,7 @@
 #include <stdio.h>
 #include <string.h>
 
+#include "devices.h"
 #include "kept.h"
 #include "port.h"
 #include "words.h"
@@ -18,7 +19,8 @@ static const char usage[] =
     "Each line of standard output is such a line, or what the reader tells. `taken` and a command is for the device to do,\n"
     "once: an OUT is done here. `refused` and a command was answered by a NAK: nothing of it is done. `again` and a command\n"
     "came with number 0, and may come once more: nothing of it is done here. A panel of osdp sends nothing but ID with it.\n"
-    "`moved` is a new address and rate. The file of `--keep` keeps them, before the panel is told, and a reader that starts\n"
+    "`moved` is a new address and rate. A COMSET to a rate that the port hasn't is told `refused` and `no rate`: it isn't\n"
+    "answered, and the reader begins anew where it was. The file of `--keep` keeps them, before the panel is told, and a reader that starts\n"
     "again is there, whatever its words say. Without such a file it is where its words say, and the panel doesn't find it.\n"
     "`not kept` tells that the file couldn't be written.\n"
     "`offline` and `online` tell that the panel went and came. Events that have waited for more than 10 s while it was gone\n"
@@ -38,9 +40,9 @@ struct output {
     uint64_t until;
 };
 
+static struct reader_settings settings = { .config = { .capacity = 64, .gap = 20 } }; /* the address is where the reader is */
 static struct osdp_device reader;
 static int port;
-static uint32_t rate;    /* of the port */
 static const char *kept; /* the file that keeps address and rate, if one is named */
 static struct output outputs[OUTPUTS];
 
@@ -78,16 +80,24 @@ static void switch_outputs(const struct osdp_message *out, uint64_t now)
     tell_outputs(now);
 }
 
-/* Sets the port to the rate of a COMSET, once what was sent has gone out. It keeps its rate where it hasn't that one. */
-static void move_to(uint32_t address, uint32_t new_rate)
+/* Makes the reader where it is. */
+static void make_reader(void)
 {
-    tell("moved %u %u\n", (unsigned)address, (unsigned)new_rate);
-    if (set_rate(port, new_rate)) {
-        rate = new_rate;
-    } else {
-        tell("no rate %u\n", (unsigned)new_rate);
-        keep(kept, address, rate);
+    osdp_status status = osdp_device_new(&reader, &settings.config, settings.capabilities, settings.length);
+    if (status == OSDP_DEVICE_NO_MEMORY) {
+        stop(OUT_OF_MEMORY, "out of memory");
     }
+    if (status != OSDP_OK) {
+        stop(BAD_WORDS, "a setting is out of its range");
+    }
+}
+
+/* Makes the reader anew where it was. What `inputs`, `readers`, `local` and `busy` have set is gone. */
+static void begin_anew(uint64_t now)
+{
+    make_reader();
+    (void)osdp_device_set_moment(&reader, now);
+    tell_outputs(now);
 }
 
 /* Does what the reader is to do, and then sends what it says: so an order that is answered was done, also where power is lost in between. Where the reader
@@ -95,8 +105,12 @@ static void move_to(uint32_t address, uint32_t new_rate)
 static void act(const struct osdp_answer *answer, uint64_t now)
 {
     static const char *const names[] = { "", "taken", "again", "refused" };
-    if (answer->moved) {
-        keep(kept, answer->address, has_rate(answer->baud_rate) ? answer->baud_rate : rate);
+    if (answer->moved && !has_rate(answer->baud_rate)) {
+        tell("refused %s\n", command_text(&answer->command));
+    }
+    if (refuses_rate(&reader, answer)) {
+        begin_anew(now);
+        return;
     }
     if (answer->order != OSDP_ORDER_NONE && answer->order != OSDP_ORDER_PENDING) { /* what is pending is answered as it was set beforehand */
         tell("%s %s\n", names[answer->order & 3], command_text(&answer->command));
@@ -104,9 +118,9 @@ static void act(const struct osdp_answer *answer, uint64_t now)
     if (answer->order == OSDP_ORDER_ONCE && answer->command.code == OSDP_OUT) {
         switch_outputs(&answer->command, now);
     }
-    write_all(port, &answer->burst);
+    send_answer(port, kept, &settings.config, answer);
     if (answer->moved) {
-        move_to(answer->address, answer->baud_rate);
+        tell("moved %u %u\n", (unsigned)answer->address, (unsigned)answer->baud_rate);
     }
 }
 
@@ -170,15 +184,12 @@ static void take_lines(struct lines *lines)
 static void look(uint64_t now)
 {
     static bool was_gone = true; /* no panel has been there yet */
-    static struct osdp_message event;
-    uint32_t gone, expired;
+    uint32_t gone;
     if (osdp_device_is_offline(&reader, now, &gone) == OSDP_OK && (gone != 0) != was_gone) {
         was_gone = !was_gone;
         tell(was_gone ? "offline\n" : "online\n");
     }
-    while (osdp_device_expire_event(&reader, now, TOO_OLD, &expired, &event) == OSDP_OK && expired != OSDP_EXPIRED_NONE) {
-        tell("%s %s\n", expired == OSDP_EXPIRED_WITHDRAWN ? "withdrawn" : "in doubt", reply_text(&event));
-    }
+    let_go(&reader, now, TOO_OLD);
 }
 
 /* Waits for bytes and for lines, and hands them to the reader. */
@@ -203,20 +214,13 @@ static void turn(struct lines *lines)
 int main(int count, char **words)
 {
     static struct lines lines;
-    static struct reader_settings settings = { .config = { .capacity = 64, .gap = 20 } };
     words = take_words(&count, words, 2, usage, &kept);
     for (int i = 2; i < count; i += 2) {
         set_reader(&settings, words[i], words[i + 1]);
     }
-    rate = number(words[1], "rate");
+    uint32_t rate = number(words[1], "rate");
     (void)read_kept(kept, &settings.config.address, &rate);
-    osdp_status status = osdp_device_new(&reader, &settings.config, settings.capabilities, settings.length);
-    if (status == OSDP_DEVICE_NO_MEMORY) {
-        stop(OUT_OF_MEMORY, "out of memory");
-    }
-    if (status != OSDP_OK) {
-        stop(BAD_WORDS, "a setting is out of its range");
-    }
+    make_reader();
     port = open_port(words[0], rate);
     for (;;) {
         turn(&lines);

@@ -66,6 +66,15 @@ static void settled(const struct osdp_report *report)
     ended(how, &report->reply);
 }
 
+/* An answer can't be read. What became of an order that it answers nobody knows; there is none where it answers a POLL. */
+static void unread(const struct osdp_report *report)
+{
+    tell("unread code %02X\n", (unsigned)report->detail);
+    if (report->command.present) {
+        ended("doubt", NULL);
+    }
+}
+
 /* A session has ended. Orders of long ago open no door: those that wait are taken back. */
 static void lost(const struct osdp_report *report, uint64_t now)
 {
@@ -111,8 +120,8 @@ static void take_reports(uint64_t now)
     while (osdp_panel_next_report(&panel, &report) == OSDP_OK && report.kind != OSDP_REPORT_NONE) {
         if (report.kind == OSDP_REPORT_SETTLED) {
             settled(&report);
-        } else if (report.kind == OSDP_REPORT_UNREAD && report.command.present) { /* none where a POLL was answered so */
-            ended("doubt", NULL);
+        } else if (report.kind == OSDP_REPORT_UNREAD) {
+            unread(&report);
         } else if (report.kind == OSDP_REPORT_EVENT) {
             take_event(&report);
         } else if (report.kind == OSDP_REPORT_LOST || report.kind == OSDP_REPORT_MOVED) {
@@ -120,7 +129,7 @@ static void take_reports(uint64_t now)
         } else {
             tell_report(&report);
         }
-        if (report.kind == OSDP_REPORT_OPENED) {
+        if (report.kind == OSDP_REPORT_OPENED || report.kind == OSDP_REPORT_UNREAD) {
             ask();
         }
     }
@@ -178,7 +187,7 @@ int main(int count, char **words)
 {
     static struct lines lines;
     struct osdp_panel_config config;
-    words = take_words(&count, words, 3, "stored_panel JOURNAL PORT RATE\n", NULL);
+    words = take_just(count, words, 3, "stored_panel JOURNAL PORT RATE\n", NULL);
     uint32_t rate = number(words[2], "rate");
     osdp_panel_defaults(&config);
     config.capacity = ORDERS;

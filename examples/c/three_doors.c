@@ -121,7 +121,7 @@ int main(int count, char **words)
     static struct lines lines;
     static struct osdp_burst burst;
     uint8_t bytes[4096];
-    words = take_words(&count, words, 2, "three_doors PORT RATE\n", NULL);
+    words = take_just(count, words, 2, "three_doors PORT RATE\n", NULL);
     osdp_status status = make(moment());
     if (status != OSDP_OK) {
         stop(OUT_OF_MEMORY, "%s", osdp_status_text(status));

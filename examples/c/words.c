@@ -67,6 +67,15 @@ char **take_words(int *count, char **words, int least, const char *usage, const 
     return words;
 }
 
+char **take_just(int count, char **words, int many, const char *usage, const char **kept)
+{
+    words = take_words(&count, words, many, usage, kept);
+    if (count != many) {
+        stop(BAD_WORDS, "bad words: --help tells the right ones");
+    }
+    return words;
+}
+
 typedef osdp_status text_call(uint8_t, const uint8_t *, osdp_size, char *, osdp_size, osdp_size *);
 
 static const char *text_of(text_call *call, const struct osdp_message *message)

@@ -22,6 +22,9 @@ void set_reader(struct reader_settings *settings, const char *name, const char *
  * usage. Ends the program where the words are others. `kept` gets the file of `--keep`, if that is named; it is NULL where there is no such option. */
 char **take_words(int *count, char **words, int least, const char *usage, const char **kept);
 
+/* The same for a program without settings: there are just so many words. */
+char **take_just(int count, char **words, int many, const char *usage, const char **kept);
+
 /* The number that a word is; ends the program where it is none. */
 uint32_t number(const char *word, const char *what);
 

@@ -6,8 +6,8 @@
 
 enum { ADDRESS = 5, RATE = 9600, EVENTS = 4, KEY_BYTES = 4, TOO_OLD = 30000 }; /* an event of one key has four bytes */
 
+static struct osdp_device_config config = { ADDRESS, EVENTS, 20, 1, 0, { { 'S', 'I', 'M' }, 1, 1, 0, 1, 0 } }; /* the address is where the device is */
 static osdp_device device;
-static uint32_t rate = RATE; /* of the line */
 static uint64_t relay_ends = UINT64_MAX; /* when the relay goes off; UINT64_MAX while it is off */
 
 static void switch_relay(bool on, uint64_t ends)
@@ -38,18 +38,32 @@ static void take_out(const struct osdp_answer *answer, uint64_t now)
     }
 }
 
-/* The device does what it is to do, and then what it says goes out: so an order that is answered was done. A new address is kept before the panel is told. Where
- * the line can't have the rate of a COMSET, it keeps its own. */
+/* Makes the device where it is. */
+static bool make_device(void)
+{
+    static const struct osdp_capability capabilities[] = { { OSDP_FUNCTION_OUTPUT_CONTROL, 1, 1 }, { OSDP_FUNCTION_CHECK_CHARACTERS, 1, 0 } };
+    const uint8_t states[1] = { relay_ends != UINT64_MAX };
+    return osdp_device_new_with_room(&device, &config, (const uint8_t *)capabilities, sizeof capabilities, EVENTS * KEY_BYTES) == OSDP_OK &&
+           osdp_device_set_outputs(&device, states, 1) == OSDP_OK;
+}
+
+/* The device does what it is to do, and then what it says goes out: so an order that is answered was done. A new address is kept before the panel is told. A COMSET
+ * to a rate that the line can't have isn't answered, and the device is made anew where it was: the panel finds it there. The keys that wait are gone then. */
 static void take_answer(const struct osdp_answer *answer, uint64_t now)
 {
+    if (answer->moved && !board_has_rate(answer->baud_rate)) {
+        (void)osdp_device_free(&device);
+        (void)make_device(); /* the pool has the room that the one before has left */
+        return;
+    }
     if (answer->moved) {
-        rate = board_has_rate(answer->baud_rate) ? answer->baud_rate : rate;
-        board_keep(answer->address, rate);
+        board_keep(answer->address, answer->baud_rate);
+        config.address = answer->address;
     }
     take_out(answer, now);
     board_write(answer->burst.bytes, answer->burst.length);
     if (answer->moved) {
-        board_set_rate(rate);
+        board_set_rate(answer->baud_rate);
     }
 }
 
@@ -87,11 +101,10 @@ static void let_go(uint64_t now)
 int main(void)
 {
     static uint8_t bytes[256];
-    struct osdp_device_config config = { ADDRESS, EVENTS, 20, 1, 0, { { 'S', 'I', 'M' }, 1, 1, 0, 1, 0 } };
-    static const struct osdp_capability capabilities[] = { { OSDP_FUNCTION_OUTPUT_CONTROL, 1, 1 }, { OSDP_FUNCTION_CHECK_CHARACTERS, 1, 0 } };
+    uint32_t rate = RATE; /* of the line */
     (void)board_kept(&config.address, &rate);
     board_set_rate(rate);
-    if (osdp_device_new_with_room(&device, &config, (const uint8_t *)capabilities, sizeof capabilities, EVENTS * KEY_BYTES) != OSDP_OK) {
+    if (!make_device()) {
         board_show("no memory\n");
         return 1;
     }

@@ -4,11 +4,13 @@ import os
 import select
 import signal
 import sys
+import threading
 import time
 
 from .faults import FAILED, Stop
 
 LONGEST = 8192  # how many characters a line has at most
+STUCK = 0.3  # how many seconds after Ctrl-C what is printed may wait for whoever reads it
 
 
 def write_all(end, data):
@@ -32,20 +34,55 @@ class Console:
     def __init__(self, has_times=True):
         self.has_times = has_times
         self.rest, self.is_over = b"", sys.stdin is None
-        self.stops = 0  # how often Ctrl-C was typed
+        self.stops, self.stopped_at = 0, 0.0  # how often Ctrl-C was typed, and when first
+        self.printing = {}  # since when each thread waits until what it prints is read
+        self.is_handing = False  # whether the main thread waits until a program beside takes what it is handed
         self.wakes, self.woken = os.pipe()
         for number in (signal.SIGINT, signal.SIGTERM):
             signal.signal(number, self.stopped)
+        signal.signal(signal.SIGALRM, self.looks)
         signal.signal(signal.SIGTTIN, signal.SIG_IGN)  # in the background of a terminal it would stand still once a key is pressed there
 
     def stopped(self, number, _):
         """Ctrl-C: the first one ends the program as soon as all is told, and the second one at once. After that no more is told by a further one."""
         self.stops += 1
+        self.stopped_at = self.stopped_at or time.monotonic()
+        signal.setitimer(signal.ITIMER_REAL, STUCK / 3, STUCK / 3)
         os.write(self.woken, b"x")
         if self.stops > 2:
             os._exit(128 + number)
         if self.stops > 1:
             raise Stop("", 128 + number)
+
+    def is_stuck(self):
+        """Whether Ctrl-C was typed, and nobody reads what is printed."""
+        return self.stops > 0 and any(time.monotonic() - max(since, self.stopped_at) > STUCK for since in list(self.printing.values()))
+
+    def looks(self, *_):
+        """After Ctrl-C this is called again and again. Where nobody reads what is printed, the main thread waits for it no more."""
+        if self.is_stuck() and (self.is_handing or threading.get_ident() in self.printing):
+            self.gives_up()
+
+    @staticmethod
+    def gives_up():
+        """Nobody reads what is printed: the program ends, and what is left isn't told."""
+        raise Stop("nobody reads standard output: what was left isn't told")
+
+    def puts(self, end, data):
+        """Writes to standard output or standard error."""
+        self.printing[threading.get_ident()] = time.monotonic()
+        try:
+            write_all(end, data)
+        finally:
+            del self.printing[threading.get_ident()]
+
+    def hands(self, end, data):
+        """Hands data to a program beside, whose lines another thread prints."""
+        self.is_handing = True
+        try:
+            write_all(end, data)
+        finally:
+            self.is_handing = False
 
     def wake(self):
         """Ends the program as Ctrl-C does, from another thread."""
@@ -55,6 +92,7 @@ class Console:
     @staticmethod
     def ends():
         """All was told: nothing is left that Ctrl-C could end."""
+        signal.setitimer(signal.ITIMER_REAL, 0)
         for number in (signal.SIGINT, signal.SIGTERM):
             signal.signal(number, signal.SIG_IGN)
 
@@ -62,10 +100,9 @@ class Console:
         """Prints a line at once, with this moment."""
         self.raw(f"{stamp()} {line}" if self.has_times else line)
 
-    @staticmethod
-    def raw(line):
+    def raw(self, line):
         try:
-            write_all(1, f"{line}\n".encode(errors="backslashreplace"))
+            self.puts(1, f"{line}\n".encode(errors="backslashreplace"))
         except BrokenPipeError:
             raise Stop("", FAILED) from None
         except OSError:
@@ -74,9 +111,12 @@ class Console:
     def note(self, line):
         """Prints a line that isn't of what was asked, on standard error."""
         try:
-            write_all(2, f"osdp-port: {line}\n".encode(errors="backslashreplace"))
+            self.puts(2, f"osdp-port: {line}\n".encode(errors="backslashreplace"))
         except OSError:
             pass  # nobody reads it
+        except Stop as stop:
+            if stop.status != FAILED:  # else nobody reads it either
+                raise
 
     def lines(self):
         """The lines that have come. The last one needs no line feed. One that is no text comes as None."""

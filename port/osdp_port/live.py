@@ -2,6 +2,7 @@
 import atexit
 import contextlib
 import re
+import select
 import shutil
 import sys
 import threading
@@ -27,7 +28,8 @@ def is_terminal():
 
 def shows_cursor():
     with contextlib.suppress(OSError):
-        write_all(1, SHOW.encode())
+        if select.select([], [1], [], 0)[1]:  # a terminal that takes nothing isn't waited for
+            write_all(1, SHOW.encode())
 
 
 def is_other(line, address):
@@ -82,7 +84,7 @@ class Live(Stream):
         self.lock = threading.Lock()
         super().__init__(osdp, ["monitor", "--raw", "--every", str(words.get("--every", 1)), *(["--packets"] if words.get("--all") else [])], console)
         atexit.register(shows_cursor)  # however it ends
-        write_all(1, (HIDE + CLEAR).encode())
+        console.puts(1, (HIDE + CLEAR).encode())
 
     def write(self, data):
         if data:
@@ -139,7 +141,7 @@ class Live(Stream):
 
     def draw(self):
         self.drawn = time.monotonic()
-        write_all(1, (HOME + "".join(f"{line}{LINE_END}\n" for line in self.lines()) + REST).encode())
+        self.console.puts(1, (HOME + "".join(f"{line}{LINE_END}\n" for line in self.lines()) + REST).encode())
 
     def ends(self):
         """The input has ended: the last table stays, and what was told last."""
@@ -148,4 +150,4 @@ class Live(Stream):
         finally:
             with self.lock:
                 table = self.tables[-1].lines if self.tables else []
-            write_all(1, (HOME + REST + SHOW + "".join(f"{line}\n" for line in [*list(self.told)[-20:], *table])).encode())
+            self.console.puts(1, (HOME + REST + SHOW + "".join(f"{line}\n" for line in [*list(self.told)[-20:], *table])).encode())

@@ -87,9 +87,8 @@ def panel(words, port, console, osdp, kept, devices):
 def reader(words, port, console, osdp, kept, place):
     ends = taps(words, port, console, osdp)
     settings = [*ABSENT, *words.rest[1:]]
-    program = Lines(osdp, ["reader", *settings, "address", str(place[0])])
     console.say(f"reader at {port.path} {port.rate}: address {place[0]}; settings {' '.join(settings)}")
-    machine = Reader(port, program, moment, console.say, kept)
+    machine = Reader(port, lambda address: Lines(osdp, ["reader", *settings, "address", str(address)]), place[0], moment, console.say, kept)
     return runs(machine, port, console, ends)
 
 

@@ -6,7 +6,7 @@ from .rounds import PAUSE, Entry, Place, Rounds
 # What the panel's words may set otherwise. A device may be busy for some 0.8 s, and an exchange ends within 3.8 s; and a device is asked for its cards between two orders.
 SETTINGS = ("busy-limit", "4", "busy-wait", "200", "poll-between-orders", "on")
 POLL = 0x60
-HEALS = 2  # how often a device at another rate than the line's is given a COMSET for it
+HEALS = 2  # how often a device at another rate than the line's is given a COMSET for it, until it counts as one that refuses it
 MOST = 16  # devices of a line
 FAULTS = {"line": "osdp doesn't read this command: man osdp-panel has them", "B3": "that address is another device's, or may be",
           "B5": "an address is 0 to 126", "C3": "as many orders as may wait do so already", "C4": "osdp itself sends POLL"}
@@ -19,7 +19,9 @@ class Device(Entry):
         super().__init__(number, name, places)
         self.identity = identity  # vendor, model and serial number of the device that stood here
         self.is_asked = False  # whether the packet that went out to it last was a POLL
-        self.other = None  # those of another one that stands here now, and gets no order
+        self.other = None  # those of another one that was met last, and gets no order
+        self.other_place = None  # where that one stands
+        self.is_left = False  # whether nothing more is said to it, so that its session ends
         self.heals = 0
         self.move = None  # a COMSET that waits here until no other order does, since `osdp` reserves no address for one that it holds back
 
@@ -85,9 +87,9 @@ class Panel:
         return told
 
     def send(self, burst):
-        """Writes a packet, at the rate of its device alone: at another one it would be noise."""
+        """Writes a packet, at the rate of its device alone: at another one it would be noise. None goes to a device whose session is let end."""
         for device in self.devices:
-            if device.address == burst[1] & 0x7F and device.place.rate == self.port.rate:
+            if device.address == burst[1] & 0x7F and device.place.rate == self.port.rate and not device.is_left:
                 self.port.write(burst)
                 device.is_asked = burst[5] == POLL
 
@@ -101,7 +103,7 @@ class Panel:
             if words[0] != "refused":
                 self.say(line)
             return
-        rest = words[at + 1:]
+        rest = ["left"] if name == "lost" and device.is_left else words[at + 1:]
         shown = cards.shown(rest) if name in ("event", "maybe-again") else ""
         self.say(" ".join([*words[:at], str(device.address), *rest]) + shown)
         does = getattr(self, f"heed_{name}", None)
@@ -109,9 +111,13 @@ class Panel:
             does(device, rest)
 
     def heed_opened(self, device, words):
-        device.session, device.sought, device.is_given_up = "open", 0, False
-        device.stands(device.place)
+        device.session = "open"
         self.recognize(device, (words[1], words[2], words[4]))
+        if device.other and device.is_in_doubt():
+            device.is_left = True  # it may be at another of its places, and is sought on
+            return
+        device.sought, device.is_given_up = 0, False
+        device.stands(device.place)
         self.keep()
         self.gather(device)
 
@@ -163,7 +169,7 @@ class Panel:
 
     def close(self, device, pause):
         """A session has ended: the orders that wait are stale, and are taken back."""
-        device.session, device.begins = "closed", self.clock() + pause
+        device.session, device.begins, device.is_left = "closed", self.clock() + pause, False
         self.takes_back_move(device)
         while self.call(f"withdraw {device.number}"):
             pass
@@ -178,21 +184,30 @@ class Panel:
     # which device it is
 
     def recognize(self, device, identity):
-        """Compares a device with the one that stood there."""
-        device.other = None
+        """Compares a device with the one that stood there. Another one is told once while it stands there."""
+        told, device.other = (device.other, device.other_place), None
         if device.identity is None:
             device.identity = identity
         elif device.identity != identity:
-            device.other = identity
+            device.other, device.other_place = identity, device.place
+            if told == (identity, device.place):
+                return
             self.say(f"another device at {device.address}: vendor {identity[0]} model {identity[1]} serial {identity[2]} stands where vendor "
                      f"{device.identity[0]} model {device.identity[1]} serial {device.identity[2]} stood; it gets no order until you type: {device.address} accept")
 
-    def accept(self, device):
-        if device.other is None:
-            raise Refused(f"device {device.address} is the one that stood there")
+    def other_at(self, word):
+        """The device in whose place another one was met last, by the address where that stands."""
+        for device in self.devices:
+            if device.other and word == str(device.other_place.address):
+                return device
+        device = self.device_at(word)
+        raise Refused(f"device {device.address} is the one that stood there")
+
+    def accept(self, word):
+        device = self.other_at(word)
         device.identity, device.other = device.other, None
-        self.keep()
-        self.say(f"accepted {device.address}")
+        self.keep()  # of several places it is known which it is once its session opens again
+        self.say(f"accepted {word}")
 
     # one rate for the line
 
@@ -209,7 +224,7 @@ class Panel:
             return
         device.heals += 1
         if device.heals > HEALS:
-            self.gives_up(device)
+            self.refuses_rate(device)  # it answers here again and again, and goes nowhere
         else:
             self.submit(device, f"COMSET {device.address} {self.goal}")
 
@@ -249,10 +264,10 @@ class Panel:
             return
         if not words:
             return
-        device = self.device_at(words[0])
         if words[1:] == ["accept"]:
-            self.accept(device)
+            self.accept(words[0])
             return
+        device = self.device_at(words[0])
         text = doors.command(words[1:], device.place)
         self.may_take(device, text.split())
         if not self.submit(device, text) or not text.startswith("COMSET "):

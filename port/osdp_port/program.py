@@ -54,9 +54,12 @@ class Stream:
 
     def write(self, data):
         try:
-            write_all(self.process.stdin.fileno(), data)
+            self.console.hands(self.process.stdin.fileno(), data)
         except OSError:
             pass  # it has ended, and its status tells
+        except Stop:
+            self.process.kill()  # else it tells that its output is closed
+            raise
 
     def read(self):
         """Hands on each line. Where it can't be printed, or no line comes any more, the program ends, as the main thread is told."""
@@ -77,7 +80,11 @@ class Stream:
             self.process.stdin.close()
         except OSError:
             pass
-        self.thread.join()
+        while self.thread.is_alive():
+            self.thread.join(0.05)
+            if self.console.is_stuck():
+                self.process.kill()
+                self.console.gives_up()
         if self.stop:
             self.process.kill()
             raise self.stop

@@ -32,20 +32,36 @@ def call_of(line):
     return line if words else ""
 
 
-class Reader:
-    """The reader. `port` writes bursts and has a rate, `clock` tells the moment, and `say` prints a line."""
+STATES = ("busy", "inputs", "readers", "local")  # calls that hold until the next one of their name
 
-    def __init__(self, port, program, clock, say, kept=None):
-        self.port, self.program, self.clock, self.say, self.kept = port, program, clock, say, kept
+
+class Reader:
+    """The reader. `port` writes bursts and has a rate, `starts` gives the program `osdp reader` at an address, `clock` tells the moment, and `say` prints a line."""
+
+    def __init__(self, port, starts, address, clock, say, kept=None):
+        self.port, self.starts, self.address, self.clock, self.say, self.kept = port, starts, address, clock, say, kept
+        self.program = starts(address)
         self.outputs = Outputs(clock)
         self.told = None  # what the program was told of them
+        self.states, self.events = {}, []  # the calls that hold, by their names, and those of the events that wait
         self.met = 0
         self.unkept = None  # why the place isn't in the file
         self.tell_outputs()
 
+    def note(self, line, answer, waiting):
+        """Notes a call that was taken: the program that starts anew is to be told it again. The oldest events leave first."""
+        name = line.split()[0]
+        if not any(each.startswith("refused ") for each in answer):
+            if name in STATES:
+                self.states[name] = line
+            if name == "event":
+                self.events.append(line)
+        self.events = self.events[len(self.events) - waiting:]
+
     def call(self, line):
         """Hands `osdp reader` a line, and does what its answer says. Each answer to the panel goes out after what it confirms was done."""
-        answer = self.program.call(line)[:-1]
+        *answer, last = self.program.call(line)
+        self.note(line, answer, int(last.split()[1]))
         groups = [(None, [])]
         for each in answer:
             if each.startswith("send "):
@@ -53,14 +69,38 @@ class Reader:
             else:
                 groups[-1][1].append(each)
         for burst, told in groups:
-            moved = [self.heed(each, burst) for each in told]
+            place = self.place_of(told)
+            if place and not self.port.can_have(place.rate):
+                self.stays(place)
+                return
+            for each in told:
+                self.heed(each, burst)
+            if place:
+                self.keep(place)  # before the panel is told
             if burst is not None:
                 self.port.write(burst)
-            for place in filter(None, moved):
-                self.move(place)
+            if place:
+                self.address = place.address
+                self.port.set_rate(place.rate)
+
+    @staticmethod
+    def place_of(told):
+        """The place to which a COMSET sends the reader; none where nothing of that is told."""
+        return next((Place(*map(int, each.split()[1:])) for each in told if each.startswith("moved ")), None)
+
+    def stays(self, place):
+        """A COMSET to a rate that the port hasn't isn't answered, since nobody would find the reader there. The program starts anew where the reader is, as after a
+        loss of power. So the panel loses the session, and finds the reader there. The events that wait are told in the next session."""
+        self.say(f"refused COMSET {place}: the port has no rate {place.rate}; the reader stays at {self.address} {self.port.rate}, and its session ends")
+        self.program.close()
+        self.program, self.told = self.starts(self.address), None
+        calls, self.events = [*self.states.values(), *self.events], []
+        for line in [f"at {self.clock()}", *calls]:
+            self.call(line)
+        self.tell_outputs()
 
     def heed(self, line, burst):
-        """Prints what was told, and does it. The place to go to, once the answer has gone out."""
+        """Prints what was told, and does it."""
         name, *words = line.split()
         if name in ("taken", "again") and burst is not None and burst[5] == NAK:
             name = "refused"
@@ -70,25 +110,12 @@ class Reader:
         if name == "taken" and words[0] == "OUT":
             self.outputs.switch(words[1:])
             self.tell_outputs()
-        if name == "moved":
-            address, rate = map(int, words)
-            self.keep(Place(address, rate if self.port.may_have(rate) else self.port.rate))
-            return Place(address, rate)
-        return None
 
     def keep(self, place):
-        """Keeps where the reader is from now on: before the panel is told."""
+        """Keeps where the reader is from now on."""
         self.unkept = self.kept.keep(place) if self.kept else None
         if self.unkept:
             self.say(f"not kept {place}: {self.unkept}")
-
-    def move(self, place):
-        """Sets the port to the rate of a COMSET, once what was sent has gone out. Where the port doesn't take that one it stays, and so does what is kept."""
-        if self.port.set_rate(place.rate):
-            return
-        self.say(f"no rate {place.rate}")
-        if self.port.may_have(place.rate):
-            self.keep(Place(place.address, self.port.rate))
 
     def tell_outputs(self):
         """Tells the program which outputs are on, where that has changed: by it OSTAT is answered."""

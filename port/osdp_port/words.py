@@ -108,6 +108,8 @@ class Words:
         if most is not None and len(self.rest) > most:
             bad(f"word {most + 4}, {self.rest[most]}: nothing more stands there")
 
+        if self.command == "panel" and self.rest[1:] and is_number(self.rest[1], 0, 126):
+            bad(f"word 5, {self.rest[1]}: a setting's name; several addresses are one word, as {self.rest[0]},{self.rest[1]}")
         if self.command == "test":
             self.is_test()
 

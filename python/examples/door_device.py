@@ -9,10 +9,13 @@ from pathlib import Path
 HERE = Path(__file__).resolve().parent
 sys.path[:0] = [str(HERE.parent), str(HERE.parent.parent / "examples")]
 
-import osdp  # noqa: E402
+try:
+    import osdp  # noqa: E402
+except ImportError as error:
+    sys.exit(str(error))
 from kept import take_kept  # noqa: E402
 from lines import BAD_WORDS, Lines, moment, number, stop, take_words, tell  # noqa: E402
-from port import Port, has_rate  # noqa: E402
+from port import Port  # noqa: E402
 
 OUT = 0x68
 OFF, ON_FOR_A_TIME = 1, 5
@@ -34,8 +37,13 @@ class Door:
     """The device at its port."""
 
     def __init__(self, path, rate, kept):
-        (address, self.rate), self.kept = kept.read() or (5, rate) if kept.path else (5, rate), kept
-        self.port, self.device = Port(path, self.rate), osdp.Device(address, vendor=b"SIM", serial=1)
+        (self.address, rate), self.kept = kept.read() or (5, rate) if kept.path else (5, rate), kept
+        self.port = Port(path, rate)
+        self.starts()
+
+    def starts(self):
+        """Makes the device where it is."""
+        self.device = osdp.Device(self.address, vendor=b"SIM", serial=1)
         self.device.set_outputs(bytes(2))
 
     def take(self, answers):
@@ -43,26 +51,29 @@ class Door:
         for answer in answers:
             if answer.order is osdp.Order.PENDING and not all(may_be_done(*each) for each in records(answer.command)):
                 self.device.answer_refused(NOT_PROCESSED)
-            if answer.moved:
-                self.keep(answer.moved[0], answer.moved[1] if has_rate(answer.moved[1]) else self.rate)  # before the panel is told
+            if answer.moved and not self.port.can_have(answer.moved[1]):
+                self.starts_anew(answer.moved[1])
+                return
+            if answer.moved and not self.kept.keep(*answer.moved):  # before the panel is told
+                tell(f"not kept {answer.moved[0]} {answer.moved[1]}")
             if answer.order is osdp.Order.ONCE:
                 for output, control in records(answer.command):
                     if control == ON_FOR_A_TIME:
                         tell(f"on {output}")
             self.port.write(answer.data)
             if answer.moved:
-                self.move(*answer.moved)
+                self.address = answer.moved[0]
+                self.port.set_rate(answer.moved[1])
 
-    def keep(self, address, rate):
-        if not self.kept.keep(address, rate):
-            tell(f"not kept {address} {rate}")
-
-    def move(self, address, rate):
-        """Sets the port to another rate. One that it doesn't take isn't kept."""
-        if self.port.set_rate(rate):
-            self.rate = rate
-        else:
-            self.keep(address, self.rate)
+    def starts_anew(self, rate):
+        """A COMSET to a rate that the port hasn't isn't answered, since nobody would find the device there. It is made anew where it was, as after a loss of power."""
+        tell(f"no rate {rate}")
+        while event := self.device.lapse_event():
+            tell(f"in doubt {event}")
+        while event := self.device.withdraw_event():
+            tell(f"withdrawn {event}")
+        self.device.close()
+        self.starts()
 
     def take_line(self, line):
         """A card of 26 bits was read, where a line says so: it is told to the next POLL."""

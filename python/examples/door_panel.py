@@ -8,7 +8,10 @@ from pathlib import Path
 HERE = Path(__file__).resolve().parent
 sys.path[:0] = [str(HERE.parent), str(HERE.parent.parent / "examples")]
 
-import osdp  # noqa: E402
+try:
+    import osdp  # noqa: E402
+except ImportError as error:
+    sys.exit(str(error))
 from lines import BAD_WORDS, Lines, moment, number, stop, take_words, tell  # noqa: E402
 from port import Port  # noqa: E402
 

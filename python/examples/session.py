@@ -5,7 +5,10 @@ from pathlib import Path
 
 sys.path.insert(0, str(Path(__file__).resolve().parent.parent))
 
-import osdp  # noqa: E402
+try:
+    import osdp  # noqa: E402
+except ImportError as error:
+    sys.exit(str(error))
 
 
 def exchange(panel, device, now):

@@ -12,7 +12,10 @@ from pathlib import Path
 HERE = Path(__file__).resolve().parent
 sys.path[:0] = [str(HERE.parent), str(HERE.parent.parent / "examples")]
 
-import osdp  # noqa: E402
+try:
+    import osdp  # noqa: E402
+except ImportError as error:
+    sys.exit(str(error))
 from journal import Journal  # noqa: E402
 from lines import BAD_WORDS, Lines, moment, number, stop, take_words, tell  # noqa: E402
 from port import Port  # noqa: E402
@@ -101,15 +104,17 @@ class Door:
         for report in self.panel.reports():
             if report.kind is osdp.Kind.SETTLED:
                 self.ended(f"settled {report.reply}", report.reply)
-            elif report.kind is osdp.Kind.UNREAD and report.command:  # none where a POLL was answered so
-                self.ended("doubt", None)
+            elif report.kind is osdp.Kind.UNREAD:
+                tell(f"unread code {report.code:02X}")
+                if report.command:  # none where a POLL was answered so
+                    self.ended("doubt", None)
             elif report.kind is osdp.Kind.EVENT:
                 self.event(report)
             elif report.kind in (osdp.Kind.LOST, osdp.Kind.MOVED):
                 self.lost(report, now)
             else:
                 tell(f"{report.kind.name.lower()} {report.reply or ''}".strip())
-            if report.kind is osdp.Kind.OPENED:
+            if report.kind in (osdp.Kind.OPENED, osdp.Kind.UNREAD):
                 self.ask()
 
     def begin(self, now):

@@ -184,6 +184,8 @@ TAKES = {
     "osdp_device_is_closed": (DEVICE, NUMBER),
     "osdp_device_is_offline": (DEVICE, c_uint64, NUMBER),
     "osdp_device_expire_event": (DEVICE, c_uint64, c_uint64, NUMBER, MESSAGE),
+    "osdp_device_withdraw_event": (DEVICE, MESSAGE),
+    "osdp_device_lapse_event": (DEVICE, MESSAGE),
     "osdp_device_step_nonnull": (DEVICE, c_char_p, c_size_t, c_uint64, SIZE, ANSWER),
     "osdp_device_tick": (DEVICE, c_uint64, ANSWER),
     "osdp_device_silence": (DEVICE, c_uint64, ANSWER),
@@ -205,12 +207,19 @@ NO_STATUS = {"osdp_panel_defaults"}
 
 
 def found() -> ctypes.CDLL:
-    """The shared library: the file that the variable OSDP_LIBRARY names, else the one beside this file, else that of the system."""
+    """The shared library: the file that the variable OSDP_LIBRARY names, else the one beside this file, else that of the system. ImportError where it isn't there,
+    or is another one."""
     named = os.environ.get("OSDP_LIBRARY")
     beside = HERE / NAME
-    opened = ctypes.CDLL(named or (str(beside) if beside.exists() else NAME))
+    try:
+        opened = ctypes.CDLL(named or (str(beside) if beside.exists() else NAME))
+        functions = {name: getattr(opened, name) for name in TAKES}
+    except OSError as error:
+        raise ImportError(f"the library of osdp can't be opened ({error}): ./install puts it in place, and PYTHONPATH names its share/osdp/python; or OSDP_LIBRARY names it") from None
+    except AttributeError as error:
+        raise ImportError(f"the library of osdp is of another version than this package ({error})") from None
     for name, takes in TAKES.items():
-        function = getattr(opened, name)
+        function = functions[name]
         function.argtypes, function.restype = takes, None if name in NO_STATUS else c_uint32
     for name in ("osdp_status_text", "osdp_version"):
         getattr(opened, name).restype = c_char_p

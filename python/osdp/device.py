@@ -53,7 +53,8 @@ class Expired(enum.IntEnum):
 class Answer:
     """What a device says to a packet, or before which command it has stopped. `data` is to be written to the line; it is empty where nothing is said yet.
     `command` is the one that `order` is about, else None. `moved` is the address and the rate in bits per second that a COMSET has set, else None: keep both
-    in memory that stays, then write `data` at the old rate, and then set the port to the new one."""
+    in memory that stays, then write `data` at the old rate, and then set the port to the new one. Where the port hasn't that rate, write nothing, and make the
+    device anew where it was."""
 
     said: Said
     order: Order
@@ -74,7 +75,7 @@ class Device(Machine):
     capability. Where `room` is given, the events that wait may have so many bytes together, 1 to 1,467,392, which takes less memory: a card of 26 bits has 9.
     OsdpError: BAD_LENGTH (of the capabilities), DEVICE_OUT_OF_RANGE, DEVICE_NO_MEMORY.
 
-    The device answers POLL, ID, CAP and COMSET by itself, a COMSET at whatever rate. Before each other command it stops, and the program may set the answer.
+    The device answers POLL, ID, CAP and COMSET by itself, a COMSET at whatever rate (see `moved` of `Answer`). Before each other command it stops, and the program may set the answer.
     Where it sets none, LSTAT, ISTAT, OSTAT and RSTAT are answered by the states that were set. LED, BUZ and TEXT are answered ACK, and so is an OUT whose
     outputs are all there. Any other OUT is answered NAK 9, and so is each MFG.
 
@@ -204,6 +205,20 @@ class Device(Machine):
         if len(vendor) != 3:
             raise ValueError("a vendor has three bytes")
         self._call("answer_maker_nonnull", vendor, data, len(data))
+
+    def withdraw_event(self) -> Optional[Message]:
+        """Takes back the oldest event that was never offered, in this session or in one before: no answer has carried it, and none will. None where there is
+        no such event."""
+        struct = MessageStruct()
+        self._call("withdraw_event", ctypes.byref(struct))
+        return message.read(struct, True)
+
+    def lapse_event(self) -> Optional[Message]:
+        """Lets the oldest event go if it was ever offered, in this session or in one before. The answer that carried it may be lost, so the panel may have it or
+        not, and a repeat within this session may still tell it. If it was never offered, this gives None and changes nothing."""
+        struct = MessageStruct()
+        self._call("lapse_event", ctypes.byref(struct))
+        return message.read(struct, True)
 
     def address(self) -> int:
         """The address that the device has now."""

@@ -3,9 +3,10 @@
 mod port;
 
 use osdp::{
-    Answer, Card, Command, Device, DeviceAnswer, DeviceConfig, Moment, NakReason, Order, Output,
-    Reply, Step, card, output,
+    Answer, Card, Command, Device, DeviceAnswer, DeviceConfig, NakReason, Order, Output, Reply,
+    card, output,
 };
+use port::device::{Said, let_go, take_turn};
 use port::{Came, Port, run_on_port};
 use std::error::Error;
 use std::process::ExitCode;
@@ -34,18 +35,14 @@ fn card_of(line: &str) -> Option<Reply> {
     Card::new(0, card::RAW, 26, &bits.to_be_bytes()).map(Reply::Raw)
 }
 
-/// Switches an output on.
-fn switch(record: Output) {
-    println!("on {}", record.output);
-}
-
 type Done = Result<(), Box<dyn Error>>;
 
 /// Acts, and then sends the answer: so what is answered was done, also where power is lost in between. What is to be said to a command that waits for it.
-fn obey(answer: Answer<'_>, port: &mut Port) -> std::io::Result<Option<DeviceAnswer<'static>>> {
+fn obey(answer: Answer<'_>, port: &mut Port) -> Said {
     if let Some(Order::Once(command)) = answer.order() {
         let opens = |record: &Output| record.control == output::ON_FOR_A_TIME;
-        command.outputs().filter(opens).for_each(switch);
+        let on = command.outputs().filter(opens);
+        on.for_each(|record| println!("on {}", record.output));
     }
     match port.send(answer)? {
         Some(Order::Pending(command)) => Ok(decide(&command)),
@@ -53,56 +50,32 @@ fn obey(answer: Answer<'_>, port: &mut Port) -> std::io::Result<Option<DeviceAns
     }
 }
 
-/// Hands bytes to the device, until nothing is said to them.
-fn hear(device: &mut Device, port: &mut Port, mut bytes: &[u8], now: Moment) -> Done {
-    loop {
-        let Step { taken, answer } = device.step(bytes, now)?;
-        bytes = &bytes[taken..];
-        match answer {
-            Some(answer) => {
-                let said = obey(answer, port)?;
-                said.map_or(Ok(()), |said| device.answer_next(said))?;
-            }
-            None if bytes.is_empty() => return Ok(()),
-            None => {}
-        }
-    }
-}
-
-/// A card that has waited for too long, while no panel was there, is told to nobody any more: it would open the door when the panel comes back.
-fn let_go(device: &mut Device, now: Moment) -> Done {
-    while let Some(expired) = device.expire_event(now, TOO_OLD)? {
-        println!("{expired:?}"); // withdrawn, or in doubt: then the panel may have it
-    }
-    Ok(())
+/// The device, made where it is.
+fn start(address: u8) -> Result<Device, osdp::Error> {
+    let mut device = Device::new(&DeviceConfig::new(address))?;
+    device.set_outputs(&[0, 0]).map(|()| device)
 }
 
 fn run(mut port: Port) -> Done {
-    let mut device = Device::new(&DeviceConfig::new(port.address(5)?))?;
-    device.set_outputs(&[0, 0])?;
+    let mut device = start(port.address(5)?)?;
     loop {
         let came = port.wait(port.now() + TURN)?;
         let now = port.now(); // after the read: not before it
-        let_go(&mut device, now)?;
-        match &came {
-            Came::Bytes(bytes) => hear(&mut device, &mut port, bytes, now)?,
-            Came::Line(line) => {
-                if card_of(line).is_none_or(|card| device.submit_event(&card).is_err()) {
-                    println!("refused line");
-                }
-            }
-            Came::Nothing => {}
+        let_go(&mut device, now, TOO_OLD)?; // before anything is heard: so a panel that is back gets no card of long ago
+        if let Came::Line(line) = &came
+            && card_of(line).is_none_or(|card| device.submit_event(&card).is_err())
+        {
+            println!("refused line");
         }
-        if let Some(answer) = device.tick(now)?.answer {
-            let said = obey(answer, &mut port)?;
-            said.map_or(Ok(()), |said| device.answer_next(said))?;
-            hear(&mut device, &mut port, &[], now)?;
-        }
+        take_turn(&mut device, came.bytes(), now, |answer| {
+            obey(answer, &mut port)
+        })?;
+        port.starts_anew(&mut device, start)?;
     }
 }
 
 fn main() -> ExitCode {
-    run_on_port("door_device", run)
+    run_on_port("door_device", true, run)
 }
 
 #[test]

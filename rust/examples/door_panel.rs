@@ -66,13 +66,15 @@ fn run(mut port: Port) -> Done {
         }
         take_reports(&mut panel, &mut door, now)?;
         door.begin(&mut panel, &mut port, now)?;
-        panel.tick(now)?.send(|burst| port.write(burst))?;
+        panel
+            .tick(now)?
+            .send(|burst| door.write(&mut port, burst))?;
         take_reports(&mut panel, &mut door, now)?;
     }
 }
 
 fn main() -> ExitCode {
-    run_on_port("door_panel", run)
+    run_on_port("door_panel", true, run)
 }
 
 #[test]

@@ -4,9 +4,9 @@
 mod port;
 
 use osdp::{
-    Answer, Command, Device, DeviceAnswer, DeviceConfig, Moment, NakReason, Order, Output, Step,
-    output,
+    Answer, Command, Device, DeviceAnswer, DeviceConfig, Moment, NakReason, Order, Output, output,
 };
+use port::device::{Said, let_go, take_turn};
 use port::{Came, Port, run_on_port};
 use std::error::Error;
 use std::process::ExitCode;
@@ -44,11 +44,7 @@ impl Reader {
     }
 
     /// Acts, and then sends the answer: so what is answered was done. What is to be said to a command that waits for it.
-    fn obey(
-        &mut self,
-        answer: Answer<'_>,
-        now: Moment,
-    ) -> std::io::Result<Option<DeviceAnswer<'static>>> {
+    fn obey(&mut self, answer: Answer<'_>, now: Moment) -> Said {
         if let Some(Order::Once(command)) = answer.order() {
             for record in command.outputs() {
                 let time = Duration::from_millis(100) * u32::from(record.timer);
@@ -64,67 +60,55 @@ impl Reader {
             _ => Ok(None),
         }
     }
-
-    /// Hands bytes to the device, until nothing is said to them.
-    fn hear(&mut self, device: &mut Device, mut bytes: &[u8], now: Moment) -> Done {
-        loop {
-            let Step { taken, answer } = device.step(bytes, now)?;
-            bytes = &bytes[taken..];
-            match answer {
-                Some(answer) => {
-                    let said = self.obey(answer, now)?;
-                    said.map_or(Ok(()), |said| device.answer_next(said))?;
-                }
-                None if bytes.is_empty() => return Ok(()),
-                None => {}
-            }
-        }
-    }
 }
 
 /// A card, keys or the contact, by its text: it is told to the next POLL. What the contact is from now on is the answer to ISTAT, also where as many events wait
 /// as may.
-fn take_line(device: &mut Device, line: &str) -> Result<(), osdp::Error> {
+fn take_line(device: &mut Device, contact: &mut u8, line: &str) -> Result<(), osdp::Error> {
     match line {
-        "ISTATR 00" => device.set_inputs(&[0])?,
-        "ISTATR 01" => device.set_inputs(&[1])?,
+        "ISTATR 00" => *contact = 0,
+        "ISTATR 01" => *contact = 1,
         _ => {}
     }
+    device.set_inputs(&[*contact])?;
     device.event_text(line)
 }
 
-fn run(mut port: Port) -> Done {
-    let mut device = Device::new(&DeviceConfig::new(port.address(1)?))?;
-    device.set_inputs(&[0])?;
+/// The device, made where it is, with what its contact is.
+fn start(address: u8, contact: u8) -> Result<Device, osdp::Error> {
+    let mut device = Device::new(&DeviceConfig::new(address))?;
+    device.set_inputs(&[contact])?;
     device.set_outputs(&[0])?;
+    Ok(device)
+}
+
+fn run(mut port: Port) -> Done {
+    let (mut device, mut contact) = (start(port.address(1)?, 0)?, 0);
     let mut reader = Reader { port, relay: None };
     reader.switch(None); // the program before this one may have left it on
     loop {
         let came = reader.port.wait(reader.port.now() + TURN)?;
         let now = reader.port.now(); // after the read: not before it
-        while let Some(expired) = device.expire_event(now, TOO_OLD)? {
-            println!("{expired:?}"); // else a card of long ago opens the door when the panel comes back
-        }
-        match &came {
-            Came::Bytes(bytes) => reader.hear(&mut device, bytes, now)?,
-            Came::Line(line) if take_line(&mut device, line).is_err() => println!("refused line"),
-            Came::Line(_) | Came::Nothing => {}
-        }
+        let_go(&mut device, now, TOO_OLD)?; // before anything is heard: so a panel that is back gets no card of long ago
         if reader.relay.is_some_and(|ends| ends <= now) {
             reader.switch(None);
         }
         device.set_outputs(&[reader.relay.is_some().into()])?;
-        if let Some(answer) = device.tick(now)?.answer {
-            let said = reader.obey(answer, now)?;
-            said.map_or(Ok(()), |said| device.answer_next(said))?;
-            reader.hear(&mut device, &[], now)?;
+        if let Came::Line(line) = &came {
+            let taken = take_line(&mut device, &mut contact, line);
+            taken.unwrap_or_else(|_| println!("refused line"));
         }
+        take_turn(&mut device, came.bytes(), now, |answer| {
+            reader.obey(answer, now)
+        })?;
+        let start = |address| start(address, contact);
+        reader.port.starts_anew(&mut device, start)?;
     }
 }
 
 fn main() -> ExitCode {
     // However it ends, the relay goes off: nobody else would switch it.
-    run_on_port("keypad_reader", |port| {
+    run_on_port("keypad_reader", true, |port| {
         run(port).inspect_err(|_| println!("relay off"))
     })
 }

@@ -142,5 +142,5 @@ fn run(mut port: Port) -> Done {
 }
 
 fn main() -> ExitCode {
-    run_on_port("three_doors", run)
+    run_on_port("three_doors", false, run)
 }

@@ -98,6 +98,9 @@ pub enum Order {
 }
 
 /// Where a COMSET has put the device. The answer still goes out at the old rate; set the port to the new one after it.
+///
+/// Where the port hasn't that rate, don't send the answer, since no panel would find the device at that rate. Make the device anew at the address where it was, as
+/// after a loss of power: its panel loses the session, and finds it there.
 #[derive(Clone, Copy, Debug, PartialEq, Eq)]
 pub struct Moved {
     /// The address from now on.
@@ -187,7 +190,7 @@ fn no_answer() -> sys::osdp_answer {
 
 /// The device's end of a line. It reads and writes nothing: its program hands bytes and moments in, and writes what `step` and `tick` give.
 ///
-/// The device answers POLL, ID, CAP and COMSET by itself, a COMSET at whatever rate. Before each other command `step` stops, and `answer_next` may set the
+/// The device answers POLL, ID, CAP and COMSET by itself, a COMSET at whatever rate (see `Moved`). Before each other command `step` stops, and `answer_next` may set the
 /// answer. Where it sets none, LSTAT, ISTAT, OSTAT and RSTAT are answered by the states that were set. LED, BUZ and TEXT are answered ACK, and so is an OUT
 /// whose outputs are all there. Any other OUT is answered NAK 9, and so is each MFG.
 ///

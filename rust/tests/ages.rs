@@ -80,3 +80,19 @@ fn what_was_told_is_in_doubt() -> Result<(), Error> {
     assert_eq!(device.lapse_event(), None);
     Ok(())
 }
+
+/// A card that was told once lapses, and the one after it doesn't.
+#[test]
+fn what_was_told_lapses() -> Result<(), Error> {
+    let mut device = Device::new(&DeviceConfig::new(5))?;
+    assert_eq!(answer_code(&mut device, &ID, 1000)?, 0x45);
+    let pressed = |key: &[u8]| Bytes::new(key).map(|keys| Reply::Keypad(0, keys));
+    for key in [b"1", b"2"] {
+        device.submit_event(&pressed(key).ok_or(Error::BadLength)?)?;
+    }
+    assert_eq!(answer_code(&mut device, &POLL, 1100)?, 0x53);
+    assert_eq!(device.lapse_event(), pressed(b"1"));
+    assert_eq!(device.lapse_event(), None);
+    assert_eq!(device.withdraw_event(), pressed(b"2"));
+    Ok(())
+}

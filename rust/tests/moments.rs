@@ -97,3 +97,31 @@ fn what_is_asked_changes_nothing() {
     assert_eq!((device.waiting(), device.is_closed()), (0, true));
     assert!(device.pending().is_none());
 }
+
+/// A packet that stands in a run after the beginning of a longer one is read once the run is over: after the gap, or where the line was seen silent.
+#[test]
+fn a_run_is_over_after_the_gap_or_by_silence() {
+    const RUN: [u8; 13] = [
+        0x53, 5, 40, 0, 0, 0x53, 5, 8, 0, 0, 0x61, 0, 0x3F, // an ID
+    ];
+    let ends: [fn(&mut Device) -> bool; 3] = [
+        |device| device.tick(at(1019)).unwrap().answer.is_some(),
+        |device| device.tick(at(1020)).unwrap().answer.is_some(),
+        |device| device.silence(at(1001)).unwrap().answer.is_some(),
+    ];
+    let said = ends.map(|end| {
+        let mut device = Device::new(&DEVICE).unwrap(); // the gap is 20 ms
+        assert!(device.step(&RUN, at(1000)).unwrap().answer.is_none());
+        end(&mut device)
+    });
+    assert_eq!(said, [false, true, true]);
+}
+
+/// What lies beyond the greatest moment is that moment, and no time lies between a moment and a later one.
+#[test]
+fn moments_do_not_wrap() {
+    assert_eq!(Moment::after(Duration::MAX), at(u64::MAX));
+    assert_eq!(at(u64::MAX - 1) + Duration::from_secs(1), at(u64::MAX));
+    assert_eq!(at(5).since(at(9)), Duration::ZERO);
+    assert_eq!(at(9).since(at(5)), Duration::from_millis(4));
+}

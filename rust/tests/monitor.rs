@@ -83,3 +83,25 @@ fn a_line_of_which_nothing_came_is_not_wrong() {
     assert_eq!(monitor.is_wrong(), Ok(false));
     assert_eq!(text(&mut monitor, 64), "");
 }
+
+/// An event at number 0 breaks this project's profile alone, so with `standard` it is no accusation.
+#[test]
+fn what_only_the_profile_asks_for_is_left_out() {
+    const SESSIONS: [&str; 6] = [
+        "53050700006041",
+        "538507000040E1",
+        "53050700016040",
+        "538507000140E0",
+        "53050700006041",
+        "53850A00005300013199",
+    ];
+    let told = [false, true].map(|standard| {
+        let mut monitor = Monitor::new(Prints::Found, standard).unwrap();
+        for run in SESSIONS {
+            monitor.on_bytes(&bytes(run)).unwrap();
+            monitor.on_silence().unwrap();
+        }
+        text(&mut monitor, 4096).contains("reader 5: an event at number 0 (profile)")
+    });
+    assert_eq!(told, [true, false]);
+}

@@ -73,8 +73,8 @@ fn device_hears(device: &mut Device, mut bytes: &[u8], line: &mut Line) -> Resul
     }
 }
 
-/// How many cards were told, how many of them once more, and how many made a second order.
-fn run(looks: bool) -> Result<(usize, usize, usize), Error> {
+/// How many cards were told, how many of them once more, how many made an order, and how many a second one.
+fn run(looks: bool) -> Result<(usize, usize, usize, usize), Error> {
     let mut panel = Panel::new(&PanelConfig::default())?;
     let door = panel.add(5)?;
     let mut device = Device::new(&DeviceConfig::new(5))?;
@@ -85,6 +85,7 @@ fn run(looks: bool) -> Result<(usize, usize, usize), Error> {
         coming: Vec::new(),
     };
     let (mut told, mut read, mut again, mut second, mut orders) = (0, 0, 0, 0, 0);
+    let mut first = 0;
     let (mut last, mut begins, mut next_card) = (None, Some(0), Some(500));
     while told < CARDS && line.now < CARDS as u64 * 5000 {
         let due = panel.next_deadline().map(Moment::as_millis);
@@ -116,7 +117,8 @@ fn run(looks: bool) -> Result<(usize, usize, usize), Error> {
                     event: Reply::Raw(card),
                     maybe_again,
                 } => {
-                    if told == read || last.as_ref() == Some(&card) {
+                    let is_again = told == read || last.as_ref() == Some(&card);
+                    if is_again {
                         again += 1;
                     } else {
                         (told, orders, next_card) = (told + 1, 0, Some(line.now + 200));
@@ -124,6 +126,7 @@ fn run(looks: bool) -> Result<(usize, usize, usize), Error> {
                     if !(looks && maybe_again) && may_enter(&card) {
                         panel.submit(door, &Command::out(&[STRIKE])?)?;
                         orders += 1;
+                        first += usize::from(orders == 1 && !is_again);
                         second += usize::from(orders > 1);
                     }
                     last = Some(card);
@@ -134,7 +137,7 @@ fn run(looks: bool) -> Result<(usize, usize, usize), Error> {
         }
         panel.tick(now)?.send(|burst| line.carry(false, burst))?;
     }
-    Ok((told, again, second))
+    Ok((told, again, first, second))
 }
 
 fn may_enter(card: &Card) -> bool {
@@ -143,11 +146,11 @@ fn may_enter(card: &Card) -> bool {
 
 #[test]
 fn no_card_makes_a_second_order() -> Result<(), Error> {
-    let (told, again, second) = run(true)?;
-    assert_eq!((told, second), (CARDS, 0));
+    let (told, again, first, second) = run(true)?;
+    assert_eq!((told, first, second), (CARDS, CARDS, 0));
     assert!(again > 0);
-    let (told, again, second) = run(false)?;
-    assert_eq!((told, second), (CARDS, again));
+    let (told, again, first, second) = run(false)?;
+    assert_eq!((told, first, second), (CARDS, CARDS, again));
     assert!(again > 0);
     Ok(())
 }

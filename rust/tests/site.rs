@@ -5,7 +5,7 @@ mod settings;
 
 use osdp::{
     Buzzer, Command, Device, DeviceConfig, EntryNumber, Error, Led, Moment, Order, Output, Panel,
-    PanelConfig, Presence, Report, Site, SiteError, Step, Text, color,
+    PanelConfig, Presence, Reply, Report, Site, SiteError, Step, Text, color,
 };
 use settings::DEVICE;
 use std::time::Duration;
@@ -194,6 +194,7 @@ fn what_lasts_for_a_time_is_refused() {
             SiteError::Several,
         ),
         (buzzer(2, 3), SiteError::Timed),
+        (buzzer(2, 1), SiteError::Timed),
         (buzzer(0, 0), SiteError::NoState),
         (Command::text(&text.for_seconds(5)), SiteError::Timed),
         (Command::raw(0x65, &[]).unwrap(), SiteError::NoState),
@@ -262,4 +263,107 @@ fn a_moment_too_far_ahead_takes_nothing_back() {
     assert_eq!(line.panel.withdraw(line.door), Ok(Some(sound)));
     assert_eq!(line.site.act(&mut line.panel, at(1001)), Ok(()));
     assert_eq!(line.site.next_deadline(), None);
+}
+
+/// Each output, LED, buzzer and place of a text has a state of its own, whatever says it. Once more each of them needs no room.
+#[test]
+fn each_thing_has_a_state_of_its_own() {
+    let mut line = line();
+    line.device.set_outputs(&[0; 4]).unwrap();
+    let states: [(u8, &[u8], &str); 13] = [
+        (0x68, &[0, 1, 0, 0], "OUT 0:1:0"),
+        (0x68, &[1, 2, 0, 0], "OUT 1:2:0"),
+        (0x68, &[2, 3, 7, 0], "OUT 2:3:7"),
+        (0x68, &[3, 4, 7, 0], "OUT 3:4:7"),
+        (
+            0x69,
+            &[0, 0, 0, 0, 0, 0, 0, 0, 0, 1, 1, 0, 1, 1],
+            "LED 0:0:0:0:0:0:0:0:1:1:0:1:1",
+        ),
+        (
+            0x69,
+            &[0, 1, 1, 0, 0, 0, 0, 0, 0, 1, 1, 0, 1, 1],
+            "LED 0:1:1:0:0:0:0:0:1:1:0:1:1",
+        ),
+        (
+            0x69,
+            &[1, 0, 0, 0, 0, 0, 0, 0, 0, 1, 1, 0, 1, 1],
+            "LED 1:0:0:0:0:0:0:0:1:1:0:1:1",
+        ),
+        (0x6A, &[0, 1, 5, 5, 3], "BUZ 0 1 5 5 3"),
+        (0x6A, &[1, 2, 5, 5, 0], "BUZ 1 2 5 5 0"),
+        (0x6B, &[0, 1, 0, 1, 1, 1, 0x41], "TEXT 0 1 0 1 1 41"),
+        (0x6B, &[0, 1, 0, 1, 2, 1, 0x41], "TEXT 0 1 0 1 2 41"),
+        (0x6B, &[0, 2, 0, 2, 1, 1, 0x41], "TEXT 0 2 0 2 1 41"),
+        (0x6B, &[1, 1, 0, 1, 1, 1, 0x41], "TEXT 1 1 0 1 1 41"),
+    ];
+    for (code, data, _) in states.iter().chain(&states) {
+        line.wants(&Command::raw(*code, data).unwrap());
+    }
+    line.run(8000);
+    assert_eq!(line.taken, states.map(|(_, _, text)| text));
+}
+
+/// The commands that panels mostly give, by their texts.
+#[test]
+fn commands_of_panels() {
+    let strike = Command::output_for(3, 300).unwrap();
+    let amber = Command::color(color::AMBER).unwrap();
+    let red = Command::color_for(color::RED, 50).unwrap();
+    let texts = [strike, amber, red, Command::sound(true)].map(|it| it.to_string());
+    let wanted = [
+        "OUT 3:5:300",
+        "LED 0:0:0:0:0:0:0:0:1:1:0:3:3",
+        "LED 0:0:2:1:0:1:1:50:0:0:0:0:0",
+        "BUZ 0 2 5 5 0",
+    ];
+    assert_eq!(texts, wanted);
+}
+
+/// Where the program sets no pause it is a second, also after a device has moved.
+#[test]
+fn the_pause_is_a_second() {
+    let mut line = line();
+    let lost = Report::Lost(osdp::LostCause::NoReply, None);
+    let comset = Command::comset(7, 9600).unwrap();
+    let com = Reply::read(0x54, &[7, 0x80, 0x25, 0, 0]).unwrap();
+    for report in [lost, Report::Moved(comset, com)] {
+        let mut site = Site::<1>::new(&line.panel, at(0));
+        assert_eq!(site.heed(line.door, &report, at(5000)), None);
+        assert_eq!(site.next_deadline(), Some(at(6000)));
+    }
+    // a session that the program has begun itself is begun
+    line.panel.begin(line.door, at(1000)).unwrap();
+    assert_eq!(line.site.act(&mut line.panel, at(1000)), Ok(()));
+    assert_eq!(line.site.next_deadline(), None);
+}
+
+/// A state that waits for room and is wanted anew brings none again that was submitted, and an order without room is told so.
+#[test]
+fn what_was_submitted_is_not_submitted_again() {
+    let mut line = line();
+    line.run(3000);
+    line.wants(&Command::color(color::GREEN).unwrap());
+    line.wants(&Command::sound(true));
+    line.site.act(&mut line.panel, at(3000)).unwrap();
+    assert_eq!(line.panel.waiting(line.door), Ok(1));
+    line.wants(&Command::sound(false));
+    let strike = Command::output_for(0, 50).unwrap();
+    let ordered = line.site.order(&mut line.panel, line.door, &strike);
+    assert_eq!(ordered, Ok(false));
+    line.run(4000);
+    let (green, silent) = ("LED 0:0:0:0:0:0:0:0:1:1:0:2:2", "BUZ 0 1 5 5 0");
+    assert_eq!(line.taken, [green, silent]);
+}
+
+/// All orders that wait are taken back before a session.
+#[test]
+fn no_stale_order_is_left() {
+    let mut line = line_over(Panel::new(&PanelConfig::default()).unwrap());
+    for _ in 0..3 {
+        let sound = Command::sound(true);
+        line.panel.submit(line.door, &sound).unwrap();
+    }
+    assert_eq!(line.site.act(&mut line.panel, at(1000)), Ok(()));
+    assert_eq!(line.panel.waiting(line.door), Ok(0));
 }

@@ -82,6 +82,10 @@ int main(int count, char **words)
 {
     bool is_pool = count > 1 && strcmp(words[1], "pool") == 0;
     int refused = 0;
+    struct osdp_block none = rattle_alloc(0, 16), next = rattle_alloc(0, 16); /* of no bytes, from a heap of which nothing was asked before */
+    demand(none.ok && next.ok && none.block != next.block, "blocks of no bytes aren't given, or are one block");
+    rattle_dealloc(none.block);
+    rattle_dealloc(next.block);
     for (int k = 0; k < 20000; k++) {
         int i = (int)below(MOST);
         refused += held[i].block != NULL && below(2) == 0 ? grow(i) : step(i);

@@ -1,4 +1,5 @@
-/* The files of the examples that keep places (examples/c/kept.c): they are written only where they would change, and a disk that fails leaves what stood there.
+/* The files of the examples that keep places (examples/c/kept.c) and orders (journal.c): places are written
+ * only where they would change, and a disk that fails leaves what stood there.
  * What is written to the disk is counted. It needs no archive: `kept FOLDER`. Each fault is told, and the status is 1 then. */
 #define _GNU_SOURCE
 #include "kept.h"
@@ -11,6 +12,7 @@
 #include <sys/wait.h>
 #include <unistd.h>
 
+#include "journal.h"
 #include "words.h"
 
 static int faults, syncs;
@@ -77,29 +79,75 @@ static void stands_are_kept(const char *path)
     fails = true;
     demand(!keep_stands(path, stands, 2) && holds(path, "5 at 7 19200 or 5 9600\n6 at 6 9600\n"), "a disk that fails has changed the file");
     fails = false;
-    demand(keep_stands(path, stands, 1) && holds(path, "5 at 7 19200\n"), "after that nothing is kept");
+    demand(keep_stands(path, stands, 2) && holds(path, "5 at 7 19200\n6 at 6 9600\n"), "after that nothing is kept");
+    demand(keep_stands(path, stands, 1) && holds(path, "5 at 7 19200\n"), "a stand that is gone is kept");
     demand(read_stands(path, stands, 2) == 1 && stands[0].name == 5 && place_of(&stands[0]).address == 7, "what was kept is read otherwise");
 }
 
-/* A file that has no place of a device ends the program. */
+/* What a device is, is kept as it is written, and read again; of two devices with one difference neither is the other. */
+static void devices_are_told_apart(const char *path)
+{
+    const char *const text = "5 at 126 9600 is 53494D 7 123456789\n6 at 6 9600\n";
+    struct stand stands[2], others[2];
+    FILE *file = fopen(path, "w");
+    demand(file != NULL && fputs(text, file) >= 0 && fclose(file) == 0, "there is no file");
+    demand(read_stands(path, stands, 2) == 2 && stands[0].is_known && !stands[1].is_known, "what a device is isn't read");
+    const struct osdp_pd_id id = stands[0].id;
+    demand(memcmp(id.product.vendor, "SIM", 3) == 0 && id.product.model == 7 && id.serial == 123456789, "what a device is, is read otherwise");
+    demand(unlink(path) == 0 && keep_stands(path, stands, 2) && holds(path, text), "what a device is isn't written as it was read");
+    struct osdp_pd_id other[4] = { id, id, id, id };
+    other[0].serial++;
+    other[1].product.model++;
+    other[2].product.vendor[2]++;
+    other[3].product.version++;
+    for (size_t i = 0; i < 4; i++) {
+        demand(is_same(&stands[0], &other[i]) == (i == 3), "a device is taken for another one, or for none");
+        demand(is_same(&stands[1], &other[i]), "a device that hasn't told what it is may be any");
+    }
+    may_move(&stands[0], (struct place){ 7, 9600 });
+    demand(is_taken(stands, 2, &stands[1], 7) && is_taken(stands, 2, &stands[1], 126), "an address at which a device may be is free");
+    demand(!is_taken(stands, 2, &stands[0], 7), "an address is taken by the device itself");
+    try_place(&stands[0], (struct place){ 7, 9600 });
+    demand(stands[0].places[0].address == 126 && place_of(&stands[0]).address == 7, "a place isn't tried in its turn");
+    demand(keep_stands(path, stands, 2) && read_stands(path, others, 2) == 2, "two places aren't kept");
+    demand(others[0].count == 2 && others[0].places[0].address == 126 && place_of(&others[0]).address == 7, "two places are read otherwise");
+}
+
+/* How a program ends that reads a file with this text: the place of a reader, or the stands of two devices. */
+static int end_of_reading(const char *path, const char *text, bool is_of_stands)
+{
+    int status = 0;
+    uint32_t address, rate;
+    struct stand stands[2];
+    FILE *file = fopen(path, "w");
+    demand(file != NULL && fputs(text, file) >= 0 && fclose(file) == 0, "there is no file");
+    fflush(stdout);
+    pid_t child = fork();
+    if (child == 0) {
+        (void)dup2(STDERR_FILENO, STDOUT_FILENO); /* what is said is no fault */
+        (void)(is_of_stands ? read_stands(path, stands, 2) != 0 : read_kept(path, &address, &rate));
+        _exit(0);
+    }
+    (void)waitpid(child, &status, 0);
+    return WIFEXITED(status) ? WEXITSTATUS(status) : -1;
+}
+
+/* A file that has no place of a device, or no stands, ends the program. */
 static void others_are_refused(const char *path)
 {
     const char *const texts[] = { "", "7\n", "127 9600\n", "-7 9600\n", "7 9600 1\n" };
     for (size_t i = 0; i < sizeof texts / sizeof texts[0]; i++) {
-        int status = 0;
-        uint32_t address, rate;
-        FILE *file = fopen(path, "w");
-        demand(file != NULL && fputs(texts[i], file) >= 0 && fclose(file) == 0, "there is no file");
-        fflush(stdout);
-        pid_t child = fork();
-        if (child == 0) {
-            (void)dup2(STDERR_FILENO, STDOUT_FILENO); /* what is said is no fault */
-            (void)read_kept(path, &address, &rate);
-            _exit(0);
-        }
-        (void)waitpid(child, &status, 0);
-        demand(WIFEXITED(status) && WEXITSTATUS(status) == FAILED, texts[i]);
+        demand(end_of_reading(path, texts[i], false) == FAILED, texts[i]);
     }
+    const char *const stands[] = {
+        "127 at 5 9600\n", "5 at 127 9600\n", "5 at 127 9600 or 5 9600\n", "5 at 5 9600 or 127 9600\n", "5 at 7 9600\n6 at 7 19200\n",
+        "5 at 5 9600 or 7 9600\n6 at 6 9600 or 7 9600\n", "5 at 5 9600",
+        "5 at 5 9600 is 53494D 1\n", "5 at 5 9600\n6 at 6 9600\n7 at 7 9600\n",
+    };
+    for (size_t i = 0; i < sizeof stands / sizeof stands[0]; i++) {
+        demand(end_of_reading(path, stands[i], true) == FAILED, stands[i]);
+    }
+    demand(end_of_reading(path, "0 at 126 9600 or 0 19200\n126 at 1 9600 is 000001 255 4294967295\n", true) == 0, "stands aren't read");
 }
 
 /* The place of a reader, in the same way. */
@@ -120,6 +168,42 @@ static void place_is_kept(const char *path, const char *new)
     demand(read_kept(path, &address, &rate) && address == 7 && rate == 19200, "the place is read otherwise");
 }
 
+/* A journal that was cut within its last line: what is whole is read, the numbers go on, and the cut line is gone. It is written to the disk line by line. */
+static void reads_journal(const char *path)
+{
+    const char *const whole = "order 1 OUT 0:5:30\norder 2 LSTAT\nevent KEYPAD 0 31\nend 1 settled ACK\n";
+    char text[256];
+    FILE *file = fopen(path, "w");
+    demand(file != NULL && fprintf(file, "%sorder 3 IST", whole) > 0 && fclose(file) == 0, "there is no file");
+    syncs = 0;
+    open_journal(path);
+    demand(syncs == 2 && holds(path, whole), "a line that is cut stays in the journal, or the journal isn't on the disk");
+    demand(first_order() == 2 && is_last_event("KEYPAD 0 31") && !is_last_event("KEYPAD 0 32"), "a journal is read otherwise");
+    demand(note_order("ISTAT") == 3 && first_order() == 2 && syncs == 3, "an order isn't on the disk, or has another number or place");
+    note_end(2, "doubt");
+    demand(strcmp(told, "doubt 2 LSTAT\n") == 0 && first_order() == 3 && syncs == 4, "an end isn't told, or isn't on the disk");
+    note_event("KEYPAD 0 32");
+    demand(is_last_event("KEYPAD 0 32") && syncs == 5, "an event isn't on the disk");
+    snprintf(text, sizeof text, "%sorder 3 ISTAT\nend 2 doubt\nevent KEYPAD 0 32\n", whole);
+    demand(holds(path, text), "a journal is written otherwise");
+    (void)dup2(STDERR_FILENO, STDOUT_FILENO); /* what is said is no fault */
+    fails = faults == 0;
+    (void)note_order("OSTAT"); /* ends the program, since the disk fails */
+}
+
+static void journal_is_kept(const char *path)
+{
+    int status = 0;
+    fflush(stdout);
+    pid_t child = fork();
+    if (child == 0) {
+        reads_journal(path);
+        _exit(0);
+    }
+    (void)waitpid(child, &status, 0);
+    demand(WIFEXITED(status) && WEXITSTATUS(status) == FAILED, "a journal isn't kept, or a disk that fails doesn't end the program");
+}
+
 int main(int count, char **words)
 {
     if (count != 2 || chdir(words[1]) != 0) {
@@ -127,6 +211,8 @@ int main(int count, char **words)
     }
     stands_are_kept("stands");
     place_is_kept("place", "place.new");
+    devices_are_told_apart("devices");
     others_are_refused("other");
+    journal_is_kept("journal");
     return faults == 0 ? 0 : 1;
 }

@@ -83,7 +83,8 @@ static void refusals(void)
     } rows[] = {
         { "OUT 0:5:30", OSDP_SITE_TIMED }, { "OUT 0:6:30", OSDP_SITE_TIMED }, { "OUT 0:0:0", OSDP_SITE_NO_STATE }, { "OUT 0:7:0", OSDP_SITE_NO_STATE },
         { "OUT 0:1:0 1:1:0", OSDP_SITE_SEVERAL }, { "LED 0:0:2:1:0:2:2:50:1:1:0:1:1", OSDP_SITE_TIMED }, { "LED 0:0:0:0:0:0:0:0:0:1:0:1:1", OSDP_SITE_NO_STATE },
-        { "LED 0:0:0:0:0:0:0:0:1:1:0:1:1 0:1:0:0:0:0:0:0:1:1:0:1:1", OSDP_SITE_SEVERAL }, { "BUZ 0 2 5 5 3", OSDP_SITE_TIMED }, { "BUZ 0 0 5 5 0", OSDP_SITE_NO_STATE },
+        { "LED 0:0:0:0:0:0:0:0:1:1:0:1:1 0:1:0:0:0:0:0:0:1:1:0:1:1", OSDP_SITE_SEVERAL },
+        { "BUZ 0 2 5 5 3", OSDP_SITE_TIMED }, { "BUZ 0 2 5 5 1", OSDP_SITE_TIMED }, { "BUZ 0 0 5 5 0", OSDP_SITE_NO_STATE },
         { "TEXT 0 3 5 1 1 4142", OSDP_SITE_TIMED }, { "TEXT 0 4 5 1 1 4142", OSDP_SITE_TIMED }, { "TEXT 0 5 0 1 1 4142", OSDP_SITE_NO_STATE },
         { "ISTAT", OSDP_SITE_NO_STATE }, { "COMSET 7 9600", OSDP_SITE_NO_STATE }, { "MFG 535349 01", OSDP_SITE_NO_STATE }, { "ID 0", OSDP_SITE_NO_STATE },
     };
@@ -95,6 +96,38 @@ static void refusals(void)
     demand(osdp_site_wants(&site, 1, &none) == OSDP_SITE_NO_ENTRY);
     none.length = 4; /* no BUZ has four bytes */
     demand(osdp_site_wants(&site, 0, &none) == OSDP_SITE_NO_STATE && entries[0].count == 0);
+}
+
+/* Each control, each kind of LED, buzzer and text that says a state is taken as one. */
+static void states(void)
+{
+    static const char *const texts[] = {
+        "OUT 0:1:0", "OUT 1:2:0", "OUT 2:3:7", "OUT 3:4:7", "LED 0:0:0:0:0:0:0:0:1:1:0:1:1", "LED 0:1:1:0:0:0:0:0:1:1:0:1:1", "BUZ 0 1 5 5 3", "BUZ 1 2 5 5 0",
+        "TEXT 0 1 0 1 1 41", "TEXT 0 2 0 2 1 41",
+    };
+    for (unsigned i = 0; i < sizeof texts / sizeof texts[0]; i++) {
+        demand(wants_text(texts[i]) == OSDP_SITE_OK && entries[0].count == i + 1);
+    }
+    osdp_site_new(&site, entries, 1, OSDP_SITE_ANY_LENGTH, now);
+}
+
+/* The commands that panels mostly give, each by its text: a strike of output 3 for half a minute, and the first LED and the buzzer of the first reader. */
+static void commands(void)
+{
+    static struct osdp_message command;
+    taken[0] = '\0';
+    osdp_output_for(3, 300, &command);
+    note(&command);
+    osdp_color(OSDP_COLOR_AMBER, &command);
+    note(&command);
+    osdp_color_for(OSDP_COLOR_RED, 50, &command);
+    note(&command);
+    osdp_sound(true, &command);
+    note(&command);
+    osdp_sound(false, &command);
+    note(&command);
+    demand(strcmp(taken, "OUT 3:5:300;LED 0:0:0:0:0:0:0:0:1:1:0:3:3;LED 0:0:2:1:0:1:1:50:0:0:0:0:0;BUZ 0 2 5 5 0;BUZ 0 1 5 5 0;") == 0);
+    taken[0] = '\0';
 }
 
 /* Seventeen outputs are one too many; the same again needs no room. */
@@ -189,6 +222,115 @@ static void pauses(void)
     demand(osdp_site_heed(&other, &report, 1250) && two[0].since == 1250 && two[0].begins == 1550 && osdp_site_next_deadline(&other) == 1300);
     report.kind = OSDP_REPORT_SETTLED;
     demand(!osdp_site_heed(&other, &report, 1400) && two[0].begins == 1550);
+    report.kind = OSDP_REPORT_LOST;
+    (void)osdp_site_heed(&other, &report, UINT64_MAX - 300); /* the greatest moment stands for a session that has begun: this one is due all the same */
+    demand(osdp_site_is_due(&other, 0, UINT64_MAX - 1) && !osdp_site_is_due(&other, 0, UINT64_MAX - 2));
+    osdp_site_new(&other, two, 2, OSDP_SITE_ANY_LENGTH, 700);
+    (void)osdp_site_heed(&other, &report, 1000);
+    demand(two[0].begins == 2000 && two[1].begins == 700 && two[0].since == 700 && two[1].since == 700); /* a second, where no pause was set */
+}
+
+/* A panel whose packet goes out once, 400 ms after its session has begun, and is answered within 200 ms or not at all. */
+static void make_brisk(osdp_panel *brisk, uint32_t capacity)
+{
+    struct osdp_panel_config config;
+    size_t entry;
+    osdp_panel_defaults(&config);
+    config.check = OSDP_CHECK_SUM;
+    config.quiet_wait = 400;
+    config.reply_wait = 200;
+    config.sends = 1;
+    config.capacity = capacity;
+    demand(osdp_panel_new(brisk, &config) == OSDP_OK && osdp_panel_add(brisk, 5, &entry) == OSDP_OK);
+}
+
+/* A state that waits for room and is wanted anew brings none again that was submitted. */
+static void is_submitted_once(void)
+{
+    static struct osdp_site_entry one[1];
+    static struct osdp_message command;
+    static struct osdp_report report;
+    osdp_panel brisk = { 0 };
+    osdp_site its;
+    size_t waiting;
+    make_brisk(&brisk, 1);
+    osdp_site_new(&its, one, 1, OSDP_SITE_ANY_LENGTH, 1000);
+    osdp_color(OSDP_COLOR_RED, &command);
+    demand(osdp_site_wants(&its, 0, &command) == OSDP_SITE_OK);
+    osdp_sound(true, &command);
+    demand(osdp_site_wants(&its, 0, &command) == OSDP_SITE_OK);
+    osdp_site_act(&its, &brisk, 1000);
+    report.kind = OSDP_REPORT_OPENED;
+    demand(osdp_site_heed(&its, &report, 1500));
+    osdp_site_act(&its, &brisk, 1500);
+    demand(one[0].done == 1 && osdp_panel_waiting(&brisk, 0, &waiting) == OSDP_OK && waiting == 1);
+    osdp_sound(false, &command);
+    demand(osdp_site_wants(&its, 0, &command) == OSDP_SITE_OK && one[0].count == 2 && one[0].done == 1);
+    demand(!osdp_site_order(&its, &brisk, 1, &command)); /* the site has one entry */
+    demand(osdp_panel_free(&brisk) == OSDP_OK);
+}
+
+/* How long a program waits: up to the site's next session, the panel's next packet, or as long as it says, whichever is first. */
+static void waits(void)
+{
+    static struct osdp_site_entry two[2];
+    static struct osdp_report report;
+    osdp_panel brisk = { 0 };
+    osdp_site its;
+    size_t entry;
+    make_brisk(&brisk, 1);
+    demand(osdp_panel_add(&brisk, 6, &entry) == OSDP_OK && entry == 1);
+    osdp_site_new(&its, two, 2, OSDP_SITE_ANY_LENGTH, 1000);
+    its.pause = 300;
+    demand(osdp_site_wait(&its, &brisk, 900, 5000) == 100 && osdp_site_wait(&its, &brisk, 1000, 5000) == 0 && osdp_site_wait(&its, &brisk, 1001, 5000) == 0);
+    osdp_site_act(&its, &brisk, 1000);
+    demand(osdp_site_wait(&its, &brisk, 1000, 5000) == 400 && osdp_site_wait(&its, &brisk, 1000, 399) == 399 && osdp_site_wait(&its, &brisk, 1399, 5000) == 1);
+    report.kind = OSDP_REPORT_LOST;
+    report.entry = 1;
+    (void)osdp_site_heed(&its, &report, 1000);
+    demand(osdp_site_wait(&its, &brisk, 1000, 5000) == 300);
+    demand(osdp_panel_free(&brisk) == OSDP_OK);
+}
+
+/* A turn takes what its own tick has reported, and a turn after a long sleep hears its bytes and sends its packet all the same. */
+static void turns(void)
+{
+    static struct osdp_burst burst;
+    static const uint8_t identifies[] = { 0x53, 0x85, 19, 0, 0, OSDP_PDID, 1, 2, 3, 4, 5, 6, 7, 8, 9, 10, 11, 12, 0x82 };
+    const uint64_t late = 1000 + 2 * 86400000ull;
+    osdp_panel brisk = { 0 };
+    for (int hears = 0; hears < 2; hears++) {
+        make_brisk(&brisk, 1);
+        osdp_site_new(&site, entries, 1, OSDP_SITE_ANY_LENGTH, 1000);
+        osdp_site_turn(&site, &brisk, NULL, 0, 1000, take_report, &burst);
+        demand(burst.length == 0);
+        osdp_site_turn(&site, &brisk, NULL, 0, hears ? 1400 : late, take_report, &burst);
+        demand(burst.length > 5 && burst.bytes[1] == 5 && burst.bytes[5] == OSDP_ID);
+        if (hears) {
+            osdp_site_turn(&site, &brisk, identifies, sizeof identifies, late, take_report, &burst);
+            demand(entries[0].is_online && entries[0].since == late);
+        } else {
+            osdp_site_turn(&site, &brisk, NULL, 0, late + 200, take_report, &burst);
+            demand(entries[0].begins == late + 1200);
+        }
+        demand(osdp_panel_free(&brisk) == OSDP_OK);
+    }
+}
+
+/* A device reads the packet that stands in a run after noise once that run is over, stops before its command, and answers it within the same turn. */
+static void answers_after_a_gap(void)
+{
+    static const uint8_t noise[] = { 0x53, 5, 40, 0, 0, 0x53, 5, 11, 0, 0, OSDP_OUT, 0, 2, 0, 0, 0x33 };
+    const struct osdp_device_config reader = { .address = 5, .capacity = 2, .gap = 20 };
+    const uint8_t off[1] = { 0 };
+    osdp_device hearing = { 0 };
+    demand(osdp_device_new(&hearing, &reader, NULL, 0) == OSDP_OK && osdp_device_set_outputs(&hearing, off, 1) == OSDP_OK);
+    length = 0;
+    osdp_device_turn(&hearing, noise, sizeof noise, 1000, take_answer);
+    demand(length == 0);
+    osdp_device_turn(&hearing, noise, 0, 1100, take_answer);
+    demand(length > 5 && answered[5] == OSDP_ACK);
+    demand(osdp_device_free(&hearing) == OSDP_OK);
 }
 
 /* At a moment that lies too far ahead nothing is taken back, and the session stays due: it begins once the clock is right. */
@@ -196,9 +338,9 @@ static void keeps_what_waits(void)
 {
     static struct osdp_message command;
     static struct osdp_site_entry one[1];
-    osdp_panel far;
+    osdp_panel far = { 0 };
     osdp_site its;
-    size_t entry;
+    size_t entry, waiting;
     uint32_t closed;
     struct osdp_panel_config config;
     osdp_panel_defaults(&config); /* a moment may lie a day after the one before */
@@ -208,10 +350,10 @@ static void keeps_what_waits(void)
     osdp_site_act(&its, &far, 1000 + 2 * 86400000ull);
     demand(osdp_site_is_due(&its, 0, 1000) && osdp_panel_is_closed(&far, entry, &closed) == OSDP_OK && closed == 1);
     demand(osdp_panel_withdraw(&far, entry, &command) == OSDP_OK && command.present);
-    demand(osdp_panel_submit_text(&far, entry, "LSTAT", 5) == OSDP_OK);
+    demand(osdp_panel_submit_text(&far, entry, "LSTAT", 5) == OSDP_OK && osdp_panel_submit_text(&far, entry, "ISTAT", 5) == OSDP_OK);
     osdp_site_act(&its, &far, 1001);
     demand(osdp_site_next_deadline(&its) == UINT64_MAX && osdp_panel_is_closed(&far, entry, &closed) == OSDP_OK && closed == 0);
-    demand(osdp_panel_withdraw(&far, entry, &command) == OSDP_OK && !command.present);
+    demand(osdp_panel_waiting(&far, entry, &waiting) == OSDP_OK && waiting == 0);
     demand(osdp_panel_free(&far) == OSDP_OK);
 }
 
@@ -276,11 +418,17 @@ int main(void)
 {
     make(OSDP_SITE_ANY_LENGTH);
     refusals();
+    states();
+    commands();
     room();
     subjects();
     lives();
     comes_back();
     pauses();
+    is_submitted_once();
+    waits();
+    turns();
+    answers_after_a_gap();
     keeps_what_waits();
     lets_go();
     unmake();

@@ -56,6 +56,11 @@ bool set_rate(int port, uint32_t rate)
     return has_rate(rate);
 }
 
+void demand_rate(int port, uint32_t rate)
+{
+    (void)set_rate(port, rate);
+}
+
 bool was_stopped(void)
 {
     return false;

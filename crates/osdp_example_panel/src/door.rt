@@ -13,13 +13,15 @@ pub const FIRST: Place = Place {
     address: 5,
     rate: 9600,
 };
-/// Where the door is, the rate of the port, the device that has answered the opening, the place of a COMSET that the panel doesn't take yet, and the site, which says
-/// when the next session begins.
+/// Where the door is, the rate of the port, the device that has answered the opening, another device than the door that has answered last and where it stands, whether
+/// nothing more is said to it, so that its session ends, the place of a COMSET that the panel doesn't take yet, and the site, which says when the next session begins.
 #[derive(Drop)]
 pub struct Door {
     stand: Stand,
     rate: u32,
     answered: Option<Identity>,
+    other: Option<(Identity, Place)>,
+    pub is_left: bool,
     moves: Option<Place>,
     pub site: Site,
 }
@@ -32,6 +34,8 @@ impl Door {
             stand: Stand::new(FIRST),
             rate: FIRST.rate,
             answered: None,
+            other: None,
+            is_left: false,
             moves: None,
             site,
         })
@@ -68,9 +72,32 @@ impl Door {
         Ok(())
     }
 
+    /// Another device than the door has answered, which is told once while it stands there. Of two places the door may be at the other one: so this session is let end.
+    fn meet(&mut self, rt: &HostRuntime, identity: Identity) -> io::Result<()> {
+        let place = self.stand.place;
+        self.is_left = self.stand.other.is_some();
+        if self.other == Some((identity, place)) {
+            return Ok(());
+        }
+        self.other = Some((identity, place));
+        let address = place.address;
+        println!(rt; "another device at {address}: it gets no order until accept")
+    }
+
+    /// The other device that was told last is the door from now on. Where it is, is known once its session opens again, if that doesn't stay open.
+    fn accept(&mut self, rt: &HostRuntime, identity: Identity) -> io::Result<()> {
+        if self.answered.is_some() && !self.is_left {
+            return self.note(rt, identity);
+        }
+        self.stand.identity = Some(identity);
+        self.other = None;
+        self.keep(rt)
+    }
+
     /// The door is this device, at the place in use.
     fn note(&mut self, rt: &HostRuntime, identity: Identity) -> io::Result<()> {
         let before = self.stand;
+        self.other = None;
         self.stand.is_at(before.place);
         self.stand.identity = Some(identity);
         if self.stand == before {
@@ -87,10 +114,11 @@ impl Door {
             Report::Opened(id) => {
                 let identity = Identity::of(id);
                 self.answered = Some(identity);
-                if !self.stand.may_be(identity) {
-                    return println!(rt; "another device: it gets no order until accept");
+                if self.stand.may_be(identity) {
+                    self.note(rt, identity)
+                } else {
+                    self.meet(rt, identity)
                 }
-                self.note(rt, identity)
             }
             Report::Settled(Command::Comset(_), _) => {
                 let place = self.stand.place; // it was refused
@@ -100,11 +128,11 @@ impl Door {
             Report::Moved(_, com) => {
                 let (address, rate) = (com.address, com.baud_rate);
                 self.stand.is_at(Place { address, rate });
-                self.answered = None;
+                (self.answered, self.is_left) = (None, false);
                 self.keep(rt)
             }
             Report::Lost(..) => {
-                self.answered = None;
+                (self.answered, self.is_left) = (None, false);
                 self.moves = None; // stale, as each order that waits
                 Ok(())
             }
@@ -143,13 +171,13 @@ impl Door {
 
     /// Does what a line says that is no turn.
     pub fn call(&mut self, rt: &HostRuntime, panel: &mut Panel, line: &str) -> io::Result<()> {
-        match (read_call(line), self.answered) {
-            (Some(Call::Kept(stand)), None) => {
+        match (read_call(line), self.answered, self.other) {
+            (Some(Call::Kept(stand)), None, _) => {
                 self.stand = stand;
                 Ok(())
             }
-            (Some(Call::Move(place)), Some(_)) => self.go(rt, panel, place),
-            (Some(Call::Accept), Some(identity)) => self.note(rt, identity),
+            (Some(Call::Move(place)), Some(_), _) => self.go(rt, panel, place),
+            (Some(Call::Accept), _, Some((identity, _))) => self.accept(rt, identity),
             _ => println!(rt; "refused line"),
         }
     }

@@ -56,7 +56,11 @@ fn turn(
     let mut turn = Turn::new();
     door.begin(rt, panel, now)?;
     if let Some(unsent) = panel.turn(bytes, now, &mut turn) {
-        send(rt, unsent.bytes(&turn))?;
+        let burst = unsent.bytes(&turn);
+        // to a door whose session is let end nothing is said: there is no call for it
+        if !door.is_left {
+            send(rt, burst)?;
+        }
     }
     for part in [&turn.heard, &turn.ticked] {
         let Some((_, report)) = part.report.read() else {

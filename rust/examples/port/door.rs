@@ -1,8 +1,8 @@
 //! A panel's only device: where it is, what it is, and when its session begins. A file keeps the first two: a line such as
 //! `5 at 7 9600 or 5 9600 is 53494D 1 12345`, by the address at which the device was first. The panel in C keeps the same lines.
 #![allow(dead_code)] // a device's program has no use for it
-use super::{Port, RATES};
-use osdp::{Command, EntryNumber, Moment, Panel, PdId, Reply, Report, Site};
+use super::{Port, RATES, named};
+use osdp::{Command, EntryNumber, Moment, Panel, PdId, Presence, Reply, Report, Site};
 use std::error::Error;
 use std::fs::{self, File};
 use std::io::{self, Write};
@@ -72,7 +72,10 @@ pub struct Door {
     pub may_order: bool,
     /// It says when the next session begins.
     pub site: Site<1>,
-    other: Option<String>,
+    /// Another device than the door that has answered last, and where it stands.
+    other: Option<(String, Place)>,
+    /// Whether nothing more is said to it, so that its session ends.
+    is_left: bool,
     stands: Vec<Stand>,
     at: usize,
     kept: Option<String>,
@@ -85,8 +88,9 @@ impl Door {
     ///
     /// An error where the file is another one, or has another device at that address.
     pub fn add(panel: &mut Panel, port: &Port, name: u8) -> Result<Door, Box<dyn Error>> {
+        let what = "the kept places can't be read";
         let text = match port.kept.as_ref().map(fs::read_to_string) {
-            Some(Err(error)) if error.kind() != io::ErrorKind::NotFound => Err(error)?,
+            Some(Err(error)) if error.kind() != io::ErrorKind::NotFound => Err(named(what, error))?,
             Some(Ok(text)) => text,
             _ => String::new(),
         };
@@ -94,7 +98,7 @@ impl Door {
             .lines()
             .map(Stand::read)
             .collect::<Option<Vec<_>>>()
-            .ok_or("the kept places can't be read")?;
+            .ok_or_else(|| format!("{what}: {}", port.kept.as_deref().unwrap_or_default()))?;
         let at = match stands.iter().position(|stand| stand.name == name) {
             Some(at) => at,
             None => {
@@ -119,6 +123,7 @@ impl Door {
             may_order: false,
             site: Site::new(panel, port.now()),
             other: None,
+            is_left: false,
             stands,
             at,
             kept: port.kept.clone(),
@@ -144,9 +149,39 @@ impl Door {
 
     /// The device that has answered is the one.
     fn note(&mut self, id: String) -> io::Result<()> {
-        self.may_order = true;
+        (self.may_order, self.other) = (true, None);
         self.stands[self.at].id = Some(id);
         self.stands_at(self.stands[self.at].place())
+    }
+
+    /// Another device has answered, which is told once while it stands there. Of two places the door may be at the other one: so this session is let end.
+    fn meet(&mut self, id: String) {
+        let place = self.stands[self.at].place();
+        let other = Some((id, place));
+        if self.other != other {
+            let address = place.0;
+            println!("another device at {address}: it gets no order until `accept`");
+            self.other = other;
+        }
+        self.is_left = self.stands[self.at].places.len() > 1;
+    }
+
+    /// The other device that was told last is the door from now on. Where it is, is known once its session opens again, if that doesn't stay open.
+    fn accept(&mut self, id: String) -> io::Result<()> {
+        let presence = self.site.presence(self.entry);
+        if presence.is_some_and(Presence::is_online) && !self.is_left {
+            return self.note(id);
+        }
+        self.stands[self.at].id = Some(id);
+        self.keep()
+    }
+
+    /// Writes what the panel says, but to a door whose session is let end: there is no call for it.
+    pub fn write(&self, port: &mut Port, burst: &[u8]) -> io::Result<()> {
+        match self.is_left {
+            true => Ok(()),
+            false => port.write(burst),
+        }
     }
 
     /// Does what a report asks for about its place and its session.
@@ -158,20 +193,19 @@ impl Door {
                 if known.as_ref().is_none_or(|known| *known == id) {
                     return self.note(id);
                 }
-                println!("another device: it gets no order until `accept`");
-                self.other = Some(id);
+                self.meet(id);
             }
             // A COMSET that was refused. After any other answer it may be at either place, and is looked for at both once it is lost.
             Report::Settled(command, Reply::Nak(_)) if command.code() == 0x6E => {
                 self.stands_at(self.stands[self.at].place())?;
             }
             Report::Moved(_, reply) => {
-                (self.may_order, self.other) = (false, None);
+                (self.may_order, self.is_left) = (false, false);
                 if let Reply::Com(address, rate) = reply {
                     self.stands_at((*address, *rate))?;
                 }
             }
-            Report::Lost(..) => (self.may_order, self.other) = (false, None),
+            Report::Lost(..) => (self.may_order, self.is_left) = (false, false),
             _ => {}
         }
         Ok(())
@@ -207,7 +241,7 @@ impl Door {
     pub fn take_line(&mut self, panel: &mut Panel, line: &str) -> Result<bool, Box<dyn Error>> {
         let words: Vec<&str> = line.split_whitespace().collect();
         match (&words[..], self.other.take()) {
-            (["accept"], Some(id)) => self.note(id)?,
+            (["accept"], Some((id, _))) => self.accept(id)?,
             (["move", address, rate], None)
                 if self.may_order && self.stands[self.at].places.len() == 1 =>
             {

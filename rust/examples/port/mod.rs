@@ -1,14 +1,16 @@
 //! A serial port, a clock, and lines of standard input, by `std` and two calls of the system: `stty` sets the port, and a thread reads it.
+pub mod device;
 pub mod door;
 
-use osdp::{Answer, Moment, Order};
+use osdp::{Answer, Device, Expired, Moment, Order};
 use std::error::Error;
 use std::ffi::{c_int, c_ulong};
+use std::fmt::Display;
 use std::fs::{self, File, OpenOptions, TryLockError};
 use std::io::{self, BufRead, Read, Write};
 use std::os::fd::AsRawFd;
 use std::os::unix::fs::{MetadataExt, OpenOptionsExt};
-use std::process::{Command, ExitCode};
+use std::process::{Command, ExitCode, Stdio};
 use std::sync::mpsc::{Receiver, RecvTimeoutError, Sender, channel};
 use std::thread::spawn;
 use std::time::Duration;
@@ -37,6 +39,17 @@ pub enum Came {
     Nothing,
 }
 
+impl Came {
+    /// The bytes that have come, none where it is something else.
+    #[allow(dead_code)] // some of the examples look at each kind
+    pub fn bytes(&self) -> &[u8] {
+        match self {
+            Came::Bytes(bytes) => bytes,
+            Came::Line(_) | Came::Nothing => &[],
+        }
+    }
+}
+
 pub struct Port {
     file: File,
     came: Receiver<io::Result<Came>>,
@@ -44,6 +57,9 @@ pub struct Port {
     /// The rate that the words of the program have, and the file that they name by `--keep`.
     pub rate: u32,
     pub kept: Option<String>,
+    /// Of a device: where it is, and whether it has refused a COMSET.
+    address: u8,
+    has_refused: bool,
 }
 
 impl Port {
@@ -56,14 +72,17 @@ impl Port {
             .clone();
         let file = match options.open(path) {
             Err(error) if error.kind() == io::ErrorKind::ResourceBusy => return Err(taken(path)),
-            file => file?,
+            file => file.map_err(|error| named(&format!("{path} can't be opened"), error))?,
         };
         match file.try_lock() {
             Err(TryLockError::WouldBlock) => return Err(taken(path)),
             Err(TryLockError::Error(error)) => return Err(error),
             Ok(()) => {}
         }
-        set(&file, rate)?;
+        set(&file, rate).map_err(|_| {
+            let why = "it is no serial port, or hasn't that rate";
+            io::Error::other(format!("{path} can't be set to {rate}: {why}"))
+        })?;
         // SAFETY: both calls get an open file, and what each of them asks for: nothing, and a number. One that fails leaves the port as it was.
         let waits = unsafe {
             ioctl(file.as_raw_fd(), TIOCEXCL);
@@ -88,6 +107,8 @@ impl Port {
             started: boot_time(),
             rate,
             kept,
+            address: 0,
+            has_refused: false,
         })
     }
 
@@ -133,11 +154,17 @@ fn set(file: &File, rate: u32) -> io::Result<()> {
         .stdin(file.try_clone()?)
         .arg(rate.to_string())
         .args(set.split(' '))
+        .stderr(Stdio::null()) // what it says names no port
         .status()?;
     match done.success() {
         true => Ok(()),
         false => Err(io::Error::other("the port can't be set")),
     }
+}
+
+/// An error, after what it is about.
+pub fn named(what: &str, error: impl Display) -> io::Error {
+    io::Error::other(format!("{what}: {error}"))
 }
 
 /// Another program has the port: which one, as far as /proc tells who has locked it.
@@ -167,22 +194,69 @@ fn taken(path: &str) -> io::Error {
 impl Port {
     /// The address of a device that keeps its place: the one in the file, to whose rate the port is set, or its first one where nothing was kept yet.
     pub fn address(&mut self, first: u8) -> Result<u8, Box<dyn Error>> {
-        let text = match self.kept.as_ref().map(fs::read_to_string) {
-            Some(Err(error)) if error.kind() == io::ErrorKind::NotFound => return Ok(first),
-            Some(text) => text?,
-            None => return Ok(first),
+        self.address = first;
+        let Some(path) = self.kept.clone() else {
+            return Ok(first);
+        };
+        let what = format!("the kept place can't be read: {path}");
+        let text = match fs::read_to_string(&path) {
+            Err(error) if error.kind() == io::ErrorKind::NotFound => return Ok(first),
+            text => text.map_err(|error| named(&what, error))?,
         };
         let words: Vec<&str> = text.split_whitespace().collect();
-        let [address, rate] = words[..] else {
-            return Err("the kept place can't be read".into());
+        let [Ok(address), Ok(rate)] = words
+            .iter()
+            .map(|word| word.parse::<u32>())
+            .collect::<Vec<_>>()[..]
+        else {
+            return Err(what.into());
         };
-        self.set_rate(rate.parse()?)?;
-        Ok(address.parse()?)
+        self.address = u8::try_from(address)
+            .ok()
+            .filter(|at| *at <= 126)
+            .ok_or(what)?;
+        self.set_rate(rate)
+            .map_err(|_| format!("the port can't be set to {rate}, the rate that {path} has"))?;
+        Ok(self.address)
     }
 
-    /// Sends the answer of a device. Where it has moved, its place is kept before the panel is told, and the port goes to its rate after that.
+    /// Whether the port can be set to a rate: it is set to it, and back.
+    fn can_have(&self, rate: u32) -> bool {
+        let takes = RATES.contains(&rate) && set(&self.file, rate).is_ok();
+        set(&self.file, self.rate).is_ok() && takes
+    }
+
+    /// Where a COMSET was refused since the last call, the device is made anew where it was, by `start` at its address. The events that wait are told: no panel
+    /// gets them.
+    pub fn starts_anew(
+        &mut self,
+        device: &mut Device,
+        start: impl FnOnce(u8) -> Result<Device, osdp::Error>,
+    ) -> Result<(), osdp::Error> {
+        if std::mem::take(&mut self.has_refused) {
+            while let Some(event) = device.lapse_event() {
+                println!("{:?}", Expired::InDoubt(event));
+            }
+            while let Some(event) = device.withdraw_event() {
+                println!("{:?}", Expired::Withdrawn(event));
+            }
+            *device = start(self.address)?;
+        }
+        Ok(())
+    }
+
+    /// Sends the answer of a device. Where it has moved, its place is kept before the panel is told, and the port goes to its rate after that. A COM of a rate that
+    /// the port hasn't isn't sent, since nobody would find the device there: it is made anew where it was, as after a loss of power.
     pub fn send(&mut self, answer: Answer<'_>) -> io::Result<Option<Order>> {
         let moved = answer.moved;
+        if let Some(to) = moved {
+            self.has_refused = !self.can_have(to.baud_rate);
+            if self.has_refused {
+                println!("no rate {}", to.baud_rate);
+                return Ok(None);
+            }
+            self.address = to.address;
+        }
         if let (Some(to), Some(path)) = (moved, &self.kept) {
             door::keep_text(path, &format!("{} {}\n", to.address, to.baud_rate))?;
         }
@@ -197,15 +271,27 @@ fn device_of(number: u64) -> String {
     format!("{:02x}:{:02x}:", number >> 8 & 0xFFF, number & 0xFF)
 }
 
-/// Runs a program on the port that its words name, at their rate. An error is told, with status 1; other words have status 2.
-pub fn run_on_port(name: &str, run: impl FnOnce(Port) -> Result<(), Box<dyn Error>>) -> ExitCode {
+/// Runs a program on the port that its words name, at their rate. `keeps`: they may name a file by `--keep`. An error is told, with status 1; other words have status 2.
+pub fn run_on_port(
+    name: &str,
+    keeps: bool,
+    run: impl FnOnce(Port) -> Result<(), Box<dyn Error>>,
+) -> ExitCode {
+    let usage = match keeps {
+        true => format!("usage: {name} [--keep FILE] PORT RATE"),
+        false => format!("usage: {name} PORT RATE"),
+    };
     let words: Vec<String> = std::env::args().skip(1).collect();
     let (kept, words) = match &words[..] {
-        [option, file, rest @ ..] if option == "--keep" => (Some(file.clone()), rest),
+        [option, file, rest @ ..] if keeps && option == "--keep" => (Some(file.clone()), rest),
         rest => (None, rest),
     };
+    if matches!(words, [word] if word == "--help" || word == "-h") {
+        println!("{usage}");
+        return ExitCode::SUCCESS;
+    }
     let [path, rate] = words else {
-        eprintln!("usage: {name} [--keep FILE] PORT RATE");
+        eprintln!("{usage}");
         return ExitCode::from(2);
     };
     let Ok(rate) = rate.parse() else {
