@@ -20,37 +20,37 @@ told report = report.1
 
 -- ---- where the events stand: these are not reported yet
 
-abbrev IsBehind : Card → Card → Type 0
-IsBehind c d = c.place < d.place
+abbrev IsLater : Card → Card → Type 0
+IsLater c d = c.place < d.place
 
--- this one was offered last, and these stand behind it; it is in front of them, or has left
-pub record WasOffered (count shown : ℕ) (c : Card) (behind cards : List Card) : Type 0 where
+-- this one was offered last, and these stand after it; it is in front of them, or has left
+pub record WasOffered (count shown : ℕ) (c : Card) (later_ones cards : List Card) : Type 0 where
   pub known : c.place < count
   pub last : c.place + 1 ≡ shown
-  pub later : All (IsBehind c) behind
-  pub here : (cards ≡ c ∷ behind) ⊎ (cards ≡ behind)
+  pub later : All (IsLater c) later_ones
+  pub here : (cards ≡ c ∷ later_ones) ⊎ (cards ≡ later_ones)
 
 abbrev Stands : Offer → ℕ → ℕ → List Card → List Card → Type 0
 Stands NoOffer count shown cards rest = rest ≡ cards
-Stands (Unreported c) count shown cards rest = (behind : List Card) × (rest ≡ c ∷ behind) × WasOffered count shown c behind cards
+Stands (Unreported c) count shown cards rest = (later_ones : List Card) × (rest ≡ c ∷ later_ones) × WasOffered count shown c later_ones cards
 Stands (Reported c) count shown cards rest = WasOffered count shown c rest cards
 
 -- ---- an event is accepted
 
-later_queued : (c d : Card) (count shown : ℕ) (behind cards : List Card) → d.place ≡ count → WasOffered count shown c behind cards
-    → WasOffered (count + 1) shown c (behind ++ d ∷ []) (cards ++ d ∷ [])
-later_queued c d count shown behind cards is w = record {
+later_queued : (c d : Card) (count shown : ℕ) (later_ones cards : List Card) → d.place ≡ count → WasOffered count shown c later_ones cards
+    → WasOffered (count + 1) shown c (later_ones ++ d ∷ []) (cards ++ d ∷ [])
+later_queued c d count shown later_ones cards is w = record {
   known = let less = w.known in omega (arith, less);
   last = w.last;
-  later = All-push (IsBehind c) behind d w.later (let less = w.known in omega (arith, less, is));
+  later = All-push (IsLater c) later_ones d w.later (let less = w.known in omega (arith, less, is));
   here = elim w.here [ inl e ↦ inl (ap (λ cs. cs ++ d ∷ []) e) | inr e ↦ inr (ap (λ cs. cs ++ d ∷ []) e) ];
 }
 
 stands_queued : (offer : Offer) (d : Card) (count shown : ℕ) (cards rest : List Card) → d.place ≡ count → Stands offer count shown cards rest
     → Stands offer (count + 1) shown (cards ++ d ∷ []) (rest ++ d ∷ [])
 stands_queued NoOffer d count shown cards rest is s = ap (λ cs. cs ++ d ∷ []) s
-stands_queued (Unreported c) d count shown cards rest is (behind, e, w) =
-    (behind ++ d ∷ [], ap (λ cs. cs ++ d ∷ []) e, later_queued c d count shown behind cards is w)
+stands_queued (Unreported c) d count shown cards rest is (later_ones, e, w) =
+    (later_ones ++ d ∷ [], ap (λ cs. cs ++ d ∷ []) e, later_queued c d count shown later_ones cards is w)
 stands_queued (Reported c) d count shown cards rest is w = later_queued c d count shown rest cards is w
 
 -- ---- an event is offered: it is the first that isn't reported yet
@@ -63,7 +63,7 @@ first_due (Reported b) c count shown cards cs rest follows front w = elim w.here
   | inr e ↦ sym e ∙ front
 ]
 
-offered_now : (c : Card) (count : ℕ) (cards cs : List Card) → cards ≡ c ∷ cs → c.place < count → All (IsBehind c) cs → WasOffered count (c.place + 1) c cs cards
+offered_now : (c : Card) (count : ℕ) (cards cs : List Card) → cards ≡ c ∷ cs → c.place < count → All (IsLater c) cs → WasOffered count (c.place + 1) c cs cards
 offered_now c count cs_all cs front less later = record { known = less; last = refl; later = later; here = inl front }
 
 -- ---- the front leaves as it was reported
@@ -71,7 +71,7 @@ offered_now c count cs_all cs front less later = record { known = less; last = r
 has_left : (c : Card) (count shown : ℕ) (cards cs rest : List Card) → cards ≡ c ∷ cs → WasOffered count shown c rest cards → rest ≡ drop 1 cards
 has_left c count shown cards cs rest front w = elim w.here [
   | inl e ↦ sym (ap (drop 1) e)
-  | inr e ↦ absurd (let less = All-head (IsBehind c) c cs (subst (All (IsBehind c)) (sym e ∙ front) w.later) in omega (arith, less))
+  | inr e ↦ absurd (let less = All-head (IsLater c) c cs (subst (All (IsLater c)) (sym e ∙ front) w.later) in omega (arith, less))
 ]
 
 -- ---- events leave otherwise: of those that aren't reported yet these stay
@@ -81,35 +81,35 @@ pub record Fewer (left : List Left) (offer : Offer) (count shown : ℕ) (rest ca
   pub go : MayGo left rest stay
   pub stand : Stands offer count shown cards stay
 
-pub record FewerBehind (left : List Left) (count shown : ℕ) (c : Card) (behind cards : List Card) : Type 0 where
+pub record FewerLater (left : List Left) (count shown : ℕ) (c : Card) (later_ones cards : List Card) : Type 0 where
   pub stay : List Card
-  pub go : MayGo left behind stay
+  pub go : MayGo left later_ones stay
   pub offered : WasOffered count shown c stay cards
 
 fewer : (left : List Left) (offer : Offer) (count shown : ℕ) (cards rest few : List Card) → MayGo left cards few
-    → ((c : Card) (behind : List Card) → WasOffered count shown c behind cards → FewerBehind left count shown c behind few)
+    → ((c : Card) (later_ones : List Card) → WasOffered count shown c later_ones cards → FewerLater left count shown c later_ones few)
     → Stands offer count shown cards rest → Fewer left offer count shown rest few
 fewer left NoOffer count shown cards rest few go by s = record { stay = few; go = subst (λ cs. MayGo left cs few) (sym s) go; stand = refl }
-fewer left (Unreported c) count shown cards rest few go by (behind, e, w) =
-    let f = by c behind w in
-    record { stay = c ∷ f.stay; go = subst (λ cs. MayGo left cs (c ∷ f.stay)) (sym e) (stay_and_go c left behind f.stay f.go); stand = (f.stay, refl, f.offered) }
+fewer left (Unreported c) count shown cards rest few go by (later_ones, e, w) =
+    let f = by c later_ones w in
+    record { stay = c ∷ f.stay; go = subst (λ cs. MayGo left cs (c ∷ f.stay)) (sym e) (stay_and_go c left later_ones f.stay f.go); stand = (f.stay, refl, f.offered) }
 fewer left (Reported c) count shown cards rest few go by w = let f = by c rest w in record { stay = f.stay; go = f.go; stand = f.offered }
 
 -- it lapses, in front
-behind_lapsed : (d : Card) (left : List Left) (count shown : ℕ) (cards ds : List Card) → cards ≡ d ∷ ds → LeftOtherwise left d
-    → (c : Card) (behind : List Card) → WasOffered count shown c behind cards → FewerBehind left count shown c behind (drop 1 cards)
-behind_lapsed d left count shown cards ds front gone c behind w = elim w.here [
+later_lapsed : (d : Card) (left : List Left) (count shown : ℕ) (cards ds : List Card) → cards ≡ d ∷ ds → LeftOtherwise left d
+    → (c : Card) (later_ones : List Card) → WasOffered count shown c later_ones cards → FewerLater left count shown c later_ones (drop 1 cards)
+later_lapsed d left count shown cards ds front gone c later_ones w = elim w.here [
   | inl e ↦ record {
-    stay = behind;
+    stay = later_ones;
     go = λ first all is. is;
     offered = record { known = w.known; last = w.last; later = w.later; here = inr (ap (drop 1) e) };
   }
   | inr e ↦
-      let is : behind ≡ d ∷ ds = sym e ∙ front in
+      let is : later_ones ≡ d ∷ ds = sym e ∙ front in
       record {
         stay = ds;
         go = subst (λ cs. MayGo left cs ds) (sym is) (front_goes d left ds gone);
-        offered = record { known = w.known; last = w.last; later = All-tail (IsBehind c) d ds (subst (All (IsBehind c)) is w.later); here = inr (ap (drop 1) front) };
+        offered = record { known = w.known; last = w.last; later = All-tail (IsLater c) d ds (subst (All (IsLater c)) is w.later); here = inr (ap (drop 1) front) };
       }
 ]
 
@@ -134,18 +134,18 @@ one_of_place low (d ∷ ds) c rising has = by_index has.0 has.1 has.2 (one_of_pl
         All-cons IsIt d ds (λ same. absurd (omega (arith, le, same))) (rest has)
 
 -- it is taken back, and was never offered
-behind_taken : (d : Card) (left : List Left) (count shown : ℕ) (cards : List Card) → shown ≤ d.place → All (HasLeftAt d left) cards
-    → (c : Card) (behind : List Card) → WasOffered count shown c behind cards → FewerBehind left count shown c behind (without d cards)
-behind_taken d left count shown cards le gone c behind w = record {
-  stay = without d behind;
-  go = taken_back_goes d left behind (elim w.here [
-    | inl e ↦ All-tail (HasLeftAt d left) c behind (subst (All (HasLeftAt d left)) e gone)
+later_taken : (d : Card) (left : List Left) (count shown : ℕ) (cards : List Card) → shown ≤ d.place → All (HasLeftAt d left) cards
+    → (c : Card) (later_ones : List Card) → WasOffered count shown c later_ones cards → FewerLater left count shown c later_ones (without d cards)
+later_taken d left count shown cards le gone c later_ones w = record {
+  stay = without d later_ones;
+  go = taken_back_goes d left later_ones (elim w.here [
+    | inl e ↦ All-tail (HasLeftAt d left) c later_ones (subst (All (HasLeftAt d left)) e gone)
     | inr e ↦ subst (All (HasLeftAt d left)) e gone
   ]);
   offered = record {
     known = w.known;
     last = w.last;
-    later = All-filter (λ x. not (x.place == d.place)) (IsBehind c) behind w.later;
+    later = All-filter (λ x. not (x.place == d.place)) (IsLater c) later_ones w.later;
     here = elim w.here [
       | inl e ↦ inl (ap (without d) e ∙ others)
       | inr e ↦ inr (ap (without d) e)
@@ -153,19 +153,19 @@ behind_taken d left count shown cards le gone c behind w = record {
   };
 }
   where
-    others : without d (c ∷ behind) ≡ c ∷ without d behind
+    others : without d (c ∷ later_ones) ≡ c ∷ without d later_ones
     others = let last = w.last in rw (ne_eqb c.place d.place (λ e. omega (arith, e, last, le))) refl
 
 -- all are thrown away
-behind_thrown : (left : List Left) (count shown : ℕ) (cards : List Card) → All (LeftOtherwise left) cards
-    → (c : Card) (behind : List Card) → WasOffered count shown c behind cards → FewerBehind left count shown c behind []
-behind_thrown left count shown cards all c behind w = record {
+later_thrown : (left : List Left) (count shown : ℕ) (cards : List Card) → All (LeftOtherwise left) cards
+    → (c : Card) (later_ones : List Card) → WasOffered count shown c later_ones cards → FewerLater left count shown c later_ones []
+later_thrown left count shown cards all c later_ones w = record {
   stay = [];
-  go = all_go left behind (elim w.here [
-    | inl e ↦ All-tail (LeftOtherwise left) c behind (subst (All (LeftOtherwise left)) e all)
+  go = all_go left later_ones (elim w.here [
+    | inl e ↦ All-tail (LeftOtherwise left) c later_ones (subst (All (LeftOtherwise left)) e all)
     | inr e ↦ subst (All (LeftOtherwise left)) e all
   ]);
-  offered = record { known = w.known; last = w.last; later = All-nil (IsBehind c); here = inr refl };
+  offered = record { known = w.known; last = w.last; later = All-nil (IsLater c); here = inr refl };
 }
 
 abbrev gone : ℕ → Card → Exit → Left
@@ -217,7 +217,7 @@ module _ (began : History) where
       first_due h.ledger.offer c h.ledger.queued h.ledger.shown h.ledger.cards cs i.rest follows front i.stand,
       offered_now c h.ledger.queued h.ledger.cards cs front
           (All-head (λ (d : Card). d.place < h.ledger.queued) c cs (subst (All (λ (d : Card). d.place < h.ledger.queued)) front e.below))
-          (All-weaker (λ (d : Card). c.place + 1 ≤ d.place) (IsBehind c) (λ d le. omega (arith, le)) cs (rising_above (c.place + 1) cs rising)),
+          (All-weaker (λ (d : Card). c.place + 1 ≤ d.place) (IsLater c) (λ d le. omega (arith, le)) cs (rising_above (c.place + 1) cs rising)),
     );
   }
     where
@@ -283,7 +283,7 @@ module _ (began : History) where
       given_up more (drop 1 h.ledger.cards) h i
       (fewer (i.gone ++ more) h.ledger.offer h.ledger.queued h.ledger.shown h.ledger.cards i.rest (drop 1 h.ledger.cards)
       (subst (λ xs. MayGo (i.gone ++ more) xs (drop 1 xs)) (sym front) (front_goes c (i.gone ++ more) cs out))
-      (behind_lapsed c (i.gone ++ more) h.ledger.queued h.ledger.shown h.ledger.cards cs front out) i.stand)
+      (later_lapsed c (i.gone ++ more) h.ledger.queued h.ledger.shown h.ledger.cards cs front out) i.stand)
 
   takes_back : (c : Card) (h : History) → May (WithdrawEvent c) h.ledger → Events h → Session h → Session (steps_on (WithdrawEvent c) h)
   takes_back c h (waits, le) e i =
@@ -295,7 +295,7 @@ module _ (began : History) where
       given_up more (without c h.ledger.cards) h i
       (fewer (i.gone ++ more) h.ledger.offer h.ledger.queued h.ledger.shown h.ledger.cards i.rest (without c h.ledger.cards)
       (taken_back_goes c (i.gone ++ more) h.ledger.cards out)
-      (behind_taken c (i.gone ++ more) h.ledger.queued h.ledger.shown h.ledger.cards le out) i.stand)
+      (later_taken c (i.gone ++ more) h.ledger.queued h.ledger.shown h.ledger.cards le out) i.stand)
 
   loses_power : (h : History) → Session h → Session (steps_on RestartDevice h)
   loses_power h i =
@@ -304,7 +304,7 @@ module _ (began : History) where
       given_up more [] h i
       (fewer (i.gone ++ more) h.ledger.offer h.ledger.queued h.ledger.shown h.ledger.cards i.rest []
       (all_go (i.gone ++ more) h.ledger.cards out)
-      (behind_thrown (i.gone ++ more) h.ledger.queued h.ledger.shown h.ledger.cards out) i.stand)
+      (later_thrown (i.gone ++ more) h.ledger.queued h.ledger.shown h.ledger.cards out) i.stand)
     where
       thrown : List Card → List Left
       thrown = map (λ c. gone h.sessions c ThrownAway)

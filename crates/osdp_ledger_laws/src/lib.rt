@@ -15,7 +15,7 @@ pub fn each_session_holds()
 {}
 
 /// In a session the first events are reported, in order, but for some given up or lost. They are the first of those that waited in the device's queue as it
-/// began, and behind these of those accepted since. Each is reported once. What is missing has left since: it was taken back, has lapsed, or was lost with the
+/// began, and after these of those accepted since. Each is reported once. What is missing has left since: it was taken back, has lapsed, or was lost with the
 /// device's power.
 pub fn each_session_reports()
     ensures { EachSessionReports }

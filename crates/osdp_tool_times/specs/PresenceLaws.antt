@@ -50,7 +50,7 @@ CountsRestarts = (first seconds count : ℕ) → suc (suc count) < 2 ^ 64 → Re
 abbrev pub CountsARowOnce : Type 0
 CountsARowOnce = (moment later : ℕ) (w : Presence) → (after_answer true later (after_answer true moment w)).restarts ≡ (after_answer true moment w).restarts
 
--- An answer that stands further in its run, as behind its packet, is an answer: its device is not told offline then. No time is told of it.
+-- An answer that stands further in its run, as after its packet, is an answer: its device is not told offline then. No time is told of it.
 pub record IsHeardFurther (p : Packet) (moment : ℕ) (t : Times) : Type 0 where
   pub online : p.reply ≡ true → is_offline (after_further p (Some moment) t).presence ≡ false
   pub answers : (after_further p (Some moment) t).answers ≡ t.answers
