@@ -8,3 +8,5 @@ pub mod Staying
 pub mod Moments
 pub mod Waiting
 pub mod Ordering
+pub mod Offline
+pub mod Statuses

@@ -34,6 +34,11 @@ pub record SaysWhatWasSet (r : ReaderState ProgramAnswers) (held : Held) (comman
   pub set : (answer : Answer) → r.handler.question ≡ Answered answer → IsSaidTo command (reply_for answer command) (turned r held).said
   pub told : r.handler.question ≡ Asked → IsSaidTo command (reply_for (status_answer r.handler.status command) command) (turned r held).said
 
+-- what is set takes the place of what was set before, and nothing else changes
+abbrev pub TakesItsPlace : Type 0
+TakesItsPlace = (question : Question) (r : ReaderState ProgramAnswers)
+    → with_question question r ≡ record r { handler = record r.handler { question = question } }
+
 -- it stops before a command about which it has not asked, and says nothing yet
 pub record StopsFirst (r : ReaderState ProgramAnswers) (held : Held) (command : Command) : Type 0 where
   pub pending : (turned r held).pending ≡ Some command

@@ -13,3 +13,5 @@ pub mod Deciding
 pub mod Orders
 pub mod OrdersLaws
 pub mod DecidingLaws
+pub mod OfflineLaws
+pub mod StatusLaws

@@ -22,8 +22,8 @@ use std::marker::Model;
 
 /// A reader, what has come on its line, and how long its events have waited.
 ///
-/// Moments are milliseconds that the caller hands in, of any clock that doesn't go backwards; one that lies before the
-/// greatest seen counts as that one.
+/// Moments are milliseconds that the caller hands in, of any clock that doesn't go backwards; one of the line that lies
+/// before the greatest seen counts as that one. An event is as old as its own moment says.
 #[derive(Drop)]
 pub struct Device<H: Handler> {
     /// The reader's end of the link: its events, whether it is busy, its handler. It is changed by calls of the device alone, so that each event

@@ -6,7 +6,7 @@ ghost use Rattle.osdp_frame.specs.Bytes.{AreBytes};
 ghost use Rattle.osdp_frame.specs.Held.{Held};
 ghost use Rattle.osdp_reader.specs.State.{ReaderState};
 ghost use Rattle.osdp_device.specs.Deciding.{pending_of};
-ghost use Rattle.osdp_device.specs.DecidingLaws.{IsSaidOnce, RepeatsWhatIsStored, SaysItToNoOther, SaysWhatWasSet, StaysPending, StopsFirst};
+ghost use Rattle.osdp_device.specs.DecidingLaws.{IsSaidOnce, RepeatsWhatIsStored, SaysItToNoOther, SaysWhatWasSet, StaysPending, StopsFirst, TakesItsPlace};
 ghost use Rattle.osdp_device.specs.Hearing.{NeedsFewerTurns, TakesInTurn, hears_bytes, reads_all, then_hears};
 ghost use Rattle.osdp_device.specs.Moments.{MomentsAreSeen, RunsAreReadAtTheirEnd};
 ghost use Rattle.osdp_frame.specs.Receiving.{IsAllRead, IsReceived, Received};
@@ -22,6 +22,10 @@ ghost use Rattle.osdp_device.specs.Orders.{is_nak, is_refusal, order_of, ordered
 ghost use Rattle.osdp_device.specs.OrdersLaws.{OrdersByNumber};
 ghost use Rattle.osdp_device.specs.declared.order.Order.TheVariants.{Refused};
 ghost use Rattle.osdp_device.specs.AgesLaws.{ArrivesWithItsMoment, BeginsWithNone, LeavesWithItsMoment, StaysWithItsMoment, TellsAges};
+ghost use Rattle.osdp_device.specs.Ages.{AgesState};
+ghost use Rattle.osdp_device.specs.OfflineLaws.{TakesOffWhatIsTooOld, TellsOffline};
+ghost use Rattle.osdp_device.specs.StatusLaws.{AnswersFromStatus};
+ghost use Rattle.osdp_device.specs.declared.status.DeviceStatus.{DeviceStatus};
 
 use osdp_reader::Handler;
 
@@ -90,7 +94,8 @@ pub fn orders_by_number<H: Handler>()
 }
 
 /// What is said to a pending command is what the device's program has set for it, and what its status tells where nothing was set. Before that
-/// the device stops, once. A pending command stays so, whatever comes after it: so it is the one about which the program was asked.
+/// the device stops, once. A pending command stays so, whatever comes after it: so it is the one about which the program was asked. What is set takes the
+/// place of what was set before.
 pub fn says_what_was_set()
     ensures said { (r : ReaderState ProgramAnswers) (held : Held) (command : Command) → pending_of r held ≡ Some command
         → SaysWhatWasSet r held command }
@@ -98,6 +103,7 @@ pub fn says_what_was_set()
         → r.handler.question ≡ NotAsked → StopsFirst r held command }
     ensures stays { (r : ReaderState ProgramAnswers) (l : Received) (command : Command) → IsReceived l → pending_of r l.held ≡ Some command
         → StaysPending r l command }
+    ensures place { TakesItsPlace }
 {}
 
 /// What was set for a command is said to no other: to what isn't pending the same is said whatever is set, a repeat is the stored reply, and
@@ -109,14 +115,23 @@ pub fn says_it_to_no_other()
 {}
 
 /// Each event that waits keeps the moment at which it came, whatever is called: so the age of the oldest is the time since it came. A packet lets
-/// the oldest event go with its moment, or each stays with its own.
+/// the oldest event go with its moment, or each stays with its own. A device is offline until its reader has answered a packet, and from 8,000 ms after the
+/// last one on. The oldest event is taken off exactly where the device is offline, there is a limit, and the event came longer ago than that, to the millisecond.
 pub fn events_keep_their_moments<H: Handler>()
     ensures none { BeginsWithNone H }
     ensures arrives { ArrivesWithItsMoment H }
     ensures stays { StaysWithItsMoment H.answer_of H.after }
     ensures leaves { LeavesWithItsMoment H }
     ensures age { TellsAges H }
+    ensures offline { (a : AgesState) → TellsOffline a }
+    ensures old { TakesOffWhatIsTooOld H }
 {
     osdp_reader_laws::loses_no_event::<H>();
     osdp_reader_laws::changes_by_acting::<H>();
 }
+
+/// A device whose program sets its states beforehand answers LSTAT, ISTAT, OSTAT and RSTAT by these. OUT is refused exactly where one of its outputs isn't there, LED, BUZ and TEXT
+/// never, and MFG always.
+pub fn answers_from_status()
+    ensures { (s : DeviceStatus) → AnswersFromStatus s }
+{}

@@ -15,3 +15,4 @@ pub mod FittingReplies
 pub mod QueuedOnce
 pub mod Withdrawing
 pub mod Places
+pub mod Replies

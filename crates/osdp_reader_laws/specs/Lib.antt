@@ -5,3 +5,4 @@ pub mod Runs
 pub mod Storing
 pub mod Withdrawing
 pub mod Places
+pub mod Replying

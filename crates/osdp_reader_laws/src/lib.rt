@@ -2,8 +2,10 @@
 //! and hold whatever the handler does.
 #![tactic(auto)]
 
+ghost use Rattle.osdp_reader.specs.declared.config.ReaderConfig.{ReaderConfig};
 ghost use Rattle.osdp_reader_laws.specs.Laws.{ActsAtZero, ActsOnce, AnswersByWhatCame, AnswersInOrder, AnswersPlainly, AnswersTaken, AnswersTheSameAgain, AnswersTheSameStill, AnswersWhereverItIs, ChangesAnswersAlone, ForgetsWhereItMoves, HasOneSpelling, HasRoom, HearsItsAddress, IsKept, KeepsReply, KeepsWhatItTook, LosesNoEvent, RefusesBlocks, RefusesNumbers, RepeatsItsReply, RepliesToItsCommand, SaysBusy, SendsWhatItSays, StaysADevice, TakesNext, TellsItsOffer};
 ghost use Rattle.osdp_reader_laws.specs.Places.{RefusesForItsPlace};
+ghost use Rattle.osdp_reader_laws.specs.Replying.{AnswersByItself, AsksItsHandlerOnce, RefusesByCause, SetsBusyAlone, SubmitsLast};
 ghost use Rattle.osdp_reader_laws.specs.Storing.{StoresItsOwn};
 ghost use Rattle.osdp_reader_laws.specs.Withdrawing.{DoubtsWhatItTold, KnowsItsOffer, NeverTellsWhatIsTakenBack, TellsNoMoreWhatLapsed, ToldWhatIsInDoubt, WithdrawsOne};
 ghost use Rattle.osdp_reader_laws.specs.Steps.{AnswersPolls, AnswersWhatFits, BeginsAnew, ChangesByActing, KeepsItsSettings, LetsItsOfferGo, MovesByComsetAlone, OffersToPollsAlone, RefusesUnread, SaysWhatFits, TellsItsCommand, TellsItsComset};
@@ -25,10 +27,12 @@ pub fn keeps_what_it_took<H: Handler>()
 {}
 
 /// A handler that the device sets answers from the next packet on, and nothing else changes. A number that comes again has the answer
-/// that was given.
+/// that was given. An event that is submitted goes after those that wait, and a reader is busy or not as it is set: nothing else changes by either.
 pub fn changes_answers_alone<H: Handler>()
     ensures alone { ChangesAnswersAlone H.answer_of H.after }
     ensures again { AnswersTheSameStill H.answer_of H.after }
+    ensures event { SubmitsLast H }
+    ensures busy { SetsBusyAlone H }
 {}
 
 /// Bytes that spell the same packet are the same, so a repeated reply is the stored one byte for byte.
@@ -82,6 +86,15 @@ pub fn answers_plainly<H: Handler>()
 pub fn replies_fit<H: Handler>()
     ensures said { SaysWhatFits H.answer_of H.after }
     ensures anywhere { AnswersWhatFits H.answer_of H.after }
+{}
+
+/// POLL where no event is told, ID and CAP are answered by what the reader is, COMSET by the values that it asks for, or by NAK 9 where its address is
+/// above 126, and the handler stays. Each other command reaches the handler once, and has the reply that belongs to what it answers. What can't be read
+/// is refused for its cause.
+pub fn answers_each_command<H: Handler>()
+    ensures itself { (config : ReaderConfig) (handler : H) → AnswersByItself H.answer_of H.after config handler }
+    ensures handled { AsksItsHandlerOnce H.answer_of H.after }
+    ensures unread { RefusesByCause }
 {}
 
 /// A reply is sent as it is said, with the number of its command, and BUSY with number 0. Where none is said anew, nothing is sent, or

@@ -139,7 +139,7 @@ power_failure off
 ";
 
 /// What an output does for a time ends once the device's program has counted that time: output 3 is on for a second, and so it is told.
-/// Then it is on for good, and off for half a second first.
+/// Then it is on for good, and off for half a second first. At last output 2 is on for 30 seconds, a timer of two bytes.
 const FOR_A_TIME: &str = "\
 53050700006041 538507000040E1
 53050B00016803050A0022 538507000140E0
@@ -152,6 +152,12 @@ pass 1
 53050700036638 53850F00034A0000000000000000CC
 pass 500
 5305070001663A 53850F00014A0000000100000000CD
+53050B00026802052C01FF 538507000240DF
+53050700036638 53850F00034A0000010100000000CA
+pass 29999
+5305070001663A 53850F00014A0000010100000000CC
+pass 1
+53050700026639 53850F00024A0000000100000000CC
 ";
 
 /// An output that is switched for good is so at once, or once the time that is left has passed; a time of 0 ends what was timed. Output 3

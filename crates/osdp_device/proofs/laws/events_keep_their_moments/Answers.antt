@@ -1,4 +1,5 @@
 use Rattle.osdp_device.proofs.Common.{refl, inl, inr, arith, hears}
+use Rattle.osdp_device.proofs.Offline.{takes_off, tells_offline}
 use Rattle.osdp_device.proofs.Waiting.{arrives, leaves, released, stayed, tells_ages}
 use Rattle.osdp_device.proofs.laws.events_keep_their_moments.Goals as goal
 
@@ -22,3 +23,9 @@ returns-clause-leaves g c = leaves g.row.H.Denot
 
 pub returns-clause-age : goal.returns-clause-age
 returns-clause-age g c = tells_ages g.row.H.Denot
+
+pub returns-clause-offline : goal.returns-clause-offline
+returns-clause-offline g c = λ a. tells_offline a
+
+pub returns-clause-old : goal.returns-clause-old
+returns-clause-old g c = takes_off g.row.H.Denot
