@@ -23,3 +23,4 @@ pub mod Ordering
 pub mod Refusing
 pub mod Moments
 pub mod Retargeting
+pub mod Making

@@ -241,7 +241,7 @@ last_calls (call ∷ calls) last b sound is =
 
 -- ---- the law
 
-same_bytes : (p q : Packet) (before burst : List ℕ) → q ≡ p → Spells q before → Spells p burst → burst ≡ before
+pub same_bytes : (p q : Packet) (before burst : List ℕ) → q ≡ p → Spells q before → Spells p burst → burst ≡ before
 same_bytes p q before burst same first again = spelled_is p burst again ∙ ap spelling (sym same) ∙ sym (spelled_is q before first)
 
 pub sends_the_same : HoldersSendTheSame

@@ -15,3 +15,4 @@ pub use Rattle.osdp_bus_laws.specs.Repeating.{MarksWhatMayComeAgain}
 pub use Rattle.osdp_bus_laws.specs.Moments.{MomentsAreSeen, RunsAreHeardAtTheirEnd}
 pub use Rattle.osdp_bus_laws.specs.Retargeting.{RetargetsSetTheAddress}
 pub use Rattle.osdp_bus_laws.specs.Settings.{DefaultsAreThese, DevicesAreSetAsTheBus}
+pub use Rattle.osdp_bus_laws.specs.Making.{AddsAsLast, ComesOfItsSettings, WritesOnce}

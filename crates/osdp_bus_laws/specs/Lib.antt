@@ -14,4 +14,5 @@ pub mod Repeating
 pub mod Moments
 pub mod Retargeting
 pub mod Settings
+pub mod Making
 pub mod Laws

@@ -2,7 +2,7 @@
 #![tactic(auto)]
 
 ghost use Rattle.osdp_bus.specs.Buses.{BusState};
-ghost use Rattle.osdp_bus_laws.specs.Laws.{Always, BusEndsItsRuns, CutsChangeNothing, DefaultsAreThese, DevicesAreSetAsTheBus, HasOneExchange, HoldersSendTheSame, HoldersSendTheirFrame, HoldersTick, KeepsReports, MarksWhatMayComeAgain, MomentsAreSeen, NoAddressOfTwo, PacketsGoToTheirAddress, RefusesInOrder, ReservationsLast, ReserveTheirComsets, RetargetsSetTheAddress, RunsAreHeardAtTheirEnd, SessionsBeginAlone, TakesTurns, TellsEachOnce, TurnsAreFair};
+ghost use Rattle.osdp_bus_laws.specs.Laws.{AddsAsLast, Always, BusEndsItsRuns, ComesOfItsSettings, CutsChangeNothing, DefaultsAreThese, DevicesAreSetAsTheBus, HasOneExchange, HoldersSendTheSame, HoldersSendTheirFrame, HoldersTick, KeepsReports, MarksWhatMayComeAgain, MomentsAreSeen, NoAddressOfTwo, PacketsGoToTheirAddress, RefusesInOrder, ReservationsLast, ReserveTheirComsets, RetargetsSetTheAddress, RunsAreHeardAtTheirEnd, SessionsBeginAlone, TakesTurns, TellsEachOnce, TurnsAreFair, WritesOnce};
 
 /// No address is that of, or reserved for, two entries. A COMSET that waits or is outstanding is the only one of its entry, and its address is
 /// reserved for it.
@@ -85,11 +85,12 @@ pub fn entries_take_turns()
 /// new.
 ///
 /// Where the holder is due, and its exchange still stands and is still due after the run has ended, the tick is its own: its burst, or
-/// the report that its session has ended. Else nothing goes out and nothing is told.
+/// the report that its session has ended. Else nothing goes out and nothing is told. What stands then in the bytes that a caller lends is determined.
 pub fn holders_send_their_frame()
     ensures frame { (b : BusState) → HoldersSendTheirFrame b }
     ensures same { HoldersSendTheSame }
     ensures due { Always HoldersTick }
+    ensures written { WritesOnce }
 {}
 
 /// A session that begins leaves the waiting commands of its device in their order, none outstanding, and all other devices as they were.
@@ -104,8 +105,14 @@ pub fn refusals_come_in_order()
 {}
 
 /// A new device at an address has each setting of its bus under the same name, and room for as many commands.
+///
+/// It is added after those that are there, with the next number, and has no session. Or it is refused for its cause, or there is no memory (B1): then nothing has
+/// changed. Settings of a bus out of range are refused as such (B5), whether there is memory or not. Of others a bus without devices comes, or there is no memory.
+#[tactic(auto, using(crate::proofs::Making::adds_as_last, crate::proofs::Making::comes_of_its_settings))]
 pub fn devices_are_set_as_the_bus()
-    ensures { DevicesAreSetAsTheBus }
+    ensures settings { DevicesAreSetAsTheBus }
+    ensures added { AddsAsLast }
+    ensures made { ComesOfItsSettings }
 {}
 
 /// By default an answer is waited for 200 ms, a POLL follows after 50, and a frame is sent three times. A BUSY is waited for 50 ms and borne 20 times. A

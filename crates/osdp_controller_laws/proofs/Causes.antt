@@ -4,6 +4,7 @@ use Rattle.osdp_msg.specs.declared.command.Command.TheVariants as commands
 use Rattle.osdp_msg.specs.declared.event.Event.TheVariants as events
 use Rattle.osdp_msg.specs.declared.reply.Reply.TheVariants as replies
 use Rattle.osdp_controller.specs.declared.report.LostCause.TheVariants as causes
+use Rattle.osdp_controller_laws.specs.Laws.{ConfirmsMove}
 use Rattle.osdp_controller_laws.proofs.Frames.{by_number, by_tests, either_frame}
 
 -- where something is told
@@ -19,7 +20,7 @@ com_is : (reply : Reply) (d : Communication) → com_of reply ≡ Some d → rep
 com_is (replies.Com c) d h = cc
 com_is reply d h = cc
 
-event_is : (reply : Reply) (e : EventOfReader) → event_in reply ≡ Some e → reply ≡ event_reply e
+pub event_is : (reply : Reply) (e : EventOfReader) → event_in reply ≡ Some e → reply ≡ event_reply e
 event_is (replies.LocalState s) e h = let same : events.LocalState s ≡ e = cc in ap event_reply same
 event_is (replies.Inputs states) e h = let same : events.Inputs states ≡ e = cc in ap event_reply same
 event_is (replies.Outputs states) e h = let same : events.Outputs states ≡ e = cc in ap event_reply same
@@ -51,6 +52,15 @@ moved_is (Some a) (Some b) d h =
     let is : b ≡ d = cc in
     (a, refl, e, subst (λ (c : Communication). c.address ≡ a.address) is same, omega (arith, below, same)))
     (λ t e. absurd cc) h
+
+confirms : (command : Command) (reply : Reply) (d : Communication) → MovesTo (comset_of command) (com_of reply) d → (reply ≡ replies.Com d) × ConfirmsMove command d
+unfolding MovesTo
+confirms command reply d (a, asked, answered, same, device) = (com_is reply d answered, (a, comset_is command a asked, same, device))
+
+-- the COM answers a COMSET, and confirms its address
+pub moved_parts : (command : Command) (reply : Reply) (d : Communication) → moved_by (comset_of command) (com_of reply) ≡ Some d
+    → (reply ≡ replies.Com d) × ConfirmsMove command d
+moved_parts command reply d e = confirms command reply d (moved_is (comset_of command) (com_of reply) d e)
 
 why_opening : (id : Option PdId) (reply : Reply) (p : Packet) (s t : Session) → pd_id_of reply ≡ id → ComesNumbered p s Opening (Plain reply) → s.number ≡ 0
     → WhyIf (opening_answered id t).report p s

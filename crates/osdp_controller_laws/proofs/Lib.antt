@@ -17,3 +17,5 @@ pub mod Meanings
 pub mod Waits
 pub mod Openings
 pub mod Room
+pub mod Replies
+pub mod Making

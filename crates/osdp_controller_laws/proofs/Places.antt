@@ -1,5 +1,5 @@
 -- The numbers of the exchanges over a run of calls.
-use Rattle.osdp_controller_laws.proofs.Common.{◌≡◌, ◌∙◌, ap, subst, ℕ, suc, ◌+◌, ◌≤◌, true, List, [], ◌∷◌, Option, Some, None, refl, arith, ne_eqb, Packet, next_sequence, Command, ReplyMeaning, Opening, Polling, Outstanding, ControllerFault, Session, State, Closed, Quiet, Idle, Waiting, Pausing, meaning_of, Heard, hears, numbered_in, Machine, after_begin, after_retarget, after_submit, changed_unless, is_outstanding, refused_unless_closed, retarget_refusal, sent_in, submit_refusal, Call, Submit, Begin, Retarget, Withdraw, Tick, Hear, HasNumberOfPlace, NumbersByPlace, after_call, after_calls, count_after, count_from, exchanges_begun, sent_by, later, seen, is_closed, Ticked, begins, gives_up, sends_frame, stays, ticks_in, tries_again, either_way}
+use Rattle.osdp_controller_laws.proofs.Common.{◌≡◌, ◌∙◌, ap, subst, ℕ, suc, ◌+◌, ◌≤◌, true, List, [], ◌∷◌, Option, Some, None, refl, arith, ne_eqb, Packet, next_sequence, Command, ReplyMeaning, Opening, Polling, Outstanding, ControllerFault, Session, State, Closed, Quiet, Idle, Waiting, Pausing, meaning_of, Heard, hears, numbered_in, Machine, after_begin, after_retarget, after_submit, changed_unless, is_outstanding, refused_unless_closed, retarget_refusal, sent_in, submit_refusal, Call, Submit, Begin, Retarget, Withdraw, Tick, Hear, HasNumberOfPlace, NumbersByPlace, after_call, after_calls, count_after, count_from, exchanges_begun, sent_by, seen, is_closed, Ticked, begins, gives_up, sends_frame, stays, ticks_in, tries_again, either_way}
 use Rattle.std.specs.Prelude.{if◌then◌else◌, ◌&&◌, ◌==◌, nat_lt, nat_le, is_some}
 use Rattle.osdp_controller_laws.proofs.Frames.{OfEach, either_frame, of_pause, of_wait}
 use Rattle.osdp_controller_laws.proofs.Ticks.{numbers_turn}

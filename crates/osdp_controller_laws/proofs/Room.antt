@@ -4,7 +4,7 @@ use Rattle.std.specs.Option.{option_map_or}
 use Rattle.osdp_msg.specs.Limits.{most_data}
 use Rattle.osdp_controller.specs.Held.{on_its_way}
 use Rattle.osdp_controller.proofs.OnItsWay.{hears_follows}
-use Rattle.osdp_controller_laws.specs.Room.{HasRoom, RefusesForItsPlace, StaysInRoom, SubmitsFitting}
+use Rattle.osdp_controller_laws.specs.Room.{HasRoom, RefusesForItsBytes, RefusesForItsPlace, StaysInRoom, SubmitsFitting, bytes_asked}
 
 -- ---- what waits: what a command that has room and a front that leaves keep
 
@@ -267,3 +267,16 @@ refuses_for_its_place config capacity room calls command ample fit fits =
     ap (λ (n : ℕ). nat_lt (length m.waiting) m.capacity && nat_le (command_size command) (m.room - (n + bytes_waiting m.waiting))) (not_counted m all)
     ∙ place_alone (length m.waiting) (0 + bytes_waiting m.waiting) m.capacity m.room (command_size command) (omega (arith, short)) all (command_is_short command fits)
     ∙ ap (λ (places : ℕ). nat_lt (length m.waiting) places) is.1
+
+-- ---- little room
+
+counted_so : (m : Machine) → m.room < m.capacity * (1 + most_data) → bytes_on_its_way m ≡ bytes_asked m.session.state
+counted_so m less =
+    ap (λ (t : Bool). if t then 0 else option_map_or command_size (on_its_way m.session.state) 0) (lt-leb (m.capacity * (1 + most_data)) m.room less)
+    ∙ ap (λ (o : Option Command). option_map_or command_size o 0) (asked_same m.session.state)
+
+pub refuses_for_its_bytes : (m : Machine) (command : Command) → RefusesForItsBytes m command
+refuses_for_its_bytes m command = record {
+  size = omega arith;
+  little = λ less. ap (λ (n : ℕ). nat_lt (length m.waiting) m.capacity && nat_le (command_size command) (m.room - (n + bytes_waiting m.waiting))) (counted_so m less);
+}

@@ -1,6 +1,7 @@
 -- What ticks come to.
-use Rattle.osdp_controller_laws.proofs.Common.{◌≡◌, ap, subst, ℕ, zero, suc, ◌+◌, ◌≤◌, true, false, List, [], ◌∷◌, Option, Some, None, refl, arith, if◌then◌else◌, nat_lt, nat_le, is_some, max, next_sequence, Command, Exchange, Opening, Polling, Asking, Report, Lost, Session, State, Closed, Quiet, Idle, Waiting, Pausing, meaning_of, submitted_command, hears_in, ignores, is_from_reader, CountsSends, KeepsTime, NumbersTakeTurns, TakesFront, TellsLost, exchange_in, Machine, begin_refusal, begun, changed_unless, is_outstanding, sent_in, seen, is_idle, Ticked, begins, gives_up, sends_frame, stays, ticks_in, tries_again, either_way}
+use Rattle.osdp_controller_laws.proofs.Common.{◌≡◌, ap, subst, ℕ, zero, suc, ◌+◌, ◌≤◌, true, false, List, [], ◌∷◌, Option, Some, None, refl, arith, if◌then◌else◌, nat_lt, nat_le, is_some, max, next_sequence, Command, Exchange, Opening, Polling, Asking, Report, Lost, Session, State, Closed, Quiet, Idle, Waiting, Pausing, inl, inr, ◌⊎◌, meaning_of, ReplyMeaning, submitted_command, Heard, hears_in, ignores, numbered_in, is_from_reader, CountsSends, KeepsTime, NumbersTakeTurns, TakesFront, TellsLost, exchange_in, Machine, begin_refusal, begun, changed_unless, is_outstanding, sent_in, seen, is_idle, Ticked, begins, gives_up, sends_frame, stays, ticks_in, tries_again, either_way}
 use Rattle.osdp_controller.specs.declared.report.LostCause.TheVariants as causes
+use Rattle.osdp_controller_laws.proofs.Frames.{OfEach, either_frame, of_pause, of_wait}
 
 -- one frame more, in an exchange that is outstanding then
 abbrev OneMore : State → Ticked → Type 0
@@ -21,10 +22,24 @@ one_more (Waiting until sends o) s w =
 one_more (Pausing until o) s w =
     either_way (OneMore (Pausing until o)) (nat_le until s.greatest) (sends_frame 1 o s w) (stays s w) (λ b h. (refl, refl)) (λ b h. cc)
 
+-- what comes leaves the count as it is, or ends the exchange
+abbrev KeepsCount : State → Heard → Type 0
+KeepsCount state e = (sent_in e.session.state ≡ sent_in state) ⊎ (is_outstanding e.session.state ≡ false)
+
+each_keeps : (state : State) (t : Session) → sent_in t.state ≡ sent_in state → OfEach (KeepsCount state) t
+each_keeps state t e = record { ignored = inl e; rested = λ told. inr refl; moved = λ d command. inr refl; lost = λ cause o. inr refl }
+
+keeps_count : (state : State) (a : ReplyMeaning) (t : Session) → sent_in t.state ≡ sent_in state → KeepsCount state (numbered_in state a t)
+keeps_count (Waiting until sends o) a t e =
+    of_wait (KeepsCount (Waiting until sends o)) t (each_keeps (Waiting until sends o) t e) a sends o (inl refl) (inl refl)
+keeps_count (Pausing until o) a t e = of_pause (KeepsCount (Pausing until o)) t (each_keeps (Pausing until o) t e) a o
+keeps_count _ a t e = inl e
+
 pub counts_sends : (now : ℕ) (s : Session) (w : List Command) → CountsSends now s w
 counts_sends now s w = record {
   one_more = λ h. (one_more s.state (seen now s) w h).0;
   outstanding = λ h. (one_more s.state (seen now s) w h).1;
+  kept = λ p. either_frame (KeepsCount s.state) p now s (λ from k. keeps_count s.state (meaning_of p) (seen now s) refl) (inl refl);
 }
 
 -- the front of the waiting commands

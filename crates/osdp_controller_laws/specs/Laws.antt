@@ -92,6 +92,8 @@ pub record CountsSends (now : ℕ) (s : Session) (waiting : List Command) : Type
       → sent_in (ticks now s waiting).session.state ≡ sent_in s.state + 1
   pub outstanding : is_some (ticks now s waiting).step.frame ≡ true
       → is_outstanding (ticks now s waiting).session.state ≡ true
+  -- what comes leaves the count as it is, or ends the exchange
+  pub kept : (p : Packet) → (sent_in (hears p now s).session.state ≡ sent_in s.state) ⊎ (is_outstanding (hears p now s).session.state ≡ false)
 
 -- the front of the waiting commands is asked as soon as nothing is outstanding, and leaves; where none waits, a POLL
 -- may begin; in every other state they stay, also where the session ends

@@ -7,3 +7,5 @@ pub mod Meanings
 pub mod Waits
 pub mod Openings
 pub mod Room
+pub mod Replies
+pub mod Making

@@ -7,9 +7,11 @@ ghost use Rattle.osdp_controller.specs.declared.session.Session.{Session};
 ghost use Rattle.osdp_controller_laws.specs.Calls.{BeginsWithFrame, ComesDue, KeepsSettings, SendsPackets, StaysInRange, WaitsUntilDue};
 ghost use Rattle.osdp_controller_laws.specs.Commands.{CommandsByPlace, TellsEnds};
 ghost use Rattle.osdp_controller_laws.specs.Laws.{CountsSends, HearsAnswers, KeepsTime, NumbersTakeTurns, TakesFront, TellsLost, TellsWhy};
+ghost use Rattle.osdp_controller_laws.specs.Making.{ComesOfItsSettings, HasOneDeadline};
 ghost use Rattle.osdp_controller_laws.specs.Meanings.{MeansWhatItSays};
 ghost use Rattle.osdp_controller_laws.specs.Openings.{OpensById};
-ghost use Rattle.osdp_controller_laws.specs.Room.{RefusesForItsPlace, StaysInRoom};
+ghost use Rattle.osdp_controller_laws.specs.Replies.{AnswersBring};
+ghost use Rattle.osdp_controller_laws.specs.Room.{RefusesForItsBytes, RefusesForItsPlace, StaysInRoom};
 ghost use Rattle.osdp_controller_laws.specs.Runs.{Call, NumbersByPlace, ResendsTheSame, SendsFew, StaysWell};
 ghost use Rattle.osdp_controller.specs.Machine.{IsMachine, Machine};
 ghost use Rattle.osdp_controller.specs.States.{is_closed};
@@ -30,8 +32,13 @@ pub fn replies_mean_what_they_say()
 {}
 
 /// The answer with the number of the outstanding exchange does what the table says for the exchange.
+///
+/// A PDID opens the session, and any other reply to the opening ID but BUSY, NAK 1 and NAK 4 is passed over. Of the answers to a POLL an ACK alone tells
+/// nothing. A COM that confirms a COMSET ends the session, at whatever rate and also at the reader's own address. Any other reply that can be read settles
+/// its command, and one that can't is told as unread.
 pub fn answers_are_heard()
-    ensures { HearsAnswers }
+    ensures table { HearsAnswers }
+    ensures each { (p : Packet) (now : ℕ) (s : Session) → AnswersBring p now s }
 {}
 
 /// A new exchange takes the front of the waiting commands, or a POLL; else they stay as they are.
@@ -80,7 +87,7 @@ pub fn resends_the_same_frame()
 {}
 
 /// As long as an exchange lasts it sends at most `sends * (busy_limit + 1)` frames, whatever is called and comes. Each frame that a tick gives
-/// counts one more in its exchange.
+/// counts one more in its exchange, and a packet that comes leaves the count, unless it ends the exchange.
 pub fn exchanges_send_few()
     ensures few { SendsFew }
     ensures counted { (now : ℕ) (s : Session) (waiting : List Command) → CountsSends now s waiting }
@@ -102,8 +109,12 @@ pub fn exchanges_in_steps()
 {}
 
 /// What holds of a new controller, its settings and counts in their ranges, holds whatever is called and comes.
+///
+/// Settings or a room out of range are refused as such (C2), whether there is memory or not. Of others a controller comes that has these, no session and no
+/// command, or there is no memory (C1).
 pub fn controller_stays_well()
-    ensures { StaysWell }
+    ensures well { StaysWell }
+    ensures made { ComesOfItsSettings }
 {}
 
 /// An exchange begins with a frame that a tick gives, and in no other way.
@@ -116,9 +127,10 @@ pub fn settings_stay()
     ensures { (call : Call) (m : Machine) → KeepsSettings call m }
 {}
 
-/// A tick that is not due changes nothing but the greatest moment seen.
+/// A tick that is not due changes nothing but the greatest moment seen. One moment at most is told as the next deadline.
 pub fn ticks_wait_until_due()
-    ensures { (now : ℕ) (m : Machine) → WaitsUntilDue now m }
+    ensures waits { (now : ℕ) (m : Machine) → WaitsUntilDue now m }
+    ensures one { (m : Machine) → HasOneDeadline m }
 {}
 
 /// A session opens by ID with data byte 0 and number 0: when the line has been left quiet, and each time that this frame goes out again.
@@ -149,9 +161,10 @@ pub fn sends_packets()
 {}
 
 /// Whatever is called, no more bytes of commands wait than there is room for. Where there is less room than for each command however long, the bytes of
-/// the command that waits for its answer have room beside them.
+/// the command that waits for its answer have room beside them, and a command is refused for its bytes only where they have none beside all of these.
 pub fn bytes_stay_in_their_room()
-    ensures { StaysInRoom }
+    ensures stay { StaysInRoom }
+    ensures refused { (m : Machine) (command : Command) → RefusesForItsBytes m command }
 {}
 
 /// With room for each command however long, as `Room::of` has it, a command is refused for its place alone: where as many wait as may, whatever was

@@ -1,5 +1,5 @@
 -- A panel's orders and its bus: what each call makes of both, and when it is refused.
-use Rattle.std.specs.Prelude.{◌≡◌, ℕ, ◌+◌, ◌-◌, ◌^◌, min, Bool, false, ◌==◌, if◌then◌else◌, List, [], ◌∷◌, ◌++◌, length, Option, Some, None, is_some, option_map, slice_get, slice_set, Result, Ok, Err}
+use Rattle.std.specs.Prelude.{◌≡◌, ◌⊎◌, ℕ, ◌+◌, ◌-◌, ◌^◌, ◌<◌, min, Bool, true, false, ◌==◌, if◌then◌else◌, List, [], ◌∷◌, ◌++◌, length, Option, Some, None, is_some, option_map, slice_get, slice_set, Result, Ok, Err}
 use Rattle.std.specs.Option.{option_map_or, option_or}
 use Rattle.osdp_frame.specs.Packet.{Packet}
 use Rattle.osdp_frame.specs.Spelling.{address_byte}
@@ -71,9 +71,13 @@ with_new_queue o = if o.on then record o { queues = o.queues ++ new_queue o.room
 abbrev pub after_add : ℕ → PanelState → PanelState
 after_add address x = both (with_new_queue x.orders) (bus_after_add address x.bus)
 
+-- memory is asked for once nothing else refuses the device; but where orders wait for POLLs it is, for a queue, as soon as there is a place for one more
+abbrev pub AsksForMemory : ℕ → PanelState → Type 0
+AsksForMemory address x = (add_refusal address x.bus ≡ None) ⊎ ((x.orders.on ≡ true) × (length x.bus.devices.entries < 16))
+
 abbrev pub AddEnds : ℕ → PanelState → PanelState → Result ℕ BusFault → Type 0
 AddEnds address x y (Ok entry) = (add_refusal address x.bus ≡ None) × (entry ≡ length x.bus.devices.entries) × (y ≡ after_add address x)
-AddEnds address x y (Err NoMemory) = y ≡ x
+AddEnds address x y (Err NoMemory) = AsksForMemory address x × (y ≡ x)
 AddEnds address x y (Err fault) = (add_refusal address x.bus ≡ Some fault) × (y ≡ x)
 
 -- submitting: where it may, it goes to its controller at once, and else it is held back

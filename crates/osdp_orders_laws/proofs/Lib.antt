@@ -22,3 +22,5 @@ mod Bounding
 pub mod Coming
 mod SlowOrder
 mod Ending
+mod Refusing
+mod AtOnce

@@ -7,3 +7,5 @@ pub mod InTime
 pub mod Instances
 pub mod Ended
 pub mod Rooms
+pub mod Refusals
+pub mod AtOnce

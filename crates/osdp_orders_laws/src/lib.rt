@@ -2,11 +2,13 @@
 #![tactic(auto)]
 
 ghost use Rattle.osdp_orders.specs.Orders.{PanelState};
+ghost use Rattle.osdp_orders_laws.specs.AtOnce.{MustWait, NeedNotWait};
 ghost use Rattle.osdp_orders_laws.specs.Calls.{Always};
 ghost use Rattle.osdp_orders_laws.specs.Freeing.{GoAsSoonAsTheyMay};
 ghost use Rattle.osdp_orders_laws.specs.OfTheBus.{AreCallsOfTheBus, WithoutTheSetting};
 ghost use Rattle.osdp_orders_laws.specs.Pacing.{PollsStandBetween};
 ghost use Rattle.osdp_orders_laws.specs.Places.{OrdersKeepTheirPlaces, TellAllThatWaits};
+ghost use Rattle.osdp_orders_laws.specs.Refusals.{RefusesOrders};
 ghost use Rattle.osdp_orders_laws.specs.Rooms.{EntriesKeepTheirRoom};
 
 mod in_time;
@@ -32,6 +34,13 @@ pub fn orders_go_as_soon_as_they_may()
     ensures { GoAsSoonAsTheyMay }
 {}
 
+/// Where a panel polls between orders, an order goes to its controller at once exactly where none of its entry was accepted since the entry was added, or since a POLL of
+/// it went out, or its session began, with none of its orders waiting. Else it is held back until then.
+pub fn polls_go_before_orders_exactly()
+    ensures at_once { NeedNotWait }
+    ensures waits { MustWait }
+{}
+
 /// What waits is told: how many wait of an entry, those that are held back too, and the one that has waited longest, which may be withdrawn where there is no session.
 pub fn what_waits_is_told()
     ensures { (x : PanelState) → TellAllThatWaits x }
@@ -52,4 +61,11 @@ pub fn without_the_setting_orders_are_the_buses()
 #[tactic(auto, using(crate::proofs::Rooms::keep_their_room))]
 pub fn entries_keep_their_room()
     ensures { EntriesKeepTheirRoom }
+{}
+
+/// An order that goes to its controller at once is refused as its bus refuses it. One that would be held back is refused where it is a POLL (C4), and else where it is a
+/// COMSET, or as many wait as may, those in the controller counted, or the bytes that are held back leave no room for its own (C3).
+#[tactic(auto, using(crate::proofs::Refusing::refuses_orders))]
+pub fn orders_are_refused_for_their_cause()
+    ensures { (x : PanelState) → RefusesOrders x }
 {}

@@ -1,1 +1,3 @@
 mod Making
+mod Equal
+mod Written

@@ -49,7 +49,7 @@ adds_as_last address x y (Ok entry) is = inl (
     greatest = ap (λ (z : PanelState). z.bus.greatest) is.2;
   },
 )
-adds_as_last address x y (Err NoMemory) same = inr (NoMemory, refl, record { cause = inl refl; unchanged = same })
+adds_as_last address x y (Err NoMemory) is = inr (NoMemory, refl, record { cause = inl (refl, is.0); unchanged = is.1 })
 adds_as_last address x y (Err TooMany) is = inr (TooMany, refl, refused address x y TooMany is)
 adds_as_last address x y (Err AddressTaken) is = inr (AddressTaken, refl, refused address x y AddressTaken is)
 adds_as_last address x y (Err NoEntry) is = inr (NoEntry, refl, refused address x y NoEntry is)

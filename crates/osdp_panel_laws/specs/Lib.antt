@@ -1,2 +1,4 @@
 pub mod Laws
 pub mod Making
+pub mod Equal
+pub mod Written

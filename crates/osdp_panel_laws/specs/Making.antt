@@ -1,5 +1,5 @@
 -- How a panel comes about, and how a device is added to it.
-use Rattle.std.specs.Prelude.{◌≡◌, ◌⊎◌, ℕ, Bool, [], ◌∷◌, ◌++◌, length, replicate, Some, None, Result, Ok, Err}
+use Rattle.std.specs.Prelude.{◌≡◌, ◌⊎◌, ◌<◌, ℕ, Bool, true, [], ◌∷◌, ◌++◌, length, replicate, Some, None, Result, Ok, Err}
 use Rattle.osdp_bus.specs.declared.config.BusConfig.{BusConfig}
 use Rattle.osdp_bus.specs.declared.fault.BusFault.{BusFault}
 use Rattle.osdp_bus.specs.declared.fault.BusFault.TheVariants.{NoMemory, OutOfRange}
@@ -36,9 +36,11 @@ pub record IsLast (address entry : ℕ) (x y : PanelState) : Type 0 where
   pub settings : y.bus.config ≡ x.bus.config
   pub greatest : y.bus.greatest ≡ x.bus.greatest
 
--- it is refused for what a bus refuses it, or there is no memory; the panel is as before then
+-- it is refused for what a bus refuses it, or else there is no memory. Where orders wait for POLLs, that may be told though the device would be refused, but not where
+-- sixteen are there. The panel is as before then
 pub record IsRefused (address : ℕ) (x y : PanelState) (fault : BusFault) : Type 0 where
-  pub cause : (fault ≡ NoMemory) ⊎ (add_refusal address x.bus ≡ Some fault)
+  pub cause : ((fault ≡ NoMemory) × ((add_refusal address x.bus ≡ None) ⊎ ((x.orders.on ≡ true) × (length x.bus.devices.entries < 16))))
+      ⊎ (add_refusal address x.bus ≡ Some fault)
   pub unchanged : y ≡ x
 
 abbrev pub AddsAsLast : Type 0

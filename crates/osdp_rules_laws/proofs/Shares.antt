@@ -6,12 +6,12 @@ use Rattle.std.proofs.lemmas.List.Sums.{sum_by-cons}
 use Rattle.osdp_rules.specs.Delays.{nth_from}
 use Rattle.osdp_rules_laws.specs.Laws.{IsShare, TellsShares}
 
--- the n-th answer stands so far behind the first bucket: as many answers stand up to there, and fewer before
+-- the n-th answer stands so far after the first bucket: as many answers stand up to there, and fewer before
 record Stands (bucket n : ℕ) (counts : List ℕ) (place : ℕ) : Type 0 where
-  behind : ℕ
-  is : place ≡ bucket + behind
-  within : n ≤ sum (take (behind + 1) counts)
-  before : 0 < n → sum (take behind counts) < n
+  further : ℕ
+  is : place ≡ bucket + further
+  within : n ≤ sum (take (further + 1) counts)
+  before : 0 < n → sum (take further counts) < n
 
 taken : (n count : ℕ) (counts : List ℕ) → sum (take (n + 1) (count ∷ counts)) ≡ count + sum (take n counts)
 taken n count counts =
@@ -26,7 +26,7 @@ none_is e = grind (arith, e)
 
 here : (bucket n count : ℕ) (counts : List ℕ) (place : ℕ) → n ≤ count → bucket ≡ place → Stands bucket n (count ∷ counts) place
 here bucket n count counts place within is = record {
-  behind = 0;
+  further = 0;
   is = omega (arith, is);
   within = omega (arith, within, taken 0 count counts);
   before = λ above. above;
@@ -34,10 +34,10 @@ here bucket n count counts place within is = record {
 
 further : (bucket n count : ℕ) (counts : List ℕ) (place : ℕ) → count < n → Stands (suc bucket) (n - count) counts place → Stands bucket n (count ∷ counts) place
 further bucket n count counts place above s = record {
-  behind = s.behind + 1;
+  further = s.further + 1;
   is = omega (arith, s.is);
-  within = omega (arith, s.within, taken (s.behind + 1) count counts);
-  before = λ some. omega (arith, s.before (omega (arith, above)), taken s.behind count counts, above);
+  within = omega (arith, s.within, taken (s.further + 1) count counts);
+  before = λ some. omega (arith, s.before (omega (arith, above)), taken s.further count counts, above);
 }
 
 stands : (bucket n : ℕ) (counts : List ℕ) (place : ℕ) → nth_from bucket n counts ≡ Some place → Stands bucket n counts place
@@ -53,8 +53,8 @@ stands bucket n (count ∷ counts) place is = by (nat_le n count) refl is (stand
 share : (of_hundred n place : ℕ) (counts : List ℕ) → of_hundred * sum counts ≤ 100 * n → 100 * n < of_hundred * sum counts + 100 → 0 < n
     → Stands 0 n counts place → IsShare of_hundred place counts
 share of_hundred n place counts enough least some s =
-    let at : s.behind ≡ place = omega (arith, s.is) in
-    let few : sum (take s.behind counts) < n = s.before some in
+    let at : s.further ≡ place = omega (arith, s.is) in
+    let few : sum (take s.further counts) < n = s.before some in
     subst (λ m. IsShare of_hundred m counts) at (record { no_longer = omega (arith, s.within, enough); less = omega (arith, few, least) })
 
 half : (total : ℕ) → (50 * total ≤ 100 * ((total + 1) / 2)) × (100 * ((total + 1) / 2) < 50 * total + 100) × (0 < total → 0 < (total + 1) / 2)

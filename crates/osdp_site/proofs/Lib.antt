@@ -5,3 +5,7 @@ pub mod States
 pub mod Fitting
 pub mod Online
 pub mod Begins
+pub mod Latest
+pub mod Given
+pub mod Beginning
+pub mod Acting

@@ -33,6 +33,10 @@ order_if true entry b p =
     let n = (submits entry (due_of p) b).count in
     sym (ap (λ cs. take n (due_of p) ++ cs) (drop_on p.done n p.wanted)) ∙ take-append-drop n (due_of p)
 
+-- what is submitted, and then what is left, was due
+pub order_sent : (entry : ℕ) (b : PanelState) (p : PlaceState) → sent entry b p ++ due_of (refreshed entry b p) ≡ due_of p
+order_sent entry b p = order_if (is_online p.presence) entry b p
+
 wanted_if : (online : Bool) (entry : ℕ) (b : PanelState) (p : PlaceState) → (after_if online entry b p).place.wanted ≡ p.wanted
 wanted_if false entry b p = refl
 wanted_if true entry b p = refl
@@ -100,7 +104,7 @@ second_true : (a b : Bool) → (a && b) ≡ true → b ≡ true
 second_true true b h = h
 second_true false b h = absurd cc
 
-none_due : (p : PlaceState) → is_refreshed p ≡ true → due_of p ≡ []
+pub none_due : (p : PlaceState) → is_refreshed p ≡ true → due_of p ≡ []
 none_due p is =
     let all = second_true (is_online p.presence) (nat_le (length p.wanted) p.done) is in
     let h : length p.wanted ≤ p.done = leb-true (length p.wanted) p.done all in

@@ -3,3 +3,5 @@ pub mod Places
 pub mod Acting
 pub mod Sites
 pub mod Laws
+pub mod Beginning
+pub mod Latest

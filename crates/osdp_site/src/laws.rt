@@ -5,7 +5,11 @@ ghost use Rattle.std.specs.List.{All};
 ghost use Rattle.osdp_orders.specs.Orders.{PanelState};
 ghost use Rattle.osdp_controller.specs.declared.report.Report.{Report};
 ghost use Rattle.osdp_site.specs.Laws.{IsFirstBegin, IsState, IsTaken, Move, NoneIsDue, WaitsForOthers, OnlineBetween, SubmittedOnce, WaitsForThePause, after_moves};
+ghost use Rattle.osdp_msg.specs.declared.command.Command.{Command};
+ghost use Rattle.osdp_site.specs.Beginning.{AllBeginAnew, BeginsAnew};
+ghost use Rattle.osdp_site.specs.Latest.{SaysOfOne, SessionsAreGivenTheLatest, WantsTheLatest};
 ghost use Rattle.osdp_site.specs.Places.{PlaceState, new_place};
+ghost use Rattle.osdp_site.specs.declared.subject.Subject.{Subject};
 ghost use Rattle.osdp_site.specs.Sites.{Both, SiteState};
 
 /// After each opening all that is wanted is submitted once, in the order in which it was wanted, however often the panel refuses some of it; before that
@@ -48,4 +52,31 @@ pub fn no_session_stays_due()
 /// The deadline is the earliest moment at which some session is due.
 pub fn deadlines_are_the_first_begin()
     ensures { (now : ℕ) (s : SiteState) → IsFirstBegin now s }
+{}
+
+/// A session that begins where none stands takes back all orders of its device that wait, where these are fewer than 2^64. Nothing is told of them. Where a session stands
+/// nothing is taken back, and of other devices nothing ever. Where none is due, an entry's states are only given.
+///
+/// So it is in each call of a site, whatever its other entries do.
+pub fn sessions_take_back_what_waits()
+    ensures begins { (entry now : ℕ) (b : PanelState) → BeginsAnew entry now b }
+    ensures all { (now : ℕ) (x : Both) → AllBeginAnew now x }
+{}
+
+/// What is wanted is the latest of each thing that was said and not refused. So it is whatever is called, of each output, LED, buzzer and text, in the order in which it was
+/// said: nothing that was accepted is forgotten.
+pub fn the_latest_is_wanted()
+    ensures { WantsTheLatest }
+{}
+
+/// From an opening to the next, the panel is given no state more often than it was wanted then or accepted since. These are what was wanted as the session opened and what
+/// was said since, except what was replaced before it went. The latest of these, and of what is due, are what is wanted, and all of that was given where the site says that
+/// it is done.
+pub fn sessions_are_given_the_latest()
+    ensures { SessionsAreGivenTheLatest }
+{}
+
+/// States are of the same where the kind and all numbers are equal.
+pub fn states_are_of_one_thing()
+    ensures { (s : Subject) (c : Command) → SaysOfOne s c }
 {}
