@@ -6,11 +6,11 @@ use Rattle.osdp_plan.specs.declared.plan.Plan.{Plan}
 use Rattle.osdp_plan.specs.Figures.{answered_time, wire_time}
 use Rattle.osdp_plan.specs.Plans.{IsPlan}
 
--- an answer is waited for longer than it takes, and a session opens only after what the line held back of a packet and of its answer has come
+-- an answer is waited for longer than it takes, and a session opens only after an old packet and its answer have come
 pub record IsLongEnough (p : Plan) : Type 0 where
   pub packet : wire_time p.rate p.longest ≤ p.reply_wait
   pub answer : answered_time p < p.reply_wait
-  pub quiet : p.hold * 2 < p.quiet_wait
+  pub quiet : answered_time p < p.quiet_wait
 
 -- nothing is told exactly of such plans; else the first that is too short, with what it has to last
 abbrev pub Judges : Plan → Option TooShort → Type 0
@@ -18,7 +18,7 @@ Judges p None = IsLongEnough p
 Judges p (Some (PacketPasses time)) = (p.reply_wait < wire_time p.rate p.longest) × (time ≡ wire_time p.rate p.longest)
 Judges p (Some (AnswerComes time)) =
     (wire_time p.rate p.longest ≤ p.reply_wait) × (p.reply_wait ≤ answered_time p) × (time ≡ answered_time p)
-Judges p (Some (LineIsQuiet time)) = (answered_time p < p.reply_wait) × (p.quiet_wait ≤ p.hold * 2) × (time ≡ p.hold * 2)
+Judges p (Some (LineIsQuiet time)) = (answered_time p < p.reply_wait) × (p.quiet_wait ≤ answered_time p) × (time ≡ answered_time p)
 
 -- a plan is judged in one way
 abbrev pub HasOneJudgement : Type 0

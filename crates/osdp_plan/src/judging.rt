@@ -12,7 +12,7 @@ pub enum TooShort {
     PacketPasses(u64),
     /// `reply-wait`: so long after a packet was handed out its answer may come.
     AnswerComes(u64),
-    /// `quiet-wait`: for so long the line may hold back a packet and its answer together, and the quiet has to last longer.
+    /// `quiet-wait`: so long a packet of the session before and its answer may take, and the quiet has to last longer.
     LineIsQuiet(u64),
 }
 
@@ -30,9 +30,8 @@ pub fn judge(plan: &Plan) -> Option<TooShort>
     if wait <= answer {
         return Some(TooShort::AnswerComes(answer));
     }
-    let held = u64::from(plan.hold) * 2;
-    if u64::from(plan.quiet_wait) <= held {
-        return Some(TooShort::LineIsQuiet(held));
+    if u64::from(plan.quiet_wait) <= answer {
+        return Some(TooShort::LineIsQuiet(answer));
     }
     None
 }

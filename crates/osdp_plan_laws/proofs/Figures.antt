@@ -1,13 +1,13 @@
 -- The figures of a plan are the bounds of the laws in time.
-use Rattle.osdp_plan_laws.proofs.Common.{if◌then◌else◌, min, ◌≡◌, ◌∙◌, ap, sym, subst, refl, ℕ, suc, ◌+◌, ◌-◌, ◌*◌, ◌≤◌, Bool, true, false, length, arith, BusState, turns_of, Well, ControllerConfig, card_time, line_order_time, line_silence_time, turns_time, Plan, answered_time, card_wait, exchanges, lost_wait, order_between_time, order_wait, orders_before, CardsAmongOrdersKeepToFigures, CardsKeepToFigures, OrdersKeepToFigures, SilenceKeepsToFigures, planned_time}
+use Rattle.osdp_plan_laws.proofs.Common.{if◌then◌else◌, min, ◌≡◌, ◌∙◌, ap, sym, subst, refl, ℕ, zero, suc, ◌+◌, ◌-◌, ◌*◌, ◌≤◌, Bool, true, false, List, [], ◌∷◌, length, arith, BusState, turns_of, Well, ControllerConfig, card_time, line_order_time, line_silence_time, turns_time, Plan, answered_time, card_wait, exchanges, lost_wait, order_between_time, order_wait, orders_before, poll_round, CardsAmongOrdersKeepToFigures, CardsKeepToFigures, LaterCardsKeepToFigures, OrdersKeepToFigures, RoundsKeepToFigures, SilenceKeepsToFigures, planned_time}
 use Rattle.std.proofs.lemmas.List.{length-replicate}
 use Rattle.std.proofs.Math.Nat.{mul-le-mul_left, mul-le-mul_right}
 use Rattle.osdp_bus.specs.Settings.{controller_config}
-use Rattle.osdp_bus_laws.specs.Calls.{Submit, after_call}
+use Rattle.osdp_bus_laws.specs.Calls.{Call, Submit, after_call}
 use Rattle.osdp_bus_time_laws.specs.Laws.{GoesOutBy, time_of}
 use Rattle.osdp_bus_time_laws.specs.Telling.{ToldBy, round_of}
 use Rattle.osdp_bus_time_laws.proofs.InTime.{lines_add_up}
-use Rattle.osdp_bus_time_laws.proofs.Ordered.{orders_go_out}
+use Rattle.osdp_bus_time_laws.proofs.Ordered.{orders_go_out, polls_go_out}
 use Rattle.osdp_bus_time_laws.proofs.Silent.{silence_is_told}
 use Rattle.osdp_card_time_laws.specs.Cards.{KeepsServing, ReportedBy, to_offer_before}
 use Rattle.osdp_card_time_laws.proofs.Among.{cards_among_orders}
@@ -38,21 +38,56 @@ orders_by_plan p b well others entry command calls planned off accepted keeps =
     (ap (λ t. (p.orders + 1) * t) (turns_are others p planned.plan) ∙ sym wait)
     (orders_go_out b well p.late (planned_time others p) p.readers entry p.orders command calls accepted keeps)
 
+then_more : (a b c : ℕ) → a ≤ b → b ≤ c → a ≤ c
+then_more a b c less more = omega arith
+
+-- a later moment bounds as well
+goes_out_later : (limit more : ℕ) → limit ≤ more → (before entry : ℕ) (calls : List Call) (b : BusState) → GoesOutBy limit before entry calls b
+    → GoesOutBy more before entry calls b
+goes_out_later limit more less before entry [] b by = tt
+goes_out_later limit more less zero entry (call ∷ calls) b by = λ under.
+    let now = by under in
+    (then_more (after_call call b).greatest limit more now.0 less, λ none. goes_out_later limit more less zero entry calls (after_call call b) (now.1 none))
+goes_out_later limit more less (suc before) entry (call ∷ calls) b by = λ under.
+    let now = by under in (
+      then_more (after_call call b).greatest limit more now.0 less,
+      λ begun. goes_out_later limit more less before entry calls (after_call call b) (now.1 begun),
+      λ none. goes_out_later limit more less (suc before) entry calls (after_call call b) (now.2 none),
+    )
+
+-- arithmetic on moments alone
+round_later : (g interval late turns : ℕ) → g + (0 + 1) * (interval + turns) ≤ g + (interval + late + turns)
+round_later g interval late turns = omega arith
+
+pub rounds_by_plan : (p : Plan) (b : BusState) → Well b → RoundsKeepToFigures p b
+rounds_by_plan p b well others entry calls planned under keeps =
+    let turns = turns_time p.late (exchanges others p.readers p) in
+    let same : b.config.poll_interval ≡ p.poll_interval = ap (λ (c : ControllerConfig). c.poll_interval) planned.config in
+    goes_out_later (b.greatest + (0 + 1) * (p.poll_interval + turns)) (b.greatest + poll_round others p)
+    (round_later b.greatest p.poll_interval p.late turns) 0 entry calls b
+    (subst (λ (t : ℕ). GoesOutBy (b.greatest + (0 + 1) * t) 0 entry calls b)
+    (ap (λ (i : ℕ). i + turns_of (planned_time others p) p.late p.readers) same ∙ ap (λ (t : ℕ). p.poll_interval + t) (turns_are others p planned.plan))
+    (polls_go_out b well p.late (planned_time others p) p.readers entry 0 calls under keeps))
+
 none_more : (n : ℕ) → 0 + n ≡ n
 none_more n = omega arith
 
-pub cards_by_plan : (p : Plan) (b : BusState) → Well b → CardsKeepToFigures p b
-cards_by_plan p b well others entry place event q steps off next keeps =
+pub later_cards_by_plan : (p : Plan) (b : BusState) → Well b → LaterCardsKeepToFigures p b
+later_cards_by_plan p b well others entry place orders event q steps off planned answers waits counted keeps =
     let xs = exchanges others p.readers p in
     let before : orders_before p ≡ p.orders = ap (λ t. if t then min p.orders 1 else p.orders) off in
-    let is : card_time (controller_config 0 b.config) p.late (to_offer_before place q + p.orders) (time_of xs entry) xs ≡ card_wait others p =
-    ap (λ c. card_time c p.late (to_offer_before place q + p.orders) (time_of xs entry) xs) next.planned.config
-    ∙ ap (λ n. card_time (config_of p) p.late (n + p.orders) (time_of xs entry) xs) next.first
-    ∙ ap (λ n. card_time (config_of p) p.late n (time_of xs entry) xs) (none_more p.orders ∙ sym before)
-    ∙ ap (λ a. card_time (config_of p) p.late (orders_before p) a xs) next.answers in
+    let is : card_time (controller_config 0 b.config) p.late (to_offer_before place q + orders) (time_of xs entry) xs ≡ card_wait others p =
+    ap (λ c. card_time c p.late (to_offer_before place q + orders) (time_of xs entry) xs) planned.config
+    ∙ ap (λ n. card_time (config_of p) p.late n (time_of xs entry) xs) (counted ∙ sym before)
+    ∙ ap (λ a. card_time (config_of p) p.late (orders_before p) a xs) answers in
     subst (λ (t : ℕ). ReportedBy (b.greatest + t) event place entry q steps b) is
-    (cards_by_figures b well p.late entry place p.orders xs event q steps next.queued
-    (subst (λ (n : ℕ). KeepsServing p.late (time_of xs) n entry p.orders q steps b) (sym (as_many others p next.planned.plan)) keeps))
+    (cards_by_figures b well p.late entry place orders xs event q steps waits
+    (subst (λ (n : ℕ). KeepsServing p.late (time_of xs) n entry orders q steps b) (sym (as_many others p planned.plan)) keeps))
+
+pub cards_by_plan : (p : Plan) (b : BusState) → Well b → CardsKeepToFigures p b
+cards_by_plan p b well others entry place event q steps off next keeps =
+    later_cards_by_plan p b well others entry place p.orders event q steps off next.planned next.answers next.queued
+    (ap (λ n. n + p.orders) next.first ∙ none_more p.orders) keeps
 
 -- arithmetic on counts and moments alone
 abbrev one_if : Bool → ℕ
@@ -67,9 +102,6 @@ with_late interval late turns = omega arith
 
 answer_after : (g rounds more answer : ℕ) → rounds ≤ more → g + (rounds + answer) ≤ g + (more + answer)
 answer_after g rounds more answer less = omega arith
-
-then_more : (a b c : ℕ) → a ≤ b → b ≤ c → a ≤ c
-then_more a b c less more = omega arith
 
 pub cards_between_by_plan : (p : Plan) (b : BusState) → Well b → CardsAmongOrdersKeepToFigures p b
 cards_between_by_plan p b well others entry place may event q steps on one next keeps =

@@ -1,3 +1,6 @@
 pub mod Common
 pub mod Figures
 mod Between
+pub mod Instances
+pub mod Passed
+pub mod PassedBetween

@@ -5,7 +5,7 @@ use Rattle.osdp_msg.specs.declared.event.Event.{Event}
 use Rattle.osdp_bus.specs.Buses.{BusState}
 use Rattle.osdp_bus.specs.Settings.{controller_config}
 use Rattle.osdp_bus_laws.specs.Calls.{Call, Submit, after_call}
-use Rattle.osdp_bus_time_laws.specs.Laws.{GoesOutBy, IsAccepted, time_of}
+use Rattle.osdp_bus_time_laws.specs.Laws.{GoesOutBy, IsAccepted, IsUnderWay, time_of}
 use Rattle.osdp_bus_time_laws.specs.Reading.{NothingIsRead}
 use Rattle.osdp_bus_time_laws.specs.Telling.{IsIdle, ToldBy}
 use Rattle.osdp_bus_time_laws.specs.Turns.{KeepsTurns, others_of}
@@ -16,7 +16,7 @@ use Rattle.osdp_reader.specs.Queue.{Queue}
 use Rattle.osdp_time_laws.specs.Lines.{turns_time}
 use Rattle.osdp_plan.specs.declared.bounds.Others.{Others}
 use Rattle.osdp_plan.specs.declared.plan.Plan.{Plan}
-use Rattle.osdp_plan.specs.Figures.{answered_time, card_wait, exchanges, lost_wait, order_wait}
+use Rattle.osdp_plan.specs.Figures.{answered_time, card_wait, exchanges, lost_wait, order_wait, poll_round}
 use Rattle.osdp_plan.specs.Plans.{IsPlan, config_of}
 
 -- how long the exchange of each entry takes, as it was planned
@@ -34,6 +34,11 @@ OrdersKeepToFigures p b = (others : Others) (entry : ℕ) (command : Command) (c
     → IsAccepted entry p.orders command b → KeepsTurns p.late (planned_time others p) p.readers calls (after_call (Submit entry command) b)
     → GoesOutBy (b.greatest + order_wait others p) p.orders entry calls (after_call (Submit entry command) b)
 
+-- a reader is asked again, by a POLL where no order waits: the next frame of its exchanges goes out within a round of POLLs, or its session has ended
+abbrev pub RoundsKeepToFigures : Plan → BusState → Type 0
+RoundsKeepToFigures p b = (others : Others) (entry : ℕ) (calls : List Call) → IsAsPlanned p b → IsUnderWay entry b
+    → KeepsTurns p.late (planned_time others p) p.readers calls b → GoesOutBy (b.greatest + poll_round others p) 0 entry calls b
+
 -- a card of a reader that answers in the planned time, before which no other is still to be offered
 pub record IsNextCard (others : Others) (p : Plan) (event : Event) (place entry : ℕ) (q : Queue) (b : BusState) : Type 0 where
   pub planned : IsAsPlanned p b
@@ -46,6 +51,12 @@ abbrev pub CardsKeepToFigures : Plan → BusState → Type 0
 CardsKeepToFigures p b = (others : Others) (entry place : ℕ) (event : Event) (q : Queue) (steps : List Step) → p.between ≡ false
     → IsNextCard others p event place entry q b → KeepsServing p.late (planned_time others p) p.readers entry p.orders q steps b
     → ReportedBy (b.greatest + card_wait others p) event place entry q steps b
+
+-- .. where other cards are still to be offered before it, each of them counts as an order does
+abbrev pub LaterCardsKeepToFigures : Plan → BusState → Type 0
+LaterCardsKeepToFigures p b = (others : Others) (entry place orders : ℕ) (event : Event) (q : Queue) (steps : List Step) → p.between ≡ false
+    → IsAsPlanned p b → planned_time others p entry ≡ answered_time p → IsQueued event place entry q b → to_offer_before place q + orders ≡ p.orders
+    → KeepsServing p.late (planned_time others p) p.readers entry orders q steps b → ReportedBy (b.greatest + card_wait others p) event place entry q steps b
 
 -- .. a POLL comes between two, and an order may be asked before the card only where one was planned
 abbrev pub CardsAmongOrdersKeepToFigures : Plan → BusState → Type 0

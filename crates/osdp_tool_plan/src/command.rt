@@ -27,8 +27,8 @@ pub enum WrongPlan<'a> {
     /// The wait for an answer, and how long after a packet was handed out its answer may come.
     #[error("osdp: reply-wait {0}: a packet and its answer may take {1} ms")]
     AnswerComes(u32, u64),
-    /// The quiet before a session, and how long the line may hold back a packet and its answer together.
-    #[error("osdp: quiet-wait {0}: the line may hold a packet and its answer back for {1} ms")]
+    /// The quiet before a session, and how long a packet of the session before and its answer may take.
+    #[error("osdp: quiet-wait {0}: an old packet and its answer may take {1} ms")]
     LineIsQuiet(u32, u64),
 }
 

@@ -38,7 +38,7 @@ pub fn outcome(rt: &impl Abort, alloc: Global, text: &str) -> Result<Account, Fa
 const TOLD_AGAIN: &str =
     "queue KEYPAD 0 31; round 400; round 50; wait 50; to-reader drop; wait 200; to-reader drop; wait 200; to-reader drop; wait 200; reopen 1; round 400; round 50";
 
-const SCHEDULES: [(&str, &str); 18] = [
+const SCHEDULES: [(&str, &str); 19] = [
     // The session opens, and then three rounds lose nothing: two commands are settled and one of two events is reported.
     (
         "issue OUT 0:2:0; issue BUZ 0 2 5 5 1; queue KEYPAD 0 31; queue KEYPAD 0 32; round 400; round 50; round 50; round 50",
@@ -119,6 +119,11 @@ const SCHEDULES: [(&str, &str); 18] = [
     (
         "issue POLL; queue KEYPAD 0 31; queue KEYPAD 0 32; queue KEYPAD 0 33; queue KEYPAD 0 34; queue KEYPAD 0 35; queue KEYPAD 0 36; clean 7",
         "issued 0 taken 0 settled 0 unsettled 0 queued 4 reported 4\nreported KEYPAD 0 31\nreported KEYPAD 0 32\nreported KEYPAD 0 33\nreported KEYPAD 0 34\n",
+    ),
+    // The clock stops at the last moment of 64 bits, and what is due is done there, also once more.
+    (
+        "queue KEYPAD 0 31; queue KEYPAD 0 32; round 400; round 18446744073709551615; round 1",
+        "issued 0 taken 0 settled 0 unsettled 0 queued 2 reported 2\nreported KEYPAD 0 31\nreported KEYPAD 0 32\n",
     ),
     // Where an event has left there is room again.
     (
