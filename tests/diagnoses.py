@@ -284,8 +284,8 @@ def answer_cases(loss, at, lost, seed):
     for what, before in BEFORE.items():
         lines = [each for burst in bursts(Line, f"{what} {seed} {loss}", loss, rounds=SHORT) for each in before(burst)]
         asks_all = what == "a packet to all"
-        silent = ("127 never answered", "damage on 127 alone") if asks_all else ()
-        yield Case(f"{what} before each packet, {at}", lines, silent[:1], (SHARED, LOSES, REPEATED, *silent), devices=(5, 127) if asks_all else (5,), judged=False)
+        silent = ("damage on 127 alone",) if asks_all else ()
+        yield Case(f"{what} before each packet, {at}", lines, (), (SHARED, LOSES, REPEATED, *silent), devices=(5, 127) if asks_all else (5,), judged=False)
     yield Case(f"noise alone, {at}", noise(f"{seed} {loss}"), ("nothing but noise: another rate\\?",), devices=())
 
 

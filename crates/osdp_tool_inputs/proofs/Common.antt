@@ -31,7 +31,7 @@ pub use Rattle.osdp_tool_monitor.proofs.OpenRuns.{after_events-append, events_re
 pub use Rattle.osdp_tool_times.specs.Captures.{after_line, after_lines, Heard, heard_of, line_told, nothing_heard}
 pub use Rattle.osdp_tool_inputs.specs.Ears.{answer_by, ears_answer, HasEnded, HasHeard, HeardLines}
 pub use Rattle.osdp_tool_inputs.specs.Echoes.{all_echoes, echo_line, echoes_below, echoes_in, ended, heard_part, is_echo, left_in, left_of, next_stamp, next_went, printed_by, went_after, went_by}
-pub use Rattle.osdp_tool_inputs.specs.Places.{HasFollowed, IsAt, late_only, stamps_left, tells_left}
+pub use Rattle.osdp_tool_inputs.specs.Places.{HasFollowed, IsAt, stamps_left, tells_left}
 pub use Rattle.osdp_tool_inputs.specs.declared.ears.Ears.{Ears}
 pub use Rattle.osdp_tool_monitor.specs.Reading.{Wrote}
 pub use Rattle.osdp_tool_show.specs.Ending.{Stream, streamed, watched}
@@ -42,5 +42,5 @@ pub use Rattle.osdp_tool_times.specs.declared.waits.Told.TheVariants.{InTime, La
 pub use Rattle.osdp_tool_monitor.specs.Ending.{CameIn, input_report}
 pub use Rattle.osdp_tool_objects.specs.Outputs.{fault_of, IsNew, lines_taken, output_of}
 pub use Rattle.osdp_tool_streams.specs.Watched.{has_failed, inner_of}
-pub use Rattle.osdp_tool_inputs.specs.Heard.{late_notice, marked_line, marked_object, names_run, retold_line, shown_stamp, tells_at, tells_of, times_after, told_line, took_text}
+pub use Rattle.osdp_tool_inputs.specs.Heard.{is_about, late_notice, marked_line, marked_object, names_run, place_named, retold_line, shown_stamp, tells_at, tells_of, times_after, told_line, took_text}
 pub use Rattle.osdp_tool_inputs.specs.declared.clock.Clock.{Clock}

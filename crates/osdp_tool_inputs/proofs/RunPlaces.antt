@@ -1,10 +1,11 @@
 -- Places in a capture, one run after the other.
-use Rattle.osdp_tool_inputs.proofs.Common.{◌≡◌, ℕ, ◌+◌, ◌-◌, ◌≤◌, ◌<◌, ◌^◌, ◌==◌, ◌&&◌, Bool, true, false, cond, inl, inr, List, [], ◌∷◌, ◌++◌, codes, flat_map, get_or, length, drop, nat_lt, refl, sym, ap, ◌∙◌, arith, length-drop, cases_Bool, eqb-true, ltb-false, ltb-true, ne_eqb, drop-drop, drop_all, drop_more, get_or_past, length-append, starts_with, bytes_eq, all_echoes, echoes_below, echoes_in, heard_part, is_echo, left_in, left_of, next_stamp, next_went, went_after, went_by, Capture, Heard, after_line, after_lines, heard_of, line_told, nothing_heard, Told, InTime, Late, Nothing}
+use Rattle.osdp_tool_inputs.proofs.Common.{◌≡◌, ℕ, ◌+◌, ◌-◌, ◌≤◌, ◌<◌, ◌^◌, ◌==◌, ◌&&◌, Bool, true, false, cond, inl, inr, List, [], ◌∷◌, ◌++◌, codes, flat_map, get_or, length, drop, nat_lt, refl, sym, ap, ◌∙◌, arith, length-drop, cases_Bool, eqb-true, ltb-false, ltb-true, ne_eqb, drop-drop, drop_all, drop_more, get_or_past, length-append, starts_with, bytes_eq, all_echoes, echoes_below, echoes_in, heard_part, is_echo, left_in, left_of, next_stamp, next_went, went_after, went_by, Capture, Heard, after_line, after_lines, heard_of, line_told, nothing_heard, Option, None, Some}
 use Rattle.osdp_tool_streams.specs.Cut.{ended_after, last_line, line_feed, lines_of, unended_after}
-use Rattle.osdp_tool_inputs.specs.Heard.{printed_of, retold_line, retold_times, tells_at, tells_below}
-use Rattle.osdp_tool_inputs.specs.Places.{FindsLate, HasFollowed, IsAt, IsHeard, first_told, late_from, late_in, late_only, stamps_left, tells_left}
+use Rattle.osdp_tool_inputs.specs.Heard.{line_late, printed_of, retold_line, retold_times, tells_at, tells_below}
+use Rattle.osdp_tool_inputs.specs.Places.{FindsLate, HasFollowed, IsAt, IsHeard, first_told, late_from, late_in, stamps_left, tells_left}
 use Rattle.osdp_tool_inputs.specs.Times.{ends_so, has_digits, is_stamp, no_stamp, stamp_at, stamps_below}
 use Rattle.osdp_tool_inputs.specs.declared.capture.LateAnswer.{LateAnswer}
+use Rattle.osdp_tool_inputs.specs.declared.capture.LateTimes.{LateTimes}
 use Rattle.osdp_tool_inputs.specs.declared.places.Found.{Found}
 use Rattle.osdp_tool_inputs.specs.declared.places.Place.{Place}
 use Rattle.osdp_tool_inputs.specs.declared.places.Source.{Source}
@@ -91,13 +92,13 @@ no_echo_other stamp went line none = ap (λ t. t && (ends_so stamp (codes " in")
 
 -- each run has a stamp, and tells something
 tells_some : (h : Heard) (line : List ℕ) (lines : List (List ℕ)) → has_digits line ≡ true
-    → tells_below h (line ∷ lines) ≡ line_told h line ∷ tells_below (after_line h line) lines
+    → tells_below h (line ∷ lines) ≡ line_late h line ∷ tells_below (after_line h line) lines
 unfolding tells_below
-tells_some h line lines some = ap (λ t. cond t (line_told h line ∷ tells_below (after_line h line) lines) (tells_below (after_line h line) lines)) some
+tells_some h line lines some = ap (λ t. cond t (line_late h line ∷ tells_below (after_line h line) lines) (tells_below (after_line h line) lines)) some
 
 tells_none : (h : Heard) (line : List ℕ) (lines : List (List ℕ)) → has_digits line ≡ false → tells_below h (line ∷ lines) ≡ tells_below (after_line h line) lines
 unfolding tells_below
-tells_none h line lines none = ap (λ t. cond t (line_told h line ∷ tells_below (after_line h line) lines) (tells_below (after_line h line) lines)) none
+tells_none h line lines none = ap (λ t. cond t (line_late h line ∷ tells_below (after_line h line) lines) (tells_below (after_line h line) lines)) none
 
 one_longer : {X Y : Type 0} (x : X) (y : Y) (xs : List X) (ys : List Y) → length xs ≡ length ys → length (x ∷ xs) ≡ length (y ∷ ys)
 one_longer x y xs ys e = omega (arith, e)
@@ -110,7 +111,7 @@ as_many h stamp (line ∷ lines) =
     elim (cases_Bool (is_stamp line)) [
       | inl stamped ↦ ap length (tells_none h line lines (stamp_only line stamped)) ∙ as_many next (drop 2 line) lines ∙ sym (ap length (a_stamp stamp line lines stamped))
       | inr other ↦ elim (cases_Bool (has_digits line)) [
-        | inl some ↦ ap length (tells_some h line lines some) ∙ one_longer (line_told h line) stamp (tells_below next lines) (stamps_below no_stamp lines) (as_many next no_stamp lines) ∙ sym (ap length (a_run stamp line lines other some))
+        | inl some ↦ ap length (tells_some h line lines some) ∙ one_longer (line_late h line) stamp (tells_below next lines) (stamps_below no_stamp lines) (as_many next no_stamp lines) ∙ sym (ap length (a_run stamp line lines other some))
         | inr none ↦ ap length (tells_none h line lines none) ∙ as_many next stamp lines ∙ sym (ap length (no_digits stamp line lines other none))
       ]
     ]
@@ -132,44 +133,41 @@ stamps_short stamp (line ∷ lines) =
 
 -- ---- late answers
 
-late_cons : (run : ℕ) (told : Told) (tells : List Told) → late_from run (told ∷ tells) ≡ late_in run told ++ late_from (run + 1) tells
+late_cons : (run : ℕ) (told : Option LateTimes) (tells : List (Option LateTimes)) → late_from run (told ∷ tells) ≡ late_in run told ++ late_from (run + 1) tells
 unfolding late_from
 late_cons run told tells = refl
 
 -- those to come have greater numbers
-late_greater : (run : ℕ) (tells : List Told) (answer : LateAnswer) (rest : List LateAnswer) → answer ∷ rest ≡ late_from run tells → run ≤ answer.run
+late_greater : (run : ℕ) (tells : List (Option LateTimes)) (answer : LateAnswer) (rest : List LateAnswer) → answer ∷ rest ≡ late_from run tells → run ≤ answer.run
 unfolding late_from
 late_greater run [] answer rest e = absurd cc
-late_greater run (Nothing ∷ tells) answer rest e = let more = late_greater (run + 1) tells answer rest e in omega arith
-late_greater run (InTime time ∷ tells) answer rest e = let more = late_greater (run + 1) tells answer rest e in omega arith
-late_greater run (Late took waited ∷ tells) answer rest e =
-    let is : answer.run ≡ run = ap (λ (l : List LateAnswer). (get_or l 0 (record { run = run; took = took; waited = waited })).run) e in
+late_greater run (None ∷ tells) answer rest e = let more = late_greater (run + 1) tells answer rest e in omega arith
+late_greater run (Some times ∷ tells) answer rest e =
+    let is : answer.run ≡ run = ap (λ (l : List LateAnswer). (get_or l 0 (record { run = run; times = times })).run) e in
     omega (arith, is)
 
-abbrev Follows : List LateAnswer → List LateAnswer → ℕ → Told → List Told → Type 0
-Follows late rest run told tells = (told ≡ late_only (first_told tells)) × (rest ≡ late_from (run + 1) (drop 1 tells))
+abbrev Follows : List LateAnswer → List LateAnswer → ℕ → Option LateTimes → List (Option LateTimes) → Type 0
+Follows late rest run told tells = (told ≡ first_told tells) × (rest ≡ late_from (run + 1) (drop 1 tells))
 
 -- none is to come, or one of a later run
-find_none : (late : List LateAnswer) (run : ℕ) (tells : List Told) → ((answer : LateAnswer) (rest : List LateAnswer) → late ≡ answer ∷ rest → answer.run ≡ run → ⊥)
-    → late ≡ late_from run tells → Follows late late run Nothing tells
+find_none : (late : List LateAnswer) (run : ℕ) (tells : List (Option LateTimes)) → ((answer : LateAnswer) (rest : List LateAnswer) → late ≡ answer ∷ rest → answer.run ≡ run → ⊥)
+    → late ≡ late_from run tells → Follows late late run None tells
 unfolding late_from
 find_none late run [] other e = (refl, e)
-find_none late run (Nothing ∷ tells) other e = (refl, e)
-find_none late run (InTime time ∷ tells) other e = (refl, e)
-find_none late run (Late took waited ∷ tells) other e = absurd (other (record { run = run; took = took; waited = waited }) (late_from (run + 1) tells) e refl)
+find_none late run (None ∷ tells) other e = (refl, e)
+find_none late run (Some times ∷ tells) other e = absurd (other (record { run = run; times = times }) (late_from (run + 1) tells) e refl)
 
-find_one : (answer : LateAnswer) (rest : List LateAnswer) (run : ℕ) (tells : List Told) → answer.run ≡ run → answer ∷ rest ≡ late_from run tells
-    → Follows (answer ∷ rest) rest run (Late answer.took answer.waited) tells
+find_one : (answer : LateAnswer) (rest : List LateAnswer) (run : ℕ) (tells : List (Option LateTimes)) → answer.run ≡ run → answer ∷ rest ≡ late_from run tells
+    → Follows (answer ∷ rest) rest run (Some answer.times) tells
 unfolding late_from
 find_one answer rest run [] is e = absurd cc
-find_one answer rest run (Nothing ∷ tells) is e = let more = late_greater (run + 1) tells answer rest e in absurd (omega (arith, is))
-find_one answer rest run (InTime time ∷ tells) is e = let more = late_greater (run + 1) tells answer rest e in absurd (omega (arith, is))
-find_one answer rest run (Late took waited ∷ tells) is e =
+find_one answer rest run (None ∷ tells) is e = let more = late_greater (run + 1) tells answer rest e in absurd (omega (arith, is))
+find_one answer rest run (Some times ∷ tells) is e =
     let same = ap (λ (l : List LateAnswer). get_or l 0 answer) e in
-    (ap (λ (a : LateAnswer). Late a.took a.waited) same, ap (drop 1) e)
+    (ap (λ (a : LateAnswer). Some a.times) same, ap (drop 1) e)
 
 module _ (late : List LateAnswer) (at run : ℕ) where
-  pub finds_past : (found : Found) → length late ≤ at → found.told ≡ Nothing → found.at ≡ at → FindsLate late at run found
+  pub finds_past : (found : Found) → length late ≤ at → found.told ≡ None → found.at ≡ at → FindsLate late at run found
   finds_past found past told place = λ tells e.
       let none = drop_all at late past in
       let follows = find_none (drop at late) run tells (λ answer rest is same. absurd (no_cons answer rest (sym none ∙ is))) e in
@@ -182,7 +180,7 @@ module _ (late : List LateAnswer) (at run : ℕ) where
     stands : drop at late ≡ answer ∷ drop (at + 1) late
     stands = drop_more late at answer below ∙ ap (λ a. a ∷ drop (at + 1) late) (sym is)
 
-    pub finds_other : (found : Found) → (answer.run ≡ run → ⊥) → found.told ≡ Nothing → found.at ≡ at → FindsLate late at run found
+    pub finds_other : (found : Found) → (answer.run ≡ run → ⊥) → found.told ≡ None → found.at ≡ at → FindsLate late at run found
     finds_other found other told place = λ tells e.
         let follows = find_none (drop at late) run tells (λ next rest at_next same. other (ap (λ (a : LateAnswer). a.run) (head answer next (drop (at + 1) late) rest (sym stands ∙ at_next)) ∙ same)) e in
         (told ∙ follows.0, ap (λ n. drop n late) place ∙ follows.1)
@@ -190,7 +188,7 @@ module _ (late : List LateAnswer) (at run : ℕ) where
         head : (a b : LateAnswer) (xs ys : List LateAnswer) → a ∷ xs ≡ b ∷ ys → a ≡ b
         head a b xs ys e = ap (λ l. get_or l 0 a) e
 
-    pub finds_it : (found : Found) → answer.run ≡ run → found.told ≡ Late answer.took answer.waited → found.at ≡ at + 1 → FindsLate late at run found
+    pub finds_it : (found : Found) → answer.run ≡ run → found.told ≡ Some answer.times → found.at ≡ at + 1 → FindsLate late at run found
     finds_it found same told place = λ tells e.
         let follows = find_one answer (drop (at + 1) late) run tells same (sym stands ∙ e) in
         (told ∙ follows.0, ap (λ n. drop n late) place ∙ follows.1)
@@ -206,25 +204,25 @@ first_below x d xs ys n e =
     let split = drop_more ys n d below in
     (below, sym (ap (λ l. get_or l 0 d) (e ∙ split)), ap (drop 1) (e ∙ split))
 
-first_of_rest : (n : ℕ) (tells : List Told) → first_told (drop n tells) ≡ get_or tells n Nothing
+first_of_rest : (n : ℕ) (tells : List (Option LateTimes)) → first_told (drop n tells) ≡ get_or tells n None
 first_of_rest n tells = elim (cases_Bool (nat_lt n (length tells))) [
-  | inl below ↦ ap first_told (drop_more tells n Nothing (ltb-true n (length tells) below))
+  | inl below ↦ ap first_told (drop_more tells n None (ltb-true n (length tells) below))
   | inr past ↦ let past_all : length tells ≤ n = ltb-false n (length tells) past in
-      ap first_told (drop_all n tells past_all) ∙ sym (get_or_past tells n Nothing past_all)
+      ap first_told (drop_all n tells past_all) ∙ sym (get_or_past tells n None past_all)
 ]
 
-pub tells_run : (run : ℕ) (tells : List Told) → tells_at (run + 1) tells ≡ get_or tells run Nothing
+pub tells_run : (run : ℕ) (tells : List (Option LateTimes)) → tells_at (run + 1) tells ≡ get_or tells run None
 tells_run run tells =
     let some : (run + 1 == 0) ≡ false = ne_eqb (run + 1) 0 (λ e. omega arith) in
     let place : run + 1 - 1 ≡ run = omega arith in
-    ap (λ t. cond t Nothing (get_or tells (run + 1 - 1) Nothing)) some ∙ ap (λ n. get_or tells n Nothing) place
+    ap (λ t. cond t None (get_or tells (run + 1 - 1) None)) some ∙ ap (λ n. get_or tells n None) place
 
-pub tells_beyond : (run : ℕ) (tells : List Told) → length tells < run → tells_at run tells ≡ Nothing
+pub tells_beyond : (run : ℕ) (tells : List (Option LateTimes)) → length tells < run → tells_at run tells ≡ None
 tells_beyond run tells h =
-    elim (run == 0) as (λ t. cond t Nothing (get_or tells (run - 1) Nothing) ≡ Nothing)
-    [ true ↦ refl | false ↦ get_or_past tells (run - 1) Nothing (omega arith) ]
+    elim (run == 0) as (λ t. cond t None (get_or tells (run - 1) None) ≡ None)
+    [ true ↦ refl | false ↦ get_or_past tells (run - 1) None (omega arith) ]
 
-pub none_past : (text : List ℕ) (run : ℕ) → length (stamps_left text) < run → (stamp_at run (stamps_left text) ≡ no_stamp) × (tells_at run (tells_left text) ≡ Nothing)
+pub none_past : (text : List ℕ) (run : ℕ) → length (stamps_left text) < run → (stamp_at run (stamps_left text) ≡ no_stamp) × (tells_at run (tells_left text) ≡ None)
 none_past text run past =
     let same = as_many nothing_heard no_stamp (left_of text) in
     (beyond run (stamps_left text) past, tells_beyond run (tells_left text) (omega (arith, same, past)))
@@ -233,13 +231,13 @@ pub runs_short : (text : List ℕ) → length (stamps_left text) ≤ length text
 runs_short text = omega (arith, stamps_short no_stamp (left_of text), left_size text)
 
 pub at_first : (s : Source) (p : Place) → IsHeard s → p.run ≡ 0 → p.held.now ≡ no_stamp → left_in p.rest ≡ left_of s.text.now → all_echoes p.rest ≡ echoes_in s.text.now
-    → p.mark.stamp.now ≡ no_stamp → p.mark.told ≡ Nothing → p.at ≡ 0 → length s.text.now < 2 ^ 64 → IsAt s.text.now s.late.now p
+    → p.mark.stamp.now ≡ no_stamp → p.mark.told ≡ None → p.at ≡ 0 → length s.text.now < 2 ^ 64 → IsAt s.text.now s.late.now p
 at_first s p heard run held left echoes stamp told place short = record {
   within = omega (arith, run);
   stamps = ap (λ h. stamps_below h (left_in p.rest)) held ∙ ap (stamps_below no_stamp) left ∙ sym (ap (λ n. drop n (stamps_left s.text.now)) run);
   late_answers = ap (λ n. drop n s.late.now) place ∙ heard.late ∙ sym (ap (λ n. late_from (n + 1) (drop n (tells_left s.text.now))) run);
   stamp = stamp ∙ sym (ap (λ n. stamp_at n (stamps_left s.text.now)) run);
-  told = told ∙ sym (ap (λ n. late_only (tells_at n (tells_left s.text.now))) run);
+  told = told ∙ sym (ap (λ n. tells_at n (tells_left s.text.now)) run);
   room = omega (arith, echoes, echoes_size s.text.now, short);
 }
 
@@ -253,7 +251,7 @@ module _ (text : List ℕ) (late : List LateAnswer) (line : List ℕ) (old new :
     stamps = stamps ∙ was.stamps ∙ sym (ap (λ n. drop n (stamps_left text)) run);
     late_answers = ap (λ n. drop n late) place ∙ was.late_answers ∙ sym (ap (λ n. late_from (n + 1) (drop n (tells_left text))) run);
     stamp = stamp ∙ was.stamp ∙ sym (ap (λ n. stamp_at n (stamps_left text)) run);
-    told = told ∙ was.told ∙ sym (ap (λ n. late_only (tells_at n (tells_left text))) run);
+    told = told ∙ was.told ∙ sym (ap (λ n. tells_at n (tells_left text)) run);
     room = omega (arith, echoes, was.room);
   }
 
@@ -287,7 +285,7 @@ module _ (text : List ℕ) (late : List LateAnswer) (line : List ℕ) (old new :
         late_answers = ap (λ n. drop n late) place ∙ found_is.1 ∙ ap (late_from (old.run + 1 + 1)) (drop-drop 1 old.run tells)
             ∙ sym (ap (λ n. late_from (n + 1) (drop n tells)) run);
         stamp = stamp ∙ sym below.1 ∙ sym (at_run old.run (stamps_left text)) ∙ sym (ap (λ n. stamp_at n (stamps_left text)) run);
-        told = told ∙ found_is.0 ∙ ap late_only (first_of_rest old.run tells ∙ sym (tells_run old.run tells)) ∙ sym (ap (λ n. late_only (tells_at n tells)) run);
+        told = told ∙ found_is.0 ∙ (first_of_rest old.run tells ∙ sym (tells_run old.run tells)) ∙ sym (ap (λ n. tells_at n tells) run);
         room = omega (arith, echoes, was.room);
       }
 
@@ -308,22 +306,16 @@ at_end text late old new was none none_new echoes run place held stamp told = re
       ∙ sym (ap (λ n. drop n (stamps_left text)) run);
   late_answers = ap (λ n. drop n late) place ∙ was.late_answers ∙ sym (ap (λ n. late_from (n + 1) (drop n (tells_left text))) run);
   stamp = stamp ∙ was.stamp ∙ sym (ap (λ n. stamp_at n (stamps_left text)) run);
-  told = told ∙ was.told ∙ sym (ap (λ n. late_only (tells_at n (tells_left text))) run);
+  told = told ∙ was.told ∙ sym (ap (λ n. tells_at n (tells_left text)) run);
   room = omega (arith, echoes, was.room);
 }
 
 -- ---- what is printed
 
--- what is printed of a line with the stamp of its run, where the time of an answer in time is not
-pub marked_is : (marked : Bool → List ℕ → Told → List ℕ → List ℕ)
-    → ((clock : Bool) (stamp line : List ℕ) (time : ℕ) → marked clock stamp Nothing line ≡ marked clock stamp (InTime time) line)
-    → (clock : Bool) (s stamp : List ℕ) (t told : Told) (line : List ℕ) → s ≡ stamp → t ≡ late_only told → marked clock s t line ≡ marked clock stamp told line
-marked_is marked alike clock s stamp t told line a b = ap (λ x. marked clock x t line) a ∙ ap (λ x. marked clock stamp x line) b ∙ same told
-  where
-    same : (t : Told) → marked clock stamp (late_only t) line ≡ marked clock stamp t line
-    same Nothing = refl
-    same (InTime time) = alike clock stamp line time
-    same (Late took waited) = refl
+-- what is printed of a line with the stamp of its run, and its late answer
+pub marked_is : (marked : Bool → List ℕ → Option LateTimes → List ℕ → List ℕ) (clock : Bool) (s stamp : List ℕ) (t told : Option LateTimes) (line : List ℕ)
+    → s ≡ stamp → t ≡ told → marked clock s t line ≡ marked clock stamp told line
+marked_is marked clock s stamp t told line a b = ap (λ x. marked clock x t line) a ∙ ap (λ x. marked clock stamp x line) b
 
 pub printed_is : (json clock : Bool) (text shown told times : List ℕ) (c : Capture) → HasFollowed (left_of text) c
     → told ≡ flat_map (retold_line json clock (stamps_left text) (tells_left text)) (lines_of shown) → times ≡ retold_times json (heard_of c.timed).times

@@ -1,43 +1,35 @@
 -- The runs of a capture without its echoes, one after the other.
-use Rattle.std.specs.Prelude.{◌≡◌, ◌≤◌, ◌<◌, ◌+◌, ◌^◌, ℕ, List, [], ◌∷◌, ◌++◌, drop, get_or, length}
+use Rattle.std.specs.Prelude.{◌≡◌, ◌≤◌, ◌<◌, ◌+◌, ◌^◌, ℕ, List, [], ◌∷◌, ◌++◌, drop, get_or, length, Option, None, Some}
 use Rattle.osdp_tool_inputs.specs.Echoes.{all_echoes, left_in, left_of}
 use Rattle.osdp_tool_inputs.specs.Heard.{tells_at, tells_below}
 use Rattle.osdp_tool_inputs.specs.Times.{no_stamp, stamp_at, stamps_below}
 use Rattle.osdp_tool_inputs.specs.declared.capture.Capture.{Capture}
 use Rattle.osdp_tool_inputs.specs.declared.capture.LateAnswer.{LateAnswer}
+use Rattle.osdp_tool_inputs.specs.declared.capture.LateTimes.{LateTimes}
 use Rattle.osdp_tool_inputs.specs.declared.places.Found.{Found}
 use Rattle.osdp_tool_inputs.specs.declared.places.Place.{Place}
 use Rattle.osdp_tool_inputs.specs.declared.places.Source.{Source}
 use Rattle.osdp_tool_times.specs.Captures.{after_lines, heard_of, nothing_heard}
-use Rattle.osdp_tool_times.specs.declared.waits.Told.{Told}
-use Rattle.osdp_tool_times.specs.declared.waits.Told.TheVariants.{InTime, Late, Nothing}
-
--- what a run tells that isn't a late answer is told nowhere
-abbrev pub late_only : Told → Told
-late_only Nothing = Nothing
-late_only (InTime time) = Nothing
-late_only (Late took waited) = Late took waited
 
 -- the late answer that a run tells, where it is one
-abbrev pub late_in : ℕ → Told → List LateAnswer
-late_in run Nothing = []
-late_in run (InTime time) = []
-late_in run (Late took waited) = record { run = run; took = took; waited = waited } ∷ []
+abbrev pub late_in : ℕ → Option LateTimes → List LateAnswer
+late_in run None = []
+late_in run (Some times) = record { run = run; times = times } ∷ []
 
 -- those of several runs, of which the first has this number
-unfoldable pub late_from : ℕ → List Told → List LateAnswer
+unfoldable pub late_from : ℕ → List (Option LateTimes) → List LateAnswer
 late_from run [] = []
 late_from run (told ∷ tells) = late_in run told ++ late_from (run + 1) tells
 
 -- what the first of several runs tells
-abbrev pub first_told : List Told → Told
-first_told tells = get_or tells 0 Nothing
+abbrev pub first_told : List (Option LateTimes) → Option LateTimes
+first_told tells = get_or tells 0 None
 
 -- of the late answers of runs, of which the first has this number, the first so many are passed over: what that run tells, and how many come up to it
 abbrev pub FindsLate : List LateAnswer → ℕ → ℕ → Found → Type 0
 FindsLate late at run found =
-    (tells : List Told) → drop at late ≡ late_from run tells
-    → (found.told ≡ late_only (first_told tells)) × (drop found.at late ≡ late_from (run + 1) (drop 1 tells))
+    (tells : List (Option LateTimes)) → drop at late ≡ late_from run tells
+    → (found.told ≡ first_told tells) × (drop found.at late ≡ late_from (run + 1) (drop 1 tells))
 
 -- ---- a capture that was heard
 
@@ -52,7 +44,7 @@ pub record HasFollowed (lines : List (List ℕ)) (c : Capture) : Type 0 where
 abbrev pub stamps_left : List ℕ → List (List ℕ)
 stamps_left text = stamps_below no_stamp (left_of text)
 
-abbrev pub tells_left : List ℕ → List Told
+abbrev pub tells_left : List ℕ → List (Option LateTimes)
 tells_left text = tells_below nothing_heard (left_of text)
 
 -- the late answers are those of the text
@@ -65,5 +57,5 @@ pub record IsAt (text : List ℕ) (late : List LateAnswer) (p : Place) : Type 0 
   pub stamps : stamps_below p.held.now (left_in p.rest) ≡ drop p.run (stamps_left text)
   pub late_answers : drop p.at late ≡ late_from (p.run + 1) (drop p.run (tells_left text))
   pub stamp : p.mark.stamp.now ≡ stamp_at p.run (stamps_left text)
-  pub told : p.mark.told ≡ late_only (tells_at p.run (tells_left text))
+  pub told : p.mark.told ≡ tells_at p.run (tells_left text)
   pub room : all_echoes p.rest < 2 ^ 64

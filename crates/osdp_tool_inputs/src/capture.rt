@@ -1,6 +1,7 @@
 //! What was heard of a capture by the moments of its lines.
 
 ghost use Rattle.std.specs.Prelude.{◌≡◌, ◌++◌, ◌∷◌, ◌+◌, ◌<◌, ◌^◌, ℕ, [], List, IfOk, OnOk};
+ghost use Rattle.osdp_tool_inputs.specs.Heard.{late_told};
 ghost use Rattle.osdp_tool_inputs.specs.Places.{HasFollowed, late_in};
 ghost use Rattle.osdp_tool_streams.specs.Line.{line_bytes};
 ghost use Rattle.osdp_tool_times.specs.Captures.{last_said};
@@ -9,15 +10,38 @@ use crate::times::has_digits;
 use osdp_tool_times::{Timed, Told};
 use std::alloc::{AllocError, Global};
 
+/// The times of a late answer.
+#[derive(Clone, Copy, Debug, PartialEq, Eq)]
+pub(crate) struct LateTimes {
+    /// Its place in its run, from 0.
+    pub place: usize,
+    /// After how many milliseconds it came.
+    pub took: u64,
+    /// How many milliseconds the panel waited.
+    pub waited: u64,
+}
+
 /// A late answer.
 #[derive(Clone, Copy, Debug, PartialEq, Eq)]
 pub(crate) struct LateAnswer {
     /// The number of its run, from 1.
     pub run: usize,
-    /// After how many milliseconds it came.
-    pub took: u64,
-    /// How many milliseconds the panel waited.
-    pub waited: u64,
+    /// Its place there, and its times.
+    pub times: LateTimes,
+}
+
+/// The times of a late answer at this place of its run, where it is one.
+fn late_told(place: usize, told: Told) -> Option<LateTimes>
+    ensures { result ≡ late_told place told }
+{
+    match told {
+        Told::Nothing | Told::InTime(_) => None,
+        Told::Late(took, waited) => Some(LateTimes {
+            place,
+            took,
+            waited,
+        }),
+    }
 }
 
 /// What was heard of a capture by the moments of its lines.
@@ -43,16 +67,16 @@ impl Capture {
         })
     }
 
-    /// What a run tells is kept, where it is a late answer.
-    fn keep(&mut self, run: usize, told: Told) -> Result<(), AllocError>
+    /// The late answer that a run tells is kept, where it is one.
+    fn keep(&mut self, run: usize, told: Option<LateTimes>) -> Result<(), AllocError>
         ensures late { OnOk result (self.new.late.items ≡ self.old.late.items ++ late_in run told) }
         ensures timed { self.new.timed ≡ self.old.timed }
         ensures runs { self.new.runs ≡ self.old.runs }
     {
         match told {
-            Told::Nothing | Told::InTime(_) => Ok(()),
-            Told::Late(took, waited) => {
-                self.late.push(LateAnswer { run, took, waited })?;
+            None => Ok(()),
+            Some(times) => {
+                self.late.push(LateAnswer { run, times })?;
                 Ok(())
             }
         }
@@ -69,6 +93,8 @@ impl Capture {
             return Ok(());
         }
         self.runs += 1;
-        self.keep(self.runs, told)
+        let place = self.timed.place();
+        let late = late_told(place, told);
+        self.keep(self.runs, late)
     }
 }

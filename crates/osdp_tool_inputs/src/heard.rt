@@ -1,22 +1,22 @@
 //! The lines of `monitor` with the moments of a capture, and the answer times of its devices.
 
-ghost use Rattle.std.specs.Prelude.{◌≡◌, ◌++◌, ◌∷◌, [], IfOk, OnOk, flat_map, is_some, string_bytes};
+ghost use Rattle.std.specs.Prelude.{◌≡◌, ◌==◌, ◌++◌, ◌∷◌, ◌<◌, [], IfOk, IfSome, OnOk, flat_map, is_some, length, string_bytes};
 ghost use Rattle.memchr.specs.Find.{first_of, is_byte, places};
 ghost use Rattle.osdp_tool_inputs.specs.Echoes.{echoes_in, heard_part, left_of, printed_by};
-ghost use Rattle.osdp_tool_inputs.specs.Heard.{marked_line, marked_object, members_after, names_run, printed_of, retold_line, retold_times, shown_by, stamped_object, times_after, told_line, took_members, took_text, whole_line};
+ghost use Rattle.osdp_tool_inputs.specs.Heard.{after_colon, is_about, marked_line, marked_object, members_after, names_run, place_named, printed_of, retold_line, retold_times, shown_by, stamped_object, times_after, told_line, took_members, took_text, whole_line};
 ghost use Rattle.osdp_tool_inputs.specs.Places.{HasFollowed, IsAt, IsHeard, stamps_left, tells_left};
 ghost use Rattle.osdp_tool_streams.specs.Cut.{lines_of};
 ghost use Rattle.osdp_tool_times.specs.Captures.{heard_of};
 
-use crate::capture::Capture;
+use crate::capture::{Capture, LateTimes};
 use crate::ears::Ears;
 use crate::echoes::push_echoes;
 use crate::lines::Lines;
 use crate::places::{Mark, Place, Source};
-use crate::times::{is_decimal, push_line};
+use crate::times::{is_decimal, push_line, run_in};
 use memchr::memchr;
 use osdp_tool_objects::push_object;
-use osdp_tool_times::{Timed, Told, clock_stamp};
+use osdp_tool_times::{Timed, clock_stamp};
 use std::alloc::{AllocError, Global};
 
 /// What the monitor tells of a late answer.
@@ -45,6 +45,41 @@ pub(crate) fn push_plain(text: &mut Vec<u8>, line: &[u8]) -> Result<(), AllocErr
     Ok(())
 }
 
+/// Where the first colon of a line stands.
+fn colon_in(line: &[u8]) -> Option<usize>
+    ensures value { result ≡ first_of (places (is_byte 58) line.now) }
+    ensures within { IfSome result (λ colon. colon < length line.now) }
+{
+    memchr(b':', line)
+}
+
+/// What stands after the first colon of a line.
+fn after_colon(line: &[u8]) -> &[u8]
+    ensures { result.now ≡ after_colon (first_of (places (is_byte 58) line.now)) line.now }
+{
+    match colon_in(line) {
+        None => &[],
+        Some(colon) => &line[colon + 1..],
+    }
+}
+
+/// Whether a line about a run names this place.
+fn names_place(line: &[u8], place: usize) -> bool
+    ensures { result ≡ (place_named line.now == place) }
+{
+    match run_in(after_colon(line), place) {
+        None => false,
+        Some(named) => named == place,
+    }
+}
+
+/// Whether a line tells of this late answer.
+fn is_about(late: &LateTimes, line: &[u8]) -> bool
+    ensures { result ≡ is_about late.now line.now }
+{
+    names_place(line, late.place) && line.ends_with(LATE)
+}
+
 /// How long a late answer took, and how long the panel waited.
 fn took_text(alloc: Global, took: u64, waited: u64) -> Result<String, AllocError>
     ensures { IfOk result (λ text. string_bytes text ≡ took_text took waited) }
@@ -53,14 +88,14 @@ fn took_text(alloc: Global, took: u64, waited: u64) -> Result<String, AllocError
 }
 
 /// What stands after a line about a run that tells this.
-fn times_after(alloc: Global, line: &[u8], told: Told) -> Result<String, AllocError>
+fn times_after(alloc: Global, line: &[u8], told: Option<LateTimes>) -> Result<String, AllocError>
     ensures { IfOk result (λ text. string_bytes text ≡ times_after line.now told) }
 {
     match told {
-        Told::Nothing | Told::InTime(_) => Ok(String::new(alloc)),
-        Told::Late(took, waited) => {
-            if line.ends_with(LATE) {
-                took_text(alloc, took, waited)
+        None => Ok(String::new(alloc)),
+        Some(late) => {
+            if is_about(&late, line) {
+                took_text(alloc, late.took, late.waited)
             } else {
                 Ok(String::new(alloc))
             }
@@ -76,14 +111,14 @@ fn took_members(alloc: Global, took: u64, waited: u64) -> Result<String, AllocEr
 }
 
 /// What stands after the members of a line about a run that tells this.
-fn members_after(alloc: Global, line: &[u8], told: Told) -> Result<String, AllocError>
+fn members_after(alloc: Global, line: &[u8], told: Option<LateTimes>) -> Result<String, AllocError>
     ensures { IfOk result (λ text. string_bytes text ≡ members_after line.now told) }
 {
     match told {
-        Told::Nothing | Told::InTime(_) => Ok(String::new(alloc)),
-        Told::Late(took, waited) => {
-            if line.ends_with(LATE) {
-                took_members(alloc, took, waited)
+        None => Ok(String::new(alloc)),
+        Some(late) => {
+            if is_about(&late, line) {
+                took_members(alloc, late.took, late.waited)
             } else {
                 Ok(String::new(alloc))
             }
@@ -104,7 +139,7 @@ fn shown_stamp(alloc: Global, clock: bool, stamp: &[u8]) -> Result<Vec<u8>, Allo
 }
 
 /// A line about a run that tells this, and the times of a late answer.
-fn whole_line(alloc: Global, told: Told, line: &[u8]) -> Result<Vec<u8>, AllocError>
+fn whole_line(alloc: Global, told: Option<LateTimes>, line: &[u8]) -> Result<Vec<u8>, AllocError>
     ensures { IfOk result (λ whole. whole.items ≡ whole_line told line.now) }
 {
     let times = times_after(alloc, line, told)?;

@@ -1,7 +1,7 @@
 //! What the crate's definitions say, in the subject's words. A law has no code: it holds for all values, and its proof is the law's.
 
 ghost use Rattle.osdp_tool_inputs.specs.Echoes.{KeepsOthers, LeavesAllElse, LeavesEchoOut, SortsAll};
-ghost use Rattle.osdp_tool_inputs.specs.Laws.{MomentsLeaveLines, StampsOneRun, TellsInOrder, TimesByRuns};
+ghost use Rattle.osdp_tool_inputs.specs.Laws.{MomentsLeaveLines, NamesPlaces, StampsOneRun, TellsInOrder, TimesByRuns};
 ghost use Rattle.osdp_tool_inputs.specs.OneTask.{AskOnce};
 
 /// The moments that the runtime's clock tells are in order.
@@ -14,13 +14,14 @@ pub fn stamps_one_run()
     ensures { StampsOneRun }
 {}
 
-/// A line of `show` that begins with the number of a run stands after the stamp of that run.
+/// A line of `show` that begins with the number of a run stands after the stamp of that run. The number after a colon names the place of its packet.
 pub fn times_by_runs()
-    ensures { TimesByRuns }
+    ensures runs { TimesByRuns }
+    ensures places { NamesPlaces }
 {}
 
-/// With the moments of a capture, whose echoes are left out before, the monitor tells the lines that it tells without, each after the moment and the way of its run, and a late answer before its times: none is
-/// left out, none comes to them.
+/// With the moments of a capture, whose echoes are left out before, the monitor tells the lines that it tells without: none is left out, none comes to them. Only the moment and the way of its run may stand before
+/// each, and after it only the times of a late answer at the place that it names.
 pub fn moments_leave_lines()
     ensures { MomentsLeaveLines }
 {}

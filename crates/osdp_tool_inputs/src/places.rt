@@ -1,15 +1,14 @@
 //! The runs of a capture, one after the other: what stands beside the lines about each is looked up for those that are printed.
 
-ghost use Rattle.std.specs.Prelude.{◌≡◌, ◌≤◌, ◌<◌, ◌+◌, true, false, length};
+ghost use Rattle.std.specs.Prelude.{◌≡◌, ◌≤◌, ◌<◌, ◌+◌, true, false, length, Option};
 ghost use Rattle.osdp_tool_inputs.specs.Echoes.{left_in};
 ghost use Rattle.osdp_tool_inputs.specs.Heard.{tells_at};
-ghost use Rattle.osdp_tool_inputs.specs.Places.{FindsLate, IsAt, IsHeard, late_only, stamps_left, tells_left};
+ghost use Rattle.osdp_tool_inputs.specs.Places.{FindsLate, IsAt, IsHeard, stamps_left, tells_left};
 ghost use Rattle.osdp_tool_inputs.specs.Times.{no_stamp, run_of, stamp_at};
 
-use crate::capture::LateAnswer;
+use crate::capture::{LateAnswer, LateTimes};
 use crate::echoes::Rest;
 use crate::times::{NO_STAMP, has_digits, is_stamp, run_in};
-use osdp_tool_times::Told;
 
 /// A text that was heard, and its late answers.
 #[derive(Clone, Copy)]
@@ -24,18 +23,18 @@ pub(crate) struct Mark<'a> {
     /// Its stamp.
     pub stamp: &'a [u8],
     /// Its late answer, where it is one.
-    pub told: Told,
+    pub told: Option<LateTimes>,
 }
 
 impl Mark<'_> {
     /// No run is there.
     fn none() -> Mark<'static>
         ensures stamp { result.stamp.now ≡ no_stamp }
-        ensures told { result.told ≡ Told.Nothing }
+        ensures told { result.told ≡ Option.None }
     {
         Mark {
             stamp: NO_STAMP,
-            told: Told::Nothing,
+            told: None,
         }
     }
 }
@@ -54,10 +53,10 @@ pub(crate) struct Place<'a> {
     at: usize,
 }
 
-/// What a run tells, as far as it is a late answer, and how many late answers there are up to it.
+/// The late answer that a run tells, where it is one, and how many late answers there are up to it.
 #[derive(Clone, Copy)]
 struct Found {
-    told: Told,
+    told: Option<LateTimes>,
     at: usize,
 }
 
@@ -68,15 +67,12 @@ fn find_late(late: &[LateAnswer], at: usize, run: usize) -> Found
     if let Some(answer) = late.get(at) {
         if answer.run == run {
             return Found {
-                told: Told::Late(answer.took, answer.waited),
+                told: Some(answer.times),
                 at: at + 1,
             };
         }
     }
-    Found {
-        told: Told::Nothing,
-        at,
-    }
+    Found { told: None, at }
 }
 
 impl<'a> Place<'a> {
@@ -130,7 +126,7 @@ impl<'a> Place<'a> {
         requires run { self.old.run ≤ run }
         ensures place { IsAt source.entry.text.now source.entry.late.now self.new }
         ensures stamp { result.stamp.now ≡ stamp_at run (stamps_left source.entry.text.now) }
-        ensures told { result.told ≡ late_only (tells_at run (tells_left source.entry.text.now)) }
+        ensures told { result.told ≡ tells_at run (tells_left source.entry.text.now) }
     {
         'lines: while self.run < run {
             if !self.step(source) {
@@ -146,7 +142,7 @@ impl<'a> Place<'a> {
         requires place { IsAt source.text.now source.late.now self.old }
         ensures place { IsAt source.entry.text.now source.entry.late.now self.new }
         ensures stamp { result.stamp.now ≡ stamp_at run (stamps_left source.entry.text.now) }
-        ensures told { result.told ≡ late_only (tells_at run (tells_left source.entry.text.now)) }
+        ensures told { result.told ≡ tells_at run (tells_left source.entry.text.now) }
     {
         if run == 0 {
             return Mark::none();
@@ -164,7 +160,7 @@ impl<'a> Place<'a> {
         requires place { IsAt source.text.now source.late.now self.old }
         ensures place { IsAt source.entry.text.now source.entry.late.now self.new }
         ensures stamp { result.stamp.now ≡ stamp_at (run_of line.now) (stamps_left source.entry.text.now) }
-        ensures told { result.told ≡ late_only (tells_at (run_of line.now) (tells_left source.entry.text.now)) }
+        ensures told { result.told ≡ tells_at (run_of line.now) (tells_left source.entry.text.now) }
     {
         match run_in(line, source.text.len()) {
             None => Mark::none(),

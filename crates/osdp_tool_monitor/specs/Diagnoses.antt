@@ -7,13 +7,17 @@ use Rattle.osdp_tool_monitor.specs.InTurn.{after_all}
 use Rattle.osdp_tool_monitor.specs.declared.counts.Counts.{Counts}
 use Rattle.osdp_tool_monitor.specs.declared.diagnosis.Survey.{Survey}
 
+-- once in so many, or more often
+abbrev pub is_once_in : ℕ → ℕ → ℕ → Bool
+is_once_in many count all = nat_le all (many * count)
+
 -- at least three times, and once in a hundred
 abbrev pub is_often : ℕ → ℕ → Bool
-is_often count all = nat_le 3 count && nat_le (all / 100) count
+is_often count all = nat_le 3 count && is_once_in 100 count all
 
 -- at least three times, and once in twenty
 abbrev pub is_common : ℕ → ℕ → Bool
-is_common count all = nat_le 3 count && nat_le (all / 20) count
+is_common count all = nat_le 3 count && is_once_in 20 count all
 
 -- asked often enough for a share of it to tell
 abbrev pub is_measured : Counts → Bool
@@ -31,9 +35,13 @@ lost_share c = (100 * lost c) / c.asked
 abbrev pub is_mute : Counts → Bool
 is_mute c = nat_le 3 c.asked && (c.answered == 0 && c.busy == 0 && c.nak == 0)
 
+-- nothing came from an address that a device may have. 127 is none: all devices listen there, and answer with their own address
+abbrev pub is_absent : ℕ → Counts → Bool
+is_absent address c = is_mute c && not (address == 127)
+
 -- between nine and thirteen in twenty
 unfoldable pub is_half : ℕ → ℕ → Bool
-is_half count all = nat_le ((9 * all) / 20) count && nat_le count ((13 * all) / 20)
+is_half count all = nat_le (9 * all) (20 * count) && nat_le (20 * count) (13 * all)
 
 -- half of the packets to a device are copies, and as many had no reply: each came twice, and was answered once
 abbrev pub is_echoed : Counts → Bool
@@ -51,11 +59,11 @@ has_damage c = is_measured c && is_common c.damaged c.asked
 
 -- damage came, and at least once in sixty
 abbrev pub is_touched : Counts → Bool
-is_touched c = is_measured c && (nat_le 1 c.damaged && nat_le (c.asked / 60) c.damaged)
+is_touched c = is_measured c && (nat_le 1 c.damaged && is_once_in 60 c.damaged c.asked)
 
 -- Damage comes after half of the packets to a device, or more: two devices answer at once. Or one after the other: second replies.
 abbrev pub is_shared : Counts → Bool
-is_shared c = nat_le 3 c.seconds || (nat_le 3 c.damaged && nat_le (c.asked / 2) c.damaged)
+is_shared c = nat_le 3 c.seconds || (nat_le 3 c.damaged && is_once_in 2 c.damaged c.asked)
 
 -- how many devices are measured, how many of them lose answers, or never answered, and after the packets to how many of them damage is common, and came at all
 abbrev pub add : Survey → Counts → Survey
@@ -103,7 +111,7 @@ loss_lines s address c =
 
 unfoldable pub copy_lines : ℕ → Counts → List ℕ
 copy_lines address c =
-    told_at (is_mute c) (codes "") address (codes " never answered")
+    told_at (is_absent address c) (codes "") address (codes " never answered")
     ++ told_at (is_echoed c) (codes "each packet to ") address (codes " comes twice: an echo of the adapter?")
 
 abbrev pub answer_lines : Survey → ℕ → Counts → List ℕ

@@ -3,7 +3,7 @@ use Rattle.std.specs.Prelude.{ℕ, ◌+◌, ◌-◌, ◌||◌, if◌then◌else�
 use Rattle.std.specs.Fmt.{decimal}
 use Rattle.osdp_tool_show.specs.declared.tally.Tally.{Tally}
 use Rattle.osdp_tool_monitor.specs.declared.counts.Counts.{Counts}
-use Rattle.osdp_tool_monitor.specs.Counts.{columns, counted_columns, counts_line, is_ghost, is_silent}
+use Rattle.osdp_tool_monitor.specs.Counts.{columns, counted_columns, counts_line, is_ghost, is_silent, no_counts}
 
 -- what had been counted when a table was told
 pub record Tabled : Type 0 where
@@ -59,10 +59,14 @@ window_address address = codes "+" ++ (decimal address ++ replicate (5 - length 
 abbrev pub window_row : ℕ → Counts → List ℕ
 window_row address c = window_address address ++ (columns (counted_columns c) ++ codes "\n")
 
--- a line for each address to which or from which something came since; none for one that damage made
+-- what a table has told of an address: nothing where damage made it, so that it had no line
+abbrev pub told_counts : Counts → Counts
+told_counts c = if is_ghost c then no_counts else c
+
+-- a line for each address of which something came that no table has told; none for one that damage made
 abbrev pub window_row_if : ℕ → Counts → Counts → List ℕ
 window_row_if address before now =
-    if is_silent (since before now) || is_ghost now then [] else window_row address (since before now)
+    if is_silent (since (told_counts before) now) || is_ghost now then [] else window_row address (since (told_counts before) now)
 
 unfoldable pub window_rows : ℕ → List Counts → List Counts → List ℕ
 window_rows address [] now = []

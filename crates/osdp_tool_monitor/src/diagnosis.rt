@@ -1,12 +1,16 @@
 //! What the counts of a line come to: its likely faults, in words.
 
 ghost use Rattle.std.specs.Prelude.{◌≡◌, ◌++◌, ◌≤◌, ◌<◌, ◌^◌, ◌&&◌, not, OnOk, codes, length, string_bytes};
-ghost use Rattle.osdp_tool_monitor.specs.Diagnoses.{add, answer_lines, are_all, copy_lines, damage_lines, device_lines, diagnoses_text, has_damage, is_alone, is_common, is_echoed, is_half, is_measured, is_mute, is_noise, is_often, is_shared, is_touched, is_worn, line_lines, lines_from, loses, loss_lines, loss_words, lost, repeat_lines, secure_lines, setting_lines, survey_of, told_at, told_count, told_if, told_share};
+ghost use Rattle.osdp_tool_monitor.specs.Diagnoses.{add, answer_lines, are_all, copy_lines, damage_lines, device_lines, diagnoses_text, has_damage, is_absent, is_alone, is_common, is_echoed, is_half, is_measured, is_mute, is_noise, is_often, is_once_in, is_shared, is_touched, is_worn, line_lines, lines_from, loses, loss_lines, loss_words, lost, repeat_lines, secure_lines, setting_lines, survey_of, told_at, told_count, told_if, told_share};
 
 use crate::counts::{Counts, more_if};
 use crate::table::row_at;
+use osdp_frame::Address;
 use osdp_tool_show::Tally;
 use std::alloc::AllocError;
+
+/// The address to which all devices listen, and which is none's own.
+const ALL: u64 = Address::CONFIGURATION as u64;
 
 /// A share of so many packets can be told.
 const MOST: u64 = 144_115_188_075_855_872;
@@ -24,11 +28,18 @@ pub(crate) struct Survey {
     pub touched: u64,
 }
 
+/// Whether it came at least once in so many. Where so many times as much can't be counted, it did.
+fn is_once_in(many: u64, count: u64, all: u64) -> bool
+    ensures { result ≡ is_once_in many count all }
+{
+    all <= many.saturating_mul(count)
+}
+
 /// Whether it came at least three times, and once in a hundred.
 fn is_often(count: u64, all: u64) -> bool
     ensures { result ≡ is_often count all }
 {
-    count >= 3 && count >= all / 100
+    count >= 3 && is_once_in(100, count, all)
 }
 
 /// Whether it came between nine and thirteen times in twenty.
@@ -37,14 +48,15 @@ fn is_half(count: u64, all: u64) -> bool
     requires { all < 2 ^ 57 }
     ensures { result ≡ is_half count all }
 {
-    count >= 9 * all / 20 && count <= 13 * all / 20
+    let of_twenty = count.saturating_mul(20);
+    of_twenty >= 9 * all && of_twenty <= 13 * all
 }
 
 /// Whether it came at least three times, and once in twenty.
 fn is_common(count: u64, all: u64) -> bool
     ensures { result ≡ is_common count all }
 {
-    count >= 3 && count >= all / 20
+    count >= 3 && is_once_in(20, count, all)
 }
 
 impl Counts {
@@ -70,6 +82,13 @@ impl Counts {
         ensures { result ≡ is_mute self.now }
     {
         self.asked >= 3 && self.answered == 0 && self.busy == 0 && self.nak == 0
+    }
+
+    /// Whether nothing has come from there, where a device might have answered.
+    fn is_absent(&self, address: u64) -> bool
+        ensures { result ≡ is_absent address self.now }
+    {
+        self.is_mute() && address != ALL
     }
 
     /// Whether half of the packets to it are copies, and as many had no reply: each came twice, and was answered once.
@@ -111,14 +130,14 @@ impl Counts {
     fn is_touched(&self) -> bool
         ensures { result ≡ is_touched self.now }
     {
-        self.is_measured() && self.damaged >= 1 && self.damaged >= self.asked / 60
+        self.is_measured() && self.damaged >= 1 && is_once_in(60, self.damaged, self.asked)
     }
 
     /// Whether two devices may answer there.
     fn is_shared(&self) -> bool
         ensures { result ≡ is_shared self.now }
     {
-        self.seconds >= 3 || (self.damaged >= 3 && self.damaged >= self.asked / 2)
+        self.seconds >= 3 || (self.damaged >= 3 && is_once_in(2, self.damaged, self.asked))
     }
 }
 
@@ -247,8 +266,8 @@ fn push_losses(
 fn push_copies(text: &mut String, address: u64, counts: &Counts) -> Result<(), AllocError>
     ensures { OnOk result (string_bytes text.new ≡ string_bytes text.old ++ copy_lines address counts.now) }
 {
-    let (mute, echoed) = (counts.is_mute(), counts.is_echoed());
-    push_at(text, mute, "", address, " never answered")?;
+    let (absent, echoed) = (counts.is_absent(address), counts.is_echoed());
+    push_at(text, absent, "", address, " never answered")?;
     let after = " comes twice: an echo of the adapter?";
     push_at(text, echoed, "each packet to ", address, after)
 }

@@ -1,7 +1,7 @@
 //! What came since the last table.
 
 ghost use Rattle.std.specs.Prelude.{◌≡◌, ◌++◌, ◌≤◌, IfOk, OnOk, length, string_bytes};
-ghost use Rattle.osdp_tool_monitor.specs.Windows.{Tabled, since, tally_since, window_address, window_heading, window_line, window_of, window_row, window_row_if, window_rows, window_text};
+ghost use Rattle.osdp_tool_monitor.specs.Windows.{Tabled, since, tally_since, told_counts, window_address, window_heading, window_line, window_of, window_row, window_row_if, window_rows, window_text};
 
 use crate::counts::Counts;
 use crate::table::{push_counted, push_counts_line, push_spaces, row_at};
@@ -102,7 +102,18 @@ fn push_row(text: &mut String, address: u64, counts: &Counts) -> Result<(), Allo
     text.push_str("\n")
 }
 
-/// Writes the line of an address, where something came to it or from it since.
+/// What a table has told of an address: nothing where damage made it.
+fn told_counts(counts: &Counts) -> Counts
+    ensures { result ≡ told_counts counts.now }
+{
+    if counts.is_ghost() {
+        Counts::NONE
+    } else {
+        *counts
+    }
+}
+
+/// Writes the line of an address, where something came to it or from it that no table has told.
 fn push_row_if(
     text: &mut String,
     address: u64,
@@ -111,7 +122,7 @@ fn push_row_if(
 ) -> Result<(), AllocError>
     ensures { OnOk result (string_bytes text.new ≡ string_bytes text.old ++ window_row_if address before.now now.now) }
 {
-    let came = since(before, now);
+    let came = since(&told_counts(before), now);
     if came.is_silent() || now.is_ghost() {
         return Ok(());
     }

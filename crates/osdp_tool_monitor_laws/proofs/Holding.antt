@@ -1,6 +1,6 @@
 -- What the counts of a device are tested for, and what that says of the line.
 use Rattle.osdp_tool_monitor_laws.proofs.Common.{◌≡◌, ◌⊎◌, ◌↔◌, inl, inr, ◌<◌, ◌≤◌, ◌+◌, ◌-◌, ◌*◌, ◌/◌, ◌^◌, ℕ, min, Bool, true, false, eqb, ltb, leb, ◌&&◌, ◌||◌, not, get_or, refl, sym, ap, ◌∙◌, subst, arith, and_parts, and_from, both_ways, cases_Bool, eq-eqb, eqb-true, le-leb, leb-true, leb-false, lt-ltb, ltb-true, not-true, or_cases, Counts, is_ghost, no_counts, heard_items, nothing_heard, answered, busy, refused, repeated, demanded, doubled, replied, restarted, secured, so_many, Heard, IsAHalf, IsDoubled, IsHurt, IsMeasured, IsMute, IsOnceIn, IsShared, IsSilent, IsThere, IsTouched, LosesAnswers, asked, hits, needless, number, packets, rate, unanswered, whole}
-use Rattle.osdp_tool_monitor.specs.Diagnoses.{has_damage, is_common, is_echoed, is_half, is_measured, is_mute, is_often, is_shared, is_touched, loses, lost}
+use Rattle.osdp_tool_monitor.specs.Diagnoses.{has_damage, is_common, is_echoed, is_half, is_measured, is_mute, is_often, is_once_in, is_shared, is_touched, loses, lost}
 use Rattle.osdp_tool_monitor_laws.proofs.Counting.{counts_each_kind}
 use Rattle.osdp_tool_monitor_laws.proofs.Faults.{counts_faults, counts_replies_once}
 
@@ -48,23 +48,12 @@ equal m n = (eqb-true m n, eq-eqb m n)
 
 -- ---- shares
 
-once_in_2 : (count all : ℕ) → Tells (leb (all / 2) count) (IsOnceIn 2 count all)
-once_in_2 count all = same (at_most (all / 2) count) ((λ is. omega (arith, is)), (λ is. omega (arith, is)))
-
-once_in_20 : (count all : ℕ) → Tells (leb (all / 20) count) (IsOnceIn 20 count all)
-once_in_20 count all = same (at_most (all / 20) count) ((λ is. omega (arith, is)), (λ is. omega (arith, is)))
-
-once_in_60 : (count all : ℕ) → Tells (leb (all / 60) count) (IsOnceIn 60 count all)
-once_in_60 count all = same (at_most (all / 60) count) ((λ is. omega (arith, is)), (λ is. omega (arith, is)))
-
-once_in_100 : (count all : ℕ) → Tells (leb (all / 100) count) (IsOnceIn 100 count all)
-once_in_100 count all = same (at_most (all / 100) count) ((λ is. omega (arith, is)), (λ is. omega (arith, is)))
+once_in : (many count all : ℕ) → Tells (is_once_in many count all) (IsOnceIn many count all)
+once_in many count all = at_most all (many * count)
 
 half : (count all : ℕ) → Tells (is_half count all) (IsAHalf count all)
 unfolding is_half
-half count all =
-    both (same (at_most ((9 * all) / 20) count) ((λ is. omega (arith, is)), (λ is. omega (arith, is))))
-    (same (at_most count ((13 * all) / 20)) ((λ is. omega (arith, is)), (λ is. omega (arith, is))))
+half count all = both (at_most (9 * all) (20 * count)) (at_most (20 * count) (13 * all))
 
 -- ---- what is counted, said of the line
 
@@ -165,7 +154,7 @@ module _ (line : Heard) (a : ℕ) (c : Counts) where
   pub loses_tells : Tells (loses here) (LosesAnswers line a)
   loses_tells =
       subst (λ n. Tells (((is_measured here && is_often n (asked line a)) && not (is_mute here)) && not (is_echoed here)) (LosesAnswers line a)) (sym lost_is)
-      (same (both (both (both measured_tells (both (at_most 3 (unanswered line a)) (once_in_100 (unanswered line a) (asked line a)))) (none mute_tells)) (none doubled_tells))
+      (same (both (both (both measured_tells (both (at_most 3 (unanswered line a)) (once_in 100 (unanswered line a) (asked line a)))) (none mute_tells)) (none doubled_tells))
       ((λ are. (are.0.0.0, are.0.0.1.0, are.0.0.1.1, are.0.1, are.1)), (λ are. (((are.0, (are.1, are.2)), are.3), are.4))))
 
   pub silent_tells : Tells (loses here || is_mute here) (IsSilent line a)
@@ -173,17 +162,17 @@ module _ (line : Heard) (a : ℕ) (c : Counts) where
 
   pub hurt_tells : Tells (has_damage here) (IsHurt line a)
   hurt_tells =
-      same (both measured_tells (both (at_most 3 (hits line a)) (once_in_20 (hits line a) (asked line a)))) ((λ are. (are.0, are.1.0, are.1.1)), (λ are. (are.0, (are.1, are.2))))
+      same (both measured_tells (both (at_most 3 (hits line a)) (once_in 20 (hits line a) (asked line a)))) ((λ are. (are.0, are.1.0, are.1.1)), (λ are. (are.0, (are.1, are.2))))
 
   pub touched_tells : Tells (is_touched here) (IsTouched line a)
   touched_tells =
-      same (both measured_tells (both (at_most 1 (hits line a)) (once_in_60 (hits line a) (asked line a)))) ((λ are. (are.0, are.1.0, are.1.1)), (λ are. (are.0, (are.1, are.2))))
+      same (both measured_tells (both (at_most 1 (hits line a)) (once_in 60 (hits line a) (asked line a)))) ((λ are. (are.0, are.1.0, are.1.1)), (λ are. (are.0, (are.1, are.2))))
 
   pub shared_tells : Tells (is_shared here) (IsShared line a)
-  shared_tells = either (at_most 3 (number line doubled a)) (both (at_most 3 (hits line a)) (once_in_2 (hits line a) (asked line a)))
+  shared_tells = either (at_most 3 (number line doubled a)) (both (at_most 3 (hits line a)) (once_in 2 (hits line a) (asked line a)))
 
   pub repeated_tells : Tells (is_common (needless line a) (asked line a)) ((3 ≤ needless line a) × IsOnceIn 20 (needless line a) (asked line a))
-  repeated_tells = both (at_most 3 (needless line a)) (once_in_20 (needless line a) (asked line a))
+  repeated_tells = both (at_most 3 (needless line a)) (once_in 20 (needless line a) (asked line a))
 
   pub there_tells : Tells (not (is_ghost here)) (IsThere line a)
   there_tells =

@@ -2,7 +2,7 @@
 use Rattle.osdp_tool_monitor_laws.proofs.Common.{◌≡◌, ◌⊎◌, inl, inr, ◌<◌, ◌+◌, ◌*◌, ◌/◌, ℕ, zero, suc, Bool, true, false, cond, eqb, ltb, leb, ◌&&◌, ◌||◌, not, List, [], ◌∷◌, ◌++◌, length, drop, count_by, filter, flat_map, codes, decimal, refl, sym, ap, ◌∙◌, subst, arith, append_assoc, append-nil, and_parts, cases_Bool, cond-false, cond-true, lt-ltb, drop_all, drop_more, sum_by-cons, RunItem, PacketItem, SkippedItem, RefusedItem, is_packet, is_skipped, tally_after, Tally, Counts, is_ghost, no_counts, Listening, heard_item, heard_items, nothing_heard}
 use Rattle.std.proofs.Math.Path.{fun_ext}
 use Rattle.osdp_tool_show.specs.ItemText.{is_refusal}
-use Rattle.osdp_tool_monitor.specs.Diagnoses.{answer_lines, are_all, copy_lines, damage_lines, device_lines, diagnoses_text, has_damage, is_alone, is_common, is_echoed, is_measured, is_mute, is_noise, is_shared, is_touched, is_worn, lines_from, loses, lost, loss_lines, loss_words, repeat_lines, setting_lines, survey_of, told_at, told_count, told_if, told_share}
+use Rattle.osdp_tool_monitor.specs.Diagnoses.{answer_lines, are_all, copy_lines, damage_lines, device_lines, diagnoses_text, has_damage, is_absent, is_alone, is_common, is_echoed, is_measured, is_mute, is_noise, is_shared, is_touched, is_worn, lines_from, loses, lost, loss_lines, loss_words, repeat_lines, setting_lines, survey_of, told_at, told_count, told_if, told_share}
 use Rattle.osdp_tool_monitor.specs.InTurn.{after_all}
 use Rattle.osdp_tool_monitor_laws.specs.Told.{AreSeveral, Diagnosis, Noise, AllHit, Of, Fault, NeverAnswers, ComesTwice, Loses, LosesAlone, Restarts, IsTwo, IsHitAlone, IsRepeated, Demands, Speaks, IsSet, Heard, Holds, IsHurt, IsMeasured, IsOnly, IsSilent, IsSo, IsTouched, LosesAnswers, TellsDiagnoses, every, fault_words, asked, of_device, of_devices, share, told_line}
 use Rattle.osdp_tool_monitor_laws.proofs.Holding.{Tells, at_most, below, both, doubled_tells, either, equal, given, hurt_tells, loses_tells, lost_is, measured_tells, mute_tells, none, read, repeated_tells, row_is, row_of, same, shared_tells, silent_tells, there_tells, touched_tells}
@@ -79,18 +79,18 @@ in_a_row x1 x2 x3 x4 x5 x6 x7 x8 x9 x10 x11 =
 
 -- ---- the tests
 
-test : List Counts → Counts → Fault → Bool
-test cs c NeverAnswers = is_mute c
-test cs c ComesTwice = is_echoed c
-test cs c Loses = loses c && not (is_alone (survey_of cs) (survey_of cs).losing)
-test cs c LosesAlone = loses c && is_alone (survey_of cs) (survey_of cs).losing
-test cs c Restarts = leb 2 c.restarted
-test cs c IsTwo = is_shared c
-test cs c IsHitAlone = is_worn (survey_of cs) c
-test cs c IsRepeated = is_common c.needless c.asked
-test cs c Demands = leb 1 c.demands
-test cs c Speaks = leb 1 c.secured
-test cs c IsSet = leb 1 c.rate
+test : ℕ → List Counts → Counts → Fault → Bool
+test a cs c NeverAnswers = is_absent a c
+test a cs c ComesTwice = is_echoed c
+test a cs c Loses = loses c && not (is_alone (survey_of cs) (survey_of cs).losing)
+test a cs c LosesAlone = loses c && is_alone (survey_of cs) (survey_of cs).losing
+test a cs c Restarts = leb 2 c.restarted
+test a cs c IsTwo = is_shared c
+test a cs c IsHitAlone = is_worn (survey_of cs) c
+test a cs c IsRepeated = is_common c.needless c.asked
+test a cs c Demands = leb 1 c.demands
+test a cs c Speaks = leb 1 c.secured
+test a cs c IsSet = leb 1 c.rate
 
 -- of all faults of a device, one after the other
 in_order : (Fault → List ℕ) → List ℕ
@@ -113,9 +113,9 @@ module _ (line : Heard) (cs : List Counts) (a : ℕ) where
   abbrev it : Bool → Fault → List ℕ
   it test fault = cond test (told_line line (Of a fault)) []
 
-  mute_line : told_at (is_mute c) (codes "") a (codes " never answered") ≡ it (is_mute c) NeverAnswers
+  mute_line : told_at (is_absent a c) (codes "") a (codes " never answered") ≡ it (is_absent a c) NeverAnswers
   unfolding told_at told_line
-  mute_line = ap (λ t. cond (is_mute c) t []) (ap (λ t. codes "diagnosis: " ++ t) (sym (append_assoc (decimal a) (codes " never answered") (codes "\n"))))
+  mute_line = ap (λ t. cond (is_absent a c) t []) (ap (λ t. codes "diagnosis: " ++ t) (sym (append_assoc (decimal a) (codes " never answered") (codes "\n"))))
 
   twice_line : told_at (is_echoed c) (codes "each packet to ") a (codes " comes twice: an echo of the adapter?") ≡ it (is_echoed c) ComesTwice
   unfolding told_at told_line
@@ -154,13 +154,13 @@ module _ (line : Heard) (cs : List Counts) (a : ℕ) where
       by_test false is other = refl
 
   answers_told : answer_lines (survey_of cs) a c
-      ≡ (it (is_mute c) NeverAnswers ++ it (is_echoed c) ComesTwice) ++ ((it (loses c && not alone) Loses ++ it (loses c && alone) LosesAlone) ++ it (leb 2 c.restarted) Restarts)
+      ≡ (it (is_absent a c) NeverAnswers ++ it (is_echoed c) ComesTwice) ++ ((it (loses c && not alone) Loses ++ it (loses c && alone) LosesAlone) ++ it (leb 2 c.restarted) Restarts)
   unfolding copy_lines loss_lines
   answers_told =
       ap (λ t. (t ++ told_at (is_echoed c) (codes "each packet to ") a (codes " comes twice: an echo of the adapter?")) ++ loss_lines (survey_of cs) a c) mute_line
-      ∙ ap (λ t. (it (is_mute c) NeverAnswers ++ t) ++ loss_lines (survey_of cs) a c) twice_line
-      ∙ ap (λ t. (it (is_mute c) NeverAnswers ++ it (is_echoed c) ComesTwice) ++ (t ++ told_count (leb 2 c.restarted) a (codes " restarted ") c.restarted (codes " times"))) loss_line
-      ∙ ap (λ t. (it (is_mute c) NeverAnswers ++ it (is_echoed c) ComesTwice) ++ ((it (loses c && not alone) Loses ++ it (loses c && alone) LosesAlone) ++ t))
+      ∙ ap (λ t. (it (is_absent a c) NeverAnswers ++ t) ++ loss_lines (survey_of cs) a c) twice_line
+      ∙ ap (λ t. (it (is_absent a c) NeverAnswers ++ it (is_echoed c) ComesTwice) ++ (t ++ told_count (leb 2 c.restarted) a (codes " restarted ") c.restarted (codes " times"))) loss_line
+      ∙ ap (λ t. (it (is_absent a c) NeverAnswers ++ it (is_echoed c) ComesTwice) ++ ((it (loses c && not alone) Loses ++ it (loses c && alone) LosesAlone) ++ t))
       (counted (leb 2 c.restarted) (codes " restarted ") c.restarted (codes " times") Restarts refl)
 
   shared_line : told_at (is_shared c) (codes "two devices may answer at ") a (codes "") ≡ it (is_shared c) IsTwo
@@ -198,15 +198,15 @@ module _ (line : Heard) (cs : List Counts) (a : ℕ) where
       ∙ ap (λ t. (it (leb 1 c.demands) Demands ++ t) ++ told_count (leb 1 c.rate) a (codes " was set to ") c.rate (codes " bits a second")) speaks_line
       ∙ ap (λ t. (it (leb 1 c.demands) Demands ++ it (leb 1 c.secured) Speaks) ++ t) (counted (leb 1 c.rate) (codes " was set to ") c.rate (codes " bits a second") IsSet refl)
 
-  all_told : answer_lines (survey_of cs) a c ++ (damage_lines (survey_of cs) a c ++ setting_lines a c) ≡ in_order (λ fault. it (test cs c fault) fault)
+  all_told : answer_lines (survey_of cs) a c ++ (damage_lines (survey_of cs) a c ++ setting_lines a c) ≡ in_order (λ fault. it (test a cs c fault) fault)
   unfolding in_order test
   all_told =
       let answers =
-      (it (is_mute c) NeverAnswers ++ it (is_echoed c) ComesTwice) ++ ((it (loses c && not alone) Loses ++ it (loses c && alone) LosesAlone) ++ it (leb 2 c.restarted) Restarts) in
+      (it (is_absent a c) NeverAnswers ++ it (is_echoed c) ComesTwice) ++ ((it (loses c && not alone) Loses ++ it (loses c && alone) LosesAlone) ++ it (leb 2 c.restarted) Restarts) in
       let damages = it (is_shared c) IsTwo ++ (it (is_worn (survey_of cs) c) IsHitAlone ++ it (is_common c.needless c.asked) IsRepeated) in
       ap (λ t. t ++ (damage_lines (survey_of cs) a c ++ setting_lines a c)) answers_told ∙ ap (λ t. answers ++ (t ++ setting_lines a c)) damage_told
       ∙ ap (λ t. answers ++ (damages ++ t)) settings_told
-      ∙ in_a_row (it (is_mute c) NeverAnswers) (it (is_echoed c) ComesTwice) (it (loses c && not alone) Loses) (it (loses c && alone) LosesAlone) (it (leb 2 c.restarted) Restarts)
+      ∙ in_a_row (it (is_absent a c) NeverAnswers) (it (is_echoed c) ComesTwice) (it (loses c && not alone) Loses) (it (loses c && alone) LosesAlone) (it (leb 2 c.restarted) Restarts)
       (it (is_shared c) IsTwo) (it (is_worn (survey_of cs) c) IsHitAlone) (it (is_common c.needless c.asked) IsRepeated) (it (leb 1 c.demands) Demands) (it (leb 1 c.secured) Speaks)
       (it (leb 1 c.rate) IsSet)
 
@@ -225,7 +225,7 @@ module _ (line : Heard) where
   holds : Diagnosis → Bool
   holds Noise = is_noise tally
   holds AllHit = are_all (survey_of counts) (survey_of counts).damaged
-  holds (Of a fault) = ltb a 128 && (not (is_ghost (read line a)) && test counts (read line a) fault)
+  holds (Of a fault) = ltb a 128 && (not (is_ghost (read line a)) && test a counts (read line a) fault)
 
   -- ---- how many devices are so
 
@@ -325,9 +325,9 @@ module _ (line : Heard) where
         (only_tells is_touched (IsTouched line) touched_at a within are.0.0 (is_touched_too are.0))))
         ((λ are. (are.0.0, are.0.1, are.1)), (λ are. ((are.0, are.1), are.2)))
 
-    test_tells : (fault : Fault) → Tells (test counts (read line a) fault) (IsSo line a fault)
+    test_tells : (fault : Fault) → Tells (test a counts (read line a) fault) (IsSo line a fault)
     unfolding test
-    test_tells NeverAnswers = mute_tells line a (row_of line a)
+    test_tells NeverAnswers = both (mute_tells line a (row_of line a)) (none (equal a 127))
     test_tells ComesTwice = doubled_tells line a (row_of line a)
     test_tells Loses = given (loses_tells line a (row_of line a)) (λ is. none (alone_tells is))
     test_tells LosesAlone = given (loses_tells line a (row_of line a)) alone_tells
@@ -345,10 +345,10 @@ module _ (line : Heard) where
     device_told =
         ap (device_lines (survey_of counts) a) (row_is line a within) ∙ by_test (is_ghost (read line a)) refl ∙ sym (eleven line holds a)
       where
-        held : (fault : Fault) (t : Bool) → is_ghost (read line a) ≡ t → holds (Of a fault) ≡ (not t && test counts (read line a) fault)
+        held : (fault : Fault) (t : Bool) → is_ghost (read line a) ≡ t → holds (Of a fault) ≡ (not t && test a counts (read line a) fault)
         held fault t is =
-            ap (λ x. x && (not (is_ghost (read line a)) && test counts (read line a) fault)) (lt-ltb a 128 within)
-            ∙ ap (λ x. not x && test counts (read line a) fault) is
+            ap (λ x. x && (not (is_ghost (read line a)) && test a counts (read line a) fault)) (lt-ltb a 128 within)
+            ∙ ap (λ x. not x && test a counts (read line a) fault) is
 
         by_test : (t : Bool) → is_ghost (read line a) ≡ t
             → cond t [] (answer_lines (survey_of counts) a (read line a) ++ (damage_lines (survey_of counts) a (read line a) ++ setting_lines a (read line a))) ≡ in_order (λ fault. one line holds (Of a fault))

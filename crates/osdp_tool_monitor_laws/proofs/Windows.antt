@@ -1,12 +1,13 @@
 -- What counts come to while a line goes on: none grows less.
-use Rattle.osdp_tool_monitor_laws.proofs.Common.{◌≡◌, ◌≤◌, ◌<◌, ◌+◌, ◌-◌, ℕ, Bool, true, false, ◌&&◌, not, eqb, ltb, List, [], ◌∷◌, ◌++◌, length, get_or, Option, Some, refl, sym, subst, ap, ◌∙◌, arith, cond_both, RunItem, PacketItem, SkippedItem, RefusedItem, Packet, Found, copies_last, Tally, after_run, Counts, after_damage, after_packet, more_if, no_counts, table_of, Listening, after_table, ended, heard_item, heard_items, tabled_now, told_in, after_bad, hit_by, is_clean, diagnoses_text, Entry, accused, answered, brought, busy, judged, moved, opened, polled, refused, repeated, sent}
+use Rattle.osdp_tool_monitor_laws.proofs.Common.{◌≡◌, ◌≤◌, ◌<◌, ◌+◌, ◌-◌, ℕ, Bool, true, false, cond, cond-true, is_ghost, ◌&&◌, ◌||◌, not, eqb, ltb, List, [], ◌∷◌, ◌++◌, length, get_or, Option, Some, refl, sym, subst, ap, ◌∙◌, arith, cond_both, RunItem, PacketItem, SkippedItem, RefusedItem, Packet, Found, copies_last, Tally, after_run, Counts, after_damage, after_packet, more_if, no_counts, table_of, Listening, after_table, ended, heard_item, heard_items, tabled_now, told_in, after_bad, hit_by, is_clean, diagnoses_text, Entry, accused, answered, brought, busy, judged, moved, opened, polled, refused, repeated, sent}
 use Rattle.std.specs.Prelude.{◌^◌}
 use Rattle.osdp_frame.specs.Items.{items}
 use Rattle.osdp_tool_monitor.specs.Hearing.{Come, Hearing, LineEvent, RunEnds, TableDue, TableTold, after_event, after_events}
 use Rattle.osdp_tool_monitor.specs.InTurn.{after_all}
-use Rattle.osdp_tool_monitor.specs.Windows.{Tabled, window_text}
+use Rattle.osdp_tool_monitor.specs.Windows.{Tabled, since, window_row, window_text}
 use Rattle.osdp_tool_monitor_laws.proofs.Counting.{accused_step, answered_step, asked_step, busy_step, damaged, events_step, forgot_step, judged_step, kept_long, long_after, moved_step, nak_step, opened_step, polls_step, repeats_step, taken}
-use Rattle.osdp_tool_monitor_laws.specs.Windows.{LinesAddUp, NoTableTold, RowsAddUp, TellsWindows}
+use Rattle.osdp_tool_monitor_laws.specs.Windows.{AddUp, LinesAddUp, NoTableTold, RowsAddUp, TablesAddUp, TellsWindows, in_table}
+use Rattle.osdp_tool_monitor.specs.Counts.{is_silent}
 
 more_is_more : (test : Bool) (n : ℕ) → n ≤ more_if test n
 more_is_more test n = cond_both (test && ltb n (2 ^ 64 - 1)) (n + 1) n (λ m. n ≤ m) (λ _. omega arith) (λ _. omega arith)
@@ -92,6 +93,44 @@ rows_add_up h events a within = record {
   forgot = column_adds_up (λ c. c.forgot) (λ e c. not e.packet.reply && (not e.found.judged && not (eqb c.asked 0))) a forgot_step (λ c. refl) h events within;
   accused = column_adds_up (λ c. c.accused) (λ e _. accused e) a accused_step (λ c. refl) h events within;
 }
+
+-- ---- what the tables tell
+
+or_last : (a b : Bool) → b ≡ true → (a || b) ≡ true
+or_last true b e = refl
+or_last false b e = e
+
+or_none : (a b : Bool) → b ≡ false → (a || b) ≡ a
+or_none true b e = refl
+or_none false b e = e
+
+all_of : (c : Counts) → AddUp no_counts (since no_counts c) c
+all_of c = record {
+  asked = omega arith;
+  polls = omega arith;
+  repeats = omega arith;
+  answered = omega arith;
+  busy = omega arith;
+  nak = omega arith;
+  events = omega arith;
+  opened = omega arith;
+  moved = omega arith;
+  judged = omega arith;
+  forgot = omega arith;
+  accused = omega arith;
+}
+
+pub tables_add_up : TablesAddUp
+tables_add_up h events a within =
+    let before = get_or h.heard.counts a no_counts in
+    let now = get_or (after_events h events).heard.counts a no_counts in
+    let came = since (in_table before) now in
+    record {
+      left_out = λ is. cond-true (is_silent before || is_ghost before) [] _ (or_last (is_silent before) (is_ghost before) is);
+      window = λ is. ap (λ b. cond b [] (window_row a came)) (or_none (is_silent came) (is_ghost now) is);
+      adds = elim (is_ghost before) as (λ b. AddUp (cond b no_counts before) (since (cond b no_counts before) now) now)
+          [ true ↦ all_of now | false ↦ rows_add_up h events a within ];
+    }
 
 -- ---- the line
 

@@ -76,11 +76,11 @@ rate line address = last_or 0 (rates address line.items)
 
 -- once in so many, or more often
 abbrev pub IsOnceIn : ℕ → ℕ → ℕ → Type 0
-IsOnceIn many count all = all < many * (count + 1)
+IsOnceIn many count all = all ≤ many * count
 
 -- from nine to thirteen of twenty
 abbrev pub IsAHalf : ℕ → ℕ → Type 0
-IsAHalf count all = (9 * all < 20 * (count + 1)) × (20 * count ≤ 13 * all)
+IsAHalf count all = (9 * all ≤ 20 * count) × (20 * count ≤ 13 * all)
 
 -- ---- what is so of a device
 
@@ -125,10 +125,10 @@ AreSeveral line = (a b : ℕ) × (a < 128) × (b < 128) × (a ≢ b) × IsMeasur
 abbrev pub IsOnly : Heard → (ℕ → Type 0) → ℕ → Type 0
 IsOnly line P a = AreSeveral line × ((b : ℕ) → b < 128 → IsMeasured line b → P b → b ≡ a)
 
--- ---- when it is told
+-- ---- when it is told; to 127 all devices listen, and each answers with its own address
 
 abbrev pub IsSo : Heard → ℕ → Fault → Type 0
-IsSo line a NeverAnswers = IsMute line a
+IsSo line a NeverAnswers = IsMute line a × (a ≢ 127)
 IsSo line a ComesTwice = IsDoubled line a
 IsSo line a Loses = LosesAnswers line a × (¬ IsOnly line (IsSilent line) a)
 IsSo line a LosesAlone = LosesAnswers line a × IsOnly line (IsSilent line) a

@@ -1,12 +1,12 @@
 -- The window of a table: what came since the last one, column by column.
-use Rattle.std.specs.Prelude.{◌≡◌, ◌<◌, ◌+◌, ◌-◌, ℕ, List, [], ◌∷◌, ◌++◌, length, slice_index_or, None}
+use Rattle.std.specs.Prelude.{◌≡◌, ◌<◌, ◌+◌, ◌-◌, ℕ, true, false, if◌then◌else◌, List, [], ◌∷◌, ◌++◌, length, slice_index_or, None}
 use Rattle.osdp_tool_show.specs.declared.detail.Detail.{Detail}
 use Rattle.osdp_tool_show.specs.declared.tally.Tally.{Tally}
 use Rattle.osdp_tool_monitor.specs.declared.counts.Counts.{Counts}
-use Rattle.osdp_tool_monitor.specs.Counts.{no_counts}
+use Rattle.osdp_tool_monitor.specs.Counts.{is_ghost, is_silent, no_counts, row_if}
 use Rattle.osdp_tool_monitor.specs.Hearing.{Come, Hearing, LineEvent, RunEnds, TableDue, TableTold, after_events, event_report}
 use Rattle.osdp_tool_monitor.specs.Listening.{Listening, tabled_now}
-use Rattle.osdp_tool_monitor.specs.Windows.{since, tally_since, window_of}
+use Rattle.osdp_tool_monitor.specs.Windows.{since, tally_since, window_of, window_row, window_row_if}
 
 -- no table is told among these events
 abbrev pub IsUntold : LineEvent → Type 0
@@ -51,6 +51,21 @@ abbrev pub RowsAddUp : Type 0
 RowsAddUp = (h : Hearing) (events : List LineEvent) (address : ℕ) → address < length h.heard.counts →
     let now = (after_events h events).heard in
     AddUp (row address h.heard) (since (row address h.heard) (row address now)) (row address now)
+
+-- what a table tells of an address: nothing where it has no line, since damage made that
+abbrev pub in_table : Counts → Counts
+in_table c = if is_ghost c then no_counts else c
+
+-- Where the next table has its line, the window has what the last one did not tell of it: both add up to that line.
+pub record TablesAdd (address : ℕ) (before now : Counts) : Type 0 where
+  pub left_out : is_ghost before ≡ true → row_if address before ≡ []
+  pub window : is_ghost now ≡ false
+      → window_row_if address before now ≡ (if is_silent (since (in_table before) now) then [] else window_row address (since (in_table before) now))
+  pub adds : AddUp (in_table before) (since (in_table before) now) now
+
+abbrev pub TablesAddUp : Type 0
+TablesAddUp = (h : Hearing) (events : List LineEvent) (address : ℕ) → address < length h.heard.counts →
+    TablesAdd address (row address h.heard) (row address (after_events h events).heard)
 
 -- the same of the line of counts
 pub record LineAddsUp (before window now : Tally) : Type 0 where

@@ -4,7 +4,7 @@
 ghost use Rattle.osdp_tool_monitor_laws.specs.Counting.{CountsEachKind, CountsForgotten, CountsTheLine};
 ghost use Rattle.osdp_tool_monitor_laws.specs.Faults.{CountsFaults, CountsRepliesOnce};
 ghost use Rattle.osdp_tool_monitor_laws.specs.Told.{TellsDiagnoses};
-ghost use Rattle.osdp_tool_monitor_laws.specs.Windows.{LinesAddUp, RowsAddUp, TellsWindows};
+ghost use Rattle.osdp_tool_monitor_laws.specs.Windows.{LinesAddUp, RowsAddUp, TablesAddUp, TellsWindows};
 
 /// Whatever was heard, each column of an address's row but `forgot` has how many packets of its kind came to the address or from it.
 pub fn counts_each_kind()
@@ -42,9 +42,10 @@ pub fn tells_windows()
     ensures { TellsWindows }
 {}
 
-/// What a row had at the last table and what the window has add up to what it has now, column by column.
+/// What a row had at the last table and what the window has add up to what it has now, column by column. So it is where the last table had no row, since damage had made it.
 pub fn rows_add_up()
-    ensures { RowsAddUp }
+    ensures counts { RowsAddUp }
+    ensures tables { TablesAddUp }
 {}
 
 /// The same of the line of counts.

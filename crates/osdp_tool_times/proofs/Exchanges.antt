@@ -4,17 +4,17 @@ use Rattle.osdp_tool_times.specs.Laws.{Exchange, NeverTellsLate, TellsLate, afte
 use Rattle.osdp_tool_times.specs.declared.waits.Waits.{Waits}
 
 -- a packet after which nothing is owed but its answer
-abbrev fresh : Sent → Waits
+abbrev pub fresh : Sent → Waits
 fresh s = record { earlier = None; before = None; last = Some s; first = None }
 
-abbrev of : Exchange → Sent
+abbrev pub of : Exchange → Sent
 of e = record { moment = e.asked; number = e.number }
 
 -- whatever packet is sent, no answer is owed before it
-abbrev Ready : Waits → Type 0
+abbrev pub Ready : Waits → Type 0
 Ready w = (s : Sent) → after_sent s w ≡ fresh s
 
-answered_is : (e : Exchange) → Ready (after_reply e.number e.answered (fresh (of e)))
+pub answered_is : (e : Exchange) → Ready (after_reply e.number e.answered (fresh (of e)))
 answered_is e = λ s.
     ap (λ (t : Bool). after_sent s (cond t (record { earlier = None; before = None; last = Some (of e); first = Some e.answered }) (fresh (of e))))
     (eq-eqb e.number e.number refl)
@@ -22,12 +22,12 @@ answered_is e = λ s.
 closed : (e : Exchange) (w : Waits) → Ready w → Ready (after_reply e.number e.answered (sent e.number e.asked w))
 closed e w ready = λ s. ap (λ x. after_sent s (after_reply e.number e.answered x)) (ready (of e)) ∙ answered_is e s
 
-all_closed : (exchanges : List Exchange) (w : Waits) → Ready w → Ready (after_exchanges w exchanges)
+pub all_closed : (exchanges : List Exchange) (w : Waits) → Ready w → Ready (after_exchanges w exchanges)
 unfolding after_exchanges
 all_closed [] w ready = ready
 all_closed (e ∷ exchanges) w ready = all_closed exchanges (after_reply e.number e.answered (sent e.number e.asked w)) (closed e w ready)
 
-in_time_is : (e : Exchange) → told_reply (fresh (of e)) e.number e.answered ≡ InTime (e.answered - e.asked)
+pub in_time_is : (e : Exchange) → told_reply (fresh (of e)) e.number e.answered ≡ InTime (e.answered - e.asked)
 in_time_is e =
     ap (λ t. cond t (in_time e.asked e.answered) Nothing) (eq-eqb e.number e.number refl)
     ∙ ap (λ t. cond t (InTime (e.answered - e.asked)) Nothing) (le-leb e.asked e.answered e.in_turn)

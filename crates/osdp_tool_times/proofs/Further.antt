@@ -13,7 +13,7 @@ use Rattle.osdp_frame_laws.proofs.OneByOne.{items_after}
 use Rattle.osdp_frame_laws.proofs.LeftOver.{items_nothing}
 use Rattle.osdp_frame_laws.proofs.Readings.{item_size-decided}
 use Rattle.osdp_tool_times.specs.Captures.{begun_after, from_start, item_at, item_told, run_after, run_told, start_in}
-use Rattle.osdp_tool_times.specs.Presence.{after_answer, after_asked, is_number_refused, is_offline}
+use Rattle.osdp_tool_times.specs.Presence.{after_answer, after_asked, has_lost, is_offline}
 use Rattle.osdp_tool_times.specs.PresenceLaws.{HearsFurtherAnswers}
 use Rattle.osdp_tool_times.specs.Times.{all_further, further_after}
 use Rattle.osdp_tool_times.specs.declared.table.Times.{Times}
@@ -110,7 +110,7 @@ told_nothing run moment times is = sym (ap (λ l. item_told (item_at l) moment t
 -- an answer that stands further in its run
 pub heard_further : HearsFurtherAnswers
 heard_further p moment t = record {
-  online = λ reply. ap (λ b. is_offline (cond b (after_answer (is_number_refused p) moment t.presence) (after_asked t.presence))) reply;
+  online = λ reply. ap (λ b. is_offline (cond b (after_answer (has_lost p t.presence) moment t.presence) (after_asked t.presence))) reply;
   answers = refl;
   late = refl;
 }

@@ -2,6 +2,7 @@ pub mod Common
 pub mod Numbers
 pub mod Steps
 pub mod Exchanges
+pub mod Busy
 pub mod GoingBack
 pub mod Rows
 pub mod Comments
@@ -10,3 +11,4 @@ pub mod DayTimes
 pub mod Presences
 pub mod Plain
 pub mod Stamps
+pub mod Placing

@@ -38,6 +38,15 @@ abbrev pub from_start : Option ℕ → List ℕ → List ℕ
 from_start None run = []
 from_start (Some place) run = drop place run
 
+-- the place where it begins in what a line says, from 0; only the packet that begins there tells a time
+abbrev pub place_or : Option ℕ → ℕ
+place_or None = 0
+place_or (Some place) = place
+
+abbrev pub place_of : Option (List ℕ) → ℕ
+place_of None = 0
+place_of (Some run) = place_or (start_in run)
+
 -- the item that begins there, where its own bytes decide it
 abbrev pub item_at : List ℕ → Option RunItem
 item_at bytes = by_itself (decided false bytes)

@@ -10,3 +10,4 @@ pub mod Laws
 pub mod PresenceLaws
 pub mod MomentLaws
 pub mod TimesLaws
+pub mod BusyLaws

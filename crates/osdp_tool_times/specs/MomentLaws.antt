@@ -1,5 +1,6 @@
 -- Which moments the comments of a capture tell, by their forms. Blanks are left out before.
-use Rattle.std.specs.Prelude.{◌≡◌, ℕ, ◌+◌, List, ◌++◌, codes, None, Some}
+use Rattle.std.specs.Prelude.{◌≡◌, ◌≢◌, ◌<◌, ℕ, ◌+◌, List, ◌∷◌, ◌++◌, codes, get_or, length, None, Some}
+use Rattle.osdp_tool_times.specs.Captures.{place_of}
 use Rattle.osdp_tool_times.specs.Moments.{moment_in, stamp_in}
 
 -- Each way of a burst stands after a stamp, and the moment is the stamp's. A stamp without a way tells none.
@@ -20,3 +21,7 @@ IsNext one next = (moment : ℕ) × (stamp_in one ≡ Some moment) × (stamp_in 
 abbrev pub TellsDays : Type 0
 TellsDays = IsNext (codes "2026-11-28T23:59:59.999Z") (codes "2026-11-29T00:00:00.000Z") × IsNext (codes "2024-02-29T23:59:59.999Z") (codes "2024-03-01T00:00:00.000Z")
     × IsNext (codes "2023-02-28T23:59:59.999Z") (codes "2023-03-01T00:00:00.000Z") × IsNext (codes "2026-12-31T23:59:59.999Z") (codes "2027-01-01T00:00:00.000Z")
+
+-- The packet of a run that tells a time begins at the first byte 53: its place is the count of bytes before that.
+abbrev pub PlacesTheFirst : Type 0
+PlacesTheFirst = (before rest : List ℕ) → ((k : ℕ) → k < length before → get_or before k 0 ≢ 83) → place_of (Some (before ++ 83 ∷ rest)) ≡ length before

@@ -1,5 +1,5 @@
 -- Since when a device answers, or no longer does, and how often it restarted.
-use Rattle.std.specs.Prelude.{ℕ, ◌+◌, ◌-◌, ◌/◌, ◌%◌, ◌==◌, ◌&&◌, ◌||◌, not, nat_le, Bool, false, if◌then◌else◌, get_or, is_some, Option, None, Some}
+use Rattle.std.specs.Prelude.{ℕ, ◌+◌, ◌-◌, ◌/◌, ◌%◌, ◌==◌, ◌&&◌, ◌||◌, not, nat_le, Bool, false, if◌then◌else◌, get_or, is_some, length, Option, None, Some}
 use Rattle.osdp_frame.specs.Packet.{Packet}
 use Rattle.osdp_tool_times.specs.Numbers.{one_more}
 use Rattle.osdp_tool_times.specs.declared.presence.Presence.{Presence}
@@ -15,6 +15,14 @@ is_offline w = nat_le 3 w.unanswered
 abbrev pub is_number_refused : Packet → Bool
 is_number_refused p = not p.block && (get_or p.body 0 0 == 65 && get_or p.body 1 0 == 4)
 
+-- BUSY, a code alone: an answer at once, which says nothing of the device's number
+abbrev pub is_busy : Packet → Bool
+is_busy p = not p.block && (length p.body == 1 && get_or p.body 0 0 == 121)
+
+-- the device has lost its number: after BUSY that is as it was
+abbrev pub has_lost : Packet → Presence → Bool
+has_lost p w = if is_busy p then w.refused else is_number_refused p
+
 abbrev pub after_asked : Presence → Presence
 after_asked w = record w { unanswered = one_more w.unanswered }
 
@@ -29,7 +37,7 @@ after_restart moment w = record w {
 abbrev pub online_since : ℕ → Presence → Option ℕ
 online_since moment w = if is_offline w || not (is_some w.since) then Some moment else w.since
 
--- an answer comes; several NAK 4 in a row are one restart
+-- an answer comes; several NAK 4 in a row are one restart, also with BUSY between them
 abbrev pub after_answer : Bool → ℕ → Presence → Presence
 after_answer refused moment w = record (if refused && not w.refused then after_restart moment w else w) {
   unanswered = 0;
@@ -40,7 +48,7 @@ after_answer refused moment w = record (if refused && not w.refused then after_r
 
 -- a packet to the device or from it, at this moment
 abbrev pub presence_after : Packet → ℕ → Presence → Presence
-presence_after p moment w = if p.reply then after_answer (is_number_refused p) moment w else after_asked w
+presence_after p moment w = if p.reply then after_answer (has_lost p w) moment w else after_asked w
 
 -- milliseconds as seconds
 abbrev pub rounded : ℕ → ℕ

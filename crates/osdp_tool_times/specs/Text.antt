@@ -58,8 +58,9 @@ abbrev pub restarts_line : ℕ → Presence → List ℕ
 restarts_line address w =
     if w.restarts == 0 then [] else (if w.restarts == 1 then restarted_once address w.last_restart else restarted_often address w)
 
+-- to 127 all devices listen, and each answers with its own address: whether it is online, and its restarts, aren't told
 abbrev pub presence_text : ℕ → Presence → List ℕ
-presence_text address w = presence_line address w ++ restarts_line address w
+presence_text address w = if address == 127 then [] else presence_line address w ++ restarts_line address w
 
 abbrev pub device_text : ℕ → Times → List ℕ
 device_text address t = answers_line address t ++ (late_line address t ++ presence_text address t.presence)
@@ -157,7 +158,7 @@ abbrev pub restarts_object : ℕ → Presence → List ℕ
 restarts_object address w = if w.restarts == 0 then [] else restarts_members address w
 
 abbrev pub presence_objects : ℕ → Presence → List ℕ
-presence_objects address w = presence_object address w ++ restarts_object address w
+presence_objects address w = if address == 127 then [] else presence_object address w ++ restarts_object address w
 
 abbrev pub device_objects : ℕ → Times → List ℕ
 device_objects address t = answers_object address t ++ (late_object address t ++ presence_objects address t.presence)

@@ -1,13 +1,14 @@
 -- What is counted of the answers of a device.
-use Rattle.std.specs.Prelude.{ℕ, ◌+◌, ◌-◌, ◌*◌, ◌/◌, ◌==◌, nat_le, if◌then◌else◌, List, [], ◌∷◌, replicate, slice_index_or, slice_set, Option, None, Some}
+use Rattle.std.specs.Prelude.{ℕ, ◌+◌, ◌-◌, ◌*◌, ◌/◌, ◌==◌, ◌&&◌, nat_le, if◌then◌else◌, List, [], ◌∷◌, replicate, slice_index_or, slice_set, Option, None, Some}
 use Rattle.osdp_frame.specs.Packet.{Packet}
-use Rattle.osdp_tool_times.specs.Waits.{after_reply, after_sent, no_waits, told_reply}
+use Rattle.osdp_tool_times.specs.Waits.{after_reply, after_sent, is_doubtful, no_waits, told_reply}
 pub use Rattle.osdp_tool_times.specs.Numbers.{one_more, lesser, greater}
-use Rattle.osdp_tool_times.specs.Presence.{not_heard, presence_after}
+use Rattle.osdp_tool_times.specs.Presence.{is_busy, not_heard, presence_after}
 use Rattle.osdp_tool_times.specs.declared.table.Times.{Times}
 use Rattle.osdp_tool_times.specs.declared.waits.Sent.{Sent}
 use Rattle.osdp_tool_times.specs.declared.waits.Told.{Told}
 use Rattle.osdp_tool_times.specs.declared.waits.Told.TheVariants.{InTime, Late, Nothing}
+use Rattle.osdp_tool_times.specs.declared.waits.Waits.{Waits}
 
 -- answer times are counted by steps of 5 milliseconds, 64 of them; the last one has all that take longer
 abbrev pub step_of : ℕ → ℕ
@@ -42,17 +43,26 @@ after_missed None (Some last) moment t = record t {
   waited = if t.missed == 0 then moment - last.moment else lesser (moment - last.moment) t.waited;
 }
 
+-- the number of the packet that a reply answers: BUSY has none of its own, and a device gives it at once, so it counts for the last packet
+abbrev pub answered_number : Packet → Option Sent → ℕ
+answered_number p None = p.sequence
+answered_number p (Some last) = if is_busy p then last.number else p.sequence
+
+-- what a reply tells; BUSY tells no time where it may be late
+abbrev pub answer_told : Packet → ℕ → Waits → Told
+answer_told p moment w = if is_busy p && is_doubtful w then Nothing else told_reply w (answered_number p w.last) moment
+
 -- what a packet tells: a reply at a known moment
 abbrev pub packet_told : Packet → Option ℕ → Times → Told
 packet_told p None t = Nothing
-packet_told p (Some moment) t = if p.reply then told_reply t.waits p.sequence moment else Nothing
+packet_told p (Some moment) t = if p.reply then answer_told p moment t.waits else Nothing
 
 -- a packet without a moment leaves nothing open, and tells nothing else
 abbrev pub after_packet : Packet → Option ℕ → Times → Times
 after_packet p None t = record t { waits = no_waits }
 after_packet p (Some moment) t =
-    if p.reply then record (after_told (told_reply t.waits p.sequence moment) t) {
-      waits = after_reply p.sequence moment t.waits;
+    if p.reply then record (after_told (answer_told p moment t.waits) t) {
+      waits = after_reply (answered_number p t.waits.last) moment t.waits;
       presence = presence_after p moment t.presence;
     }
     else record (after_missed t.waits.first t.waits.last moment t) {

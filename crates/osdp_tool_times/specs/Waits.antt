@@ -46,6 +46,10 @@ abbrev pub is_copied : Option Sent → Option Sent → Bool
 is_copied (Some before) (Some last) = before.number == last.number
 is_copied _ _ = false
 
+-- an answer to a packet before the last one is owed, which is no copy of it: an answer without a number of its own may be to either
+abbrev pub is_doubtful : Waits → Bool
+is_doubtful w = is_some w.before && not (is_copied w.before w.last)
+
 abbrev pub is_of_last : Option Sent → ℕ → Bool
 is_of_last None number = false
 is_of_last (Some last) number = number == last.number

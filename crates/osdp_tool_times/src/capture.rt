@@ -6,7 +6,7 @@ ghost use Rattle.osdp_tool_streams.specs.Line.{line_bytes};
 use crate::line::begins;
 use crate::moment::{comment_moment, moment_after, moment_or};
 use crate::object::push_objects;
-use crate::run::{from_start, hear_first, hear_further};
+use crate::run::{from_start, hear_first, hear_further, place_in};
 use crate::table::Times;
 use crate::text::push_times;
 use crate::waits::Told;
@@ -31,7 +31,7 @@ pub struct Timed {
 }
 
 impl Timed {
-    ghost use Rattle.osdp_tool_times.specs.Captures.{after_line, begins, bytes_after, bytes_told, heard_of, last_said, line_told, nothing_heard, run_after, run_told};
+    ghost use Rattle.osdp_tool_times.specs.Captures.{after_line, begins, bytes_after, bytes_told, heard_of, last_said, line_told, nothing_heard, place_of, run_after, run_told};
     ghost use Rattle.osdp_tool_times.specs.Text.{times_objects, times_text};
 
     /// Nothing was heard.
@@ -56,6 +56,16 @@ impl Timed {
             return None;
         }
         Some(&self.bytes)
+    }
+
+    /// The place of the first packet in what the last line said: it alone tells a time.
+    pub fn place(&self) -> usize
+        ensures { result ≡ place_of (last_said self.now) }
+    {
+        if !self.good {
+            return 0;
+        }
+        place_in(&self.bytes)
     }
 
     /// The bytes of a line came at this moment. What they tell.

@@ -1,7 +1,8 @@
 //! What is told as late, in the words of the line, which devices are told offline and how often they restart, and what the day's time tells. A law has no code: it holds for all values, and its proof is the law's.
 
+ghost use Rattle.osdp_tool_times.specs.BusyLaws.{CountsNoBusy, TellsBusy, TellsNoDoubt};
 ghost use Rattle.osdp_tool_times.specs.DayTime.{ComesAgain, TellsMomentsApart};
-ghost use Rattle.osdp_tool_times.specs.MomentLaws.{TellsDays, TellsEachWay, TellsSeconds};
+ghost use Rattle.osdp_tool_times.specs.MomentLaws.{PlacesTheFirst, TellsDays, TellsEachWay, TellsSeconds};
 ghost use Rattle.osdp_tool_times.specs.PresenceLaws.{CountsARowOnce, CountsRestarts, HearsFurtherAnswers, TellsOffline, TellsOnline};
 ghost use Rattle.osdp_tool_times.specs.Laws.{NeverTellsLate, TellsLate, TellsLateCopies, TellsLateFurther, TellsLateSeconds, TellsNothingBefore};
 ghost use Rattle.osdp_tool_times.specs.TimesLaws.{CountsThoseBelow, TellsTheLongest};
@@ -42,11 +43,13 @@ pub fn tells_answer_times()
     ensures below { CountsThoseBelow }
 {}
 
-/// A comment tells the moment of its stamp, whichever way its burst went: seconds with their thousandths, or a day and a time of it.
+/// A comment tells the moment of its stamp, whichever way its burst went: seconds with their thousandths, or a day and a time of it. It is that of the first packet below,
+/// which begins at the first byte 53.
 pub fn tells_moments()
     ensures ways { TellsEachWay }
     ensures seconds { TellsSeconds }
     ensures days { TellsDays }
+    ensures place { PlacesTheFirst }
 {}
 
 /// The day's time tells two moments of one day apart.
@@ -82,4 +85,11 @@ pub fn counts_a_row_once()
 /// An answer that stands further in its run is an answer: its device is not told offline. No time is told of it.
 pub fn hears_further_answers()
     ensures { HearsFurtherAnswers }
+{}
+
+/// BUSY is an answer, whatever number it has. Its time is told, unless an answer to an earlier packet is owed. Its device is online, BUSY is no restart, and two NAK 4 with BUSY between them are one.
+pub fn busy_is_an_answer()
+    ensures time { TellsBusy }
+    ensures doubt { TellsNoDoubt }
+    ensures presence { CountsNoBusy }
 {}

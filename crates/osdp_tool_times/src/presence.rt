@@ -1,10 +1,13 @@
 //! Since when a device answers, or no longer does, and how often it restarted.
 
 ghost use Rattle.std.specs.Prelude.{◌≡◌, ◌<◌};
-ghost use Rattle.osdp_tool_times.specs.Presence.{after_answer, after_restart, is_number_refused, is_offline, online_since, presence_after, restart_seconds};
+ghost use Rattle.osdp_tool_times.specs.Presence.{after_answer, after_restart, has_lost, is_busy, is_number_refused, is_offline, online_since, presence_after, restart_seconds};
 
 use crate::table::one_more;
-use osdp_frame::FrameView;
+use osdp_frame::{Address, FrameView};
+
+/// The address to which all devices listen, and which is none's own.
+pub(crate) const ALL: u64 = Address::CONFIGURATION as u64;
 
 /// So many packets in a row have no answer: the device is offline.
 const SILENT: u64 = 3;
@@ -18,7 +21,7 @@ pub struct Presence {
     pub last: Option<u64>,
     /// The moment of its first answer, or of the first one after it was offline.
     pub since: Option<u64>,
-    /// Whether its last answer was NAK 4.
+    /// Whether its last answer but BUSY was NAK 4.
     pub refused: bool,
     /// How often it restarted.
     pub restarts: u64,
@@ -35,6 +38,14 @@ fn is_number_refused(packet: &FrameView<'_>) -> bool
     let body = packet.body();
     !packet.has_block()
         && (body.get(0).copied().unwrap_or(0) == 0x41 && body.get(1).copied().unwrap_or(0) == 4)
+}
+
+/// Whether a packet is BUSY.
+pub(crate) fn is_busy(packet: &FrameView<'_>) -> bool
+    ensures { result ≡ is_busy packet.now }
+{
+    let body = packet.body();
+    !packet.has_block() && (body.len() == 1 && body.get(0).copied().unwrap_or(0) == 0x79)
 }
 
 impl Presence {
@@ -90,12 +101,23 @@ impl Presence {
         self.refused = refused;
     }
 
+    /// Whether the device has lost its number, with an answer: after BUSY that is as it was.
+    fn has_lost(&self, packet: &FrameView<'_>) -> bool
+        ensures { result ≡ has_lost packet.now self.now }
+    {
+        if is_busy(packet) {
+            self.refused
+        } else {
+            is_number_refused(packet)
+        }
+    }
+
     /// A packet to the device or from it came at this moment.
     pub fn take(&mut self, packet: &FrameView<'_>, moment: u64)
         ensures { self.new ≡ presence_after packet.now moment self.old }
     {
         if packet.is_reply() {
-            self.answer(is_number_refused(packet), moment);
+            self.answer(self.has_lost(packet), moment);
         } else {
             self.unanswered = one_more(self.unanswered);
         }

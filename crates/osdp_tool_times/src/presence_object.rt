@@ -5,7 +5,7 @@ ghost use Rattle.osdp_tool_times.specs.Text.{every_member, every_members, last_m
 
 use crate::day_time::push_day_time;
 use crate::object::push_named;
-use crate::presence::Presence;
+use crate::presence::{ALL, Presence};
 use std::alloc::AllocError;
 
 /// Writes a moment as the day's time in quotes; null where there is none.
@@ -181,6 +181,9 @@ pub(crate) fn push_presence(
 ) -> Result<(), AllocError>
     ensures { OnOk result (string_bytes text.new ≡ string_bytes text.old ++ presence_objects address presence.now) }
 {
+    if address == ALL {
+        return Ok(());
+    }
     push_online_or_offline(text, address, presence)?;
     push_restarts(text, address, presence)
 }

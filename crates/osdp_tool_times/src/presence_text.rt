@@ -4,7 +4,7 @@ ghost use Rattle.std.specs.Prelude.{◌≡◌, ◌++◌, ◌<◌, OnOk, string_b
 ghost use Rattle.osdp_tool_times.specs.Text.{offline_line, offline_words, online_line, presence_line, presence_text, restarted_often, restarted_once, restarts_line};
 
 use crate::day_time::push_day_time;
-use crate::presence::Presence;
+use crate::presence::{ALL, Presence};
 use std::alloc::AllocError;
 
 /// Writes since when a device is online, and when its last answer came, where it has answered.
@@ -107,6 +107,9 @@ pub(crate) fn push_presence(
 ) -> Result<(), AllocError>
     ensures { OnOk result (string_bytes text.new ≡ string_bytes text.old ++ presence_text address presence.now) }
 {
+    if address == ALL {
+        return Ok(());
+    }
     push_online_or_offline(text, address, presence)?;
     push_restarts(text, address, presence)
 }

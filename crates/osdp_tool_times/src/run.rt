@@ -4,7 +4,7 @@ ghost use Rattle.std.specs.Prelude.{◌≡◌, ◌<◌, ◌≤◌, ◌∷◌, []
 ghost use Rattle.osdp_frame.specs.Bytes.{AreBytes};
 ghost use Rattle.osdp_frame.specs.Items.{packets_in, whole_packets};
 ghost use Rattle.osdp_frame.specs.Shown.{item_of};
-ghost use Rattle.osdp_tool_times.specs.Captures.{from_start, item_after, item_at, item_told, size_at, start_in};
+ghost use Rattle.osdp_tool_times.specs.Captures.{from_start, item_after, item_at, item_told, place_or, size_at, start_in};
 ghost use Rattle.osdp_tool_times.specs.Times.{all_further};
 
 use crate::table::Times;
@@ -18,6 +18,13 @@ fn start_in(run: &[u8]) -> Option<usize>
     ensures within { IfSome result (λ place. place < length run.now) }
 {
     memchr(0x53, run)
+}
+
+/// The place of the first packet in a run, where it has one.
+pub(crate) fn place_in(run: &[u8]) -> usize
+    ensures { result ≡ place_or (start_in run.now) }
+{
+    start_in(run).unwrap_or(0)
 }
 
 /// What begins where a packet may: a mark or noise before it is left out.

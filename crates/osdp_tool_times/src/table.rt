@@ -1,9 +1,9 @@
 //! What is counted of the answers of a device.
 
 ghost use Rattle.std.specs.Prelude.{◌≡◌, ◌<◌, ◌≤◌, length};
-ghost use Rattle.osdp_tool_times.specs.Times.{after_further, after_in_time, after_late, after_missed, after_packet, after_told, below, greater, half_below, lesser, most_below, no_times, one_more, packet_told, step_at, step_of};
+ghost use Rattle.osdp_tool_times.specs.Times.{after_further, after_in_time, after_late, after_missed, after_packet, after_told, answer_told, answered_number, below, greater, half_below, lesser, most_below, no_times, one_more, packet_told, step_at, step_of};
 
-use crate::presence::Presence;
+use crate::presence::{Presence, is_busy};
 use crate::waits::{Sent, Told, Waits};
 use osdp_frame::FrameView;
 
@@ -81,6 +81,32 @@ fn step_at(rank: u64, counts: &[u64]) -> usize
     step
 }
 
+/// The number of the packet that a reply answers: BUSY answers the last one.
+fn answered_number(packet: &FrameView<'_>, last: Option<Sent>) -> u8
+    ensures { result ≡ answered_number packet.now last }
+{
+    match last {
+        None => packet.seq().get(),
+        Some(last) => {
+            if is_busy(packet) {
+                last.number
+            } else {
+                packet.seq().get()
+            }
+        }
+    }
+}
+
+/// What a reply tells.
+fn answer_told(packet: &FrameView<'_>, moment: u64, waits: Waits) -> Told
+    ensures { result ≡ answer_told packet.now moment waits }
+{
+    if is_busy(packet) && waits.is_doubtful() {
+        return Told::Nothing;
+    }
+    waits.told_reply(answered_number(packet, waits.last), moment)
+}
+
 impl Times {
     /// Nothing came.
     pub const NONE: Times = Times {
@@ -155,18 +181,19 @@ impl Times {
             self.waits = Waits::NONE;
             return Told::Nothing;
         };
-        let number = packet.seq().get();
         let waits = self.waits;
         let mut presence = self.presence;
         presence.take(packet, moment);
         if packet.is_reply() {
-            let told = waits.told_reply(number, moment);
+            let number = answered_number(packet, waits.last);
+            let told = answer_told(packet, moment, waits);
             self.count(told);
             self.waits = waits.after_reply(number, moment);
             self.presence = presence;
             told
         } else {
             self.count_missed(moment);
+            let number = packet.seq().get();
             self.waits = waits.after_sent(Sent { moment, number });
             self.presence = presence;
             Told::Nothing

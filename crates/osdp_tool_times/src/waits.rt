@@ -1,7 +1,7 @@
 //! When the packets to a device were sent and answered.
 
 ghost use Rattle.std.specs.Prelude.{◌≡◌};
-ghost use Rattle.osdp_tool_times.specs.Waits.{after_reply, after_sent, first_or, in_time, in_time_from, is_copied, is_of_last, is_of_older, is_settled, late, late_from, no_waits, told_first, told_reply};
+ghost use Rattle.osdp_tool_times.specs.Waits.{after_reply, after_sent, first_or, in_time, in_time_from, is_copied, is_doubtful, is_of_last, is_of_older, is_settled, late, late_from, no_waits, told_first, told_reply};
 
 /// A packet to a device.
 #[derive(Clone, Copy, Debug, PartialEq, Eq)]
@@ -134,6 +134,13 @@ impl Waits {
         ensures { result ≡ is_settled self }
     {
         self.first.is_some() && !self.before.is_some()
+    }
+
+    /// Whether an answer to a packet before the last one is owed, which is no copy of it.
+    pub fn is_doubtful(self) -> bool
+        ensures { result ≡ is_doubtful self }
+    {
+        self.before.is_some() && !is_copied(self.before, self.last)
     }
 
     /// After a packet to the device.

@@ -7,5 +7,5 @@ pub returns-clause-text : goal.returns-clause-text
 returns-clause-text c =
     on_each c.push_stamped.result
     (λ is. is ∙ ap (λ l. c.args.text.now.items ++ l)
-    (marked_is marked_object (λ clock stamp line time. refl) c.args.clock _ _ _ _ c.args.line.now c.mark_of-mark.ensures.stamp c.mark_of-mark.ensures.told))
+    (marked_is marked_object c.args.clock _ _ _ _ c.args.line.now c.mark_of-mark.ensures.stamp c.mark_of-mark.ensures.told))
     c.push_stamped.ensures

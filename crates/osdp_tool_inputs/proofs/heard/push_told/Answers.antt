@@ -7,6 +7,6 @@ pub returns-then-names_run-clause-text : goal.returns-then-names_run-clause-text
 returns-then-names_run-clause-text c =
     on_each c.push_marked.result
     (λ is. is ∙ ap (λ l. c.args.text.now.items ++ l)
-    (marked_is marked_line (λ clock stamp line time. refl) c.args.clock _ _ _ _ c.args.line.now c.mark_of-mark.ensures.stamp c.mark_of-mark.ensures.told
+    (marked_is marked_line c.args.clock _ _ _ _ c.args.line.now c.mark_of-mark.ensures.stamp c.mark_of-mark.ensures.told
     ∙ sym (cond-true (names_run c.args.line.now) _ _ (sym c.names_run.ensures ∙ c.if-names_run.true))))
     c.push_marked.ensures

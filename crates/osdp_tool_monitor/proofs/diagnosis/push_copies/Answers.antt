@@ -7,6 +7,6 @@ pub returns : goal.returns
 unfolding copy_lines
 returns c =
     two_lines c.push_at-2.result _ _ _ _ _ _ _
-    (ap (λ m. told_at m (codes "") c.args.address (codes " never answered")) c.is_mute-mute.ensures)
+    (ap (λ m. told_at m (codes "") c.args.address (codes " never answered")) c.is_absent-absent.ensures)
     (ap (λ m. told_at m (codes "each packet to ") c.args.address (codes " comes twice: an echo of the adapter?")) c.is_echoed-echoed.ensures)
     c.in_ok-push_at.ensures c.push_at-2.ensures
