@@ -1,9 +1,11 @@
 #!/usr/bin/env python3
 """`osdp-port .. test script` against `osdp-port .. reader 5` over two pseudo terminals: the report of examples/site.acceptance is examples/site.report, also where
 it is judged once more from its trace. A bad script sends nothing, and tells line and word. A test that is ended before its end, and one whose port is gone, isn't well.
-Takes the path of the program."""
+Where another device's bytes come first, the delay is that of the answer; and what the script takes for the answer is what the program does. Takes the path of the program."""
 import os
 import pty
+import random
+import re
 import select
 import signal
 import subprocess
@@ -15,6 +17,9 @@ import tty
 from pathlib import Path
 
 TOP = Path(__file__).resolve().parent.parent
+sys.path.insert(0, str(TOP / "port"))
+from osdp_port import owner, scripts, testing  # noqa: E402
+
 PORT = ["/usr/bin/python3", str(TOP / "port/osdp-port")]
 SITE = TOP / "examples/site.acceptance"
 IDENTITY = "vendor 53494D model 1 version 1 serial 1 firmware 1:0:0".split()
@@ -32,6 +37,7 @@ WRONG = ("line 3, expcet ACK: no line begins with expcet", "line 4, send OUT 0:2
          "line 5, send OUT 1: word 3 cannot be 1", "line 6, expect ACK: nothing was sent above it",
          "line 7, ready: no line of a script begins so, since osdp-port writes it", "line 8, heard 1 2 none: no line of a script begins so, since osdp-port writes it")
 FROM_WINDOWS = "\ufeffdevice 5\r\n# a\x0bb\u2028c\r\nsend ID 0\r\nexpect PDID\r\n"  # of which `osdp` counts four lines
+PLACES = 2000  # how often the answer is looked for
 LEFT = "what is left of the test wasn't done"
 CUT_OFF = (["test", "script", "SCRIPT"], ["test", "device", "5"], ["test", "panel", "6"])
 WORDS = ((["test", "script"], "word 4, script: device ADDRESS, as device 5, panel ADDRESS, or script FILE"), (["test", "script", "a", "b"], "word 6, b: nothing more stands there"),
@@ -66,8 +72,7 @@ def runs(program, path, device, trace):
 
     def shows():
         for line in done.stderr:
-            if " is open in " not in line:  # this script has the port open too
-                runs.notes.append(line.rstrip("\n"))
+            runs.notes.append(line.rstrip("\n"))
             if "from user" in line:
                 device.stdin.write(b"card 17 4386\n")
                 device.stdin.flush()
@@ -86,7 +91,8 @@ def cut_off(program, script, words, is_pulled):
     tty.setraw(port)
     name = os.ttyname(port)
     done = subprocess.Popen([*PORT, name, "9600", *(str(script) if word == "SCRIPT" else word for word in words), "--osdp", program], stdout=subprocess.PIPE, stderr=subprocess.PIPE, text=True)
-    done.stderr.readline()  # that this script has the port open too
+    while done.poll() is None and name not in map(owner.link_of, Path(f"/proc/{done.pid}/fd").iterdir()):
+        time.sleep(0.05)
     time.sleep(1)
     if is_pulled:
         os.close(end)
@@ -99,6 +105,51 @@ def cut_off(program, script, words, is_pulled):
         tell(f"{' '.join(words)}, {'pulled' if is_pulled else 'stopped'}: status {done.returncode}", said, out)
     if not is_pulled:
         os.close(end)
+
+
+def late(program):
+    """Of a packet to device 5 the bytes of device 6 come first, then noise, and 150 ms after the packet the answer: so late it is."""
+    end, port = pty.openpty()
+    tty.setraw(port)
+    script = Path(tempfile.mkdtemp()) / "late"
+    script.write_text("device 5\ncheck sum\nsend POLL\nexpect ACK within 100\nexpect ACK within 400\n")
+    done = subprocess.Popen([*PORT, os.ttyname(port), "9600", "test", "script", str(script), "--osdp", program], stdout=subprocess.PIPE, stderr=subprocess.PIPE, text=True)
+    while bytes.fromhex("53050700006041") not in os.read(end, 4096):
+        pass
+    begun = time.monotonic()
+    for moment, said in ((0.01, "538607000040E0"), (0.07, "FF"), (0.15, "538507000040E1")):
+        time.sleep(max(0.0, begun + moment - time.monotonic()))
+        os.write(end, bytes.fromhex(said))
+    out, said = done.communicate(timeout=30)
+    os.close(end)
+    os.close(port)
+    told = re.fullmatch(r"line 4 broken: expect ACK within 100\n  at \d+ ms sent 53050700006041\n  read 538507000040E1 after (\d+) ms\nline 5 ok: expect ACK within 400\nok 1 broken 1 unclear 0\n", out)
+    if not told or not 110 <= int(told[1]) <= 350:
+        tell("an answer after another device's bytes", out, said)
+
+
+def packet(dice):
+    """A packet of one of two devices, or of the panel, with a right check or a wrong one."""
+    check = dice.choice(("sum", "crc"))
+    body = bytes([dice.choice((0x40, 0x53, 0x50))]) + dice.choice((b"", dice.randbytes(9), testing.packet(5, 0, b"\x40", "sum", True)))
+    made = testing.packet(dice.choice((5, 6)), dice.randrange(4), body, check, dice.randrange(3) > 0)
+    at = dice.randrange(len(made))
+    return made if dice.randrange(4) else made[:at] + bytes([made[at] ^ 0x5A]) + made[at + 1:]
+
+
+def places(program):
+    """What the script takes for the answer in what was heard is what the program takes for it: noise, cut packets and packets of others stand among them."""
+    dice, lines, wanted = random.Random(11), ["device 5", "check sum"], []
+    for number in range(PLACES):
+        heard = b"".join(dice.choice((packet, lambda d: d.randbytes(2), lambda d: packet(d)[:5], lambda d: b"\x53\x85\x20\x00"))(dice) for _ in range(dice.randrange(1, 6)))
+        lines += ["reopen", "send POLL", *3 * [f"heard {number} 9 {heard.hex().upper()}"], "expect silence"]
+        at = scripts.answer_at(heard, 5)
+        size = 0 if at is None else int.from_bytes(heard[at + 2:at + 4], "little")
+        wanted.append("none" if at is None else heard[at:at + size].hex().upper())
+    out = subprocess.run([program, "test", "script"], input="\n".join(lines) + "\n", capture_output=True, text=True, timeout=60).stdout
+    told = [each[0] or "none" for each in re.findall(r"line \d+ (?:ok: expect silence|broken: expect silence\n  at \d+ ms sent \w+\n  read (\w+)) ?()", out)]
+    if told != wanted or not 0 < wanted.count("none") < PLACES:
+        tell(f"another answer, in {sum(a != b for a, b in zip(told, wanted))} of {len(told)} and {PLACES}")
 
 
 def nobody(program):
@@ -148,11 +199,13 @@ def main():
         for is_pulled in (False, True):
             cut_off(program, work / "waits", words, is_pulled)
     nobody(program)
+    late(program)
+    places(program)
     for words, why in WORDS:
         done = subprocess.run([*PORT, "/dev/null", "9600", *words], capture_output=True, text=True)
         if done.returncode != 2 or not done.stderr.startswith(f"osdp-port: {why}"):
             tell(" ".join(words), done.stderr)
-    print(f"acceptance: {report.splitlines()[-1]}, {len(WRONG)} bad lines, {2 * len(CUT_OFF)} tests cut off, {faults} faults")
+    print(f"acceptance: {report.splitlines()[-1]}, {len(WRONG)} bad lines, {2 * len(CUT_OFF)} tests cut off, {PLACES} answers found, {faults} faults")
     return 1 if faults else 0
 
 

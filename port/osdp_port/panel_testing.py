@@ -3,7 +3,7 @@ import time
 
 from .console import wait_for
 from .panel_tricks import NUMBERED, TRICKS
-from .testing import Judge, allowed, crc, packet, status_of
+from .testing import LARGEST, Judge, allowed, crc, packet, status_of
 from .trace import Record
 
 GAP = 0.05  # seconds of silence after which bytes without a packet are passed over
@@ -26,7 +26,7 @@ def reads(data):
         if rest[0] != 0x53 or len(rest) < 7:
             continue
         size, is_crc = int.from_bytes(rest[2:4], "little"), bool(rest[4] & 4)
-        if not 7 + is_crc <= size <= len(rest):
+        if not 7 + is_crc <= size <= min(len(rest), LARGEST):
             continue
         whole = rest[:size]
         is_right = crc(whole[:-2]) == int.from_bytes(whole[-2:], "little") if is_crc else sum(whole) & 0xFF == 0

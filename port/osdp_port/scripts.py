@@ -1,8 +1,9 @@
 """`test script`: runs a script of one's own. `osdp test script` says what is sent, and judges what is heard."""
 from .console import write_all
 from .faults import BAD_WORDS, Stop
+from .panel_testing import reads
 from .program import Lines
-from .testing import ANSWER, Player, status_of
+from .testing import ANSWER, Player, delay_at, status_of
 from .trace import Record
 
 LONGEST = 4000  # how many bytes of what was heard are handed over at most
@@ -60,6 +61,18 @@ def refusals(osdp, path, lines):
     return found
 
 
+def answer_at(heard, address):
+    """Where the answer begins: the first reply from an address, as `osdp test script` finds it. None where there is none."""
+    at = 0
+    while found := reads(heard[at:]):
+        is_reply, sender, *_, whole = found
+        place = heard.index(whole, at)
+        if is_reply and sender == address:
+            return place
+        at = place + len(whole)
+    return None
+
+
 class Runner:
     """Runs the lines of a script on a port. `keep` gets each line that the program reads."""
 
@@ -73,8 +86,11 @@ class Runner:
     def sends(self, digits):
         """The line that tells what was heard of these bytes."""
         moment = self.player.moment()
-        heard, delay = self.player.hears(bytes.fromhex(digits), ANSWER)
-        return f"heard {moment} {delay} {heard[:LONGEST].hex().upper() or 'none'}"
+        sent = bytes.fromhex(digits)
+        heard, delays = self.player.reads(sent, ANSWER, is_whole=lambda came: answer_at(came, sent[1]) is not None)
+        heard = heard[:LONGEST]
+        delay = delay_at(delays, answer_at(heard, sent[1]) or 0)
+        return f"heard {moment} {delay} {heard.hex().upper() or 'none'}"
 
     def runs(self, line):
         """A line of the script, to its end."""

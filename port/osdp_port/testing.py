@@ -95,6 +95,11 @@ def large(name, caps, check):
     return filled(size + 32, check) if size < LARGEST else "no-packet-is-larger"
 
 
+def delay_at(delays, place):
+    """After how many milliseconds the byte at a place came: with the last read before which no more bytes came than stand before it."""
+    return [delay for at, delay in delays if at <= place][-1]
+
+
 class Player:
     """Plays scenarios on a port. `write` gets each line for `osdp test`."""
 
@@ -115,26 +120,33 @@ class Player:
 
     def hears(self, sent, wait, gap=GAP):
         """Sends bytes. The bytes that came after them, without their echo, and after how many milliseconds."""
+        heard, delays = self.reads(sent, wait, gap)
+        return heard, delay_at(delays, 0)
+
+    def reads(self, sent, wait, gap=GAP, is_whole=lambda came: True):
+        """Sends bytes. The bytes that came after them, without their echo, and of each read how many of them came before it, and after how many milliseconds it came.
+        A silence ends them where `is_whole` says so, or where the time to wait is over."""
         self.port.read()
         self.port.write(sent)
-        begun, came, first = time.monotonic(), b"", None
+        begun, came, reads = time.monotonic(), b"", []
         last = begun
         limit = wait + 12 * len(sent) / self.port.rate
         while self.port.is_there and not self.console.stops:
             now = time.monotonic()
-            if now > begun + limit + (1.0 if came else 0) or (came and now > last + gap):
+            is_over = now > begun + limit
+            if now > begun + limit + (1.0 if came else 0) or (came and now > last + gap and (is_over or is_whole(came))):
                 break
             wait_for(self.port, self.console, 0.005, lines=False)
             read = self.port.read()
             if read:
-                came, last = came + read, time.monotonic()
+                last = time.monotonic()
+                reads.append((len(came), last))
+                came += read
                 if came == sent:
-                    came = b""
-                elif first is None:
-                    first = last
-        came = came.removeprefix(sent)
-        took = (first or time.monotonic()) - begun - 12 * len(sent) / self.port.rate
-        return came[:4000], max(0, int(took * 1000))
+                    came, reads = b"", []
+        echo = len(sent) if came.startswith(sent) else 0
+        sent_at = begun + 12 * len(sent) / self.port.rate
+        return came[echo:][:4000], [(at - echo, max(0, int((moment - sent_at) * 1000))) for at, moment in reads or [(0, time.monotonic())]]
 
     def sends(self, rule, verb, sent, is_answered, gap=GAP):
         """One exchange, again while nothing is heard, or the device is busy."""

@@ -1,5 +1,5 @@
 -- What a call comes to.
-use Rattle.std.specs.Prelude.{◌≡◌, ℕ, Bool, true, false, List, [], ◌∷◌, ◌++◌, length, if◌then◌else◌}
+use Rattle.std.specs.Prelude.{◌≡◌, ℕ, max, Bool, true, false, List, [], ◌∷◌, ◌++◌, length, if◌then◌else◌}
 use Rattle.osdp_msg.specs.declared.event.Event.{Event}
 use Rattle.osdp_device.specs.Ages.{AgesState, after_arrival_if, after_saying, is_offline, no_ages}
 use Rattle.osdp_device.specs.Hearing.{Heard, hears_bytes, hears_silence, hears_tick}
@@ -71,6 +71,10 @@ of_let_go g s = record { text = expired_lines g.expired; session = record s { re
 abbrev pub lets_events_go : Session → Called
 lets_events_go s = of_let_go (lets_go s.now s.absence.expire s.reader s.ages) s
 
+-- a moment that lies before the last one counts as that one, as on the line
+abbrev pub comes : ℕ → Session → Session
+comes now s = record s { now = max s.now now }
+
 -- a moment comes: it is looked whether the panel is there
 abbrev pub looks : Session → Called
 looks s = then_does (tells_presence s) lets_events_go
@@ -90,7 +94,7 @@ abbrev pub ages_submitted : ℕ → Event → ReaderState DeviceStatus → AgesS
 ages_submitted now event r a = after_arrival_if (has_room event r.queue) now (length r.queue.events) a
 
 abbrev pub does : ReaderCall → Session → Called
-does (call.At now) s = looks (record s { now = now })
+does (call.At now) s = looks (comes now s)
 does (call.Bytes list) s = then_does (heard (hears_bytes status_answer status_after list.items s.now s.reader s.line) s) tells_presence
 does call.Silence s = then_does (heard (hears_silence status_answer status_after s.now s.reader s.line) s) tells_presence
 does call.Tick s = then_does (heard (hears_tick status_answer status_after s.now s.reader s.line) s) tells_presence

@@ -9,7 +9,7 @@ ghost use Rattle.osdp_msg.specs.Limits.{most_waiting};
 ghost use Rattle.osdp_device.specs.Status.{status_after, status_answer};
 ghost use Rattle.osdp_reader.specs.State.{after_set_busy, after_set_handler};
 ghost use Rattle.osdp_reader.specs.declared.fault.ReaderFault.TheVariants.{OutOfRange};
-ghost use Rattle.osdp_line_calls.specs.ReaderSessions.{Called, Comes, IsHeard, Session, after_event, ages_submitted, answered, does, heard, is_any, lets_events_go, looks, new_session, submit_text, tells_presence};
+ghost use Rattle.osdp_line_calls.specs.ReaderSessions.{Called, Comes, IsHeard, Session, after_event, ages_submitted, answered, comes, does, heard, is_any, lets_events_go, looks, new_session, submit_text, tells_presence};
 ghost use Rattle.osdp_line_calls.specs.ReaderLines.{refuses};
 ghost use Rattle.osdp_line_calls.specs.ReaderTexts.{all_lines, waiting_line};
 
@@ -185,12 +185,12 @@ impl LineDevice {
         self.let_go(text)
     }
 
-    /// A moment comes: looks whether the panel is there, and writes what comes of that.
+    /// A moment comes, which is the last one where it lies before that: looks whether the panel is there, and writes what comes of that.
     fn come(&mut self, now: u64, text: &mut String) -> Result<(), AllocError>
         requires { IsAllRead self.old.line }
-        ensures { OnOk result (Comes (string_bytes text.old) (string_bytes text.new) self.new (looks (record self.old { now = now }))) }
+        ensures { OnOk result (Comes (string_bytes text.old) (string_bytes text.new) self.new (looks (comes now self.old))) }
     {
-        self.now = now;
+        self.now = self.now.max(now);
         self.look(text)
     }
 

@@ -9,4 +9,5 @@ mod OneSession
 mod Openness
 mod Beside
 mod OldEvents
+mod Moments
 mod Commands

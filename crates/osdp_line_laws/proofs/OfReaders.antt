@@ -7,7 +7,7 @@ use Rattle.osdp_device.specs.Telling.{after_items, items_of, said_to_all}
 use Rattle.osdp_line_calls.specs.declared.reader_call.ReaderCall.TheVariants.{At, Bytes, Silence, Tick, Event}
 use Rattle.osdp_line_calls.specs.ReaderCalls.{CallFits, call_words}
 use Rattle.osdp_line_calls.specs.ReaderLines.{Answers, IsAnswered}
-use Rattle.osdp_line_calls.specs.ReaderSessions.{Called, Session, does, heard, looks, submit_text, tells_presence, then_does}
+use Rattle.osdp_line_calls.specs.ReaderSessions.{Called, Session, comes, does, heard, looks, submit_text, tells_presence, then_does}
 use Rattle.osdp_line_laws.proofs.Lines.{of_all}
 use Rattle.osdp_line_laws.specs.ReaderLines.{Hears, Refused, Step, TakesSteps, after_step, after_steps, hears_held, hears_packets, hears_with, leaves, left_text, lets_go_steps, looks_step, looks_steps, ordered, step_text, steps_text}
 
@@ -172,7 +172,7 @@ heard_steps call s h steps comes orders is =
     }
 
 pub call_steps : (call : ReaderCall) (s : Session) → Does call s
-call_steps (At later) s = let l = look (record s { now = later }) in record { reader = l.0; text = l.1 }
+call_steps (At later) s = let l = look (comes later s) in record { reader = l.0; text = l.1 }
 call_steps (Bytes list) s =
     heard_steps (Bytes list) s (hears_bytes status_answer status_after list.items s.now s.reader s.line) (hears_with list.items (seen s.now s.line))
     (bytes_read list.items s.now s.reader s.line) refl refl

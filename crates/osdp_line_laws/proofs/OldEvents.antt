@@ -1,5 +1,5 @@
 -- Events that are too old leave, and they are the oldest.
-use Rattle.osdp_line_laws.proofs.Common.{◌≡◌, ◌∙◌, ap, sym, refl, ℕ, zero, suc, ◌≤◌, Bool, true, false, cond, Option, Some, option_map, slice_get, List, [], ◌∷◌, ◌++◌, drop, length, map, arith, AgesState, after_expiry, after_removal, expired, expired_front, expires, Expired, DeviceStatus, ReaderState, LetGo, goes_first, keeps_all, lets_some_go}
+use Rattle.osdp_line_laws.proofs.Common.{◌≡◌, ◌∙◌, ap, sym, refl, ℕ, zero, suc, ◌≤◌, Bool, true, false, cond, Option, Some, option_map, slice_get, List, [], ◌∷◌, ◌++◌, drop, length, map, max, arith, AgesState, after_expiry, after_removal, expired, expired_front, expires, Expired, DeviceStatus, ReaderState, LetGo, goes_first, keeps_all, lets_some_go}
 use Rattle.osdp_msg.specs.declared.event.Event.{Event}
 use Rattle.osdp_line_calls.proofs.LettingGo.{front_gone, none_here}
 use Rattle.osdp_line_laws.specs.OldEvents.{OldEventsAlwaysLeave, event_of}
@@ -74,5 +74,5 @@ left (suc n) now limit r a few = left_more n now limit r a (left n now limit (af
 
 pub old_events_leave : OldEventsAlwaysLeave
 old_events_leave later s =
-    let l = left (length s.reader.queue.events) later s.absence.expire s.reader s.ages (omega arith) in
+    let l = left (length s.reader.queue.events) (max s.now later) s.absence.expire s.reader s.ages (omega arith) in
     record { none = l.none; oldest = l.oldest }

@@ -1,5 +1,6 @@
 pub mod PanelLines
 pub mod ReaderLines
+pub mod Moments
 pub mod OldEvents
 pub mod PanelRuns
 pub mod ReaderRuns

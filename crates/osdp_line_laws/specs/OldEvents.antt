@@ -1,5 +1,5 @@
 -- What is left of the events of a device by lines once a moment has come.
-use Rattle.std.specs.Prelude.{◌≡◌, ℕ, false, List, ◌++◌, length, map}
+use Rattle.std.specs.Prelude.{◌≡◌, ℕ, max, false, List, ◌++◌, length, map}
 use Rattle.osdp_device.specs.Ages.{expires}
 use Rattle.osdp_device.specs.declared.events.Expired.{Expired}
 use Rattle.osdp_device.specs.declared.events.Expired.TheVariants.{Withdrawn, InDoubt}
@@ -14,7 +14,7 @@ event_of (InDoubt event) = event
 
 -- the events that leave by a moment, each as it is told
 abbrev pub leaving : ℕ → Session → List Expired
-leaving later s = (lets_go later s.absence.expire s.reader s.ages).expired
+leaving later s = (lets_go (max s.now later) s.absence.expire s.reader s.ages).expired
 
 -- once a moment has come no event is too old, and those that left are the oldest that waited: the others wait, in their order
 pub record OldEventsLeave (later : ℕ) (s : Session) : Type 0 where

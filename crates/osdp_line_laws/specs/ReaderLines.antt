@@ -24,7 +24,7 @@ use Rattle.osdp_line_calls.specs.declared.reader_call.ReaderCall.{ReaderCall}
 use Rattle.osdp_line_calls.specs.declared.reader_call.ReaderCall.TheVariants as line
 use Rattle.osdp_line_calls.specs.ReaderCalls.{CallFits, call_words}
 use Rattle.osdp_line_calls.specs.ReaderLines.{Answers}
-use Rattle.osdp_line_calls.specs.ReaderSessions.{Session, after_event, heard, new_session, submit_text}
+use Rattle.osdp_line_calls.specs.ReaderSessions.{Session, after_event, comes, heard, new_session, submit_text}
 use Rattle.osdp_msg.specs.Limits.{room_for}
 use Rattle.osdp_line_calls.specs.ReaderTexts.{all_lines, expired_line, no_line, presence_text, waiting_line}
 use Rattle.osdp_line_calls.specs.declared.reader_absence.Absence.{Absence}
@@ -115,7 +115,7 @@ looks_steps s =
 
 -- the steps that a line orders, in the session as it stands
 abbrev pub ordered : ReaderCall → Session → List Step
-ordered (line.At later) s = looks_steps (record s { now = later })
+ordered (line.At later) s = looks_steps (comes later s)
 ordered (line.Bytes list) s =
     hears_with list.items (seen s.now s.line) ++ looks_step (heard (hears_bytes status_answer status_after list.items s.now s.reader s.line) s).session ∷ []
 ordered line.Silence s =

@@ -1,5 +1,5 @@
 -- A run of lines to a reader's device, from the first to the last: which calls the lines are, what is told of them, and what the device is after them.
-use Rattle.std.specs.Prelude.{◌≡◌, ℕ, false, List, [], ◌∷◌, ◌++◌, length, Option, Some, None}
+use Rattle.std.specs.Prelude.{◌≡◌, ℕ, max, false, List, [], ◌∷◌, ◌++◌, length, Option, Some, None}
 use Rattle.osdp_frame.specs.Receiving.{Received, after_silence, after_tick, ends_silent, seen}
 use Rattle.osdp_device.specs.Telling.{after_all, items_of}
 use Rattle.osdp_frame.specs.Items.{left_over}
@@ -13,9 +13,9 @@ use Rattle.osdp_line_calls.specs.ReaderSessions.{Session, does}
 use Rattle.osdp_line_calls.specs.ReaderTexts.{no_line, waiting_line}
 use Rattle.osdp_line_laws.specs.ReaderLines.{after_steps, ordered, steps_text}
 
--- the moment of the calls to come is that of the last line of a moment
+-- the moment of the calls to come is the greatest of a line
 abbrev pub moment_after : ReaderCall → ℕ → ℕ
-moment_after (line.At later) now = later
+moment_after (line.At later) now = max now later
 moment_after _ now = now
 
 -- of the bytes of the line those are held that belong to no item yet

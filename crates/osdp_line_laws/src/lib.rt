@@ -5,6 +5,7 @@
 #![tactic(auto)]
 
 ghost use Rattle.osdp_line_laws.specs.Commands.{DevicesGoByWords, PanelsGoByWords};
+ghost use Rattle.osdp_line_laws.specs.Moments.{MomentsAlwaysGoOn};
 ghost use Rattle.osdp_line_laws.specs.OldEvents.{OldEventsAlwaysLeave};
 ghost use Rattle.osdp_line_laws.specs.OrderedLines.{ComeOfOrdersCalls, IsOrdersCallOrNone, WithoutTheSetting};
 ghost use Rattle.osdp_line_laws.specs.PanelLines.{ComesOfCalls, IsCallOrNone};
@@ -46,9 +47,10 @@ pub fn a_line_is_steps()
 {}
 
 /// After a moment of a device by lines no event waits that is too old by the setting `expire` while the panel is gone. Those that left are the oldest of those
-/// that waited, and the others wait, in their order.
+/// that waited, and the others wait, in their order. Moments never go back, and no moment brings a panel back that is gone.
 pub fn old_events_leave()
-    ensures { OldEventsAlwaysLeave }
+    ensures leave { OldEventsAlwaysLeave }
+    ensures on { MomentsAlwaysGoOn }
 {}
 
 /// Lines to a new device come to a list of steps of a new reader, so what each step keeps holds after them.

@@ -339,7 +339,7 @@ Does (Heard moment delay list) s c =
 Does Ready s c = c ≡ is_ready s
 Does call s c = c ≡ then_does (says call) (settled s)
 
--- a line that says nothing
+-- a line that says nothing, or can't be read
 abbrev pub refuses_line : List ℕ → ScriptRun → Called
 refuses_line why s = then_does (refuses_saying why) (settled s)
 

@@ -10,7 +10,7 @@ use Rattle.osdp_test_script.specs.declared.awaited.Awaited.{Awaited}
 use Rattle.osdp_test_script.specs.declared.call.Term.{Term}
 use Rattle.osdp_test_script.specs.declared.call.Term.TheVariants.{Open, Within, FromUser}
 use Rattle.osdp_test_script.specs.declared.refusal.Refusal.{Refusal}
-use Rattle.osdp_test_script.specs.declared.refusal.Refusal.TheVariants.{NoDevice, NotAllowed, NothingSent, NothingKept, NothingAwaited}
+use Rattle.osdp_test_script.specs.declared.refusal.Refusal.TheVariants.{NoDevice, NotAllowed, NothingSent, NothingKept, NothingAwaited, TooLong, NoText}
 use Rattle.osdp_test_script.specs.declared.run.Exchange.{Exchange}
 use Rattle.osdp_test_script.specs.declared.seen.Seen.{Seen}
 use Rattle.osdp_test_script.specs.declared.seen.Seen.TheVariants.{Ok, Broken, Unclear}
@@ -21,6 +21,8 @@ refusal_text NotAllowed = codes "no may above it allows this command"
 refusal_text NothingSent = codes "nothing was sent above it"
 refusal_text NothingKept = codes "nothing was kept above it"
 refusal_text NothingAwaited = codes "no answer is waited for"
+refusal_text TooLong = codes "it has more than 8192 bytes"
+refusal_text NoText = codes "it is no text in UTF-8"
 
 abbrev pub text_in : Option (Bor (List ℕ)) → Option (List ℕ)
 text_in word = option_map (λ (w : Bor (List ℕ)). w.now) word

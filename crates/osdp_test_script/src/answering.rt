@@ -3,7 +3,7 @@
 ghost use Rattle.std.specs.Prelude.{◌≡◌, ◌≤◌, ◌++◌, None, OnOk, length, slice_get, string_bytes};
 ghost use Rattle.osdp_rules.specs.Known.{next_number};
 ghost use Rattle.osdp_words.specs.Word.{texts};
-ghost use Rattle.osdp_test_script.specs.Texts.{wrong_word_text};
+ghost use Rattle.osdp_test_script.specs.Texts.{refusal_text, wrong_word_text};
 ghost use Rattle.osdp_test_script.specs.Runs.{Called, Comes, Does, allows, begins_line, counts_line, ends, goes_out, is_ready, packet_of, passes_line, refuses_line, repeats, says, sends, sends_to, settled, then_does};
 
 use crate::answers::answer_in;
@@ -180,6 +180,20 @@ impl ScriptRun {
     {
         self.begin_line(alloc, text)?;
         self.refuse_word(place, words, text)
+    }
+
+    /// Refuses a line that can't be read, for this reason. An error is that of `answer`.
+    #[tactic(auto, using(crate::proofs::Chained::chained))]
+    pub fn refuse_unread(
+        &mut self,
+        alloc: Global,
+        why: Refusal,
+        text: &mut String,
+    ) -> Result<(), AllocError>
+        ensures { OnOk result (Comes (string_bytes text.old) (string_bytes text.new) self.new (refuses_line (refusal_text why) self.old)) }
+    {
+        self.begin_line(alloc, text)?;
+        self.refuse(why, text)
     }
 
     /// Passes over a blank line. An error is that of `answer`.

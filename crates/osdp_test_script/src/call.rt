@@ -63,7 +63,7 @@ pub enum ScriptCall {
     Keep(u16),
     /// The same byte of this answer is so many more than the one that was kept.
     Counts(u8),
-    /// What was heard after the packet that was sent at a moment: so many milliseconds later these bytes began.
+    /// What was heard after the packet that was sent at a moment: so many milliseconds later the answer in it began, or its first byte where there is none.
     Heard(u64, u64, ArrayVec<u8, 4096>),
     /// Whoever sends the packets asks whether all that is to be printed was printed.
     Ready,

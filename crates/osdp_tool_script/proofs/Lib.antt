@@ -1,2 +1,3 @@
 pub mod Running
 mod InTurn
+mod Unread

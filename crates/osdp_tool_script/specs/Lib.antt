@@ -1,3 +1,4 @@
 pub mod Answers
 pub mod Ending
 pub mod InTurn
+pub mod Unread

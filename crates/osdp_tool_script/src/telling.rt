@@ -6,7 +6,7 @@ ghost use Rattle.osdp_tool_script.specs.Answers.{IsTold, Tells, kept};
 ghost use Rattle.osdp_tool_script.specs.Ending.{new_script};
 
 use osdp_line_answers::{LONGEST, LineAnswerer};
-use osdp_test_script::ScriptRun;
+use osdp_test_script::{Refusal, ScriptRun};
 use std::alloc::{AllocError, Global};
 use std::str;
 
@@ -54,12 +54,12 @@ impl Script {
         ensures { OnOk result ((c : Called) × IsTold line.now self.old.run c × Comes (string_bytes text.old) (string_bytes text.new) self.new.run c) }
     {
         if line.len() > LONGEST {
-            return self.run.take_line(alloc, "?", text);
+            return self.run.refuse_unread(alloc, Refusal::TooLong, text);
         }
         let characters = kept(alloc, line)?;
         match text_of(characters.as_slice()) {
             Some(said) => self.run.take_line(alloc, said, text),
-            None => self.run.take_line(alloc, "?", text),
+            None => self.run.refuse_unread(alloc, Refusal::NoText, text),
         }
     }
 }
