@@ -1,6 +1,7 @@
 -- What a bus accepts it gives to nobody else: where nobody restarts and no address is set but by COMSETs, all addresses at which a device is, or
 -- may come, are its controller's or kept for it.
 use Rattle.osdp_bus_links.proofs.Common.{◌≡◌, ◌||◌, ◌==◌, ℕ, not, Bool, true, false, List, [], ◌∷◌, ◌++◌, Option, Some, None, refl, sym, subst, ap, ◌∙◌, inl, inr, eqb_tells, is_some, Packet, Command, Communication, comset_of, Answer, each_of, is_true, Each, HasNoOther, IsAsked, IsSaid, IsSetUp, IsThere, MayComeTo, NetMoveFits, NetMovesFit, NobodyElseHears, Sets, SetsReader, Somewhere, ahead, EachMoveIsItsOwn, OpensQuietly, move_of, own, view, none_beside, or_false, move_fits, own_first, own_rest, some_same, AllOthersFit, BusSuffices, IsScheduled, NothingIsKept, OthersFit}
+use Rattle.std.proofs.lemmas.Bool.{or_right}
 use Rattle.osdp_controller.specs.Machine as controllers
 use Rattle.osdp_shared_line.specs.Line.{Net, NetMove, Queue, Reopen, SetBusy, Site, Submit, Tick, ToPanel, ToReader, address_of, after_net, is_command_accepted, is_comset_refused, is_reserved, is_taken_beside, run, takes_up}
 use Rattle.osdp_bus_links.proofs.Keeping.{before, moves_may}
@@ -36,10 +37,6 @@ accepts_so : (a b : Bool) → not (a || b) ≡ true → a ≡ false
 accepts_so true b is = absurd cc
 accepts_so false b is = refl
 
-either_so : (a b : Bool) → b ≡ true → a || b ≡ true
-either_so true b is = refl
-either_so false b is = is
-
 kept_is : (r : Option ℕ) (a : ℕ) → r ≡ Some a → is_reserved a r ≡ true
 kept_is None a is = absurd cc
 kept_is (Some b) a is = is_true b a cc
@@ -48,7 +45,7 @@ module _ {H : Type 0} where
   -- an address of a site is one that the bus takes for taken
   name_taken : (a : ℕ) (s : Site H) → IsName (address_of s) s.reserved a → takes_up a s ≡ true
   name_taken a s (inl here) = ap (λ b. b || is_reserved a s.reserved) (is_true (address_of s) a (sym here))
-  name_taken a s (inr kept) = either_so (address_of s == a) (is_reserved a s.reserved) (kept_is s.reserved a kept)
+  name_taken a s (inr kept) = or_right (address_of s == a) (is_reserved a s.reserved) (kept_is s.reserved a kept)
 
 module _ {H : Type 0} (answer_of : H → Command → Answer) (after : H → Command → H) where
   -- ---- where a device is or may come

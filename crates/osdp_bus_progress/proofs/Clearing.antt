@@ -1,5 +1,6 @@
 -- A line is cleared: its readers are set ready, and what is on it is lost.
 use Rattle.osdp_bus_progress.proofs.Common.{◌≡◌, ◌≤◌, ◌-◌, ℕ, zero, suc, false, ◌&&◌, cond, List, [], ◌∷◌, ◌++◌, length, map, Option, Some, None, is_some, refl, sym, subst, ap, ◌∙◌, arith, nat_le, slice_get, slice_set, option_map_or, le-leb, length-map, All-append, All-cons, All-head, All-nil, All-tail, packets_in, Command, Answer, after_next_report, Report, SetsNoAddress, each_all, holds_on, runs_on, well_on, Account, handed, left, rounds, Drop, SimStep, Busy, ToController, ToReader, TellsAtOnce, LineState, ReaderSite, accounts, set_up, StepFits, after_step, all_hear_each, changed_site, fault_of, hears_run, report_told, site_is_busy, takes_report, IsInSession, losses, EachComesOn, EachComesThrough, EachRecovers, IsClear, IsReady, NoneMoves, all_ready, clear, ClearsTheLine, SeveralLinks}
+use Rattle.std.proofs.lemmas.List.{nil_from_length}
 use Rattle.std.specs.List.{All}
 use Rattle.osdp_sim_bus.specs.Runs as simulation
 use Rattle.osdp_sim_laws.proofs.Clearing.{losses_within}
@@ -69,10 +70,6 @@ none_handed (burst ∷ rest) = refl
 one_less : (l : List (List ℕ)) → length (left Drop l) ≡ length l - 1
 one_less [] = refl
 one_less (burst ∷ rest) = omega arith
-
-nothing_left : (l : List (List ℕ)) → length l ≡ 0 → l ≡ []
-nothing_left [] e = refl
-nothing_left (burst ∷ rest) e = absurd (omega arith)
 
 -- the steps are of one session
 pub in_session : (readers : ℕ) (steps : List SimStep) → All IsInSession (clear readers steps)
@@ -177,8 +174,8 @@ module _ {H : Type 0} (answer_of : H → Command → Answer) (after : H → Comm
       subst (λ (t : LineState H). IsCleared s t) (sym here)
       (record {
         line = record {
-          to_readers = nothing_left end.to_readers (omega (arith, short, few.0));
-          to_bus = nothing_left end.to_bus (omega (arith, small, few.1));
+          to_readers = nil_from_length end.to_readers (omega (arith, short, few.0));
+          to_bus = nil_from_length end.to_bus (omega (arith, small, few.1));
           readers = sites;
         };
         same = told_same;

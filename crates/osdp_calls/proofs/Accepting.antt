@@ -1,5 +1,5 @@
 -- From the rule for programs, as it is said of a line in use, follows the rule on its net's moves, and so the premise on addresses.
-use Rattle.osdp_calls.proofs.Common.{◌≡◌, ◌≢◌, ◌<◌, ◌||◌, ℕ, true, false, not, List, ◌++◌, All, length, Option, Some, None, sym, subst, ap, ◌∙◌, arith, inl, inr, ◌≤◌, is_some, Room, Packet, CommandFits, Command, Communication, has_comset, comset_of, Machine, retarget_refusal, submit_refusal, State, Closed, ControllerConfig, device_of, IsBusConfig, BusConfig, Entry, each_of, ReaderState, Answer, HasNoOther, IsNameOf, IsSetUp, NetMoveFits, Sets, Somewhere, Net, RestartPanel, Retarget, Site, Submit, restarts, site_at, Note, RuleSuffices, some_same, InUse, Station, IsAsked, IsNoOthers, IsSaid, IsThere, PanelIsApart, IsKnown, KeepsRule, PanelKeepsRule, NewPanel, begun_of, at_length}
+use Rattle.osdp_calls.proofs.Common.{◌≡◌, ◌≢◌, ◌<◌, ◌||◌, ℕ, true, false, not, List, ◌++◌, All, length, Option, Some, None, sym, subst, ap, ◌∙◌, arith, inl, inr, ◌≤◌, is_some, Room, Packet, CommandFits, Command, Communication, has_comset, comset_of, Machine, retarget_refusal, submit_refusal, State, Closed, ControllerConfig, device_of, IsBusConfig, BusConfig, Entry, each_of, ReaderState, Answer, HasNoOther, IsNameOf, IsSetUp, NetMoveFits, Sets, Somewhere, Net, RestartPanel, Retarget, Site, Submit, restarts, site_at, Note, RuleSuffices, some_same, InUse, Station, IsAsked, IsNoOthers, IsSaid, IsThere, PanelIsApart, IsKnown, KeepsRule, PanelKeepsRule, NewPanel, begun_of, at_length, or_parts}
 use Rattle.osdp_controller.specs.Machine as controllers
 use Rattle.osdp_bus.specs.Entries as devices
 use Rattle.osdp_bus.specs.Machine as bus
@@ -12,7 +12,7 @@ use Rattle.osdp_calls.proofs.Along.{Path, next_fits}
 use Rattle.osdp_calls.proofs.Controllers.{closed_of, config_same, waiting_same}
 use Rattle.osdp_calls.proofs.Nexts.{each_at}
 use Rattle.osdp_calls.proofs.Noticing.{Agrees}
-use Rattle.osdp_calls.proofs.Orders.{asked_same, beside_free, no_device_none, not_begun, or_parts, or_taken_none, refused_free, refusal_same, unrefused}
+use Rattle.osdp_calls.proofs.Orders.{asked_same, beside_free, no_device_none, not_begun, or_taken_none, refused_free, refusal_same, unrefused}
 use Rattle.osdp_calls.proofs.Powers.{address_at, are_settings, settings_of, there_is}
 use Rattle.osdp_calls.proofs.Same.{Controls, IsNetOf, IsSame}
 use Rattle.osdp_calls.proofs.Stations.{Sites, of_site, of_station}

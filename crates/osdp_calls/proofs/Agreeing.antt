@@ -1,20 +1,18 @@
 -- What is noted of the entries of a line in use agrees with what is noted along the moves of its net, as the panel reads.
 use Rattle.osdp_calls.proofs.Common.{◌≡◌, ◌≢◌, ◌≤◌, ℕ, Bool, true, false, cond, List, [], ◌∷◌, ◌++◌, length, Option, Some, None, refl, sym, subst, ap, ◌∙◌, arith, inl, inr, eqb_tells, ◌==◌, ◌&&◌, is_some, slice_get, Packet, PacketItem, Command, Heard, hears, ignores, Machine, Report, Session, Devices, device_of, told_of, hears_packet, Entry, told_at, told_by_item, Repeated, each_map, Each, Answer, IsSetUp, NobodyElseHears, Net, NetMove, Site, ToPanel, address_of, changed, site_at, Note, RuleSuffices, all_addresses, is_opened, noted_at, noted_opened, noted_panel, HeardByOwn, closed_hears, at_changed, at_other, some_same, begun_of, change_at, changes_at, last_of, hears_all, told_by_all, Burst, InUse, Station, noted_reports, at_length}
+use Rattle.std.proofs.lemmas.Bool.{eqb-true}
 use Rattle.osdp_controller.specs.Sessions as clocks
 use Rattle.osdp_bus.specs.Entries as devices
 use Rattle.osdp_calls.proofs.Along.{IsFree, Path, free_rule, heard_by_own, notes_along, path_on, still_along, still_free}
 use Rattle.osdp_calls.proofs.Controllers.{config_same, hears_same, ignored_quiet, waiting_same}
 use Rattle.osdp_calls.proofs.Losing.{IsLoss, IsStill, loss_still}
 use Rattle.osdp_calls.proofs.Matching.{FoundAt, IsOurs, Nobody, Somebody, found, ours_below}
-use Rattle.osdp_calls.proofs.Noticing.{Agrees, HeardAt, Touched, Untouched, address_stays, begun_before, chosen, false_so, heard_at, reports_then, same_reports, touched}
+use Rattle.osdp_calls.proofs.Noticing.{Agrees, HeardAt, Touched, Untouched, address_stays, begun_before, chosen, heard_at, reports_then, same_reports, touched}
 use Rattle.osdp_calls.proofs.Panel.{IsHeard, IsIgnored, IsRead, hears_one, panel_on, reads_here}
 use Rattle.osdp_calls.proofs.Runs.{NotPast, unheard}
 use Rattle.osdp_calls.proofs.Same.{Controls, IsNetOf, IsSame, IsToOpen}
 use Rattle.osdp_calls.proofs.Stations.{Sites}
 use Rattle.osdp_calls.proofs.Strangers.{AreOfOthers, IsElsewhere, Ordered, ordered_heard, others_hear}
-
-equal_of : (a b : ℕ) → (a == b) ≡ true → a ≡ b
-equal_of a b is = elim (eqb_tells a b) [ inl same ↦ same.1 | inr other ↦ absurd (false_so (sym other.0 ∙ is)) ]
 
 -- of an entry with a station nothing is told where only others are told of
 none_told : {H : Type 0} (k : ℕ) (r : Option Report) (ts : List (Station H)) → IsOurs k ts → AreOfOthers (told_at k r) ts → is_opened r ≡ false
@@ -175,7 +173,7 @@ module _ {H : Type 0} where
               let o = other (sym (ap (λ a. a == p.address) address) ∙ e) in
               let it = at_entry o.0 o.1 l n h (ours_below o.0 k l.stations o.5 own) o.3 in
               absurd (whole.addresses o.0 k it.site me.site o.2 it.at me.at
-              (address_same o.0 o.1 l it.station it.site it.is ∙ equal_of (devices.address_of o.1) p.address o.4 ∙ sym (equal_of (address_of me.site) p.address e)))
+              (address_same o.0 o.1 l it.station it.site it.is ∙ eqb-true (devices.address_of o.1) p.address o.4 ∙ sym (eqb-true (address_of me.site) p.address e)))
 
       -- .. and of the one that it reaches
       taken : (k : ℕ) (d : Entry) → IsOurs k l.stations → device_of k l.bus ≡ Some d → (devices.address_of d == p.address) ≡ true

@@ -1,6 +1,6 @@
 -- What an end may still read: as it reads on, as more is said, and as a session opens.
 use Rattle.osdp_calls.proofs.Common.{◌≡◌, ◌≢◌, ◌≤◌, ◌<◌, ℕ, zero, suc, ◌+◌, not, Bool, true, false, cond, List, [], ◌∷◌, ◌++◌, length, Some, refl, sym, ap, ◌∙◌, inl, inr, arith, append-nil, leb_tells, Packet, is_false, is_true, Each, site_at, Burst, Opening, ahead_of_device, ahead_of_panel, concerns, is_ahead_of_device, is_ahead_of_panel, is_before, is_past_for_device, is_past_for_panel, those}
-use Rattle.std.proofs.lemmas.Bool.{le-leb}
+use Rattle.std.proofs.lemmas.Bool.{le-leb, or_right}
 use Rattle.std.specs.Prelude.{◌&&◌, ◌||◌, ◌==◌, nat_le, nat_lt}
 use Rattle.std.specs.List.{list_any}
 use Rattle.osdp_shared_line.proofs.Changing.{or_false}
@@ -160,10 +160,6 @@ less_past : (a x p q : Bool) → (q ≡ true → p ≡ true) → a && (x && not 
 less_past a x true q fewer is = absurd (let e = (kept_by a x true is).2 in cc)
 less_past a x false true fewer is = absurd (let e = fewer refl in cc)
 less_past a x false false fewer is = is
-
-or_right : (a b : Bool) → b ≡ true → a || b ≡ true
-or_right true b is = refl
-or_right false b is = is
 
 pub device_opened : (k from : ℕ) (o : Opening) (os : List Opening) (said : List Burst)
     → Sub (ahead_of_device k from (o ∷ os) said) (ahead_of_device k from os said)

@@ -1,7 +1,9 @@
 -- The names that most proofs of this crate cite, passed on from one place. Declares nothing.
 pub use Rattle.std.proofs.Common.{[], All, ap, append-nil, append_assoc, arith, Bool, cond, Err, false, IfSome, inl, inr, leb, length, List, ltb, map, max, None, not, Ok, Option, refl, Result, Some, subst, suc, sym, true, zero, ℕ, ◌++◌, ◌+◌, ◌<◌, ◌||◌, ◌∙◌, ◌∷◌, ◌≡◌, ◌≢◌, ◌≤◌, ◌⊎◌}
 pub use Rattle.std.specs.Prelude.{is_some, min, nat_le, nat_lt, option_map, option_to_list, slice_get, slice_set, ◌&&◌, ◌-◌, ◌==◌, ◌^◌}
+pub use Rattle.std.proofs.lemmas.Bool.{or_parts}
 pub use Rattle.std.proofs.lemmas.Bool.Decides.{eqb_tells, leb_tells}
+pub use Rattle.std.proofs.lemmas.List.{length_push}
 pub use Rattle.std.specs.Option.{option_map_or}
 pub use Rattle.std.specs.Str.{bytes_eq}
 pub use Rattle.osdp_msg.specs.declared.limits.Room.{Room}
@@ -19,7 +21,7 @@ pub use Rattle.osdp_bus.specs.Buses.{BusState, device_of, Devices, has_report, h
 pub use Rattle.osdp_bus.specs.Settings.{controller_config, IsBusConfig}
 pub use Rattle.osdp_bus.specs.declared.config.BusConfig.{BusConfig}
 pub use Rattle.osdp_bus.specs.declared.entry.Entry.{Entry}
-pub use Rattle.osdp_link_laws.proofs.Lines.{both, each_all, each_append, each_map, each_of}
+pub use Rattle.osdp_link_laws.proofs.Lines.{both, each_all, each_append, each_map, each_of, each_front, each_rest}
 pub use Rattle.osdp_reader.specs.State.{after_set_busy, after_set_handler, ReaderState}
 pub use Rattle.osdp_reader.specs.declared.handler.Answer.{Answer}
 pub use Rattle.osdp_shared_line.specs.Addresses.{HasNoOther, in_front, IsNameOf, IsSetUp, NetMoveFits, NetMovesFit, NobodyElseHears, NoTwoAreTogether, Sets, Somewhere}

@@ -1,5 +1,5 @@
 -- What a device reads: what stands before it is lost to it, and what it reads stays in front of it and may be read again.
-use Rattle.osdp_calls.proofs.Common.{◌≡◌, ◌≤◌, ℕ, zero, suc, ◌+◌, not, Bool, true, false, cond, List, [], ◌∷◌, ◌++◌, length, Option, Some, None, IfSome, refl, sym, subst, ap, ◌∙◌, arith, append-nil, append_assoc, inl, inr, option_to_list, Packet, ReplyFits, Command, speaks, Repeated, each_append, Each, ReaderState, Answer, in_front, Net, NetMove, Site, ToReader, after_net, changed, left_by, link_of, run, site_at, tagged, at_changed, some_same, by_device, first_answered, last_of, reply_to, Burst, InUse, Opening, Station, ahead_of_device, is_past_for_device, AreInOrder, at_length, net_more}
+use Rattle.osdp_calls.proofs.Common.{◌≡◌, ◌≤◌, ℕ, zero, suc, not, Bool, true, false, cond, List, [], ◌∷◌, ◌++◌, length, Option, Some, None, IfSome, refl, sym, subst, ap, ◌∙◌, arith, append-nil, append_assoc, inl, inr, option_to_list, Packet, ReplyFits, Command, speaks, Repeated, each_append, Each, ReaderState, Answer, in_front, Net, NetMove, Site, ToReader, after_net, changed, left_by, link_of, run, site_at, tagged, at_changed, some_same, by_device, first_answered, last_of, reply_to, Burst, InUse, Opening, Station, ahead_of_device, is_past_for_device, AreInOrder, at_length, net_more, length_push}
 use Rattle.osdp_link_laws.specs.Beginning.{SaysWhatFitsIf}
 use Rattle.osdp_link_laws.specs.Link as link
 use Rattle.osdp_reader.specs.Table.{hears, kind_of}
@@ -11,10 +11,6 @@ use Rattle.osdp_calls.proofs.Replying.{IsReply, hears_replies, reader_with, sile
 use Rattle.osdp_calls.proofs.Same.{IsNetOf, IsRightly, IsSiteOf, placed_so, read_so, sites_so}
 use Rattle.osdp_calls.proofs.Stations.{LosesTo, Makes, Refines, Sites, make_move, make_none}
 use Rattle.osdp_calls.proofs.Strangers.{IsUnanswered, unanswered_first}
-
-pub length_more : {A : Type 0} (xs : List A) (x : A) → length (xs ++ x ∷ []) ≡ length xs + 1
-length_more [] x = refl
-length_more (y ∷ xs) x = let rest = length_more xs x in omega (arith, rest)
 
 pub each_at : {A : Type 0} (P : A → Type 0) (i : ℕ) (x : A) (xs : List A) → Each P xs → site_at i xs ≡ Some x → P x
 each_at P i x [] all is = absurd cc
@@ -45,10 +41,10 @@ module _ {H : Type 0} where
   device_said k (Some p) l n is h = record {
     sites = matched (Sites l) (IsSiteOf l.openings (l.said ++ from_device k p ∷ []) l.bus.greatest) 0 l.bus.devices.entries l.stations n.sites
         (λ j d t s at. placed_so at (at.coming ∙ sym (device_told_device j t.place k p l.openings l.said))
-        (let le = at.place in let more = length_more l.said (from_device k p) in omega (arith, le, more))) h.sites;
+        (let le = at.place in let more = length_push l.said (from_device k p) in omega (arith, le, more))) h.sites;
     to_panel = ap (λ qs. qs ++ (k, p) ∷ []) h.to_panel ∙ sym (device_told_panel l.place k p l.openings l.said h.place h.openings);
-    place = let le = h.place in let more = length_more l.said (from_device k p) in omega (arith, le, more);
-    openings = within_more (length l.said) (length (l.said ++ from_device k p ∷ [])) l.openings (let more = length_more l.said (from_device k p) in omega (arith, more)) h.openings;
+    place = let le = h.place in let more = length_push l.said (from_device k p) in omega (arith, le, more);
+    openings = within_more (length l.said) (length (l.said ++ from_device k p ∷ [])) l.openings (let more = length_push l.said (from_device k p) in omega (arith, more)) h.openings;
     said = each_append IsRightly l.said (from_device k p ∷ []) h.said (is, tt);
   }
 

@@ -1,6 +1,6 @@
 -- The calls of a panel's program that read nothing: sessions, commands and addresses.
 use Rattle.std.proofs.Common.{◌≡◌, ◌||◌, ◌&&◌, ◌-◌, ◌*◌, ℕ, zero, suc, ◌+◌, max, Bool, true, false, cond, List, [], ◌++◌, length, take, drop, Option, Some, None, refl, sym, subst, ap, ◌∙◌, arith, inl, inr}
-use Rattle.osdp_calls.proofs.Common.{option_map_or, is_some, nat_le, nat_lt, option_map, option_to_list, slice_get, slice_set, Packet, CommandFits, most_data, Command, Poll, Communication, has_comset, comset_of, Machine, begin_refusal, bytes_waiting, command_size, retarget_refusal, submit_refusal, Closed, BusState, seen, reserved_for, after_begin_at, after_submit_at, begin_refusal_at, bus_fault, changed_unless, changes_entry, entry_begins, submit_refusal_at, Entry, BusFault, Answer, HasNoOther, Sets, Somewhere, outstanding_command, Net, NetMove, Retarget, Site, Submit, Withdraw, after_net, changed, site_at, OfPanel, begun_of, change_at, changes_at, is_to_begin, withdrawn, InUse, Station, IsAsked, IsNoOthers, IsSaid, IsThere, MayBeAt}
+use Rattle.osdp_calls.proofs.Common.{option_map_or, is_some, nat_le, nat_lt, option_map, option_to_list, slice_get, slice_set, Packet, CommandFits, most_data, Command, Poll, Communication, has_comset, comset_of, Machine, begin_refusal, bytes_waiting, command_size, retarget_refusal, submit_refusal, Closed, BusState, seen, reserved_for, after_begin_at, after_submit_at, begin_refusal_at, bus_fault, changed_unless, changes_entry, entry_begins, submit_refusal_at, Entry, BusFault, Answer, HasNoOther, Sets, Somewhere, outstanding_command, Net, NetMove, Retarget, Site, Submit, Withdraw, after_net, changed, site_at, OfPanel, begun_of, change_at, changes_at, is_to_begin, withdrawn, InUse, Station, IsAsked, IsNoOthers, IsSaid, IsThere, MayBeAt, or_parts}
 use Rattle.osdp_controller.specs.Machine as controllers
 use Rattle.osdp_controller.specs.Held.{on_its_way}
 use Rattle.osdp_controller.specs.declared.fault.ControllerFault.{ControllerFault}
@@ -28,10 +28,6 @@ not_begun (Some began) top m c is shut = absurd (let e = sym is.quiet ∙ shut i
 or_assoc : (a b c : Bool) → (a || b) || c ≡ a || (b || c)
 or_assoc true b c = refl
 or_assoc false b c = refl
-
-pub or_parts : (x y : Bool) → x || y ≡ false → (x ≡ false) × (y ≡ false)
-or_parts true y is = absurd (let e = is in cc)
-or_parts false y is = (refl, is)
 
 pub asked_same : (o : Option ℕ) (top : ℕ) (m c : Machine) → Controls o top m c → option_to_list (outstanding_command c.session.state) ≡ option_to_list (outstanding_command m.session.state)
 asked_same None top m c is = ap (λ (x : Machine). option_to_list (outstanding_command x.session.state)) is.same

@@ -1,5 +1,6 @@
 -- What the panel reads: what stands before it is lost to it, and what it reads stays in front of it and may be read again.
-use Rattle.osdp_calls.proofs.Common.{◌≡◌, ◌≤◌, ℕ, zero, suc, ◌+◌, max, not, Bool, true, false, cond, List, [], ◌∷◌, length, Option, Some, None, refl, sym, subst, ap, ◌∙◌, inl, inr, arith, eqb_tells, slice_get, slice_set, Packet, PacketItem, Command, Heard, hears, ignores, Report, Devices, seen, waiting_after, first_from, is_at, reserved_after, hears_at, hears_packet, hears_with, Entry, told_at, told_by_entry, told_by_item, told_with, Repeated, Answer, Net, NetMove, Site, ToPanel, address_of, after_net, changed, first_gets, freed_by, gets, site_at, Burst, InUse, Station, ahead_of_panel, is_past_for_panel}
+use Rattle.osdp_calls.proofs.Common.{◌≡◌, ◌≤◌, ℕ, zero, suc, ◌+◌, max, Bool, true, false, cond, List, [], ◌∷◌, length, Option, Some, None, refl, sym, subst, ap, ◌∙◌, inl, inr, arith, eqb_tells, slice_get, slice_set, Packet, PacketItem, Command, Heard, hears, ignores, Report, Devices, seen, waiting_after, first_from, is_at, reserved_after, hears_at, hears_packet, hears_with, Entry, told_at, told_by_entry, told_by_item, told_with, Repeated, Answer, Net, NetMove, Site, ToPanel, address_of, after_net, changed, first_gets, freed_by, gets, site_at, Burst, InUse, Station, ahead_of_panel, is_past_for_panel}
+use Rattle.std.proofs.lemmas.Bool.{not-true}
 use Rattle.osdp_controller.specs.Sessions as clocks
 use Rattle.osdp_controller.specs.declared.report.Report.TheVariants as report
 use Rattle.osdp_bus.specs.Entries as devices
@@ -144,7 +145,7 @@ module _ {H : Type 0} where
         heard_by k d t s there is begun reply got =
             let top = l.bus.greatest in
             let control : IsSame top d.controller s.controller = subst (λ o. Controls o top d.controller s.controller) begun is.controller in
-            let by_device_said : b.by_panel ≡ false = not_panel b.by_panel (sym (each_at IsRightly l.place b l.said h.said said_it) ∙ ap (λ (q : Packet). q.reply) same ∙ reply) in
+            let by_device_said : b.by_panel ≡ false = not-true b.by_panel (sym (each_at IsRightly l.place b l.said h.said said_it) ∙ ap (λ (q : Packet). q.reply) same ∙ reply) in
             let front = panel_front l.place l.openings l.said b said_it by_device_said past in
             let next : after_net answer_of after (ToPanel Repeated top) n ≡ record n { sites = changed k (gets p top s) n.sites } =
             ap (λ qs. line.to_panel qs Repeated top n) (h.to_panel ∙ front.1) ∙ ap (λ q. record n { sites = first_gets q top n.sites }) same
@@ -159,10 +160,6 @@ module _ {H : Type 0} where
             (set (Sites l) k e t (gets p top s) l.bus.devices.entries l.stations n.sites h.sites (controlled_so is
             (subst (λ o. Controls o top e.controller (gets p top s).controller) (sym begun) (heard_same p top d.controller s.controller control))
             (ap (λ (x : Heard). freed_by x.report s.reserved) same_heard ∙ ap (freed_by heard.report) is.reserved ∙ sym (freed_same heard.report d.reserved)))))))
-          where
-            not_panel : (x : Bool) → not x ≡ true → x ≡ false
-            not_panel true e = absurd cc
-            not_panel false e = refl
 
         by_kind : (k : ℕ) (d : Entry) (t : Station H) (s : Site H) → site_at k l.stations ≡ Some t → site_at k n.sites ≡ Some s → Sites l k d t s
             → first_gets p l.bus.greatest n.sites ≡ changed k (gets p l.bus.greatest s) n.sites → (x : Bool) → p.reply ≡ x → (o : Option ℕ) → t.begun ≡ o

@@ -45,10 +45,6 @@ pub outstanding_same : (o : Option ℕ) (top : ℕ) (m c : Machine) → Controls
 outstanding_same None top m c is = ap (λ (x : Machine). link.outstanding_command x.session.state) is.same
 outstanding_same (Some began) top m c is = ap (λ (x : Machine). link.outstanding_command x.session.state) is.same ∙ sym (ap link.outstanding_command is.quiet)
 
-pub waiting_too : (o : Option ℕ) (top : ℕ) (m c : Machine) → Controls o top m c → c.waiting ≡ m.waiting
-waiting_too None top m c is = ap (λ (d : Machine). d.waiting) is.same
-waiting_too (Some began) top m c is = ap (λ (d : Machine). d.waiting) is.same
-
 module _ {H : Type 0} where
   -- how many sites there are
   pub as_many : (P : ℕ → Entry → Station H → Site H → Type 0) (i : ℕ) (ds : List Entry) (ts : List (Station H)) (ss : List (Site H))

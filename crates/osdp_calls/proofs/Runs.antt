@@ -1,5 +1,5 @@
 -- Bytes, silences and the ends of runs: what a call of the panel reads, packet after packet.
-use Rattle.osdp_calls.proofs.Common.{◌≡◌, ℕ, Bool, true, false, cond, List, [], ◌∷◌, ◌++◌, length, Some, refl, sym, subst, ap, ◌∙◌, arith, inl, inr, items, left_over, whole_packets, Packet, RunItem, PacketItem, SkippedItem, RefusedItem, Command, is_silent, seen, after_bytes, ends_run, ends_silent, hears_bytes, hears_items, Each, Answer, Net, site_at, last_of, read_at_end, read_at_silence, read_of_bytes, Burst, InUse, is_past_for_panel, AreInOrder, at_length}
+use Rattle.osdp_calls.proofs.Common.{◌≡◌, ℕ, Bool, true, false, cond, List, [], ◌∷◌, ◌++◌, length, Some, refl, sym, subst, ap, ◌∙◌, arith, inl, inr, items, left_over, whole_packets, Packet, RunItem, PacketItem, SkippedItem, RefusedItem, Command, is_silent, seen, after_bytes, ends_run, ends_silent, hears_bytes, hears_items, Each, Answer, Net, site_at, last_of, read_at_end, read_at_silence, read_of_bytes, Burst, InUse, is_past_for_panel, AreInOrder, at_length, each_front, each_rest}
 use Rattle.osdp_calls.proofs.Nexts.{then_refines}
 use Rattle.osdp_calls.proofs.Panel.{at_seen, hears_one, panel_on, reads_here}
 use Rattle.osdp_calls.proofs.Same.{IsNetOf, sites_so}
@@ -55,14 +55,6 @@ split Others said (p ∷ ps) qs (i ∷ places) before (inr others) =
 pub last_then : (xs ys : List ℕ) (before : ℕ) → last_of (xs ++ ys) before ≡ last_of ys (last_of xs before)
 last_then [] ys before = refl
 last_then (x ∷ xs) ys before = last_then xs ys x
-
-pub each_first : (Q : ℕ → Type 0) (xs ys : List ℕ) → Each Q (xs ++ ys) → Each Q xs
-each_first Q [] ys all = tt
-each_first Q (x ∷ xs) ys all = (all.0, each_first Q xs ys all.1)
-
-pub each_second : (Q : ℕ → Type 0) (xs ys : List ℕ) → Each Q (xs ++ ys) → Each Q ys
-each_second Q [] ys all = all
-each_second Q (x ∷ xs) ys all = each_second Q xs ys all.1
 
 module _ {H : Type 0} where
   abbrev pub NotPast : InUse H → ℕ → Type 0
@@ -152,10 +144,10 @@ module _ {H : Type 0} where
         let s = split (IsElsewhere (length l.stations) l.bus.devices.entries) l.said (read_at_silence l1.bus) (whole_packets parts) places l.place all in
         let past_parts : Each (NotPast l) (s.front ++ s.back) = subst (Each (NotPast l)) s.parts past in
         let l2 = at_silence s.front l1 in
-        let first = reads_silence s.front l1 n (at_seen now l n h) s.first (each_first (NotPast l) s.front s.back past_parts) in
+        let first = reads_silence s.front l1 n (at_seen now l n h) s.first (each_front (NotPast l) s.front s.back past_parts) in
         let l3 = reads_items parts s.back l2 in
         let second = then_refines answer_of after n l2 l3 first (λ m h2. panel_reads parts s.back l2 m h2
-        (ordered_silent l1 (whole_packets parts) s.back (last_of s.front l.place) s.second) (each_second (NotPast l) s.front s.back past_parts)) in
+        (ordered_silent l1 (whole_packets parts) s.back (last_of s.front l.place) s.second) (each_rest (NotPast l) s.front s.back past_parts)) in
         subst (λ i. Refines answer_of after n (record l { bus = hears_bytes given quiet; place = i }))
         (sym (last_then s.front s.back l.place) ∙ sym (ap (λ ps. last_of ps l.place) s.parts))
         (then_is l3 (record l3 { bus = record l3.bus { held = left_over (quiet.held ++ given); last = quiet.greatest } }) n second

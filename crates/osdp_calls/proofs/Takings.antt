@@ -95,11 +95,11 @@ taken_more (x ∷ xs) ys b =
     ap (λ l. reports.taken_in x b ++ l) (taken_more xs ys (bus.after_call x b))
     ∙ sym (append_assoc (reports.taken_in x b) (taken_along xs (bus.after_call x b)) (taken_along ys (bus.after_calls xs (bus.after_call x b))))
 
-adds_tell : (addresses : List ℕ) (b : BusState) → told_along (map bus.Add addresses) b ≡ []
+pub adds_tell : (addresses : List ℕ) (b : BusState) → told_along (map bus.Add addresses) b ≡ []
 adds_tell [] b = refl
 adds_tell (a ∷ as_left) b = adds_tell as_left (bus.after_call (bus.Add a) b)
 
-adds_take : (addresses : List ℕ) (b : BusState) → taken_along (map bus.Add addresses) b ≡ []
+pub adds_take : (addresses : List ℕ) (b : BusState) → taken_along (map bus.Add addresses) b ≡ []
 adds_take [] b = refl
 adds_take (a ∷ as_left) b = adds_take as_left (bus.after_call (bus.Add a) b)
 

@@ -1,5 +1,5 @@
 -- A tick of one of the bus's controllers: what it says goes to every device. Where a session was to begin, it begins with that.
-use Rattle.osdp_calls.proofs.Common.{◌≡◌, ◌≢◌, ℕ, ◌+◌, Bool, true, false, cond, List, [], ◌∷◌, ◌++◌, length, Option, Some, None, IfSome, refl, sym, subst, ap, ◌∙◌, arith, append-nil, Packet, next_sequence, Command, Machine, after_begin, begin_refusal, frame_of, is_closed, Ticked, ticks, ticks_in, OpeningExchange, Polling, Session, State, Closed, Quiet, Idle, Waiting, Pausing, waiting_after, reserved_after, ticks_at, ticks_with, Entry, told_at, told_by_device, told_by_ticking, both, each_all, each_append, tick_so, Each, Answer, Net, NetMove, Reopen, Site, Tick, address_of, after_net, changed, is_told, run, site_at, tagged, IsQuiet, at_changed, some_same, begins_session, begins_with, begun_of, changes_at, panel_says, said_for, InUse, Opening, Station}
+use Rattle.osdp_calls.proofs.Common.{◌≡◌, ◌≢◌, ℕ, ◌+◌, Bool, true, false, cond, List, [], ◌∷◌, ◌++◌, length, Option, Some, None, IfSome, refl, sym, subst, ap, ◌∙◌, arith, append-nil, Packet, next_sequence, Command, Machine, after_begin, begin_refusal, frame_of, is_closed, Ticked, ticks, ticks_in, OpeningExchange, Polling, Session, State, Closed, Quiet, Idle, Waiting, Pausing, waiting_after, reserved_after, ticks_at, ticks_with, Entry, told_at, told_by_device, told_by_ticking, both, each_all, each_append, tick_so, Each, Answer, Net, NetMove, Reopen, Site, Tick, address_of, after_net, changed, is_told, run, site_at, tagged, IsQuiet, at_changed, some_same, begins_session, begins_with, begun_of, changes_at, panel_says, said_for, InUse, Opening, Station, length_push}
 use Rattle.std.specs.Prelude.{map, nat_le, nat_lt, option_to_list, slice_get, slice_set}
 use Rattle.osdp_controller.specs.Sessions as clocks
 use Rattle.osdp_controller.specs.Ticking as ticking
@@ -9,7 +9,7 @@ use Rattle.osdp_calls.proofs.Ahead.{device_quiet, from_panel, panel_quiet, panel
 use Rattle.osdp_calls.proofs.Controllers.{equal_same, opened_ticks, ticked_same, ticks_same}
 use Rattle.osdp_calls.proofs.Losing.{IsLoss, changed_twice, joins}
 use Rattle.osdp_calls.proofs.Matching.{FoundAt, Match, Nobody, Somebody, changed_same, found, matched_map, set, set_other}
-use Rattle.osdp_calls.proofs.Nexts.{within_more, length_more}
+use Rattle.osdp_calls.proofs.Nexts.{within_more}
 use Rattle.osdp_calls.proofs.Opens.{opens}
 use Rattle.osdp_calls.proofs.Panel.{one_seen}
 use Rattle.osdp_calls.proofs.Same.{Controls, IsNetOf, IsRightly, IsSiteOf, IsToOpen, controlled_so, placed_so, sites_so}
@@ -39,10 +39,10 @@ module _ {H : Type 0} where
     sites = matched_map (Sites l) (IsSiteOf l.openings (l.said ++ from_panel k p ∷ []) l.bus.greatest) 0 (is_told ((k, p) ∷ [])) l.bus.devices.entries l.stations
         n.sites (λ j d t s at.
         placed_so at (ap (λ qs. qs ++ (k, p) ∷ []) at.coming ∙ sym (panel_told_device j t.place k p l.openings l.said at.place h.openings))
-        (let le = at.place in let more = length_more l.said (from_panel k p) in omega (arith, le, more))) h.sites;
+        (let le = at.place in let more = length_push l.said (from_panel k p) in omega (arith, le, more))) h.sites;
     to_panel = h.to_panel ∙ sym (panel_told_panel l.place k p l.openings l.said);
-    place = let le = h.place in let more = length_more l.said (from_panel k p) in omega (arith, le, more);
-    openings = within_more (length l.said) (length (l.said ++ from_panel k p ∷ [])) l.openings (let more = length_more l.said (from_panel k p) in omega (arith, more)) h.openings;
+    place = let le = h.place in let more = length_push l.said (from_panel k p) in omega (arith, le, more);
+    openings = within_more (length l.said) (length (l.said ++ from_panel k p ∷ [])) l.openings (let more = length_push l.said (from_panel k p) in omega (arith, more)) h.openings;
     said = each_append IsRightly l.said (from_panel k p ∷ []) h.said (command, tt);
   }
 

@@ -1,8 +1,8 @@
 -- A tick of the bus: runs that are over are read, and then the controller of an entry ticks, or none.
-use Rattle.osdp_calls.proofs.Common.{◌||◌, ℕ, not, Bool, true, false, cond, List, [], ◌∷◌, ◌++◌, length, Option, Some, None, sym, subst, ap, ◌∙◌, Command, has_report, holder, seen, ends_run, BusTicked, bus_ticks, is_due_at, is_held_and_due, next_due, stays, ticks_at, ticks_by, judged, Each, Answer, Net, asked_at, asked_by_holder, last_of, panel_says, read_at_end, read_at_silence, read_at_tick, read_by_holder, InUse}
+use Rattle.osdp_calls.proofs.Common.{◌||◌, ℕ, not, Bool, true, false, cond, List, [], ◌∷◌, ◌++◌, length, Option, Some, None, sym, subst, ap, ◌∙◌, Command, has_report, holder, seen, ends_run, BusTicked, bus_ticks, is_due_at, is_held_and_due, next_due, stays, ticks_at, ticks_by, judged, Each, Answer, Net, asked_at, asked_by_holder, last_of, panel_says, read_at_end, read_at_silence, read_at_tick, read_by_holder, InUse, each_front, each_rest}
 use Rattle.osdp_calls.proofs.Nexts.{then_refines}
 use Rattle.osdp_calls.proofs.Panel.{at_seen}
-use Rattle.osdp_calls.proofs.Runs.{NotPast, at_end, at_silence, each_first, each_second, last_then, reads_end, reads_silence, split}
+use Rattle.osdp_calls.proofs.Runs.{NotPast, at_end, at_silence, last_then, reads_end, reads_silence, split}
 use Rattle.osdp_calls.proofs.Same.{IsNetOf}
 use Rattle.osdp_calls.proofs.Stations.{Refines, by_none}
 use Rattle.osdp_calls.proofs.Strangers.{IsElsewhere, Ordered, ordered_silent}
@@ -70,5 +70,5 @@ module _ {H : Type 0} (answer_of : H → Command → Answer) (after : H → Comm
           subst (λ i. Refines answer_of after n (ticked_to (ticks_by o j) (asked_by_holder o j) i l))
           (sym (last_then s.front s.back l.place) ∙ sym (ap (λ ps. last_of ps l.place) s.parts))
           (then_refines answer_of after n l2 (ticked_to (ticks_by o j) (asked_by_holder o j) (last_of s.back l2.place) l2)
-          (reads_silence answer_of after s.front l1 n (at_seen now l n h) s.first (each_first (NotPast l) s.front s.back past_parts))
-          (λ m h2. by_holder o s.back l2 m h2 (ordered_silent l1 (read_by_holder o j) s.back (last_of s.front l.place) s.second) (each_second (NotPast l) s.front s.back past_parts)))
+          (reads_silence answer_of after s.front l1 n (at_seen now l n h) s.first (each_front (NotPast l) s.front s.back past_parts))
+          (λ m h2. by_holder o s.back l2 m h2 (ordered_silent l1 (read_by_holder o j) s.back (last_of s.front l.place) s.second) (each_rest (NotPast l) s.front s.back past_parts)))

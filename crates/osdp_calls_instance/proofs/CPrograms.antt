@@ -135,7 +135,7 @@ module _ (address : ℕ) (m : PanelMachine) (answer : ℕ) (next : Option PanelM
         is ∙ ap (λ x. Some (panel.with_panel x m)) ends.2
             ∙ ap (λ o. Some (changed_unless o m (panel.with_panel (orders_add address (panel.panel_of m)) m))) (sym ends.0),
       )
-  added_in_use (Err fault.NoMemory) ends told = inr (told, is ∙ ap (λ x. Some (panel.with_panel x m)) ends)
+  added_in_use (Err fault.NoMemory) ends told = inr (told, is ∙ ap (λ x. Some (panel.with_panel x m)) ends.1)
   added_in_use (Err fault.TooMany) ends told = refused fault.TooMany ends told
   added_in_use (Err fault.AddressTaken) ends told = refused fault.AddressTaken ends told
   added_in_use (Err fault.NoEntry) ends told = refused fault.NoEntry ends told

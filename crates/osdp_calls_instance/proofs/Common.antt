@@ -3,7 +3,7 @@ pub use Rattle.std.proofs.Common.{[], All, ap, append-nil, append_assoc, arith, 
 pub use Rattle.std.specs.Prelude.{IfSome, nat_le, nat_lt, not, option_to_list, slice_get, slice_index, take, ◌&&◌, ◌-◌, ◌==◌, ◌||◌}
 pub use Rattle.std.specs.List.{list_all, list_any}
 pub use Rattle.std.proofs.lemmas.Bool.Decides.{eqb_tells}
-pub use Rattle.std.proofs.lemmas.Bool.{and_parts, leb-true, ltb-true}
+pub use Rattle.std.proofs.lemmas.Bool.{and_parts, leb-true, ltb-true, eq-eqb, eqb-true, ne_eqb}
 pub use Rattle.std.specs.Option.{option_map_or}
 pub use Rattle.std.proofs.lemmas.List.{drop_all, length-append, map-append, take_all}
 pub use Rattle.osdp_msg.specs.CommandTable.{command_of, CommandFits}
@@ -77,7 +77,7 @@ pub use Rattle.osdp_sim_bus.specs.Steps.{after_step, all_hear_each, changed_site
 pub use Rattle.osdp_calls.proofs.Ends.{more_calls, one_bus}
 pub use Rattle.osdp_calls.proofs.Places.{IsAt, one_so}
 pub use Rattle.osdp_calls_instance.specs.SimulatedReports.{RunTakesTheSame, RunTellsTheSame, told_in_run}
-pub use Rattle.osdp_calls.proofs.Takings.{taken_more, told_more}
+pub use Rattle.osdp_calls.proofs.Takings.{taken_more, told_more, adds_take, adds_tell}
 pub use Rattle.osdp_controller.specs.Hearing.{comset_of}
 pub use Rattle.osdp_sim_bus.specs.State.{Given, LineState, new_site, ReaderSite, set_up}
 pub use Rattle.osdp_calls_instance.specs.SimulatedPremises.{AllAtAddresses, AllInRange, HandsShort, OrdersNoComset, RunIsInRange, RunKeepsAddresses, StepsAreExact}

@@ -1,6 +1,6 @@
 -- Lines are calls of a line in use.
-use Rattle.std.proofs.Common.{◌≡◌, ℕ, zero, suc, ◌<◌, Bool, true, false, not, cond, option_map, slice_get, List, [], ◌∷◌, ◌++◌, drop, length, length-drop, map, Option, Some, None, refl, sym, subst, ap, ◌∙◌, arith, inl, inr}
-use Rattle.osdp_calls_instance.proofs.Common.{◌==◌, eqb_tells, Command, Event, AreBytes-drop, AreBytes, decided_nothing, RunItem, item_size, BusState, add_refusal, after_add, after_next_report, changed_unless, remembered_after, BusFault, all_read, all_read_after, fewer_turns, last_turn, seen_in_turn, takes_in_turn, received_new, received_silence, received_take, received_tick, tells_in_turn, Heard, hears_bytes, reads_all, then_hears, turns_left, IsAllRead, IsReceived, Received, after_silence, after_take, after_tick, count_taken, Said, status_after, status_answer, after_all, after_items, items_of, listed, next_told, said_to_all, each_all, Each, has_room, ReaderState, after_lapse_event, after_submit_if, after_withdraw_event, Expired, Withdrawn, InDoubt, Answer, Call, OfPanel, Take, Held, device_after, takes_event, AddsMakeTheBus, AreDeviceCalls, ArePanelCalls, IsOfDevice, IsOfPanel, bus_after_each, device_after_each}
+use Rattle.std.proofs.Common.{◌≡◌, ℕ, zero, suc, ◌<◌, Bool, true, false, not, cond, option_map, slice_get, List, [], ◌∷◌, ◌++◌, drop, length, length-drop, map, Option, Some, None, refl, sym, subst, ap, ◌∙◌, arith}
+use Rattle.osdp_calls_instance.proofs.Common.{◌==◌, Command, Event, AreBytes-drop, AreBytes, decided_nothing, RunItem, item_size, BusState, add_refusal, after_add, after_next_report, changed_unless, remembered_after, BusFault, all_read, all_read_after, fewer_turns, last_turn, seen_in_turn, takes_in_turn, received_new, received_silence, received_take, received_tick, tells_in_turn, Heard, hears_bytes, reads_all, then_hears, turns_left, IsAllRead, IsReceived, Received, after_silence, after_take, after_tick, count_taken, Said, status_after, status_answer, after_all, after_items, items_of, listed, next_told, said_to_all, each_all, Each, has_room, ReaderState, after_lapse_event, after_submit_if, after_withdraw_event, Expired, Withdrawn, InDoubt, Answer, Call, OfPanel, Take, Held, device_after, takes_event, AddsMakeTheBus, AreDeviceCalls, ArePanelCalls, IsOfDevice, IsOfPanel, bus_after_each, device_after_each, eq-eqb}
 use Rattle.osdp_frame.specs.Held as frame
 use Rattle.osdp_bus_laws.specs.Calls as bus
 use Rattle.osdp_device.specs.declared.status.DeviceStatus.{DeviceStatus}
@@ -21,10 +21,7 @@ use Rattle.osdp_line_calls.specs.ReaderAbsence.{LetGo, goes_first, keeps_all, le
 use Rattle.osdp_calls_instance.specs.LinePrograms.{DeviceAnew, DeviceLine, LinesAreThese, PanelAnew, PanelLine, SaysToDevice, SaysToPanel, after_adds, after_device_line, after_device_lines, after_panel_line, after_panel_lines, calls_of_line, device_line_calls, handing, leaving_by, leaving_call, leaving_calls, line_device, line_panel, nexts, reading, unless_done}
 
 pub own_device : (k : ℕ) → (k == k) ≡ true
-own_device k = elim (eqb_tells k k) [
-  | inl same ↦ same.0
-  | inr differs ↦ absurd (differs.1 refl)
-]
+own_device k = eq-eqb k k refl
 
 pub nexts_own : (H : Type 0) (k n : ℕ) → Each (IsOfDevice {H = H} k) (nexts k n)
 nexts_own H k zero = (own_device k, tt)
@@ -379,7 +376,7 @@ leaving_own k (InDoubt e ∷ gone) = (own_device k, leaving_own k gone)
 
 call_is : (k : ℕ) (call : ReaderCall) (s : device.Session) → line_device.Fits (SaysToDevice (Some call)) s → IsAllRead s.line × IsReceived s.line
     → with_line (device.does call s).session ≡ device_after_each status_answer status_after (calls_of_line k call s) (with_line s)
-call_is k (line.At later) s fits is = left_so (length s.reader.queue.events) k later s.absence.expire s.reader s.line s.ages
+call_is k (line.At later) s fits is = left_so (length s.reader.queue.events) k (device.comes later s).now s.absence.expire s.reader s.line s.ages
 call_is k (line.Bytes list) s fits is =
     sym (hands status_answer status_after (suc (turns_left list.items s.now s.line)) k list.items s.now s.reader s.line (omega arith) is.1 is.0
     (λ place. omega (arith, fits.1 place))).is

@@ -1,5 +1,5 @@
 -- Whatever programs call by calls of their own, the line in use goes where they go.
-use Rattle.osdp_calls_instance.proofs.Common.{◌≡◌, ◌≢◌, ◌⊎◌, ℕ, true, false, cond, List, [], ◌∷◌, ◌++◌, map, Option, Some, None, refl, sym, subst, ap, ◌∙◌, inl, inr, ◌==◌, eqb_tells, Command, BusState, each_all, each_of, Each, Answer, changed, site_at, at_changed, at_other, some_same, Call, NewPanel, OfPanel, Step, after_call, after_calls, GoByTheirOwn, Held, KeepsPanel, device_after, device_after_all, held_by, is_of_device, panel_calls, InUse, AreDeviceCalls, ArePanelCalls, AtDevice, AtPanel, CallTheLine, DeviceKind, FitsAt, IsLineOf, IsOfDevice, IsOfPanel, OwnCall, OwnFits, PanelKind, Programs, after_each, after_own, all_calls, bus_after, bus_after_each, calls_at, calls_by, device_after_each, devices_after}
+use Rattle.osdp_calls_instance.proofs.Common.{◌≡◌, ◌≢◌, ℕ, true, false, cond, List, [], ◌∷◌, ◌++◌, map, Option, Some, None, refl, sym, subst, ap, ◌∙◌, inl, inr, ◌==◌, eqb_tells, Command, BusState, each_all, each_of, Each, Answer, changed, site_at, at_changed, at_other, some_same, Call, NewPanel, OfPanel, Step, after_call, after_calls, GoByTheirOwn, Held, KeepsPanel, device_after, device_after_all, held_by, is_of_device, panel_calls, InUse, AreDeviceCalls, ArePanelCalls, AtDevice, AtPanel, CallTheLine, DeviceKind, FitsAt, IsLineOf, IsOfDevice, IsOfPanel, OwnCall, OwnFits, PanelKind, Programs, after_each, after_own, all_calls, bus_after, bus_after_each, calls_at, calls_by, device_after_each, devices_after, eqb-true, ne_eqb}
 use Rattle.osdp_calls.specs.Calls.{device_called}
 use Rattle.osdp_calls.specs.Ends.{is_called}
 use Rattle.osdp_bus_laws.specs.Calls as bus
@@ -30,12 +30,7 @@ splits f (x ∷ xs) ys (step ∷ steps) are =
 
 -- a place that is this one is no other
 is_other : (i k j : ℕ) → (i == k) ≡ true → j ≢ k → (i == j) ≡ false
-is_other i k j is differ = by_test (eqb_tells i k) (eqb_tells i j)
-  where
-    by_test : (((i == k) ≡ true) × (i ≡ k)) ⊎ (((i == k) ≡ false) × (i ≢ k)) → (((i == j) ≡ true) × (i ≡ j)) ⊎ (((i == j) ≡ false) × (i ≢ j)) → (i == j) ≡ false
-    by_test (inl same) (inl there) = absurd (differ (sym there.1 ∙ same.1))
-    by_test (inl same) (inr apart) = apart.0
-    by_test (inr apart) other = absurd (let e : false ≡ true = sym apart.0 ∙ is in cc)
+is_other i k j is differ = ne_eqb i j (λ e. differ (sym e ∙ eqb-true i k is))
 
 module _ {H : Type 0} where
   abbrev call_of : Step H → Call H

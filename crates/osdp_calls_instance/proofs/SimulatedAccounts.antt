@@ -1,5 +1,5 @@
 -- What the account of each reader of a run tells is what the calls tell that the run is.
-use Rattle.osdp_calls_instance.proofs.Common.{◌≡◌, ◌≢◌, ℕ, zero, suc, ◌<◌, Bool, true, false, cond, List, [], ◌∷◌, ◌++◌, length, map, Option, Some, None, refl, sym, subst, ap, ◌∙◌, arith, append_assoc, append-nil, option_map_or, Command, Event, packets_in, Packet, Report, BusState, new_bus, after_next_report, submit_refusal_at, bus_ticks, BusFault, TellsEachOnce, taken_along, told_along, each_of, Each, Answer, lacks_room, site_at, some_same, handed, left, HoldsAlong, moment_after, SimStep, Busy, Issue, Queue, Reopen, ToController, ToReader, Wait, HasAnAccountEach, TellsAtOnce, is_well, run, after_step, all_hear_each, changed_site, changes_site, fault_of, hears_run, is_there, issued, reopened, report_told, site_begins, site_hears, site_is_busy, site_is_told, site_issues, site_queues, site_queues_unless, takes_report, waited, Call, NewPanel, OfPanel, Step, KeepsPanel, one_panel_call, panel_calls, AddsMakeTheBus, more_calls, IsAt, one_so, AtDevice, AtPanel, IsOfDevice, all_calls, calls_at, Begins, DeviceStep, HandsBytes, HearsRun, IsBusy, Queues, SimCall, Submits, Waits, all_hear, begin_calls, line_at_first, panel_step_calls, programs_at_first, schedule_calls, sim_device, sim_panel, step_calls, RunTellsTheSame, told_in_run, taken_more, told_more}
+use Rattle.osdp_calls_instance.proofs.Common.{◌≡◌, ◌≢◌, ℕ, zero, suc, ◌<◌, Bool, true, false, cond, List, [], ◌∷◌, ◌++◌, length, map, Option, Some, None, refl, sym, subst, ap, ◌∙◌, arith, append_assoc, append-nil, option_map_or, Command, Event, packets_in, Packet, Report, BusState, new_bus, after_next_report, submit_refusal_at, bus_ticks, BusFault, TellsEachOnce, taken_along, told_along, each_of, Each, Answer, lacks_room, site_at, some_same, handed, left, HoldsAlong, moment_after, SimStep, Busy, Issue, Queue, Reopen, ToController, ToReader, Wait, HasAnAccountEach, TellsAtOnce, is_well, run, after_step, all_hear_each, changed_site, changes_site, fault_of, hears_run, is_there, issued, reopened, report_told, site_begins, site_hears, site_is_busy, site_is_told, site_issues, site_queues, site_queues_unless, takes_report, waited, Call, NewPanel, OfPanel, Step, KeepsPanel, one_panel_call, panel_calls, AddsMakeTheBus, more_calls, IsAt, one_so, AtDevice, AtPanel, IsOfDevice, all_calls, calls_at, Begins, DeviceStep, HandsBytes, HearsRun, IsBusy, Queues, SimCall, Submits, Waits, all_hear, begin_calls, line_at_first, panel_step_calls, programs_at_first, schedule_calls, sim_device, sim_panel, step_calls, RunTellsTheSame, told_in_run, taken_more, told_more, adds_take, adds_tell}
 use Rattle.std.specs.Prelude.{◌==◌, ◌-◌, is_some, option_to_list, slice_get, slice_set}
 use Rattle.osdp_controller.specs.declared.report.Report.TheVariants as report
 use Rattle.osdp_bus_laws.specs.Calls as bus
@@ -9,14 +9,6 @@ use Rattle.osdp_calls.specs.Told.{all_told, reports_of}
 use Rattle.osdp_calls_instance.proofs.SimulatedBus.{Follows, Here, all_follow, begins_so, goes, joined, step_follows, well_first}
 use Rattle.osdp_calls_instance.proofs.SimulatedEnds.{sim_devices_are}
 use Rattle.osdp_calls_instance.proofs.SimulatedReports.{both_same, calls_tell, more_reports, those_reports, with_those}
-
-adds_take : (addresses : List ℕ) (b : BusState) → taken_along (map bus.Add addresses) b ≡ []
-adds_take [] b = refl
-adds_take (address ∷ addresses) b = adds_take addresses (bus.after_call (bus.Add address) b)
-
-adds_tell : (addresses : List ℕ) (b : BusState) → told_along (map bus.Add addresses) b ≡ []
-adds_tell [] b = refl
-adds_tell (address ∷ addresses) b = adds_tell addresses (bus.after_call (bus.Add address) b)
 
 none_waits : (o : Option (ℕ × Report)) → is_some o ≡ false → option_to_list o ≡ []
 none_waits None is = refl

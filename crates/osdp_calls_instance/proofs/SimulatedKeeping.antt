@@ -1,10 +1,10 @@
 -- The calls of a run keep values in their ranges.
-use Rattle.osdp_calls_instance.proofs.Common.{◌≡◌, ℕ, zero, suc, ◌≤◌, Bool, true, false, cond, List, [], ◌∷◌, ◌++◌, length, map, Option, Some, None, refl, sym, subst, ap, ◌∙◌, arith, append_assoc, append-nil, ◌-◌, IfSome, CommandFits, ReplyFits, Command, packets_in, Packet, largest, BusState, items_of, each_all, each_of, Each, ReaderState, hears, Answer, changed, site_at, handed, HoldsAlong, SaysFit, SimStep, Busy, Issue, Queue, Reopen, ToController, ToReader, Wait, FitAlong, is_well, Given, LineState, ReaderSite, set_up, StepFits, after_step, fault_of, is_there, Call, NewDevice, NewPanel, Next, OfPanel, Step, after_call, after_calls, read_up_to, GoByTheirOwn, Held, device_after, held_by, InUse, Station, InRange, NextInRange, AtDevice, AtPanel, FitsAt, IsLineOf, IsOfDevice, after_own, all_calls, calls_at, calls_by, devices_after, Begins, DeviceStep, HandsBytes, HearsBurst, HearsRun, IsBusy, PanelStep, Queues, SimCall, Submits, Waits, all_hear, begin_calls, device_step_calls, hears_burst, line_at_first, panel_step_calls, programs_at_first, schedule_calls, sim_device, sim_panel, step_calls, AllInRange, HandsShort, RunIsInRange}
+use Rattle.osdp_calls_instance.proofs.Common.{◌≡◌, ℕ, zero, suc, ◌≤◌, Bool, true, false, cond, List, [], ◌∷◌, ◌++◌, length, map, Option, Some, None, refl, sym, subst, ap, ◌∙◌, arith, append_assoc, append-nil, ◌-◌, IfSome, CommandFits, ReplyFits, Command, packets_in, Packet, largest, BusState, items_of, each_all, each_of, Each, ReaderState, hears, Answer, changed, site_at, handed, HoldsAlong, SaysFit, SimStep, Busy, Issue, Queue, Reopen, ToController, ToReader, Wait, FitAlong, is_well, Given, LineState, ReaderSite, set_up, StepFits, after_step, fault_of, is_there, Call, NewDevice, NewPanel, Next, OfPanel, Step, after_call, after_calls, read_up_to, GoByTheirOwn, Held, device_after, held_by, InUse, Station, InRange, NextInRange, AtDevice, AtPanel, FitsAt, IsLineOf, IsOfDevice, after_own, all_calls, calls_at, calls_by, devices_after, Begins, DeviceStep, HandsBytes, HearsBurst, HearsRun, IsBusy, PanelStep, Queues, SimCall, Submits, Waits, all_hear, begin_calls, device_step_calls, hears_burst, line_at_first, panel_step_calls, programs_at_first, schedule_calls, sim_device, sim_panel, step_calls, AllInRange, HandsShort, RunIsInRange, eqb-true}
 use Rattle.osdp_bus_laws.specs.Calls as bus
 use Rattle.osdp_calls_instance.proofs.OwnCalls.{call_the_line, of_device, splits}
 use Rattle.osdp_calls_instance.proofs.SimulatedBus.{Follows, Here, begins_so, count_sites, fits_all, goes, held_readers, more_fit, site_readers, stations_are, step_follows, well_first, all_follow}
 use Rattle.osdp_calls_instance.proofs.SimulatedEnds.{sim_devices_are, sim_panels_are}
-use Rattle.osdp_calls_instance.proofs.SimulatedLists.{at_first, changed_first, longer, same_number}
+use Rattle.osdp_calls_instance.proofs.SimulatedLists.{at_first, changed_first, longer}
 use Rattle.osdp_calls_instance.proofs.SimulatedRanges.{AnswerFits, CallFits, CallsFit, OwnFitsIn, own_fits}
 use Rattle.osdp_calls_instance.proofs.SimulatedReads.{reads_good}
 
@@ -51,7 +51,7 @@ module _ {H : Type 0} (answer_of : H → Command → Answer) (after : H → Comm
   device_range k (NewDevice i config handler room gap) t d l own at is fits = absurd fits
   device_range k (NewPanel config addresses) t d l own at is fits = absurd fits
   device_range k (Next i) t d l own at is fits =
-      let there : site_at i l.stations ≡ Some t = ap (λ j. site_at j l.stations) (same_number i k own) ∙ at in
+      let there : site_at i l.stations ≡ Some t = ap (λ j. site_at j l.stations) (eqb-true i k own) ∙ at in
       subst (NextInRange answer_of after) (sym there) (next_range t d is fits)
   device_range k _ t d l own at is fits = tt
 

@@ -1,6 +1,6 @@
 -- What is on a simulated line has places in what was said of a line in use.
-use Rattle.osdp_calls_instance.proofs.Common.{◌≡◌, ◌≢◌, ◌⊎◌, ◌≤◌, ◌+◌, ℕ, suc, Bool, true, false, List, [], ◌∷◌, ◌++◌, length, map, Some, refl, sym, subst, ap, ◌∙◌, arith, append_assoc, le-ltb, inl, inr, length-append, map-append, ◌==◌, ◌&&◌, ◌||◌, nat_lt, Packet, Each, Net, Site, address_of, site_at, tagged, by_device, Burst, InUse, Opening, Station, concerns, is_past_for_panel}
-use Rattle.osdp_calls_instance.proofs.SimulatedLists.{at_first, longer, other_number}
+use Rattle.osdp_calls_instance.proofs.Common.{◌≡◌, ◌≢◌, ◌⊎◌, ◌≤◌, ◌+◌, ℕ, suc, Bool, true, false, List, [], ◌∷◌, ◌++◌, length, map, Some, refl, sym, subst, ap, ◌∙◌, arith, append_assoc, le-ltb, inl, inr, length-append, map-append, ◌==◌, ◌&&◌, ◌||◌, nat_lt, Packet, Each, Net, Site, address_of, site_at, tagged, by_device, Burst, InUse, Opening, Station, concerns, is_past_for_panel, ne_eqb}
+use Rattle.osdp_calls_instance.proofs.SimulatedLists.{at_first, longer}
 use Rattle.osdp_calls_instance.proofs.SimulatedNet.{NetKeeps}
 use Rattle.osdp_calls_instance.proofs.SimulatedPlaces.{site_more}
 
@@ -89,7 +89,7 @@ placed_opening who said os o [] (q ∷ qs) away placed = absurd placed
 placed_opening who said os o (i ∷ is) [] away placed = absurd placed
 placed_opening who said os o (i ∷ is) (q ∷ qs) away placed = (
   placed.0,
-  by_test (nat_lt i o.place) (q.0 == o.entry) (q.1.address == o.address) (other_number q.0 o.entry away.0.0) (other_number q.1.address o.address away.0.1) placed.1,
+  by_test (nat_lt i o.place) (q.0 == o.entry) (q.1.address == o.address) (ne_eqb q.0 o.entry away.0.0) (ne_eqb q.1.address o.address away.0.1) placed.1,
   placed_opening who said os o is qs away.1 placed.2,
 )
   where

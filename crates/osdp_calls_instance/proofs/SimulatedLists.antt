@@ -1,18 +1,6 @@
 -- Numbers and lists, for the places of what is said.
-use Rattle.osdp_calls_instance.proofs.Common.{◌≡◌, ◌≢◌, ◌⊎◌, ℕ, zero, suc, true, false, List, [], ◌∷◌, ◌++◌, length, Some, inl, inr, refl, sym, subst, ap, ◌∙◌, eqb_tells, ◌==◌, Each, changed, site_at}
-
-pub same_number : (a b : ℕ) → (a == b) ≡ true → a ≡ b
-same_number a b is = by_test (eqb_tells a b)
-  where
-    by_test : (((a == b) ≡ true) × (a ≡ b)) ⊎ (((a == b) ≡ false) × (a ≢ b)) → a ≡ b
-    by_test (inl same) = same.1
-    by_test (inr differs) = absurd (let e : true ≡ false = sym is ∙ differs.0 in cc)
-
-pub other_number : (a b : ℕ) → a ≢ b → (a == b) ≡ false
-other_number a b differ = elim (eqb_tells a b) [
-  | inl same ↦ absurd (differ same.1)
-  | inr differs ↦ differs.0
-]
+use Rattle.osdp_calls_instance.proofs.Common.{◌≡◌, ◌⊎◌, ℕ, zero, suc, List, [], ◌∷◌, ◌++◌, length, Some, inl, inr, refl, subst, ap, ◌∙◌, Each, site_at}
+pub use Rattle.osdp_sim_bus_laws.proofs.Reading.{at_middle as at_first, changed_middle as changed_first}
 
 -- what holds at each place holds of each
 pub each_place : {A : Type 0} (P : A → Type 0) (xs : List A) → ((k : ℕ) (x : A) → site_at k xs ≡ Some x → P x) → Each P xs
@@ -37,14 +25,6 @@ one_place i place (inr same) = same
 -- ---- one in the middle of a list
 
 module _ {A : Type 0} where
-  pub at_first : (before : List A) (x : A) (xs : List A) → site_at (length before) (before ++ x ∷ xs) ≡ Some x
-  at_first [] x xs = refl
-  at_first (y ∷ before) x xs = at_first before x xs
-
-  pub changed_first : (before : List A) (x new : A) (xs : List A) → changed (length before) new (before ++ x ∷ xs) ≡ before ++ new ∷ xs
-  changed_first [] x new xs = refl
-  changed_first (y ∷ before) x new xs = ap (λ l. y ∷ l) (changed_first before x new xs)
-
   pub longer : (before : List A) (x : A) → length (before ++ x ∷ []) ≡ suc (length before)
   longer [] x = refl
   longer (y ∷ before) x = ap suc (longer before x)

@@ -1,12 +1,11 @@
 -- What the moves of a schedule leave of what is on the line, and of the addresses of sites.
-use Rattle.osdp_calls_instance.proofs.Common.{◌≡◌, ◌≢◌, ℕ, zero, suc, Bool, true, false, cond, List, [], ◌∷◌, ◌++◌, Option, Some, None, refl, sym, ap, ◌∙◌, inl, inr, ◌==◌, option_to_list, Packet, Command, Event, comset_of, begin_refusal, submit_refusal, ReadsWhatIsAsked, each_map, Each, Answer, lacks_room, Net, Site, address_of, change_unless, changed, first_gets, gets, is_told, left_by, link_of, site_at, tagged, Apart, changed_from, map_from, some_same, outstanding_command, ahead}
+use Rattle.osdp_calls_instance.proofs.Common.{◌≡◌, ◌≢◌, ℕ, zero, suc, Bool, true, false, cond, List, [], ◌∷◌, ◌++◌, Option, Some, None, refl, sym, ap, ◌∙◌, inl, inr, ◌==◌, option_to_list, Packet, Command, Event, comset_of, begin_refusal, submit_refusal, ReadsWhatIsAsked, each_map, Each, Answer, lacks_room, Net, Site, address_of, change_unless, changed, first_gets, gets, is_told, left_by, link_of, site_at, tagged, Apart, changed_from, map_from, some_same, outstanding_command, ahead, eqb-true}
 use Rattle.osdp_controller.specs.Sessions as clocks
 use Rattle.osdp_controller.specs.Ticking as controller
 use Rattle.osdp_controller.specs.declared.fault.ControllerFault.{ControllerFault}
 use Rattle.osdp_link_laws.specs.Link as link
 use Rattle.osdp_shared_line.specs.Line as line
 use Rattle.osdp_shared_line.proofs.Controllers.{IsSent, TicksWell, ticks_well}
-use Rattle.osdp_calls_instance.proofs.SimulatedLists.{same_number}
 
 module _ {H : Type 0} where
   -- nothing is said, and no controller goes to another address
@@ -68,7 +67,7 @@ module _ {H : Type 0} where
           → (t : Site H) × (site_at k ss ≡ Some t) × (u.coming ≡ t.coming) × (address_of t ≢ p.address → address_of u ≡ address_of t)
       from [] k at = absurd (let e = at in cc)
       from (s ∷ ss) k at =
-          by_test (address_of s == p.address) s ss k (same_number (address_of s) p.address) (λ j there. from ss j there) at
+          by_test (address_of s == p.address) s ss k (eqb-true (address_of s) p.address) (λ j there. from ss j there) at
 
   -- what the controller of this site sends
   abbrev pub frame_at : ℕ → Site H → Option Packet

@@ -1,10 +1,10 @@
 -- Calls of a device that reads one burst, and calls of the panel: where each packet that they read is a copy of the burst at a place, they keep
 -- order and quiet openings with that place.
-use Rattle.osdp_calls_instance.proofs.Common.{◌≡◌, ◌≢◌, ◌⊎◌, ◌≤◌, ℕ, zero, suc, Bool, true, false, List, [], ◌∷◌, ◌++◌, map, Option, Some, None, refl, sym, subst, ap, ◌∙◌, arith, append_assoc, append-nil, inl, inr, ◌==◌, ◌&&◌, ◌||◌, Command, Packet, items_of, each_all, Each, ReaderState, Answer, site_at, at_changed, at_other, some_same, GoByTheirOwn, Held, device_after, held_by, Burst, InUse, Opening, Station, is_before, is_past_for_device, is_past_for_panel, AreInOrder, AreNotPast, InOrder, IsOfOthers, NextInOrder, QuietOpening, IsOfDevice, AllOrdered, IsOrdered}
+use Rattle.osdp_calls_instance.proofs.Common.{◌≡◌, ◌≢◌, ◌⊎◌, ◌≤◌, ℕ, zero, suc, Bool, true, false, List, [], ◌∷◌, ◌++◌, map, Option, Some, None, refl, sym, subst, ap, ◌∙◌, arith, append_assoc, append-nil, inl, inr, ◌==◌, ◌&&◌, ◌||◌, Command, Packet, items_of, each_all, Each, ReaderState, Answer, site_at, at_changed, at_other, some_same, GoByTheirOwn, Held, device_after, held_by, Burst, InUse, Opening, Station, is_before, is_past_for_device, is_past_for_panel, AreInOrder, AreNotPast, InOrder, IsOfOthers, NextInOrder, QuietOpening, IsOfDevice, AllOrdered, IsOrdered, eqb-true}
 use Rattle.osdp_bus_laws.specs.Calls as bus
 use Rattle.osdp_calls.specs.Calls.{Call, NewDevice, NewPanel, Next, OfPanel, Step, after_call, after_calls, after_next, by_device, changes_at, device_called, does, last_of, nexts, on_called, on_station, read_by, read_up_to}
 use Rattle.osdp_calls_instance.proofs.OwnCalls.{of_device}
-use Rattle.osdp_calls_instance.proofs.SimulatedLists.{place_then, same_number}
+use Rattle.osdp_calls_instance.proofs.SimulatedLists.{place_then}
 use Rattle.osdp_calls_instance.proofs.SimulatedReads.{CallGood, CallsGood, reads_good}
 use Rattle.osdp_calls_instance.proofs.SimulatedReplies.{replies_by, replies_each}
 use Rattle.osdp_calls.specs.Ends.{is_called}
@@ -189,7 +189,7 @@ module _ {H : Type 0} where
       → (change t).begun ≡ t.begun → (change t).place ≡ t.place → SpokeBy k i [] l (on_called o change l)
   on_that k i None change l t none at begun place = absurd (let e = none in cc)
   on_that k i (Some j) change l t mine at begun place =
-      subst (λ (m : ℕ). SpokeBy k i [] l (on_station m change l)) (sym (same_number j k mine)) (on_one k i change l t at begun place)
+      subst (λ (m : ℕ). SpokeBy k i [] l (on_station m change l)) (sym (eqb-true j k mine)) (on_one k i change l t at begun place)
 
   module _ (answer_of : H → Command → Answer) (after : H → Command → H) where
     abbrev pub after_placed : ℕ → Call H → InUse H → InUse H
@@ -230,7 +230,7 @@ module _ {H : Type 0} where
         → SpokeBy k i (replies_by answer_of after call (held_by t)) l (after_placed i call l)
     one_spoke k i (Next j) l t Good own good at =
         subst (λ (m : ℕ). SpokeBy k i (replies_by answer_of after (Next k) (held_by t)) l (after_next answer_of after m (at_place i (next_reads (site_at m l.stations))) (site_at m l.stations) l))
-        (sym (same_number j k own)) (next_spoke k i l (site_at k l.stations) t at at)
+        (sym (eqb-true j k own)) (next_spoke k i l (site_at k l.stations) t at at)
     one_spoke k i (OfPanel call) l t Good own good at = absurd good
     one_spoke k i (NewPanel config addresses) l t Good own good at = absurd good
     one_spoke k i (NewDevice j config handler room gap) l t Good own good at = absurd good
@@ -240,7 +240,7 @@ module _ {H : Type 0} where
         → CallGood answer_of after (λ r q. IsOneOf packets q) call (held_by t) → site_at k l.stations ≡ Some t → Source packets i l
         → Since packets t.place i → IsOrdered (placed i call l) l
     one_ordered packets k i (Next j) l t own good at source since =
-        let there : site_at j l.stations ≡ Some t = ap (λ m. site_at m l.stations) (same_number j k own) ∙ at in
+        let there : site_at j l.stations ≡ Some t = ap (λ m. site_at m l.stations) (eqb-true j k own) ∙ at in
         let both = next_ordered packets i j l (site_at j l.stations) t there
         (reads_good answer_of after (λ r q. IsOneOf packets q) (items_of t.line.held) t.reader good) source since in
         record { in_order = both.0; quiet_opening = both.1 }

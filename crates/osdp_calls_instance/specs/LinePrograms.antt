@@ -96,7 +96,7 @@ leaving s = (lets_go s.now s.absence.expire s.reader s.ages).expired
 
 -- .. a line that tells a moment, and no other
 abbrev pub leaving_by : ReaderCall → device.Session → List Expired
-leaving_by (line.At later) s = leaving (record s { now = later })
+leaving_by (line.At later) s = leaving (device.comes later s)
 leaving_by _ s = []
 
 -- the words of a line are in their ranges, and a device is run anew with a gap of a millisecond at least

@@ -57,7 +57,7 @@ pub use Rattle.osdp_shared_line.specs.Addresses.{NetMovesFit, NobodyElseHears}
 pub use Rattle.osdp_shared_line.specs.Runs.{moves_at, moves_of}
 pub use Rattle.osdp_shared_line.specs.Views.{EachMoveIsItsOwn, front_to_panel, HeardByOwn, move_of, one_if, other_reply, own, own_front, own_reply, view}
 pub use Rattle.osdp_calls.proofs.Counting.{all_heard, AllHeard, quietly}
-pub use Rattle.osdp_calls.proofs.Powers.{outstanding_same, waiting_too}
+pub use Rattle.osdp_calls.proofs.Powers.{outstanding_same}
 pub use Rattle.osdp_calls.proofs.Setting.{first_net, first_site, first_there, starts}
 pub use Rattle.osdp_reader.specs.Table.{outcome}
 pub use Rattle.osdp_shared_line.proofs.Hearing.{closed_hears, for_reader}
@@ -69,7 +69,7 @@ pub use Rattle.osdp_controller.specs.declared.state.State.{State}
 pub use Rattle.osdp_controller.specs.declared.state.State.TheVariants.{Closed, Idle, Pausing, Quiet, Waiting}
 pub use Rattle.osdp_bus.specs.Entries.{first_from, is_at, step_of, told_of}
 pub use Rattle.osdp_bus.specs.Hearing.{hears_packet}
-pub use Rattle.osdp_calls.proofs.Controllers.{hears_same, ignored_quiet, ticks_same}
+pub use Rattle.osdp_calls.proofs.Controllers.{hears_same, ignored_quiet, ticks_same, waiting_same}
 pub use Rattle.osdp_calls.proofs.Noticing.{first_at, first_before, FirstAt, NoneAt, OneAt}
 pub use Rattle.osdp_shared_line.proofs.Rounds.{at_length, fits_both, net_more}
 pub use Rattle.osdp_shared_line.proofs.Sites.{at_changed, some_same}

@@ -1,7 +1,7 @@
 -- Every list of calls that keep the premises shows what the moves of a net show, so what each of several links keeps each entry keeps.
 use Rattle.std.proofs.Common.{◌≡◌, ◌==◌, ◌+◌, ℕ, false, All, List, [], ◌∷◌, ◌++◌, Option, None, Some, refl, sym, subst, ap, ◌∙◌, inl, inr}
 use Rattle.std.specs.Prelude.{is_some, option_to_list}
-use Rattle.osdp_calls_ledger.proofs.Common.{Command, Event, Machine, ReaderState, Answer, Ledger, RestartPanel, after, new_ledger, AreAllowed, History, new_history, runs, steps_on, EventsHold, OrdersHold, Link, Move, after_move, outstanding_command, after_steps, all_steps, queued_before, runs_after, each_all, each_map, each_of, Each, NetMovesFit, NobodyElseHears, Net, NetMove, RestartsPanel, after_net, run, site_at, some_same, moves_of, EachMoveIsItsOwn, view, Step, after_call, after_calls, InUse, Station, KeepsHandler, AllKeep, IsOfOne, all_heard, its_site, outstanding_same, waiting_too, Controls, IsNetOf, first_net, first_site, first_there, starts, EachKeepsLedger, steps_along, steps_from, calls_keep}
+use Rattle.osdp_calls_ledger.proofs.Common.{Command, Event, Machine, ReaderState, Answer, Ledger, RestartPanel, after, new_ledger, AreAllowed, History, new_history, runs, steps_on, EventsHold, OrdersHold, Link, Move, after_move, outstanding_command, after_steps, all_steps, queued_before, runs_after, each_all, each_map, each_of, Each, NetMovesFit, NobodyElseHears, Net, NetMove, RestartsPanel, after_net, run, site_at, some_same, moves_of, EachMoveIsItsOwn, view, Step, after_call, after_calls, InUse, Station, KeepsHandler, AllKeep, IsOfOne, all_heard, its_site, outstanding_same, waiting_same, Controls, IsNetOf, first_net, first_site, first_there, starts, EachKeepsLedger, steps_along, steps_from, calls_keep}
 use Rattle.osdp_bus.specs.declared.config.BusConfig.{BusConfig}
 use Rattle.osdp_ledger.specs.Ledger as ledger
 use Rattle.osdp_link_laws.specs.Ahead.{is_polling, offered_to}
@@ -178,7 +178,7 @@ module _ {H : Type 0} (answer_of : H → Command → Answer) (after_command : H 
 
   is_of_entry : (o : Option ℕ) (top : ℕ) (l : Link H) {v : Link H} {g : Ledger} → Controls o top l.controller v.controller → v.reader ≡ l.reader → IsLedgerOf v g → IsLedgerOf l g
   is_of_entry o top l {v} {g} is reader its = record {
-    ahead = its.ahead ∙ (λ i. option_to_list (out i) ++ waiting_too o top l.controller v.controller is i);
+    ahead = its.ahead ∙ (λ i. option_to_list (out i) ++ waiting_same o top l.controller v.controller is i);
     is_open = its.is_open ∙ way_same o top l.controller v.controller is;
     acted = λ going n last. its.acted going n (there n last) ∙ (λ i. answer_to (out i) (n == number i) (reader i).stored);
     unasked = λ going none. its.unasked going (out ∙ none);

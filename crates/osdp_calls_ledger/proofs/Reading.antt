@@ -1,5 +1,6 @@
 -- What the panel reads: of each packet the controller at its address tells, and nobody else.
 use Rattle.osdp_calls_ledger.proofs.Common.{◌≡◌, ◌≢◌, ◌+◌, ℕ, Bool, true, false, cond, List, [], ◌∷◌, ◌++◌, Option, Some, None, All, refl, sym, subst, ap, ◌∙◌, inl, inr, arith, append-nil, is_some, length, eqb_tells, ◌==◌, slice_get, Packet, Command, Heard, hears, Machine, Ticked, ticks, ticks_in, Report, State, Closed, first_from, is_at, told_of, hears_packet, Entry, told_at, told_by_entry, told_by_item, told_with, Answer, Ledger, Repeated, each_of, is_false, is_true, Each, after_steps, all_steps, opens, ticked, told, Net, NetMove, Site, ToPanel, address_of, link_of, site_at, HeardByOwn, front_to_panel, other_reply, own, own_reply, closed_hears, told_by_all, Burst, InUse, Station, address_same, at_entry, reads_those, hears_same, ignored_quiet, AllHeard, FoundAt, Nobody, Somebody, found, IsOurs, ours_below, FirstAt, NoneAt, OneAt, first_at, first_before, IsHeard, IsIgnored, IsRead, hears_one, panel_on, reads_here, NotPast, unheard, Controls, IsNetOf, IsToOpen, Sites, AreOfOthers, IsElsewhere, Ordered, ordered_heard, others_hear, reported, at_length}
+use Rattle.std.proofs.lemmas.Bool.{eqb-true}
 use Rattle.osdp_frame.specs.Reading.{PacketItem}
 use Rattle.osdp_controller.specs.Sessions as clocks
 use Rattle.osdp_bus.specs.Entries as devices
@@ -25,9 +26,6 @@ reported_more k (x ∷ xs) ys g =
     let here = cond (x.0 == k) (told (Some x.1) g) [] in
     ap (λ steps. here ++ steps) (reported_more k xs ys (after_steps here g))
     ∙ sym (Rattle.osdp_calls_ledger.proofs.Seen.turn_assoc (λ q. cond (x.0 == k) (told (Some x.1) q) []) (reported k xs) (reported k ys) g)
-
-equal_of : (a b : ℕ) → (a == b) ≡ true → a ≡ b
-equal_of a b is = elim (eqb_tells a b) [ inl same ↦ same.1 | inr other ↦ absurd (let e = sym other.0 ∙ is in cc) ]
 
 module _ {H : Type 0} where
   -- the controller of a site tells of a packet what that of its entry does
@@ -76,7 +74,7 @@ module _ {H : Type 0} where
             → all_steps answer_of after (cond b (link.Tick now ∷ []) []) (link_of s (own k s.coming) (own k rest)) g
             ≡ cond b (told (hears p now s.controller.session).report g) []
         other_one shut true is =
-            let st = shut (equal_of (address_of s) p.address is) in
+            let st = shut (eqb-true (address_of s) p.address is) in
             append-nil (ticked s.controller.session.state (ticks now s.controller.session s.controller.waiting) g)
             ∙ closed_tick now s.controller.session.state (ticks now s.controller.session s.controller.waiting) g st
             (ap (λ x. (ticks_in x (clocks.seen now s.controller.session) s.controller.waiting).step.report) st)
@@ -152,7 +150,7 @@ module _ {H : Type 0} where
                 let before = first_before p.address 0 j k d l.bus.devices.entries first x (is_true (devices.address_of d) p.address (sym (address_same k d l t s is) ∙ f)) in
                 let it = at_entry j e l n h (ours_below j k l.stations (omega (arith, before)) own) at in
                 whole.addresses j k it.site s differs.1 it.at z
-                (address_same j e l it.station it.site it.is ∙ equal_of (devices.address_of e) p.address here ∙ sym f)) in
+                (address_same j e l it.station it.site it.is ∙ eqb-true (devices.address_of e) p.address here ∙ sym f)) in
                 its s z
                 ∙ ap (λ c. cond c (told (hears p l.bus.greatest s.controller.session).report g) []) other
                 ∙ sym (ap (λ xs. reported k xs g) (one_told j e some at) ∙ reported_other k j (told_of p l.bus.greatest e) g differs.1)

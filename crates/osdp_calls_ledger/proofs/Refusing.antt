@@ -1,5 +1,6 @@
 -- What a controller tells of a packet that it reads is what its link's controller tells of it, so it is no refused number.
 use Rattle.osdp_calls.proofs.Common.{◌≡◌, ◌≢◌, ℕ, max, not, Bool, true, false, cond, All, IfSome, List, [], ◌∷◌, ◌++◌, Option, Some, None, refl, sym, subst, ap, ◌∙◌, arith, inl, inr, eqb_tells, ◌==◌, ◌&&◌, is_some, Packet, Command, meaning_of, Heard, hears, hears_in, ignores, is_from_reader, Report, Session, Closed, BusState, device_of, seen, first_from, is_at, step_of, hears_packet, Entry, told_at, told_by_device, told_by_entry, told_by_ticking, told_in, told_with, Move, Repeated, each_all, each_append, each_map, each_of, tick_so, Each, Answer, IsSetUp, NetMovesFit, NobodyElseHears, Net, NetMove, Site, address_of, run, site_at, HeardByOwn, own, view, OfPanel, asked_at, read_by, heard, told_by_all, Burst, InUse, Station, is_past_for_panel, Keeps, at_length, fits_both, net_more}
+use Rattle.std.proofs.lemmas.Bool.{not-true}
 use Rattle.osdp_controller.specs.Sessions as clocks
 use Rattle.osdp_bus_laws.specs.Calls as bus
 use Rattle.osdp_link_laws.specs.Link as link
@@ -136,7 +137,7 @@ module _ {H : Type 0} where
           heard_so j d t s there c is here true reply None begun =
               let control : IsSame l.bus.greatest d.controller s.controller = subst (λ o. Controls o l.bus.greatest d.controller s.controller) begun is.controller in
               let by_device_said : b.by_panel ≡ false =
-              not_panel b.by_panel (sym (each_at IsRightly l.place b l.said h.said said_it) ∙ ap (λ (q : Packet). q.reply) same ∙ reply) in
+              not-true b.by_panel (sym (each_at IsRightly l.place b l.said h.said said_it) ∙ ap (λ (q : Packet). q.reply) same ∙ reply) in
               let front = panel_front l.place l.openings l.said b said_it by_device_said past in
               let mine : site_at k n.sites ≡ Some s = subst (λ i. site_at i n.sites ≡ Some s) here c in
               subst (λ (x : Heard). NoRefusal x.report) (hears_same p l.bus.greatest d.controller s.controller control)
@@ -144,10 +145,6 @@ module _ {H : Type 0} where
                 | inl own_one ↦ own_reply p b front.0 l.bus.greatest s n r mine (h.to_panel ∙ front.1) same own_one.0
                 | inr differs ↦ other_reply p b front.0 l.bus.greatest s n r mine (h.to_panel ∙ front.1) same differs.1
               ])
-            where
-              not_panel : (x : Bool) → not x ≡ true → x ≡ false
-              not_panel true e = absurd cc
-              not_panel false e = refl
 
           by_report : (j : ℕ) (d : Entry) (t : Station H) (s : Site H) → site_at j l.stations ≡ Some t → site_at j n.sites ≡ Some s → Sites l j d t s
               → (o : Option Report) → (hears p l.bus.greatest d.controller.session).report ≡ o → Each (Tells k) (told_at j o)

@@ -12,7 +12,8 @@ use Rattle.osdp_shared_line.specs.Views.{EachMoveIsItsOwn, view}
 use Rattle.osdp_calls.proofs.Counting.{all_heard}
 use Rattle.osdp_calls.proofs.Holding.{its_site}
 use Rattle.osdp_calls.proofs.Lasting.{call_keeps}
-use Rattle.osdp_calls.proofs.Powers.{outstanding_same, waiting_too}
+use Rattle.osdp_calls.proofs.Controllers.{waiting_same}
+use Rattle.osdp_calls.proofs.Powers.{outstanding_same}
 use Rattle.osdp_calls.proofs.Same.{IsNetOf}
 use Rattle.osdp_calls.proofs.Setting.{first_net, first_site, first_there, starts}
 use Rattle.osdp_calls_ledger.proofs.Calling.{call_shown, call_shows, call_taken}
@@ -165,7 +166,7 @@ module _ {H : Type 0} (answer_of : H → Command → Answer) (after_command : H 
           queued = sym (own_events answer_of after_command k first steps a);
           ahead = ap (λ (h : History). map (λ (o : Order). o.command) h.ledger.ahead) (sym ends) ∙ kept.ledger.ahead
               ∙ (λ i. option_to_list (outstanding_same last.begun ls.bus.greatest at.entry.controller at.site.controller at.controller i)
-              ++ waiting_too last.begun ls.bus.greatest at.entry.controller at.site.controller at.controller i)
+              ++ waiting_same last.begun ls.bus.greatest at.entry.controller at.site.controller at.controller i)
               ∙ ahead_same at.entry d mine;
           waiting = ap (λ (h : History). map (λ (c : ledger.Card). c.event) h.ledger.cards) (sym ends) ∙ kept.ledger.cards
               ∙ ap (λ (r : ReaderState H). r.queue.events) at.reader;

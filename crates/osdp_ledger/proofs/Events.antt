@@ -1,5 +1,5 @@
 -- What holds of the events after each step.
-use Rattle.osdp_ledger.proofs.Common.{◌≡◌, ◌≤◌, ◌<◌, ◌+◌, ◌==◌, ℕ, Bool, true, false, not, List, [], ◌∷◌, ◌++◌, length, refl, sym, subst, ap, ◌∙◌, inl, inr, arith, All, Contains, map, drop, if◌then◌else◌, slice_index_or, eqb-true, eqb-false, length-append, map-append, All-append, All-cons, All-filter, All-head, All-push, All-tail, All-weaker, All-nil, Contains-push, Contains-append_left, all_pairs_push, Card, May, MayFollow, NoOffer, Offer, Reported, Unreported, Step, Open, Act, Queue, Offers, Report, Leave, WithdrawEvent, Lapse, RestartDevice, RestartPanel, acted_on, panel_restarted, AfterReport, AreAllowed, Exit, History, Lapsed, Left, TakenBack, ThrownAway, new_history, runs, steps_on, CountsFrom, EventsHold, Follows, KeepsEvents, times}
+use Rattle.osdp_ledger.proofs.Common.{◌≡◌, ◌≤◌, ◌<◌, ◌+◌, ◌==◌, ℕ, Bool, true, false, not, List, [], ◌∷◌, ◌++◌, length, refl, sym, subst, ap, ◌∙◌, inl, inr, arith, All, Contains, map, drop, if◌then◌else◌, slice_index_or, eqb-true, eqb-false, length-append, map-append, All-append, All-cons, All-filter, All-head, All-push, All-tail, All-weaker, All-nil, Contains-push, Contains-append_left, all_pairs_push, Card, May, MayFollow, NoOffer, Offer, Reported, Unreported, Step, Open, Act, Queue, Offers, Report, Leave, WithdrawEvent, Lapse, RestartDevice, RestartPanel, acted_on, panel_restarted, AfterReport, AreAllowed, Exit, History, Lapsed, Left, TakenBack, ThrownAway, new_history, runs, steps_on, CountsFrom, EventsHold, Follows, KeepsEvents, times, All-map}
 use Rattle.osdp_ledger.proofs.Known.{Known, keeps_known, none_known}
 use Rattle.osdp_ledger.proofs.Waiting.{EventsAre, Beyond, Events, IsAtMost, IsUpTo, LeftNow, NeverReported, NoLater, OfferIs, Rising, Told, WasReported, beyond_all, beyond_filter, beyond_push, contains_times, left_places, none_left, none_of_it, offer_fewer, offer_left, one_time, others_stay, places, rising_above, rising_filter, rising_less, rising_push, times_all, times_left, times_queued, without}
 
@@ -218,10 +218,10 @@ leave_queue fewer more later count cards shown offer sessions queued reports lef
       All-weaker (λ (a : Told). (a.1.place < shown) × (a.0 ≤ sessions)) (λ (a : Told). a.1.place ≡ w.card.place → a.0 ≤ w.session) (λ a t same. omega (arith, t.1, is)) reports i.told) more now);
 }
 
-one : (P : Left → Type 0) (w : Left) → P w → All P (w ∷ [])
+pub one : (P : Left → Type 0) (w : Left) → P w → All P (w ∷ [])
 one P w p = All-cons P w [] p (All-nil P)
 
-abbrev gone : ℕ → Card → Exit → Left
+abbrev pub gone : ℕ → Card → Exit → Left
 gone sessions c why = record { session = sessions; card = c; why = why }
 
 -- the front leaves
@@ -317,12 +317,11 @@ withdrawn_event c h may i =
             let stay : times p (places (without c h.ledger.cards)) ≡ times p (places h.ledger.cards) = others_stay p c h.ledger.cards (eqb-false c.place p e) in
             omega (arith, sum, added, stay)
 
-abbrev thrown : ℕ → List Card → List Left
+abbrev pub thrown : ℕ → List Card → List Left
 thrown sessions = map (λ c. gone sessions c ThrownAway)
 
-all_thrown : (sessions : ℕ) (P : Left → Type 0) → ((c : Card) → P (gone sessions c ThrownAway)) → (cards : List Card) → All P (thrown sessions cards)
-all_thrown sessions P p [] = All-nil P
-all_thrown sessions P p (c ∷ cs) = All-cons P (gone sessions c ThrownAway) (thrown sessions cs) (p c) (all_thrown sessions P p cs)
+pub all_thrown : (sessions : ℕ) (P : Left → Type 0) → ((c : Card) → P (gone sessions c ThrownAway)) → (cards : List Card) → All P (thrown sessions cards)
+all_thrown sessions P p cards = All-map P (λ c. gone sessions c ThrownAway) cards (λ k c less. p (slice_index_or cards k c))
 
 thrown_places : (sessions : ℕ) (cards : List Card) → left_places (thrown sessions cards) ≡ places cards
 thrown_places sessions [] = refl

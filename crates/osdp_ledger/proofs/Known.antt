@@ -1,5 +1,5 @@
 -- What waits in the device's queue, what it offers, what has left and what is reported was queued.
-use Rattle.osdp_ledger.proofs.Common.{true, false, not, ◌==◌, List, [], ◌∷◌, ◌++◌, subst, All, Contains, drop, map, All-append, All-cons, All-contains, All-filter, All-head, All-nil, All-push, All-tail, All-weaker, Contains-push, Contains-append_left, Card, May, NoOffer, Offer, Reported, Unreported, Step, Open, Act, Queue, Offers, Report, Leave, WithdrawEvent, Lapse, RestartDevice, RestartPanel, acted_on, is_in_front, panel_restarted, History, Left, ThrownAway, new_history, steps_on}
+use Rattle.osdp_ledger.proofs.Common.{true, false, not, ◌==◌, List, [], ◌∷◌, ◌++◌, subst, All, Contains, All-append, All-contains, All-filter, All-head, All-nil, All-push, All-weaker, Contains-push, Contains-append_left, Card, May, NoOffer, Offer, Reported, Unreported, Step, Open, Act, Queue, Offers, Report, Leave, WithdrawEvent, Lapse, RestartDevice, RestartPanel, acted_on, is_in_front, panel_restarted, History, Left, ThrownAway, new_history, steps_on, All-drop, All-map}
 use Rattle.osdp_ledger.proofs.Waiting.{Told}
 
 abbrev pub OfferQueued : List Card → Offer → Type 0
@@ -37,10 +37,6 @@ queued_now c cards offer queued left reports i = record {
   told = All-weaker (WasQueued queued) (WasQueued (queued ++ c ∷ [])) (λ a. Contains-append_left queued (c ∷ []) a.1) reports i.told;
 }
 
-but_front : (queued cards : List Card) → All (Contains queued) cards → All (Contains queued) (drop 1 cards)
-but_front queued [] all = all
-but_front queued (d ∷ ds) all = All-tail (Contains queued) d ds all
-
 front_queued : (c : Card) (h : History) → is_in_front c h.ledger.cards → Known h → Contains h.queued c
 front_queued c h front i = All-head (Contains h.queued) c front.0 (subst (All (Contains h.queued)) front.1 i.waiting)
 
@@ -62,7 +58,7 @@ keeps_known (Report c) h may i = record {
   told = All-push (WasQueued h.queued) h.reports (h.sessions, c) i.told (subst (OfferQueued h.queued) may.1 i.offered);
 }
 keeps_known (Leave c) h may i = record {
-  waiting = but_front h.queued h.ledger.cards i.waiting;
+  waiting = All-drop (Contains h.queued) 1 h.ledger.cards i.waiting;
   offered = tt;
   gone = All-push (HasLeft h.queued) h.left _ i.gone (front_queued c h may.0 i);
   told = i.told;
@@ -74,7 +70,7 @@ keeps_known (WithdrawEvent c) h may i = record {
   told = i.told;
 }
 keeps_known (Lapse c) h may i = record {
-  waiting = but_front h.queued h.ledger.cards i.waiting;
+  waiting = All-drop (Contains h.queued) 1 h.ledger.cards i.waiting;
   offered = i.offered;
   gone = All-push (HasLeft h.queued) h.left _ i.gone (front_queued c h may.0 i);
   told = i.told;
@@ -82,13 +78,10 @@ keeps_known (Lapse c) h may i = record {
 keeps_known RestartDevice h may i = record {
   waiting = All-nil (Contains h.queued);
   offered = i.offered;
-  gone = All-append (HasLeft h.queued) h.left _ i.gone (thrown h.ledger.cards i.waiting);
+  gone = All-append (HasLeft h.queued) h.left _ i.gone
+      (All-map (HasLeft h.queued) (λ c. record { session = h.sessions; card = c; why = ThrownAway }) h.ledger.cards i.waiting);
   told = i.told;
 }
-  where
-    thrown : (cards : List Card) → All (Contains h.queued) cards → All (HasLeft h.queued) (map (λ c. record { session = h.sessions; card = c; why = ThrownAway }) cards)
-    thrown [] all = All-nil (HasLeft h.queued)
-    thrown (c ∷ cs) all = All-cons (HasLeft h.queued) _ _ (All-head (Contains h.queued) c cs all) (thrown cs (All-tail (Contains h.queued) c cs all))
 keeps_known (RestartPanel on_wire) h may i =
     elim h.ledger.is_open as (λ b. (let l = panel_restarted on_wire b h.ledger in AreKnown l.cards l.offer h.queued h.left h.reports)) [ true ↦ i | false ↦ i ]
 keeps_known _ h may i = i

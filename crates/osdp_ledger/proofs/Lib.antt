@@ -11,4 +11,4 @@ pub mod Restarts
 pub mod Skipping
 pub mod Offering
 pub mod Plain
-pub mod OneSession
+pub mod Settled

@@ -1,6 +1,6 @@
 -- What was taken back was never offered, and what has lapsed was.
-use Rattle.osdp_ledger.proofs.Common.{◌≡◌, ◌≤◌, ◌<◌, ◌+◌, ◌==◌, ℕ, true, false, not, List, [], ◌∷◌, ◌++◌, refl, sym, subst, ap, arith, All, Contains, drop, map, append_assoc, append-nil, slice_index_or, All-append, All-cons, All-contains, All-filter, All-head, All-nil, All-push, All-tail, All-weaker, Contains-append_left, Contains-push, Card, May, Step, Submit, Withdraw, Open, Act, Settle, Doubt, Close, Queue, Offers, Report, Leave, WithdrawEvent, Lapse, RestartDevice, RestartPanel, acted_on, panel_restarted, AfterReport, AreAllowed, Exit, History, Lapsed, Left, TakenBack, ThrownAway, new_history, runs, steps_on, times}
-use Rattle.osdp_ledger.proofs.Events.{at_first, keeps}
+use Rattle.osdp_ledger.proofs.Common.{◌≡◌, ◌≤◌, ◌<◌, ◌+◌, ◌==◌, ℕ, true, false, not, List, [], ◌∷◌, ◌++◌, refl, sym, subst, ap, arith, All, Contains, drop, append_assoc, append-nil, slice_index_or, All-append, All-cons, All-contains, All-filter, All-head, All-nil, All-push, All-tail, All-weaker, Contains-append_left, Contains-push, Card, May, Step, Act, Queue, Offers, Leave, WithdrawEvent, Lapse, RestartDevice, RestartPanel, acted_on, panel_restarted, AfterReport, AreAllowed, Exit, History, Lapsed, Left, TakenBack, new_history, runs, steps_on, times}
+use Rattle.osdp_ledger.proofs.Events.{all_thrown, at_first, keeps, one, thrown}
 use Rattle.osdp_ledger.proofs.Waiting.{Events, contains_times, Rising, left_places, none_left, one_time, places, rising_above, without}
 use Rattle.osdp_ledger.specs.Offering.{GivesUpAsOffered}
 
@@ -46,9 +46,6 @@ fewer before cards kept shown left more keep was never i = record {
   lapsed = All-append (WasOffered before) left more i.lapsed was;
   taken_back = All-append (NeverOffered before) left more i.taken_back never;
 }
-
-one : (P : Left → Type 0) (w : Left) → P w → All P (w ∷ [])
-one P w p = All-cons P w [] p (All-nil P)
 
 -- the front leaves
 front : (before : List Step) (c : Card) (cards rest : List Card) (shown sessions : ℕ) (why : Exit) (left : List Left) → cards ≡ c ∷ rest
@@ -98,15 +95,9 @@ offered c before rest shown left above gone i =
 -- ---- each step
 
 after_step : (step : Step) (before : List Step) (h : History) → May step h.ledger → Events h → OfferedIn before h → OfferedIn (before ++ step ∷ []) (steps_on step h)
-after_step (Submit order) before h may e i = later (Submit order) before h.ledger.cards h.ledger.shown h.left (λ c same. cc) i
-after_step (Withdraw order) before h may e i = later (Withdraw order) before h.ledger.cards h.ledger.shown h.left (λ c same. cc) i
-after_step Open before h may e i = later Open before h.ledger.cards h.ledger.shown h.left (λ c same. cc) i
 after_step (Act order answer) before h may e i =
     let next = later (Act order answer) before h.ledger.cards h.ledger.shown h.left (λ c same. cc) i in
     elim h.ledger.is_open as (λ b. (let l = acted_on b answer h.ledger in OffersAre (before ++ Act order answer ∷ []) l.cards l.shown h.left)) [ true ↦ next | false ↦ next ]
-after_step (Settle order answer) before h may e i = later (Settle order answer) before h.ledger.cards h.ledger.shown h.left (λ c same. cc) i
-after_step (Doubt order) before h may e i = later (Doubt order) before h.ledger.cards h.ledger.shown h.left (λ c same. cc) i
-after_step Close before h may e i = later Close before h.ledger.cards h.ledger.shown h.left (λ c same. cc) i
 after_step (Queue c) before h may e i =
     queued c (before ++ Queue c ∷ []) h.ledger.cards h.ledger.shown h.left (let le = e.shown_is in omega (arith, le, may))
     (later (Queue c) before h.ledger.cards h.ledger.shown h.left (λ d same. cc) i)
@@ -118,7 +109,6 @@ after_step (Offers c) before h may e i =
     let gone : times c.place (left_places h.left) ≡ 0 = omega (arith, e.each c.place, once, here) in
     subst (λ cs. OffersAre (before ++ Offers c ∷ []) cs (c.place + 1) h.left) (sym may.2.1)
     (offered c before rest h.ledger.shown h.left above (none_left h.left c.place gone) (subst (λ cs. OffersAre before cs h.ledger.shown h.left) may.2.1 i))
-after_step (Report c) before h may e i = later (Report c) before h.ledger.cards h.ledger.shown h.left (λ d same. cc) i
 after_step (Leave c) before h may e i =
     front (before ++ Leave c ∷ []) c h.ledger.cards may.0.0 h.ledger.shown h.sessions AfterReport h.left may.0.1 (λ why. cc) (λ why. cc)
     (later (Leave c) before h.ledger.cards h.ledger.shown h.left (λ d same. cc) i)
@@ -135,18 +125,14 @@ after_step (Lapse c) before h may e i =
     (λ why. All-contains (λ (d : Card). d.place < h.ledger.shown → Contains (before ++ Lapse c ∷ []) (Offers d)) h.ledger.cards c next.some here may.1) (λ why. cc) next
 after_step RestartDevice before h may e i =
     let next = later RestartDevice before h.ledger.cards h.ledger.shown h.left (λ c same. cc) i in
-    let more : List Left = map (λ c. record { session = h.sessions; card = c; why = ThrownAway }) h.ledger.cards in
-    fewer (before ++ RestartDevice ∷ []) h.ledger.cards [] h.ledger.shown h.left more (λ P all. All-nil P)
-    (thrown (WasOffered (before ++ RestartDevice ∷ [])) (λ c why. cc) h.ledger.cards) (thrown (NeverOffered (before ++ RestartDevice ∷ [])) (λ c why. cc) h.ledger.cards) next
-  where
-    thrown : (P : Left → Type 0) → ((c : Card) → P (record { session = h.sessions; card = c; why = ThrownAway })) → (cards : List Card)
-        → All P (map (λ c. record { session = h.sessions; card = c; why = ThrownAway }) cards)
-    thrown P p [] = All-nil P
-    thrown P p (c ∷ cs) = All-cons P _ _ (p c) (thrown P p cs)
+    fewer (before ++ RestartDevice ∷ []) h.ledger.cards [] h.ledger.shown h.left (thrown h.sessions h.ledger.cards) (λ P all. All-nil P)
+    (all_thrown h.sessions (WasOffered (before ++ RestartDevice ∷ [])) (λ c why. cc) h.ledger.cards)
+    (all_thrown h.sessions (NeverOffered (before ++ RestartDevice ∷ [])) (λ c why. cc) h.ledger.cards) next
 after_step (RestartPanel on_wire) before h may e i =
     let next = later (RestartPanel on_wire) before h.ledger.cards h.ledger.shown h.left (λ c same. cc) i in
     elim h.ledger.is_open as (λ b. (let l = panel_restarted on_wire b h.ledger in OffersAre (before ++ RestartPanel on_wire ∷ []) l.cards l.shown h.left))
     [ true ↦ next | false ↦ next ]
+after_step step before h may e i = later step before h.ledger.cards h.ledger.shown h.left (λ c same. cc) i
 
 -- ---- all steps
 

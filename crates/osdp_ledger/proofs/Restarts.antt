@@ -1,6 +1,6 @@
 -- After a loss of a device's power nothing that was queued before is reported, but what it had offered.
 use Rattle.std.proofs.Common.{◌≡◌, ◌≤◌, ◌<◌, ◌⊎◌, ℕ, Bool, true, false, not, ◌==◌, List, [], ◌∷◌, ◌++◌, refl, sym, subst, ap, ◌∙◌, inl, inr, arith, append-nil, append_assoc}
-use Rattle.osdp_ledger.proofs.Common.{All, drop, All-filter, All-head, All-nil, All-push, All-tail, Card, May, NoOffer, Offer, Reported, Unreported, Step, Open, Act, Queue, Offers, Report, Leave, WithdrawEvent, Lapse, RestartDevice, RestartPanel, acted_on, is_in_front, panel_restarted, AreAllowed, History, new_history, runs, steps_on}
+use Rattle.osdp_ledger.proofs.Common.{All, drop, All-filter, All-head, All-nil, All-push, Card, May, NoOffer, Offer, Reported, Unreported, Step, Open, Act, Queue, Offers, Report, Leave, WithdrawEvent, Lapse, RestartDevice, RestartPanel, acted_on, is_in_front, panel_restarted, AreAllowed, History, new_history, runs, steps_on, All-drop}
 use Rattle.osdp_ledger.specs.Restarts.{RestartReportsNoMore, RestartsCost}
 use Rattle.osdp_ledger.proofs.InTurn.{allowed_second, runs_then}
 use Rattle.osdp_ledger.proofs.Waiting.{Told}
@@ -8,35 +8,31 @@ use Rattle.osdp_ledger.proofs.Waiting.{Told}
 -- ---- so many were queued when the device lost power, in this session, with this offer
 
 module _ (count session : ℕ) (old : Offer) (first : List Told) where
-  abbrev IsSince : ℕ → Offer → Type 0
+  abbrev pub IsSince : ℕ → Offer → Type 0
   IsSince sessions NoOffer = Unit {0}
   IsSince sessions (Unreported c) = (count ≤ c.place) ⊎ ((old ≡ Unreported c) × (sessions ≡ session))
   IsSince sessions (Reported c) = Unit {0}
 
-  abbrev MayBeTold : Told → Type 0
+  abbrev pub MayBeTold : Told → Type 0
   MayBeTold told = told.1.place < count → (old ≡ Unreported told.1) × (told.0 ≡ session)
 
-  abbrev IsNew : Card → Type 0
+  abbrev pub IsNew : Card → Type 0
   IsNew c = count ≤ c.place
 
-  record Since (queued : ℕ) (cards : List Card) (offer : Offer) (sessions : ℕ) (reports : List Told) : Type 0 where
-    counted : count ≤ queued
-    waiting : All IsNew cards
-    offered : IsSince sessions offer
-    more : List Told
-    reports_are : reports ≡ first ++ more
-    told : All MayBeTold more
+  pub record Since (queued : ℕ) (cards : List Card) (offer : Offer) (sessions : ℕ) (reports : List Told) : Type 0 where
+    pub counted : count ≤ queued
+    pub waiting : All IsNew cards
+    pub offered : IsSince sessions offer
+    pub more : List Told
+    pub reports_are : reports ≡ first ++ more
+    pub told : All MayBeTold more
 
-  abbrev SinceThen : History → Type 0
+  abbrev pub SinceThen : History → Type 0
   SinceThen h = Since h.ledger.queued h.ledger.cards h.ledger.offer h.sessions h.reports
 
   reported_now : (sessions : ℕ) (c : Card) → IsSince sessions (Unreported c) → MayBeTold (sessions, c)
   reported_now sessions c (inl le) less = absurd (omega (arith, le, less))
   reported_now sessions c (inr is) less = is
-
-  but_front : (cards : List Card) → All IsNew cards → All IsNew (drop 1 cards)
-  but_front [] all = all
-  but_front (c ∷ cs) all = All-tail IsNew c cs all
 
   front : (c : Card) (cards : List Card) → is_in_front c cards → All IsNew cards → IsNew c
   front c cards is all = All-head IsNew c is.0 (subst (All IsNew) is.1 all)
@@ -47,7 +43,7 @@ module _ (count session : ℕ) (old : Offer) (first : List Told) where
   leaves h fewer offer waiting offered i =
       record { counted = i.counted; waiting = waiting; offered = offered; more = i.more; reports_are = i.reports_are; told = i.told }
 
-  keeps : (step : Step) (h : History) → May step h.ledger → SinceThen h → SinceThen (steps_on step h)
+  pub keeps : (step : Step) (h : History) → May step h.ledger → SinceThen h → SinceThen (steps_on step h)
   keeps Open h may i = record { counted = i.counted; waiting = i.waiting; offered = tt; more = i.more; reports_are = i.reports_are; told = i.told }
   keeps (Act o answer) h may i =
       elim h.ledger.is_open as (λ b. (let l = acted_on b answer h.ledger in Since l.queued l.cards l.offer h.sessions h.reports)) [ true ↦ i | false ↦ i ]
@@ -68,10 +64,10 @@ module _ (count session : ℕ) (old : Offer) (first : List Told) where
     reports_are = ap (λ rs. rs ++ (h.sessions, c) ∷ []) i.reports_are ∙ append_assoc first i.more ((h.sessions, c) ∷ []);
     told = All-push MayBeTold i.more (h.sessions, c) i.told (reported_now h.sessions c (subst (IsSince h.sessions) may.1 i.offered));
   }
-  keeps (Leave c) h may i = leaves h (drop 1 h.ledger.cards) NoOffer (but_front h.ledger.cards i.waiting) tt i
+  keeps (Leave c) h may i = leaves h (drop 1 h.ledger.cards) NoOffer (All-drop IsNew 1 h.ledger.cards i.waiting) tt i
   keeps (WithdrawEvent c) h may i =
       leaves h _ h.ledger.offer (All-filter (λ d. not (d.place == c.place)) IsNew h.ledger.cards i.waiting) i.offered i
-  keeps (Lapse c) h may i = leaves h (drop 1 h.ledger.cards) h.ledger.offer (but_front h.ledger.cards i.waiting) i.offered i
+  keeps (Lapse c) h may i = leaves h (drop 1 h.ledger.cards) h.ledger.offer (All-drop IsNew 1 h.ledger.cards i.waiting) i.offered i
   keeps RestartDevice h may i = leaves h [] h.ledger.offer (All-nil IsNew) i.offered i
   keeps (RestartPanel on_wire) h may i =
       elim h.ledger.is_open as (λ b. (let l = panel_restarted on_wire b h.ledger in Since l.queued l.cards l.offer h.sessions h.reports)) [ true ↦ i | false ↦ i ]
@@ -82,7 +78,7 @@ module _ (count session : ℕ) (old : Offer) (first : List Told) where
   hold (step ∷ steps) h allowed i = hold steps (steps_on step h) allowed.1 (keeps step h allowed.0 i)
 
 -- what was offered before is offered still
-offer_stays : (count session : ℕ) (offer : Offer) (first : List Told) → IsSince count session offer first session offer
+pub offer_stays : (count session : ℕ) (offer : Offer) (first : List Told) → IsSince count session offer first session offer
 offer_stays count session NoOffer first = tt
 offer_stays count session (Unreported c) first = inr (refl, refl)
 offer_stays count session (Reported c) first = tt

@@ -160,6 +160,17 @@ rising_filter test low (c ∷ cs) h = by_test (rising_filter test (c.place + 1) 
     by_test rest true = (h.0, rest)
     by_test rest false = rising_less low (c.place + 1) (filter test cs) (omega (arith, h.0)) rest
 
+-- without one that stands before all of them, and without the front
+pub filter_above : (c : Card) (low : ℕ) (cards : List Card) → c.place < low → Rising low cards → without c cards ≡ cards
+filter_above c low [] less rising = refl
+filter_above c low (d ∷ ds) less rising =
+    ap (λ b. cond (not b) (d ∷ without c ds) (without c ds)) (ne_eqb d.place c.place (λ same. omega (arith, same, less, rising.0)))
+    ∙ ap (λ cs. d ∷ cs) (filter_above c (d.place + 1) ds (omega (arith, less, rising.0)) rising.1)
+
+pub filter_front : (c : Card) (cards : List Card) (low : ℕ) → Rising low (c ∷ cards) → without c (c ∷ cards) ≡ cards
+filter_front c cards low rising =
+    ap (λ b. cond (not b) (c ∷ without c cards) (without c cards)) (eq-eqb c.place c.place refl) ∙ filter_above c (c.place + 1) cards (omega arith) rising.1
+
 pub beyond_all : (shown : ℕ) (cards : List Card) → All (λ (d : Card). shown ≤ d.place) cards → Beyond shown cards
 beyond_all shown [] h = tt
 beyond_all shown (c ∷ cs) h = All-tail (λ (d : Card). shown ≤ d.place) c cs h

@@ -5,7 +5,6 @@
 ghost use Rattle.osdp_ledger.specs.Instance.{StepsHappen};
 ghost use Rattle.osdp_ledger.specs.Laws.{KeepsEvents, KeepsOrders, SkipsNone, TellsInTurn};
 ghost use Rattle.osdp_ledger.specs.Offering.{GivesUpAsOffered};
-ghost use Rattle.osdp_ledger.specs.OneSession.{OneSessionHolds};
 ghost use Rattle.osdp_ledger.specs.Plain.{PlainStepsEndTold, ThrowsNoneAway};
 ghost use Rattle.osdp_ledger.specs.Restarts.{RestartReportsNoMore, RestartsCost};
 
@@ -52,12 +51,6 @@ pub fn restarts_cost()
 /// left was reported. So none is forgotten, and none is thrown away.
 pub fn plain_steps_end_told()
     ensures { PlainStepsEndTold }
-{}
-
-/// In one session, where nobody loses power, nothing is taken back and no event lapses: the commands that the device has acted on are a beginning of those
-/// accepted, and hold each settled one, with the device's answer, and at most one more. The events reported are a beginning of those queued.
-pub fn one_session_holds()
-    ensures { OneSessionHolds }
 {}
 
 /// Where the device loses no power, none of its events is thrown away.

@@ -1,21 +1,19 @@
 -- Where no event is given up, and the device keeps its power, none of the events that a session reports is missing.
-use Rattle.std.proofs.Common.{◌≡◌, ◌++◌, List, [], ◌∷◌, drop, refl, sym, subst, ap, ◌∙◌, append_assoc}
-use Rattle.std.proofs.lemmas.List.{append-nil}
+use Rattle.std.proofs.Common.{◌≡◌, ◌++◌, List, [], ◌∷◌, refl, sym, subst, ap, ◌∙◌, append_assoc}
+use Rattle.std.proofs.lemmas.List.{append-nil, append_cancel_left}
 use Rattle.std.proofs.lemmas.List.Elements.{All-append, All-cons, All-head, All-nil, All-tail}
 use Rattle.std.specs.Prelude.{All}
-use Rattle.osdp_ledger.specs.History.{AfterReport, History, Left, new_history, runs, steps_on}
+use Rattle.osdp_ledger.specs.History.{AfterReport, AreAllowed, History, Left, new_history, runs, steps_on}
 use Rattle.osdp_ledger.specs.Ledger.{Lapse, Leave, Open, RestartDevice, Step, WithdrawEvent}
-use Rattle.osdp_ledger.proofs.InTurn.{runs_then}
-use Rattle.osdp_ledger_laws.specs.Reports.{GivesNoneUp, ReportsAreABeginning}
-use Rattle.osdp_ledger_laws.proofs.Reports.{each_session_reports}
+use Rattle.osdp_ledger.proofs.InTurn.{allowed_second, runs_then}
+use Rattle.osdp_ledger.proofs.Waiting.{Events}
+use Rattle.osdp_ledger_laws.specs.Reports.{AreReportedFirst, GivesNoneUp, ReportsAreABeginning}
+use Rattle.osdp_ledger_laws.specs.Sessions.{BeginsNone}
+use Rattle.osdp_ledger_laws.proofs.Reports.{events_opened, holds}
 use Rattle.osdp_ledger_laws.proofs.Without.{all_stay}
 
 abbrev WasReported : Left → Type 0
 WasReported w = w.why ≡ AfterReport
-
-same_end : (xs ys zs : List Left) → xs ++ ys ≡ xs ++ zs → ys ≡ zs
-same_end [] ys zs e = e
-same_end (x ∷ xs) ys zs e = same_end xs ys zs (ap (drop 1) e)
 
 -- what has left since was reported
 pub record LeaveReported (h last : History) : Type 0 where
@@ -48,12 +46,12 @@ any_steps (step ∷ steps) h stay =
       all = All-append WasReported one.more then.more one.all then.all;
     }
 
-pub reports_are_a_beginning : ReportsAreABeginning
-reports_are_a_beginning before since allowed none stay =
-    let began = runs before new_history in
-    let s = each_session_reports before since allowed none in
+pub first_reported : (began : History) (since : List Step) → AreAllowed since (steps_on Open began) → All BeginsNone since → All GivesNoneUp since → Events (steps_on Open began)
+    → AreReportedFirst began (runs since (steps_on Open began))
+first_reported began since allowed none stay e =
+    let s = holds began since allowed none e in
     let r = any_steps since (steps_on Open began) stay in
-    let same : r.more ≡ s.left = same_end began.left r.more s.left (sym r.left_since ∙ ap (λ (h : History). h.left) (sym (runs_then before (Open ∷ since) new_history)) ∙ s.left_since) in
+    let same : r.more ≡ s.left = append_cancel_left began.left r.more s.left (sym r.left_since ∙ s.left_since) in
     record {
       reported = s.reported;
       queued = s.queued;
@@ -61,3 +59,10 @@ reports_are_a_beginning before since allowed none stay =
       queued_since = s.queued_since;
       beginning = (s.beginning.0, all_stay s.left _ _ (subst (All WasReported) same r.all) s.beginning.1);
     }
+
+pub reports_are_a_beginning : ReportsAreABeginning
+reports_are_a_beginning before since allowed none stay =
+    let began = runs before new_history in
+    let opened = allowed_second before (Open ∷ since) new_history allowed in
+    subst (λ (h : History). AreReportedFirst began h) (sym (runs_then before (Open ∷ since) new_history))
+    (first_reported began since opened.1 none stay (events_opened before since allowed))

@@ -1,12 +1,15 @@
--- An event that lapses before its session has offered it is offered no more, and so it is reported no more.
-use Rattle.std.proofs.Common.{◌≡◌, ◌≤◌, ◌<◌, ◌+◌, true, false, not, List, [], ◌∷◌, ◌++◌, drop, refl, sym, subst, ap, ◌∙◌, arith}
-use Rattle.std.proofs.lemmas.List.Elements.{All-contains, All-cons, All-filter, All-head, All-nil, All-push, All-tail, All-weaker, Contains-append_right}
-use Rattle.std.specs.Prelude.{All, Contains, ◌==◌}
+-- An event that lapses before its session has offered it is reported no more.
+use Rattle.std.proofs.Common.{◌≡◌, ◌≤◌, ◌<◌, ◌+◌, ℕ, true, false, List, [], ◌∷◌, ◌++◌, drop, refl, sym, subst, ap, ◌∙◌, arith, inl, inr}
+use Rattle.std.proofs.lemmas.List.{append-nil}
+use Rattle.std.proofs.lemmas.List.Elements.{All-contains, All-cons, All-nil, Contains-append_right}
+use Rattle.std.specs.Prelude.{All, Contains}
 use Rattle.osdp_ledger.specs.History.{AreAllowed, History, new_history, runs, steps_on}
-use Rattle.osdp_ledger.specs.Ledger.{Act, Card, Lapse, Leave, Ledger, May, NoOffer, Offer, Offers, Open, Queue, Report, RestartDevice, RestartPanel, Reported, Step, Unreported, WithdrawEvent, acted_on, after, panel_restarted}
+use Rattle.osdp_ledger.specs.Ledger.{Act, Card, Lapse, Leave, Ledger, May, NoOffer, Offer, Offers, Open, Report, RestartPanel, Reported, Step, Unreported, acted_on, after, panel_restarted}
 use Rattle.osdp_ledger.proofs.Events.{at_first, keeps}
 use Rattle.osdp_ledger.proofs.InTurn.{allowed_second}
-use Rattle.osdp_ledger.proofs.Waiting.{Events, Rising, rising_above}
+use Rattle.osdp_ledger.proofs.Restarts as restarts
+use Rattle.osdp_ledger.proofs.Restarts.{IsSince, MayBeTold, SinceThen, offer_stays}
+use Rattle.osdp_ledger.proofs.Waiting.{Events, Rising, Told, rising_above}
 use Rattle.osdp_ledger_laws.specs.Lapses.{LapsedIsReportedNoMore}
 
 pub events_hold : (steps : List Step) (h : History) → AreAllowed steps h → Events h → Events (runs steps h)
@@ -43,63 +46,33 @@ module _ (card : Card) where
       not_due_then steps (steps_on step h) (λ there. unoffered (Contains-append_right (step ∷ []) steps (Offers card) there))
       (not_due step h.ledger (λ is. unoffered (0, omega arith, is)) none)
 
-  -- it waits no more, and only what was queued after it does
-  abbrev IsAfter : Card → Type 0
-  IsAfter c = card.place < c.place
-
-  record IsGone (l : Ledger) : Type 0 where
-    none : IsNotDue l.offer
-    queued : card.place < l.queued
-    waiting : All IsAfter l.cards
-
-  but_front : (cards : List Card) → All IsAfter cards → All IsAfter (drop 1 cards)
-  but_front [] all = all
-  but_front (c ∷ cs) all = All-tail IsAfter c cs all
-
-  -- what is offered stands in front, so it was queued after the card
-  is_other : (step : Step) (l : Ledger) → May step l → IsGone l → step ≡ Offers card → ⊥
-  is_other (Offers c) l may i is =
-      let less : c.place ≡ card.place = cc in
-      let later = All-head IsAfter c may.2.0 (subst (All IsAfter) may.2.1 i.waiting) in omega (arith, less, later)
-  is_other _ l may i is = cc
-
-  waiting_then : (step : Step) (l : Ledger) → May step l → IsGone l → All IsAfter (after step l).cards
-  waiting_then (Act o answer) l may i = elim l.is_open as (λ b. All IsAfter (acted_on b answer l).cards) [ true ↦ i.waiting | false ↦ i.waiting ]
-  waiting_then (Queue c) l may i = All-push IsAfter l.cards c i.waiting (let less = i.queued in omega (arith, less, may))
-  waiting_then (Leave c) l may i = but_front l.cards i.waiting
-  waiting_then (WithdrawEvent c) l may i = All-filter (λ d. not (d.place == c.place)) IsAfter l.cards i.waiting
-  waiting_then (Lapse c) l may i = but_front l.cards i.waiting
-  waiting_then RestartDevice l may i = All-nil IsAfter
-  waiting_then (RestartPanel on_wire) l may i = elim l.is_open as (λ b. All IsAfter (panel_restarted on_wire b l).cards) [ true ↦ i.waiting | false ↦ i.waiting ]
-  waiting_then _ l may i = i.waiting
-
-  queued_then : (step : Step) (l : Ledger) → IsGone l → card.place < (after step l).queued
-  queued_then (Act o answer) l i = elim l.is_open as (λ b. card.place < (acted_on b answer l).queued) [ true ↦ i.queued | false ↦ i.queued ]
-  queued_then (Queue c) l i = let less = i.queued in omega (arith, less)
-  queued_then (RestartPanel on_wire) l i = elim l.is_open as (λ b. card.place < (panel_restarted on_wire b l).queued) [ true ↦ i.queued | false ↦ i.queued ]
-  queued_then _ l i = i.queued
-
-  gone_then : (step : Step) (l : Ledger) → May step l → IsGone l → IsGone (after step l)
-  gone_then step l may i =
-      record { none = not_due step l (is_other step l may i) i.none; queued = queued_then step l i; waiting = waiting_then step l may i }
-
   abbrev IsNoReport : Step → Type 0
   IsNoReport step = step ≡ Report card → ⊥
 
-  is_no_report : (step : Step) (l : Ledger) → May step l → IsGone l → IsNoReport step
-  is_no_report (Report c) l may i is = i.none (may.1 ∙ ap Unreported (let same : c ≡ card = cc in same))
-  is_no_report _ l may i is = cc
+  -- after it has gone, and what was on offer was another one: as after a restart, of what was queued up to it nothing is reported but what was on offer
+  module _ (session : ℕ) (old : Offer) (first : List Told) (none : IsNotDue old) where
+    is_no_report : (step : Step) (h : History) → May step h.ledger → SinceThen (card.place + 1) session old first h → IsNoReport step
+    is_no_report (Report c) h may i is =
+        let due : IsSince (card.place + 1) session old first h.sessions (Unreported card) =
+        subst (IsSince (card.place + 1) session old first h.sessions) (may.1 ∙ ap Unreported (let same : c ≡ card = cc in same)) i.offered in
+        elim due [ inl le ↦ omega (arith, le) | inr was ↦ none was.0 ]
+    is_no_report _ h may i is = cc
 
-  no_reports : (steps : List Step) (h : History) → AreAllowed steps h → IsGone h.ledger → All IsNoReport steps
-  no_reports [] h allowed i = All-nil IsNoReport
-  no_reports (step ∷ steps) h allowed i =
-      All-cons IsNoReport step steps (is_no_report step h.ledger allowed.0 i) (no_reports steps (steps_on step h) allowed.1 (gone_then step h.ledger allowed.0 i))
+    no_reports : (steps : List Step) (h : History) → AreAllowed steps h → SinceThen (card.place + 1) session old first h → All IsNoReport steps
+    no_reports [] h allowed i = All-nil IsNoReport
+    no_reports (step ∷ steps) h allowed i =
+        All-cons IsNoReport step steps (is_no_report step h allowed.0 i)
+        (no_reports steps (steps_on step h) allowed.1 (restarts.keeps (card.place + 1) session old first step h allowed.0 i))
 
-  lapses : (l : Ledger) (rest : List Card) → l.cards ≡ card ∷ rest → Rising 0 l.cards → card.place < l.queued → IsNotDue l.offer → IsGone (after (Lapse card) l)
-  lapses l rest front rising queued none = record {
-    none = none;
-    queued = queued;
-    waiting = subst (λ cs. All IsAfter (drop 1 cs)) (sym front) (All-weaker (λ (c : Card). card.place + 1 ≤ c.place) IsAfter (λ c le. omega (arith, le)) rest (rising_above (card.place + 1) rest (subst (Rising 0) front rising).1));
+  lapses : (h : History) (rest : List Card) → h.ledger.cards ≡ card ∷ rest → Rising 0 h.ledger.cards → card.place < h.ledger.queued
+      → SinceThen (card.place + 1) h.sessions h.ledger.offer h.reports (steps_on (Lapse card) h)
+  lapses h rest front rising queued = record {
+    counted = omega (arith, queued);
+    waiting = subst (λ cs. All (λ (c : Card). card.place + 1 ≤ c.place) (drop 1 cs)) (sym front) (rising_above (card.place + 1) rest (subst (Rising 0) front rising).1);
+    offered = offer_stays (card.place + 1) h.sessions h.ledger.offer h.reports;
+    more = [];
+    reports_are = sym (append-nil h.reports);
+    told = All-nil (MayBeTold (card.place + 1) h.sessions h.ledger.offer h.reports);
   }
 
 pub no_more : LapsedIsReportedNoMore
@@ -113,5 +86,6 @@ no_more before since more card allowed unoffered reported =
     let i = events_hold since began (allowed_first since (Lapse card ∷ more) began all.1) (keeps Open h all.0 first) in
     let shown = i.shown_is in
     let none = not_due_then card since began unoffered (no_offer card) in
-    let gone = lapses card at.ledger last.0.0.0 last.0.0.1 i.rising (let less = last.0.1 in omega (arith, less, shown)) none in
-    All-contains (IsNoReport card) more (Report card) (no_reports card more (steps_on (Lapse card) at) last.1 gone) reported refl
+    let gone = lapses card at last.0.0.0 last.0.0.1 i.rising (let less = last.0.1 in omega (arith, less, shown)) in
+    All-contains (IsNoReport card) more (Report card)
+    (no_reports card at.sessions at.ledger.offer at.reports none more (steps_on (Lapse card) at) last.1 gone) reported refl

@@ -5,4 +5,5 @@ pub mod Sessions
 mod Without
 pub mod Reports
 pub mod Beginning
+pub mod OneSession
 pub mod Counting

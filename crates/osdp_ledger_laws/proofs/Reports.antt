@@ -1,117 +1,73 @@
 -- What holds of the events of a session after each step since it began.
-use Rattle.std.proofs.Common.{◌≡◌, ◌≤◌, ◌<◌, ◌+◌, ◌⊎◌, ◌++◌, ℕ, zero, suc, true, false, not, List, [], ◌∷◌, length, map, drop, refl, sym, subst, ap, ◌∙◌, inl, inr, arith, append_assoc}
+use Rattle.std.proofs.Common.{◌≡◌, ◌≤◌, ◌<◌, ◌+◌, ◌++◌, ℕ, zero, suc, true, false, not, List, [], ◌∷◌, length, map, drop, refl, sym, subst, ap, ◌∙◌, arith, append_assoc, Bool, cond}
 use Rattle.std.proofs.lemmas.Bool.{ne_eqb}
 use Rattle.std.proofs.lemmas.List.{append-nil, map-append}
-use Rattle.std.proofs.lemmas.List.Elements.{All-cons, All-contains, All-filter, All-head, All-nil, All-push, All-tail, All-weaker, Contains-append_right, Contains-push}
+use Rattle.std.proofs.lemmas.List.Elements.{All-cons, All-contains, All-filter, All-head, All-nil, All-tail, All-weaker, Contains-append_right, Contains-push, filter-append}
 use Rattle.std.specs.Prelude.{◌==◌, All, Contains, slice_index_or}
 use Rattle.osdp_ledger.specs.History.{AfterReport, AreAllowed, Exit, History, Lapsed, Left, TakenBack, ThrownAway, new_history, runs, steps_on}
 use Rattle.osdp_ledger.specs.Ledger.{Act, Card, Lapse, Leave, May, MayFollow, NoOffer, Offer, Offers, Open, Queue, Report, Reported, RestartDevice, RestartPanel, Step, Unreported, WithdrawEvent, acted_on, panel_restarted}
 use Rattle.osdp_ledger.proofs.Events as events
 use Rattle.osdp_ledger.proofs.InTurn.{allowed_second, runs_then}
-use Rattle.osdp_ledger.proofs.OneSession.{front_is}
-use Rattle.osdp_ledger.proofs.Waiting.{Events, Rising, rising_above, without}
+use Rattle.osdp_ledger.proofs.Waiting.{Events, Rising, rising_above, without, OfferIs, Told, filter_above, filter_front}
 use Rattle.osdp_ledger_laws.specs.Reports.{EachSessionReports, IsWithout, LeftOtherwise, ReportsInSession}
 use Rattle.osdp_ledger_laws.specs.Sessions.{BeginsNone}
 use Rattle.osdp_ledger_laws.proofs.Lapses.{allowed_first, events_hold}
 use Rattle.osdp_ledger_laws.proofs.Without.{HasLeftAt, MayGo, all_go, front_goes, left_more, none_missing, one_more, stay_and_go, taken_back_goes}
 
-abbrev told : ℕ × Card → Card
+abbrev pub told : ℕ × Card → Card
 told report = report.1
 
--- ---- where the events stand: these are not reported yet
+-- ---- the events in the queue that aren't reported yet, in their order
 
-abbrev IsLater : Card → Card → Type 0
-IsLater c d = c.place < d.place
+abbrev pub due : Offer → List Card → List Card
+due NoOffer cards = cards
+due (Unreported c) cards = c ∷ without c cards
+due (Reported c) cards = without c cards
 
--- this one was offered last, and these stand after it; it is in front of them, or has left
-pub record WasOffered (count shown : ℕ) (c : Card) (later_ones cards : List Card) : Type 0 where
-  pub known : c.place < count
-  pub last : c.place + 1 ≡ shown
-  pub later : All (IsLater c) later_ones
-  pub here : (cards ≡ c ∷ later_ones) ⊎ (cards ≡ later_ones)
+without_push : (b c : Card) (cards : List Card) → (c.place ≡ b.place → ⊥) → without b (cards ++ c ∷ []) ≡ without b cards ++ c ∷ []
+without_push b c cards other =
+    filter-append (λ d. not (d.place == b.place)) cards (c ∷ []) ∙ ap (λ t. without b cards ++ cond (not t) (c ∷ []) []) (ne_eqb c.place b.place other)
 
-abbrev Stands : Offer → ℕ → ℕ → List Card → List Card → Type 0
-Stands NoOffer count shown cards rest = rest ≡ cards
-Stands (Unreported c) count shown cards rest = (later_ones : List Card) × (rest ≡ c ∷ later_ones) × WasOffered count shown c later_ones cards
-Stands (Reported c) count shown cards rest = WasOffered count shown c rest cards
+-- one more is accepted: it is due after all others
+due_queued : (offer : Offer) (c : Card) (sessions shown : ℕ) (cards : List Card) (reports : List Told) (left : List Left) → shown ≤ c.place
+    → OfferIs offer sessions shown cards reports left → due offer (cards ++ c ∷ []) ≡ due offer cards ++ c ∷ []
+due_queued NoOffer c sessions shown cards reports left le o = refl
+due_queued (Unreported b) c sessions shown cards reports left le o = ap (λ cs. b ∷ cs) (without_push b c cards (λ same. omega (arith, le, o.0, same)))
+due_queued (Reported b) c sessions shown cards reports left le o = without_push b c cards (λ same. omega (arith, le, o.0, same))
 
--- ---- an event is accepted
+-- the front is offered: it is the first that is due
+due_offered : (offer : Offer) (c : Card) (cs : List Card) → MayFollow offer c → Rising 0 (c ∷ cs) → due offer (c ∷ cs) ≡ due (Unreported c) (c ∷ cs)
+due_offered NoOffer c cs follows rising = ap (λ ds. c ∷ ds) (sym (filter_front c cs 0 rising))
+due_offered (Unreported b) c cs follows rising = absurd follows
+due_offered (Reported b) c cs follows rising =
+    filter_above b c.place (c ∷ cs) follows (omega arith, rising.1) ∙ ap (λ ds. c ∷ ds) (sym (filter_front c cs 0 rising))
 
-later_queued : (c d : Card) (count shown : ℕ) (later_ones cards : List Card) → d.place ≡ count → WasOffered count shown c later_ones cards
-    → WasOffered (count + 1) shown c (later_ones ++ d ∷ []) (cards ++ d ∷ [])
-later_queued c d count shown later_ones cards is w = record {
-  known = let less = w.known in omega (arith, less);
-  last = w.last;
-  later = All-push (IsLater c) later_ones d w.later (let less = w.known in omega (arith, less, is));
-  here = elim w.here [ inl e ↦ inl (ap (λ cs. cs ++ d ∷ []) e) | inr e ↦ inr (ap (λ cs. cs ++ d ∷ []) e) ];
-}
+-- events leave otherwise than by their report: of those that are due the others stay
+due_goes : (left : List Left) (offer : Offer) (cards few : List Card) → MayGo left cards few → ((c : Card) → MayGo left (without c cards) (without c few))
+    → MayGo left (due offer cards) (due offer few)
+due_goes left NoOffer cards few go but = go
+due_goes left (Unreported c) cards few go but = stay_and_go c left (without c cards) (without c few) (but c)
+due_goes left (Reported c) cards few go but = but c
 
-stands_queued : (offer : Offer) (d : Card) (count shown : ℕ) (cards rest : List Card) → d.place ≡ count → Stands offer count shown cards rest
-    → Stands offer (count + 1) shown (cards ++ d ∷ []) (rest ++ d ∷ [])
-stands_queued NoOffer d count shown cards rest is s = ap (λ cs. cs ++ d ∷ []) s
-stands_queued (Unreported c) d count shown cards rest is (later_ones, e, w) =
-    (later_ones ++ d ∷ [], ap (λ cs. cs ++ d ∷ []) e, later_queued c d count shown later_ones cards is w)
-stands_queued (Reported c) d count shown cards rest is w = later_queued c d count shown rest cards is w
+front_lapses : (b c : Card) (left : List Left) (cs : List Card) → LeftOtherwise left c → MayGo left (without b (c ∷ cs)) (without b cs)
+front_lapses b c left cs out = by_test (c.place == b.place)
+  where
+    by_test : (t : Bool) → MayGo left (cond (not t) (c ∷ without b cs) (without b cs)) (without b cs)
+    by_test true = λ first cards is. is
+    by_test false = front_goes c left (without b cs) out
 
--- ---- an event is offered: it is the first that isn't reported yet
-
-first_due : (offer : Offer) (c : Card) (count shown : ℕ) (cards cs rest : List Card) → MayFollow offer c → cards ≡ c ∷ cs → Stands offer count shown cards rest → rest ≡ c ∷ cs
-first_due NoOffer c count shown cards cs rest follows front s = s ∙ front
-first_due (Unreported b) c count shown cards cs rest follows front s = absurd follows
-first_due (Reported b) c count shown cards cs rest follows front w = elim w.here [
-  | inl e ↦ absurd (let same : c ≡ b = front_is c b cs rest cards front e in let p = ap (λ (x : Card). x.place) same in omega (arith, follows, p))
-  | inr e ↦ sym e ∙ front
-]
-
-offered_now : (c : Card) (count : ℕ) (cards cs : List Card) → cards ≡ c ∷ cs → c.place < count → All (IsLater c) cs → WasOffered count (c.place + 1) c cs cards
-offered_now c count cs_all cs front less later = record { known = less; last = refl; later = later; here = inl front }
-
--- ---- the front leaves as it was reported
-
-has_left : (c : Card) (count shown : ℕ) (cards cs rest : List Card) → cards ≡ c ∷ cs → WasOffered count shown c rest cards → rest ≡ drop 1 cards
-has_left c count shown cards cs rest front w = elim w.here [
-  | inl e ↦ sym (ap (drop 1) e)
-  | inr e ↦ absurd (let less = All-head (IsLater c) c cs (subst (All (IsLater c)) (sym e ∙ front) w.later) in omega (arith, less))
-]
-
--- ---- events leave otherwise: of those that aren't reported yet these stay
-
-pub record Fewer (left : List Left) (offer : Offer) (count shown : ℕ) (rest cards : List Card) : Type 0 where
-  pub stay : List Card
-  pub go : MayGo left rest stay
-  pub stand : Stands offer count shown cards stay
-
-pub record FewerLater (left : List Left) (count shown : ℕ) (c : Card) (later_ones cards : List Card) : Type 0 where
-  pub stay : List Card
-  pub go : MayGo left later_ones stay
-  pub offered : WasOffered count shown c stay cards
-
-fewer : (left : List Left) (offer : Offer) (count shown : ℕ) (cards rest few : List Card) → MayGo left cards few
-    → ((c : Card) (later_ones : List Card) → WasOffered count shown c later_ones cards → FewerLater left count shown c later_ones few)
-    → Stands offer count shown cards rest → Fewer left offer count shown rest few
-fewer left NoOffer count shown cards rest few go by s = record { stay = few; go = subst (λ cs. MayGo left cs few) (sym s) go; stand = refl }
-fewer left (Unreported c) count shown cards rest few go by (later_ones, e, w) =
-    let f = by c later_ones w in
-    record { stay = c ∷ f.stay; go = subst (λ cs. MayGo left cs (c ∷ f.stay)) (sym e) (stay_and_go c left later_ones f.stay f.go); stand = (f.stay, refl, f.offered) }
-fewer left (Reported c) count shown cards rest few go by w = let f = by c rest w in record { stay = f.stay; go = f.go; stand = f.offered }
-
--- it lapses, in front
-later_lapsed : (d : Card) (left : List Left) (count shown : ℕ) (cards ds : List Card) → cards ≡ d ∷ ds → LeftOtherwise left d
-    → (c : Card) (later_ones : List Card) → WasOffered count shown c later_ones cards → FewerLater left count shown c later_ones (drop 1 cards)
-later_lapsed d left count shown cards ds front gone c later_ones w = elim w.here [
-  | inl e ↦ record {
-    stay = later_ones;
-    go = λ first all is. is;
-    offered = record { known = w.known; last = w.last; later = w.later; here = inr (ap (drop 1) e) };
-  }
-  | inr e ↦
-      let is : later_ones ≡ d ∷ ds = sym e ∙ front in
-      record {
-        stay = ds;
-        go = subst (λ cs. MayGo left cs ds) (sym is) (front_goes d left ds gone);
-        offered = record { known = w.known; last = w.last; later = All-tail (IsLater c) d ds (subst (All (IsLater c)) is w.later); here = inr (ap (drop 1) front) };
-      }
-]
+without_both : (b c : Card) (cards : List Card) → without c (without b cards) ≡ without b (without c cards)
+without_both b c [] = refl
+without_both b c (d ∷ ds) = by_tests (d.place == b.place) (d.place == c.place) refl refl (without_both b c ds)
+  where
+    by_tests : (t u : Bool) → (d.place == b.place) ≡ t → (d.place == c.place) ≡ u → without c (without b ds) ≡ without b (without c ds)
+        → without c (cond (not t) (d ∷ without b ds) (without b ds)) ≡ without b (cond (not u) (d ∷ without c ds) (without c ds))
+    by_tests true true e f rest = rest
+    by_tests true false e f rest = rest ∙ ap (λ t. cond (not t) (d ∷ without b (without c ds)) (without b (without c ds))) (sym e)
+    by_tests false true e f rest = ap (λ u. cond (not u) (d ∷ without c (without b ds)) (without c (without b ds))) f ∙ rest
+    by_tests false false e f rest =
+        ap (λ u. cond (not u) (d ∷ without c (without b ds)) (without c (without b ds))) f ∙ ap (λ cs. d ∷ cs) rest
+        ∙ ap (λ t. cond (not t) (d ∷ without b (without c ds)) (without b (without c ds))) (sym e)
 
 -- of the events that wait none other has its place
 one_of_place : (low : ℕ) (cards : List Card) (c : Card) → Rising low cards → Contains cards c → All (λ (x : Card). x.place ≡ c.place → c ≡ x) cards
@@ -133,74 +89,39 @@ one_of_place low (d ∷ ds) c rising has = by_index has.0 has.1 has.2 (one_of_pl
         let le = All-contains (λ (x : Card). d.place + 1 ≤ x.place) ds c above has in
         All-cons IsIt d ds (λ same. absurd (omega (arith, le, same))) (rest has)
 
--- it is taken back, and was never offered
-later_taken : (d : Card) (left : List Left) (count shown : ℕ) (cards : List Card) → shown ≤ d.place → All (HasLeftAt d left) cards
-    → (c : Card) (later_ones : List Card) → WasOffered count shown c later_ones cards → FewerLater left count shown c later_ones (without d cards)
-later_taken d left count shown cards le gone c later_ones w = record {
-  stay = without d later_ones;
-  go = taken_back_goes d left later_ones (elim w.here [
-    | inl e ↦ All-tail (HasLeftAt d left) c later_ones (subst (All (HasLeftAt d left)) e gone)
-    | inr e ↦ subst (All (HasLeftAt d left)) e gone
-  ]);
-  offered = record {
-    known = w.known;
-    last = w.last;
-    later = All-filter (λ x. not (x.place == d.place)) (IsLater c) later_ones w.later;
-    here = elim w.here [
-      | inl e ↦ inl (ap (without d) e ∙ others)
-      | inr e ↦ inr (ap (without d) e)
-    ];
-  };
-}
-  where
-    others : without d (c ∷ later_ones) ≡ c ∷ without d later_ones
-    others = let last = w.last in rw (ne_eqb c.place d.place (λ e. omega (arith, e, last, le))) refl
-
--- all are thrown away
-later_thrown : (left : List Left) (count shown : ℕ) (cards : List Card) → All (LeftOtherwise left) cards
-    → (c : Card) (later_ones : List Card) → WasOffered count shown c later_ones cards → FewerLater left count shown c later_ones []
-later_thrown left count shown cards all c later_ones w = record {
-  stay = [];
-  go = all_go left later_ones (elim w.here [
-    | inl e ↦ All-tail (LeftOtherwise left) c later_ones (subst (All (LeftOtherwise left)) e all)
-    | inr e ↦ subst (All (LeftOtherwise left)) e all
-  ]);
-  offered = record { known = w.known; last = w.last; later = All-nil (IsLater c); here = inr refl };
-}
-
 abbrev gone : ℕ → Card → Exit → Left
 gone sessions c why = record { session = sessions; card = c; why = why }
 
 module _ (began : History) where
   -- of these queued, reported and left, with the ledger's fields
-  pub record ReportsAre (offer : Offer) (count shown : ℕ) (cards all : List Card) (reports : List (ℕ × Card)) (left : List Left) : Type 0 where
+  pub record ReportsAre (offer : Offer) (cards all : List Card) (reports : List Told) (left : List Left) : Type 0 where
     pub queued : List Card
-    pub reported : List (ℕ × Card)
+    pub reported : List Told
     pub gone : List Left
     pub queued_since : all ≡ began.queued ++ queued
     pub reported_since : reports ≡ began.reports ++ reported
     pub gone_since : left ≡ began.left ++ gone
-    pub rest : List Card
-    pub each : IsWithout gone (map told reported ++ rest) (began.ledger.cards ++ queued)
-    pub stand : Stands offer count shown cards rest
+    pub each : IsWithout gone (map told reported ++ due offer cards) (began.ledger.cards ++ queued)
 
   abbrev Session : History → Type 0
-  Session h = ReportsAre h.ledger.offer h.ledger.queued h.ledger.shown h.ledger.cards h.queued h.reports h.left
+  Session h = ReportsAre h.ledger.offer h.ledger.cards h.queued h.reports h.left
 
-  queues : (c : Card) (h : History) → May (Queue c) h.ledger → Session h → Session (steps_on (Queue c) h)
-  queues c h may i = record {
-    reported = i.reported;
-    reported_since = i.reported_since;
-    gone = i.gone;
-    gone_since = i.gone_since;
-    queued = i.queued ++ c ∷ [];
-    queued_since = ap (λ cs. cs ++ c ∷ []) i.queued_since ∙ append_assoc began.queued i.queued (c ∷ []);
-    rest = i.rest ++ c ∷ [];
-    each = subst (λ cs. IsWithout i.gone cs (began.ledger.cards ++ (i.queued ++ c ∷ []))) (append_assoc (map told i.reported) i.rest (c ∷ []))
-        (subst (λ cs. IsWithout i.gone ((map told i.reported ++ i.rest) ++ c ∷ []) cs) (append_assoc began.ledger.cards i.queued (c ∷ []))
-        (one_more c i.gone (map told i.reported ++ i.rest) (began.ledger.cards ++ i.queued) i.each));
-    stand = stands_queued h.ledger.offer c h.ledger.queued h.ledger.shown h.ledger.cards i.rest may i.stand;
-  }
+  queues : (c : Card) (h : History) → May (Queue c) h.ledger → Events h → Session h → Session (steps_on (Queue c) h)
+  queues c h may e i =
+      let l = h.ledger in
+      let last = due_queued l.offer c h.sessions l.shown l.cards h.reports h.left (let le = e.shown_is in omega (arith, le, may)) e.offer_is in
+      record {
+        reported = i.reported;
+        reported_since = i.reported_since;
+        gone = i.gone;
+        gone_since = i.gone_since;
+        queued = i.queued ++ c ∷ [];
+        queued_since = ap (λ cs. cs ++ c ∷ []) i.queued_since ∙ append_assoc began.queued i.queued (c ∷ []);
+        each = subst (λ cs. IsWithout i.gone cs (began.ledger.cards ++ (i.queued ++ c ∷ [])))
+            (append_assoc (map told i.reported) (due l.offer l.cards) (c ∷ []) ∙ ap (λ cs. map told i.reported ++ cs) (sym last))
+            (subst (λ cs. IsWithout i.gone ((map told i.reported ++ due l.offer l.cards) ++ c ∷ []) cs) (append_assoc began.ledger.cards i.queued (c ∷ []))
+            (one_more c i.gone (map told i.reported ++ due l.offer l.cards) (began.ledger.cards ++ i.queued) i.each));
+      }
 
   offers : (c : Card) (h : History) → May (Offers c) h.ledger → Events h → Session h → Session (steps_on (Offers c) h)
   offers c h (none, follows, (cs, front)) e i = record {
@@ -210,101 +131,76 @@ module _ (began : History) where
     queued_since = i.queued_since;
     reported_since = i.reported_since;
     gone_since = i.gone_since;
-    rest = i.rest;
-    each = i.each;
-    stand = (
-      cs,
-      first_due h.ledger.offer c h.ledger.queued h.ledger.shown h.ledger.cards cs i.rest follows front i.stand,
-      offered_now c h.ledger.queued h.ledger.cards cs front
-          (All-head (λ (d : Card). d.place < h.ledger.queued) c cs (subst (All (λ (d : Card). d.place < h.ledger.queued)) front e.below))
-          (All-weaker (λ (d : Card). c.place + 1 ≤ d.place) (IsLater c) (λ d le. omega (arith, le)) cs (rising_above (c.place + 1) cs rising)),
-    );
+    each = subst (λ ds. IsWithout i.gone (map told i.reported ++ ds) (began.ledger.cards ++ i.queued))
+        (subst (λ ds. due h.ledger.offer ds ≡ due (Unreported c) ds) (sym front) (due_offered h.ledger.offer c cs follows (subst (Rising 0) front e.rising))) i.each;
   }
-    where
-      rising : Rising (c.place + 1) cs
-      rising = (subst (Rising 0) front e.rising).1
 
   reports : (c : Card) (h : History) → May (Report c) h.ledger → Session h → Session (steps_on (Report c) h)
-  reports c h (going, offered) i =
-      let s : Stands (Unreported c) h.ledger.queued h.ledger.shown h.ledger.cards i.rest =
-      subst (λ o. Stands o h.ledger.queued h.ledger.shown h.ledger.cards i.rest) offered i.stand in
-      record {
-        queued = i.queued;
-        queued_since = i.queued_since;
-        gone = i.gone;
-        gone_since = i.gone_since;
-        reported = i.reported ++ (h.sessions, c) ∷ [];
-        reported_since = ap (λ rs. rs ++ (h.sessions, c) ∷ []) i.reported_since ∙ append_assoc began.reports i.reported ((h.sessions, c) ∷ []);
-        rest = s.0;
-        each = subst (λ cs. IsWithout i.gone cs (began.ledger.cards ++ i.queued))
-            (ap (λ cs. map told i.reported ++ cs) s.1 ∙ sym (append_assoc (map told i.reported) (c ∷ []) s.0)
-            ∙ ap (λ cs. cs ++ s.0) (sym (map-append told i.reported ((h.sessions, c) ∷ [])))) i.each;
-        stand = s.2;
-      }
-
-  -- some more have left
-  left_since : (more : List Left) (left gone : List Left) → left ≡ began.left ++ gone → left ++ more ≡ began.left ++ (gone ++ more)
-  left_since more left gone is = ap (λ ws. ws ++ more) is ∙ append_assoc began.left gone more
-
-  leaves : (c : Card) (h : History) → May (Leave c) h.ledger → Session h → Session (steps_on (Leave c) h)
-  leaves c h ((cs, front), offered) i = record {
+  reports c h (going, offered) i = record {
     queued = i.queued;
-    reported = i.reported;
     queued_since = i.queued_since;
-    reported_since = i.reported_since;
-    gone = i.gone ++ gone h.sessions c AfterReport ∷ [];
-    gone_since = left_since (gone h.sessions c AfterReport ∷ []) h.left i.gone i.gone_since;
-    rest = i.rest;
-    each = left_more i.gone (gone h.sessions c AfterReport ∷ []) (map told i.reported ++ i.rest) (began.ledger.cards ++ i.queued) i.each;
-    stand = has_left c h.ledger.queued h.ledger.shown h.ledger.cards cs i.rest front
-        (subst (λ o. Stands o h.ledger.queued h.ledger.shown h.ledger.cards i.rest) offered i.stand);
+    gone = i.gone;
+    gone_since = i.gone_since;
+    reported = i.reported ++ (h.sessions, c) ∷ [];
+    reported_since = ap (λ rs. rs ++ (h.sessions, c) ∷ []) i.reported_since ∙ append_assoc began.reports i.reported ((h.sessions, c) ∷ []);
+    each = subst (λ cs. IsWithout i.gone cs (began.ledger.cards ++ i.queued))
+        (ap (λ o. map told i.reported ++ due o h.ledger.cards) offered ∙ sym (append_assoc (map told i.reported) (c ∷ []) (without c h.ledger.cards))
+        ∙ ap (λ cs. cs ++ without c h.ledger.cards) (sym (map-append told i.reported ((h.sessions, c) ∷ [])))) i.each;
   }
 
-  -- these have left, and not because they were reported
-  given_up : (more : List Left) (few : List Card) (h : History) (i : Session h) → Fewer (i.gone ++ more) h.ledger.offer h.ledger.queued h.ledger.shown i.rest few
-      → ReportsAre h.ledger.offer h.ledger.queued h.ledger.shown few h.queued h.reports (h.left ++ more)
-  given_up more few h i f = record {
+  -- these have left: of those that are due some may go
+  some_left : (more : List Left) (few : List Card) (offer : Offer) (h : History) (i : Session h) → MayGo (i.gone ++ more) (due h.ledger.offer h.ledger.cards) (due offer few)
+      → ReportsAre offer few h.queued h.reports (h.left ++ more)
+  some_left more few offer h i go = record {
     queued = i.queued;
     reported = i.reported;
     queued_since = i.queued_since;
     reported_since = i.reported_since;
     gone = i.gone ++ more;
-    gone_since = left_since more h.left i.gone i.gone_since;
-    rest = f.stay;
-    each = f.go (map told i.reported) (began.ledger.cards ++ i.queued)
-        (left_more i.gone more (map told i.reported ++ i.rest) (began.ledger.cards ++ i.queued) i.each);
-    stand = f.stand;
+    gone_since = ap (λ ws. ws ++ more) i.gone_since ∙ append_assoc began.left i.gone more;
+    each = go (map told i.reported) (began.ledger.cards ++ i.queued)
+        (left_more i.gone more (map told i.reported ++ due h.ledger.offer h.ledger.cards) (began.ledger.cards ++ i.queued) i.each);
   }
+
+  leaves : (c : Card) (h : History) → May (Leave c) h.ledger → Events h → Session h → Session (steps_on (Leave c) h)
+  leaves c h ((cs, front), offered) e i =
+      let more = gone h.sessions c AfterReport ∷ [] in
+      let l = h.ledger in
+      let same : due l.offer l.cards ≡ drop 1 l.cards = ap (λ o. due o l.cards) offered
+      ∙ subst (λ ds. without c ds ≡ drop 1 ds) (sym front) (filter_front c cs 0 (subst (Rising 0) front e.rising)) in
+      some_left more (drop 1 l.cards) NoOffer h i (subst (MayGo (i.gone ++ more) (due l.offer l.cards)) same (λ first cards is. is))
 
   lapses : (c : Card) (h : History) → May (Lapse c) h.ledger → Session h → Session (steps_on (Lapse c) h)
   lapses c h ((cs, front), offered) i =
       let more = gone h.sessions c Lapsed ∷ [] in
-      let out : LeftOtherwise (i.gone ++ more) c = (gone h.sessions c Lapsed, Contains-push i.gone (gone h.sessions c Lapsed), refl, (λ e. cc)) in
-      given_up more (drop 1 h.ledger.cards) h i
-      (fewer (i.gone ++ more) h.ledger.offer h.ledger.queued h.ledger.shown h.ledger.cards i.rest (drop 1 h.ledger.cards)
-      (subst (λ xs. MayGo (i.gone ++ more) xs (drop 1 xs)) (sym front) (front_goes c (i.gone ++ more) cs out))
-      (later_lapsed c (i.gone ++ more) h.ledger.queued h.ledger.shown h.ledger.cards cs front out) i.stand)
+      let left = i.gone ++ more in
+      let out : LeftOtherwise left c = (gone h.sessions c Lapsed, Contains-push i.gone (gone h.sessions c Lapsed), refl, (λ e. cc)) in
+      some_left more (drop 1 h.ledger.cards) h.ledger.offer h i
+      (subst (λ ds. MayGo left (due h.ledger.offer ds) (due h.ledger.offer (drop 1 ds))) (sym front)
+      (due_goes left h.ledger.offer (c ∷ cs) cs (front_goes c left cs out) (λ b. front_lapses b c left cs out)))
 
   takes_back : (c : Card) (h : History) → May (WithdrawEvent c) h.ledger → Events h → Session h → Session (steps_on (WithdrawEvent c) h)
   takes_back c h (waits, le) e i =
       let more = gone h.sessions c TakenBack ∷ [] in
-      let out : All (HasLeftAt c (i.gone ++ more)) h.ledger.cards =
-      All-weaker (λ (x : Card). x.place ≡ c.place → c ≡ x) (HasLeftAt c (i.gone ++ more))
+      let left = i.gone ++ more in
+      let cards = h.ledger.cards in
+      let out : All (HasLeftAt c left) cards =
+      All-weaker (λ (x : Card). x.place ≡ c.place → c ≡ x) (HasLeftAt c left)
       (λ x only same. (gone h.sessions c TakenBack, Contains-push i.gone (gone h.sessions c TakenBack), only same, (λ e. cc)))
-      h.ledger.cards (one_of_place 0 h.ledger.cards c e.rising waits) in
-      given_up more (without c h.ledger.cards) h i
-      (fewer (i.gone ++ more) h.ledger.offer h.ledger.queued h.ledger.shown h.ledger.cards i.rest (without c h.ledger.cards)
-      (taken_back_goes c (i.gone ++ more) h.ledger.cards out)
-      (later_taken c (i.gone ++ more) h.ledger.queued h.ledger.shown h.ledger.cards le out) i.stand)
+      cards (one_of_place 0 cards c e.rising waits) in
+      some_left more (without c cards) h.ledger.offer h i
+      (due_goes left h.ledger.offer cards (without c cards) (taken_back_goes c left cards out)
+      (λ b. subst (MayGo left (without b cards)) (without_both b c cards)
+      (taken_back_goes c left (without b cards) (All-filter (λ d. not (d.place == b.place)) (HasLeftAt c left) cards out))))
 
   loses_power : (h : History) → Session h → Session (steps_on RestartDevice h)
   loses_power h i =
       let more = thrown h.ledger.cards in
-      let out : All (LeftOtherwise (i.gone ++ more)) h.ledger.cards = all_thrown i.gone h.ledger.cards in
-      given_up more [] h i
-      (fewer (i.gone ++ more) h.ledger.offer h.ledger.queued h.ledger.shown h.ledger.cards i.rest []
-      (all_go (i.gone ++ more) h.ledger.cards out)
-      (later_thrown (i.gone ++ more) h.ledger.queued h.ledger.shown h.ledger.cards out) i.stand)
+      let left = i.gone ++ more in
+      let out : All (LeftOtherwise left) h.ledger.cards = all_thrown i.gone h.ledger.cards in
+      some_left more [] h.ledger.offer h i
+      (due_goes left h.ledger.offer h.ledger.cards [] (all_go left h.ledger.cards out)
+      (λ b. all_go left (without b h.ledger.cards) (All-filter (λ d. not (d.place == b.place)) (LeftOtherwise left) h.ledger.cards out)))
     where
       thrown : List Card → List Left
       thrown = map (λ c. gone h.sessions c ThrownAway)
@@ -322,16 +218,16 @@ module _ (began : History) where
   keeps : (step : Step) (h : History) → BeginsNone step → May step h.ledger → Events h → Session h → Session (steps_on step h)
   keeps Open h none may e i = absurd none
   keeps (Act o answer) h none may e i =
-      elim h.ledger.is_open as (λ b. (let l = acted_on b answer h.ledger in ReportsAre l.offer l.queued l.shown l.cards h.queued h.reports h.left)) [ true ↦ i | false ↦ i ]
-  keeps (Queue c) h none may e i = queues c h may i
+      elim h.ledger.is_open as (λ b. (let l = acted_on b answer h.ledger in ReportsAre l.offer l.cards h.queued h.reports h.left)) [ true ↦ i | false ↦ i ]
+  keeps (Queue c) h none may e i = queues c h may e i
   keeps (Offers c) h none may e i = offers c h may e i
   keeps (Report c) h none may e i = reports c h may i
-  keeps (Leave c) h none may e i = leaves c h may i
+  keeps (Leave c) h none may e i = leaves c h may e i
   keeps (WithdrawEvent c) h none may e i = takes_back c h may e i
   keeps (Lapse c) h none may e i = lapses c h may i
   keeps RestartDevice h none may e i = loses_power h i
   keeps (RestartPanel on_wire) h none may e i =
-      elim h.ledger.is_open as (λ b. (let l = panel_restarted on_wire b h.ledger in ReportsAre l.offer l.queued l.shown l.cards h.queued h.reports h.left))
+      elim h.ledger.is_open as (λ b. (let l = panel_restarted on_wire b h.ledger in ReportsAre l.offer l.cards h.queued h.reports h.left))
       [ true ↦ i | false ↦ i ]
   keeps _ h none may e i = i
 
@@ -350,14 +246,13 @@ module _ (began : History) where
     queued_since = sym (append-nil began.queued);
     reported_since = sym (append-nil began.reports);
     gone_since = sym (append-nil began.left);
-    rest = began.ledger.cards;
     each = subst (λ cs. IsWithout [] began.ledger.cards cs) (sym (append-nil began.ledger.cards)) (none_missing [] began.ledger.cards);
-    stand = refl;
   }
 
-  holds : (since : List Step) → AreAllowed since (steps_on Open began) → All BeginsNone since → Events (steps_on Open began)
+  pub holds : (since : List Step) → AreAllowed since (steps_on Open began) → All BeginsNone since → Events (steps_on Open began)
       → ReportsInSession began (runs since (steps_on Open began))
   holds since allowed none e =
+      let h = runs since (steps_on Open began) in
       let i = hold since (steps_on Open began) none allowed e opens in
       record {
         queued = i.queued;
@@ -366,15 +261,18 @@ module _ (began : History) where
         queued_since = i.queued_since;
         reported_since = i.reported_since;
         left_since = i.gone_since;
-        beginning = (i.rest, i.each);
+        beginning = (due h.ledger.offer h.ledger.cards, i.each);
       }
 
 -- ---- after any steps
 
+pub events_opened : (before since : List Step) → AreAllowed (before ++ Open ∷ since) new_history → Events (steps_on Open (runs before new_history))
+events_opened before since allowed =
+    events.keeps Open (runs before new_history) (allowed_second before (Open ∷ since) new_history allowed).0
+    (events_hold before new_history (allowed_first before (Open ∷ since) new_history allowed) events.at_first)
+
 pub each_session_reports : EachSessionReports
 each_session_reports before since allowed none =
     let began = runs before new_history in
-    let opened = allowed_second before (Open ∷ since) new_history allowed in
-    let e = events_hold before new_history (allowed_first before (Open ∷ since) new_history allowed) events.at_first in
     subst (λ (h : History). ReportsInSession began h) (sym (runs_then before (Open ∷ since) new_history))
-    (holds began since opened.1 none (events.keeps Open began opened.0 e))
+    (holds began since (allowed_second before (Open ∷ since) new_history allowed).1 none (events_opened before since allowed))

@@ -1,17 +1,26 @@
 -- What holds of the orders of a session after each step since it began.
-use Rattle.std.proofs.Common.{◌≡◌, ◌≤◌, ◌⊎◌, ◌++◌, Bool, true, false, List, [], ◌∷◌, length, map, drop, Option, Some, None, refl, sym, subst, ap, ◌∙◌, inl, inr, arith, append_assoc}
-use Rattle.std.proofs.lemmas.List.{append-nil}
+use Rattle.std.proofs.Common.{◌≡◌, ◌≤◌, ◌++◌, Bool, true, false, List, [], ◌∷◌, length, map, drop, Option, Some, None, refl, sym, subst, ap, ◌∙◌, inl, inr, arith, append_assoc}
+use Rattle.std.proofs.lemmas.List.{append-nil, map-append}
 use Rattle.std.proofs.lemmas.List.Elements.{All-head, All-tail}
 use Rattle.std.specs.Prelude.{All}
 use Rattle.osdp_msg.specs.declared.reply.Reply.{Reply}
 use Rattle.osdp_ledger.specs.History.{AreAllowed, End, Forgotten, GivenBack, History, InDoubt, Settled, ends_at_restart, new_history, runs, steps_on}
-use Rattle.osdp_ledger.specs.Ledger.{Act, Close, Doubt, Lapse, Leave, May, MayActOn, Offers, Open, Order, Queue, Report, RestartDevice, RestartPanel, Settle, Step, Submit, Withdraw, WithdrawEvent, acted_on, late_after, panel_restarted}
+use Rattle.osdp_ledger.specs.Ledger.{Act, Close, Doubt, May, MayActOn, Open, Order, RestartPanel, Settle, Step, Submit, Withdraw, acted_on, late_after, late_at_restart, panel_restarted}
 use Rattle.osdp_ledger.specs.OneSession.{settled_in}
 use Rattle.osdp_ledger.proofs.InTurn.{allowed_second, runs_then}
-use Rattle.osdp_ledger.proofs.OneSession.{asked, front_is, settled_more, taken}
+use Rattle.osdp_ledger.proofs.Settled.{settled_more}
 use Rattle.osdp_ledger_laws.specs.Sessions.{BeginsNone, EachSessionHolds, HoldsInSession}
 
+abbrev pub asked : Order × Reply → Order
+asked done = done.0
+
 -- ---- lists
+
+front_is : {A : Type 0} (x y : A) (xs ys zs : List A) → zs ≡ x ∷ xs → zs ≡ y ∷ ys → x ≡ y
+front_is x y xs ys zs a b = let e : x ∷ xs ≡ y ∷ ys = sym a ∙ b in cc
+
+put_front : (o : Order) (os ahead : List Order) → ahead ≡ o ∷ os → ahead ≡ o ∷ drop 1 ahead
+put_front o os ahead front = front ∙ ap (λ xs. o ∷ xs) (sym (ap (drop 1) front))
 
 forgets_none : (os : List Order) → settled_in (map (λ o. (o, Forgotten)) os) ≡ []
 forgets_none [] = refl
@@ -25,44 +34,39 @@ restart_settles_none false on_wire os = forgets_none os
 
 -- ---- where the orders stand: these are not acted on yet, and these acted on and not settled
 
--- the session is under way, and each that was acted on is settled
-pub record AreSettled (is_open : Bool) (ahead : List Order) (now : Option Reply) (late : Option Order) (rest : List Order) (more : List (Order × Reply)) : Type 0 where
-  pub going : is_open ≡ true
-  pub none : more ≡ []
-  pub rest_is : rest ≡ ahead
-  pub acted : now ≡ None
-  pub in_time : late ≡ None
+-- The session is under way: each that was acted on is settled, or the order in front was acted on. It is over: none is acted on any more, or an order may be
+-- acted on yet. Then of those that waited some have gone.
+abbrev pub Stands : Bool → Option Reply → Option Order → List Order → List Order → List (Order × Reply) → Type 0
+Stands true None late ahead rest more = (late ≡ None) × (more ≡ []) × (rest ≡ ahead)
+Stands true (Some answer) late ahead rest more = (late ≡ None) × (order : Order) × (more ≡ (order, answer) ∷ []) × (ahead ≡ order ∷ rest)
+Stands false now None ahead rest more = (length more ≤ 1) × (gone : List Order) × (rest ≡ gone ++ ahead)
+Stands false now (Some order) ahead rest more = (more ≡ []) × (gone : List Order) × (rest ≡ order ∷ gone ++ ahead)
 
--- .. or the order in front was acted on
-pub record FrontIsActedOn (is_open : Bool) (ahead : List Order) (now : Option Reply) (late : Option Order) (rest : List Order) (more : List (Order × Reply)) : Type 0 where
-  pub going : is_open ≡ true
-  pub order : Order
-  pub answer : Reply
-  pub one : more ≡ (order, answer) ∷ []
-  pub front : ahead ≡ order ∷ rest
-  pub acted : now ≡ Some answer
-  pub in_time : late ≡ None
+one_waits : (b : Bool) (now : Option Reply) (late : Option Order) (o : Order) (ahead rest : List Order) (more : List (Order × Reply)) → Stands b now late ahead rest more
+    → Stands b now late (ahead ++ o ∷ []) (rest ++ o ∷ []) more
+one_waits true None late o ahead rest more (in_time, none, is) = (in_time, none, ap (λ os. os ++ o ∷ []) is)
+one_waits true (Some answer) late o ahead rest more (in_time, order, one, front) = (in_time, order, one, ap (λ os. os ++ o ∷ []) front)
+one_waits false now None o ahead rest more (few, gone, is) = (few, gone, ap (λ os. os ++ o ∷ []) is ∙ append_assoc gone ahead (o ∷ []))
+one_waits false now (Some order) o ahead rest more (none, gone, is) =
+    (none, gone, ap (λ os. os ++ o ∷ []) is ∙ ap (λ os. order ∷ os) (append_assoc gone ahead (o ∷ [])))
 
--- the session is over, and an order may be acted on yet: of those that waited after it some have gone
-pub record MayBeLate (is_open : Bool) (ahead : List Order) (late : Option Order) (rest : List Order) (more : List (Order × Reply)) : Type 0 where
-  pub closed : is_open ≡ false
-  pub order : Order
-  pub gone : List Order
-  pub none : more ≡ []
-  pub rest_is : rest ≡ order ∷ gone ++ ahead
-  pub late_is : late ≡ Some order
+some_go : (now : Option Reply) (late : Option Order) (first left ahead rest : List Order) (more : List (Order × Reply)) → ahead ≡ first ++ left
+    → Stands false now late ahead rest more → Stands false now late left rest more
+some_go now None first left ahead rest more e (few, gone, is) = (few, gone ++ first, is ∙ ap (λ os. gone ++ os) e ∙ sym (append_assoc gone first left))
+some_go now (Some order) first left ahead rest more e (none, gone, is) =
+    (none, gone ++ first, is ∙ ap (λ os. order ∷ gone ++ os) e ∙ ap (λ os. order ∷ os) (sym (append_assoc gone first left)))
 
--- .. and none is acted on any more
-pub record IsOver (is_open : Bool) (ahead : List Order) (late : Option Order) (rest : List Order) (more : List (Order × Reply)) : Type 0 where
-  pub closed : is_open ≡ false
-  pub gone : List Order
-  pub one : length more ≤ 1
-  pub rest_is : rest ≡ gone ++ ahead
-  pub in_time : late ≡ None
+-- it ends over the order in front, and after it these go
+ends_over : (now : Option Reply) (late : Option Order) (o : Order) (gone left ahead rest : List Order) (more : List (Order × Reply)) → ahead ≡ o ∷ gone ++ left
+    → Stands true now late ahead rest more → Stands false None (late_after now o) left rest more
+ends_over None late o gone left ahead rest more e (in_time, none, is) = (none, gone, is ∙ e)
+ends_over (Some answer) late o gone left ahead rest more e (in_time, order, one, front) = (omega (arith, ap length one), gone, ap (drop 1) (sym front ∙ e))
 
-abbrev pub Stands : Bool → List Order → Option Reply → Option Order → List Order → List (Order × Reply) → Type 0
-Stands is_open ahead now late rest more = AreSettled is_open ahead now late rest more ⊎ (FrontIsActedOn is_open ahead now late rest more
-    ⊎ (MayBeLate is_open ahead late rest more ⊎ IsOver is_open ahead late rest more))
+at_most_one : (b : Bool) (now : Option Reply) (late : Option Order) (ahead rest : List Order) (more : List (Order × Reply)) → Stands b now late ahead rest more → length more ≤ 1
+at_most_one true None late ahead rest more (in_time, none, is) = omega (arith, ap length none)
+at_most_one true (Some answer) late ahead rest more (in_time, order, one, front) = omega (arith, ap length one)
+at_most_one false now None ahead rest more (few, gone, is) = few
+at_most_one false now (Some order) ahead rest more (none, gone, is) = omega (arith, ap length none)
 
 module _ (began : History) where
   -- of these accepted, acted on and ended, with the ledger's fields
@@ -77,10 +81,13 @@ module _ (began : History) where
     pub more : List (Order × Reply)
     pub each : began.ledger.ahead ++ accepted ≡ map asked acted ++ rest
     pub settled : acted ≡ settled_in ended ++ more
-    pub stand : Stands is_open ahead now late rest more
+    pub stand : Stands is_open now late ahead rest more
 
   abbrev Session : History → Type 0
   Session h = SessionIs h.ledger.is_open h.ledger.ahead h.ledger.acted h.ledger.late h.accepted h.acted h.ended
+
+  abbrev StandsAs : (h : History) → Session h → Bool → Option Reply → Option Order → Type 0
+  StandsAs h i b now late = Stands b now late h.ledger.ahead i.rest i.more
 
   -- ---- the panel
 
@@ -96,208 +103,94 @@ module _ (began : History) where
     accepted_since = ap (λ os. os ++ o ∷ []) i.accepted_since ∙ append_assoc began.accepted i.accepted (o ∷ []);
     rest = i.rest ++ o ∷ [];
     each = sym (append_assoc began.ledger.ahead i.accepted (o ∷ [])) ∙ ap (λ os. os ++ o ∷ []) i.each ∙ append_assoc (map asked i.acted) i.rest (o ∷ []);
-    stand = elim i.stand [
-      | inl s ↦ inl (record { going = s.going; none = s.none; acted = s.acted; in_time = s.in_time; rest_is = ap (λ os. os ++ o ∷ []) s.rest_is })
-      | inr (inl s) ↦ inr (inl (record { going = s.going; order = s.order; answer = s.answer; one = s.one; acted = s.acted; in_time = s.in_time; front = ap (λ os. os ++ o ∷ []) s.front }))
-      | inr (inr (inl s)) ↦ inr (inr (inl (record { closed = s.closed; order = s.order; gone = s.gone; none = s.none; late_is = s.late_is; rest_is = ap (λ os. os ++ o ∷ []) s.rest_is ∙ ap (λ os. s.order ∷ os) (append_assoc s.gone h.ledger.ahead (o ∷ [])) })))
-      | inr (inr (inr s)) ↦ inr (inr (inr (record { closed = s.closed; gone = s.gone; one = s.one; in_time = s.in_time; rest_is = ap (λ os. os ++ o ∷ []) s.rest_is ∙ append_assoc s.gone h.ledger.ahead (o ∷ []) })))
-    ];
+    stand = one_waits h.ledger.is_open h.ledger.acted h.ledger.late o h.ledger.ahead i.rest i.more i.stand;
   }
 
-  -- some more have ended, none of them settled
-  ends_more : (new : List (Order × End)) (all : List (Order × End)) (ended : List (Order × End)) → all ≡ began.ended ++ ended → all ++ new ≡ began.ended ++ (ended ++ new)
-  ends_more new all ended is = ap (λ es. es ++ new) is ∙ append_assoc began.ended ended new
-
-  settles_none : (new ended : List (Order × End)) (acted more : List (Order × Reply)) → settled_in new ≡ [] → acted ≡ settled_in ended ++ more
-      → acted ≡ settled_in (ended ++ new) ++ more
-  settles_none new ended acted more none is =
-      is ∙ ap (λ ds. ds ++ more) (sym (append-nil (settled_in ended)) ∙ ap (λ ds. settled_in ended ++ ds) (sym none) ∙ sym (settled_more ended new))
+  -- some more have ended: of those that were acted on they settle all but these
+  ends_so : (new : List (Order × End)) (more : List (Order × Reply)) (b : Bool) (ahead : List Order) (now : Option Reply) (late : Option Order) (over : List (Order × End)) (h : History) (i : Session h)
+      → over ≡ h.ended ++ new → i.more ≡ settled_in new ++ more → Stands b now late ahead i.rest more → SessionIs b ahead now late h.accepted h.acted over
+  ends_so new more b ahead now late over h i is but stand = record {
+    accepted = i.accepted;
+    acted = i.acted;
+    accepted_since = i.accepted_since;
+    acted_since = i.acted_since;
+    rest = i.rest;
+    each = i.each;
+    ended = i.ended ++ new;
+    ended_since = is ∙ ap (λ es. es ++ new) i.ended_since ∙ append_assoc began.ended i.ended new;
+    more = more;
+    settled = i.settled ∙ ap (λ ds. settled_in i.ended ++ ds) but ∙ sym (append_assoc (settled_in i.ended) (settled_in new) more)
+        ∙ ap (λ ds. ds ++ more) (sym (settled_more i.ended new));
+    stand = stand;
+  }
 
   withdraws : (o : Order) (h : History) → May (Withdraw o) h.ledger → Session h → Session (steps_on (Withdraw o) h)
-  withdraws o h (closed, (os, front)) i = record {
-    accepted = i.accepted;
-    acted = i.acted;
-    accepted_since = i.accepted_since;
-    acted_since = i.acted_since;
-    rest = i.rest;
-    more = i.more;
-    each = i.each;
-    ended = i.ended ++ (o, GivenBack) ∷ [];
-    ended_since = ends_more ((o, GivenBack) ∷ []) h.ended i.ended i.ended_since;
-    settled = settles_none ((o, GivenBack) ∷ []) i.ended i.acted i.more refl i.settled;
-    stand = elim i.stand [
-      | inl s ↦ absurd (let e : true ≡ false = sym s.going ∙ closed in cc)
-      | inr (inl s) ↦ absurd (let e : true ≡ false = sym s.going ∙ closed in cc)
-      | inr (inr (inl s)) ↦ inr (inr (inl (record { closed = s.closed; order = s.order; none = s.none; late_is = s.late_is; gone = s.gone ++ o ∷ []; rest_is = s.rest_is ∙ ap (λ xs. s.order ∷ xs) (one_goes s.gone) })))
-      | inr (inr (inr s)) ↦ inr (inr (inr (record { closed = s.closed; one = s.one; in_time = s.in_time; gone = s.gone ++ o ∷ []; rest_is = s.rest_is ∙ one_goes s.gone })))
-    ];
-  }
-    where
-      one_goes : (gone : List Order) → gone ++ h.ledger.ahead ≡ (gone ++ o ∷ []) ++ drop 1 h.ledger.ahead
-      one_goes gone = ap (λ xs. gone ++ xs) (front ∙ ap (λ xs. o ∷ xs) (sym (ap (drop 1) front))) ∙ sym (append_assoc gone (o ∷ []) (drop 1 h.ledger.ahead))
+  withdraws o h (closed, (os, front)) i =
+      let l = h.ledger in
+      ends_so ((o, GivenBack) ∷ []) i.more l.is_open (drop 1 l.ahead) l.acted l.late (h.ended ++ (o, GivenBack) ∷ []) h i refl refl
+      (subst (λ b. Stands b l.acted l.late (drop 1 l.ahead) i.rest i.more) (sym closed)
+      (some_go l.acted l.late (o ∷ []) (drop 1 l.ahead) l.ahead i.rest i.more (put_front o os l.ahead front) (subst (λ b. StandsAs h i b l.acted l.late) closed i.stand)))
 
   settles : (o : Order) (answer : Reply) (h : History) → May (Settle o answer) h.ledger → Session h → Session (steps_on (Settle o answer) h)
-  settles o answer h (going, (os, front), now) i = elim i.stand [
-    | inl s ↦ absurd (let e : Some answer ≡ None = sym now ∙ s.acted in cc)
-    | inr (inl s) ↦
-        let order : s.order ≡ o = front_is s.order o i.rest os h.ledger.ahead s.front front in
-        let said : s.answer ≡ answer = (let e : Some s.answer ≡ Some answer = sym s.acted ∙ now in cc) in
-        record {
-          accepted = i.accepted;
-          acted = i.acted;
-          accepted_since = i.accepted_since;
-          acted_since = i.acted_since;
-          rest = i.rest;
-          each = i.each;
-          ended = i.ended ++ (o, Settled answer) ∷ [];
-          ended_since = ends_more ((o, Settled answer) ∷ []) h.ended i.ended i.ended_since;
-          more = [];
-          settled = i.settled
-              ∙ ap (λ ds. settled_in i.ended ++ ds) (s.one ∙ (λ j. (order j, said j) ∷ []))
-              ∙ sym (settled_more i.ended ((o, Settled answer) ∷ []))
-              ∙ sym (append-nil (settled_in (i.ended ++ (o, Settled answer) ∷ [])));
-          stand = inl (record { going = going; none = refl; rest_is = sym (ap (drop 1) s.front); acted = refl; in_time = s.in_time });
-        }
-    | inr (inr (inl s)) ↦ absurd (let e : true ≡ false = sym going ∙ s.closed in cc)
-    | inr (inr (inr s)) ↦ absurd (let e : true ≡ false = sym going ∙ s.closed in cc)
-  ]
+  settles o answer h (going, (os, front), now) i =
+      let l = h.ledger in
+      let s : StandsAs h i true (Some answer) l.late = subst (λ (x : Bool × Option Reply). StandsAs h i x.0 x.1 l.late) (λ j. (going j, now j)) i.stand in
+      let order : s.1 ≡ o = front_is s.1 o i.rest os l.ahead s.3 front in
+      ends_so ((o, Settled answer) ∷ []) [] l.is_open (drop 1 l.ahead) None l.late (h.ended ++ (o, Settled answer) ∷ []) h i refl
+      (s.2 ∙ (λ j. (order j, answer) ∷ []))
+      (subst (λ b. Stands b None l.late (drop 1 l.ahead) i.rest []) (sym going) (s.0, refl, sym (ap (drop 1) s.3)))
 
   doubts : (o : Order) (h : History) → May (Doubt o) h.ledger → Session h → Session (steps_on (Doubt o) h)
-  doubts o h (going, (os, front)) i = record {
-    accepted = i.accepted;
-    acted = i.acted;
-    accepted_since = i.accepted_since;
-    acted_since = i.acted_since;
-    rest = i.rest;
-    more = i.more;
-    each = i.each;
-    ended = i.ended ++ (o, InDoubt) ∷ [];
-    ended_since = ends_more ((o, InDoubt) ∷ []) h.ended i.ended i.ended_since;
-    settled = settles_none ((o, InDoubt) ∷ []) i.ended i.acted i.more refl i.settled;
-    stand = elim i.stand [
-      | inl s ↦ inr (inr (inl (record {
-        closed = refl;
-        order = o;
-        gone = [];
-        none = s.none;
-        rest_is = s.rest_is ∙ front ∙ ap (λ xs. o ∷ xs) (sym (ap (drop 1) front));
-        late_is = ap (λ now. late_after now o) s.acted;
-      })))
-      | inr (inl s) ↦ inr (inr (inr (record {
-        closed = refl;
-        gone = [];
-        one = omega (arith, ap length s.one);
-        rest_is = sym (ap (drop 1) s.front);
-        in_time = ap (λ now. late_after now o) s.acted;
-      })))
-      | inr (inr (inl s)) ↦ absurd (let e : true ≡ false = sym going ∙ s.closed in cc)
-      | inr (inr (inr s)) ↦ absurd (let e : true ≡ false = sym going ∙ s.closed in cc)
-    ];
-  }
+  doubts o h (going, (os, front)) i =
+      let l = h.ledger in
+      ends_so ((o, InDoubt) ∷ []) i.more false (drop 1 l.ahead) None (late_after l.acted o) (h.ended ++ (o, InDoubt) ∷ []) h i refl refl
+      (ends_over l.acted l.late o [] (drop 1 l.ahead) l.ahead i.rest i.more (put_front o os l.ahead front) (subst (λ b. StandsAs h i b l.acted l.late) going i.stand))
 
   closes : (h : History) → May Close h.ledger → Session h → Session (steps_on Close h)
-  closes h (going, none) i = record {
-    accepted = i.accepted;
-    acted = i.acted;
-    ended = i.ended;
-    accepted_since = i.accepted_since;
-    acted_since = i.acted_since;
-    ended_since = i.ended_since;
-    rest = i.rest;
-    more = i.more;
-    each = i.each;
-    settled = i.settled;
-    stand = elim i.stand [
-      | inl s ↦ inr (inr (inr (record { closed = refl; gone = []; one = omega (arith, ap length s.none); rest_is = s.rest_is; in_time = s.in_time })))
-      | inr (inl s) ↦ absurd (let e : Some s.answer ≡ None = sym s.acted ∙ none in cc)
-      | inr (inr (inl s)) ↦ absurd (let e : true ≡ false = sym going ∙ s.closed in cc)
-      | inr (inr (inr s)) ↦ absurd (let e : true ≡ false = sym going ∙ s.closed in cc)
-    ];
-  }
+  closes h (going, none) i =
+      let l = h.ledger in
+      let s : StandsAs h i true None l.late = subst (λ (x : Bool × Option Reply). StandsAs h i x.0 x.1 l.late) (λ j. (going j, none j)) i.stand in
+      ends_so [] i.more false l.ahead l.acted l.late h.ended h i (sym (append-nil h.ended)) refl
+      (subst (StandsAs h i false l.acted) (sym s.0) (omega (arith, ap length s.1), [], s.2))
 
   -- ---- power of the panel
 
-  abbrev After : Bool → Bool → History → Type 0
-  After on_wire b h = let l = panel_restarted on_wire b h.ledger in
+  abbrev After : Bool → History → Bool → Type 0
+  After on_wire h b = let l = panel_restarted on_wire b h.ledger in
       SessionIs l.is_open l.ahead l.acted l.late h.accepted h.acted (h.ended ++ ends_at_restart b on_wire h.ledger.ahead)
 
-  -- what has ended by it isn't settled
-  restarted_as : (on_wire b : Bool) (h : History) (i : Session h)
-      → (let l = panel_restarted on_wire b h.ledger in Stands l.is_open l.ahead l.acted l.late i.rest i.more) → After on_wire b h
-  restarted_as on_wire b h i stand =
+  -- none waits any more, and what has ended by it isn't settled
+  restarted_so : (on_wire b : Bool) (h : History) (i : Session h)
+      → (let l = panel_restarted on_wire b h.ledger in Stands l.is_open l.acted l.late l.ahead i.rest i.more) → After on_wire h b
+  restarted_so on_wire b h i stand =
+      let l = panel_restarted on_wire b h.ledger in
       let new = ends_at_restart b on_wire h.ledger.ahead in
-      record {
-        accepted = i.accepted;
-        acted = i.acted;
-        accepted_since = i.accepted_since;
-        acted_since = i.acted_since;
-        rest = i.rest;
-        more = i.more;
-        each = i.each;
-        ended = i.ended ++ new;
-        ended_since = ends_more new h.ended i.ended i.ended_since;
-        settled = settles_none new i.ended i.acted i.more (restart_settles_none b on_wire h.ledger.ahead) i.settled;
-        stand = stand;
-      }
-
-  cut : (h : History) → h.ledger.is_open ≡ true → (o : Order) (os : List Order) → h.ledger.ahead ≡ o ∷ os → Session h → After true true h
-  cut h going o os front i = restarted_as true true h i (elim i.stand [
-    | inl s ↦ inr (inr (inl (record {
-      closed = refl;
-      order = o;
-      gone = os;
-      none = s.none;
-      rest_is = s.rest_is ∙ front ∙ ap (λ xs. o ∷ xs) (sym (append-nil os));
-      late_is = late s.acted;
-    })))
-    | inr (inl s) ↦ inr (inr (inr (record {
-      closed = refl;
-      gone = i.rest;
-      one = omega (arith, ap length s.one);
-      rest_is = sym (append-nil i.rest);
-      in_time = in_time s.answer s.acted;
-    })))
-    | inr (inr (inl s)) ↦ absurd (let e : true ≡ false = sym going ∙ s.closed in cc)
-    | inr (inr (inr s)) ↦ absurd (let e : true ≡ false = sym going ∙ s.closed in cc)
-  ])
-    where
-      late : h.ledger.acted ≡ None → (panel_restarted true true h.ledger).late ≡ Some o
-      late none = (λ j. Rattle.osdp_ledger.specs.Ledger.late_at_restart true (none j) (front j))
-
-      in_time : (answer : Reply) → h.ledger.acted ≡ Some answer → (panel_restarted true true h.ledger).late ≡ None
-      in_time answer is = (λ j. Rattle.osdp_ledger.specs.Ledger.late_at_restart true (is j) (front j))
-
-  switched_off : (h : History) → h.ledger.acted ≡ None → (b : Bool) → h.ledger.is_open ≡ b → Session h → After false b h
-  switched_off h none true going i = restarted_as false true h i (elim i.stand [
-    | inl s ↦ inr (inr (inr (record {
-      closed = refl;
-      gone = h.ledger.ahead;
-      one = omega (arith, ap length s.none);
-      rest_is = s.rest_is ∙ sym (append-nil h.ledger.ahead);
-      in_time = refl;
-    })))
-    | inr (inl s) ↦ absurd (let e : Some s.answer ≡ None = sym s.acted ∙ none in cc)
-    | inr (inr (inl s)) ↦ absurd (let e : true ≡ false = sym going ∙ s.closed in cc)
-    | inr (inr (inr s)) ↦ absurd (let e : true ≡ false = sym going ∙ s.closed in cc)
-  ])
-  switched_off h none false closed i = restarted_as false false h i (elim i.stand [
-    | inl s ↦ absurd (let e : true ≡ false = sym s.going ∙ closed in cc)
-    | inr (inl s) ↦ absurd (let e : true ≡ false = sym s.going ∙ closed in cc)
-    | inr (inr (inl s)) ↦ inr (inr (inl (record { closed = s.closed; order = s.order; none = s.none; late_is = s.late_is; gone = s.gone ++ h.ledger.ahead; rest_is = s.rest_is ∙ ap (λ xs. s.order ∷ xs) (sym (append-nil (s.gone ++ h.ledger.ahead))) })))
-    | inr (inr (inr s)) ↦ inr (inr (inr (record { closed = s.closed; one = s.one; in_time = s.in_time; gone = s.gone ++ h.ledger.ahead; rest_is = s.rest_is ∙ sym (append-nil (s.gone ++ h.ledger.ahead)) })))
-  ])
+      ends_so new i.more l.is_open l.ahead l.acted l.late (h.ended ++ new) h i refl
+      (ap (λ ds. ds ++ i.more) (sym (restart_settles_none b on_wire h.ledger.ahead))) stand
 
   restarts : (on_wire : Bool) (h : History) → May (RestartPanel on_wire) h.ledger → Session h → Session (steps_on (RestartPanel on_wire) h)
-  restarts true h (going, o, (os, front)) i = subst (λ b. After true b h) (sym going) (cut h going o os front i)
-  restarts false h may i = switched_off h may h.ledger.is_open refl i
+  restarts true h (going, o, (os, front)) i =
+      let l = h.ledger in
+      subst (After true h) (sym going) (restarted_so true true h i
+      (subst (λ xs. Stands false None (late_at_restart true l.acted xs) [] i.rest i.more) (sym front)
+      (ends_over l.acted l.late o os [] l.ahead i.rest i.more (front ∙ ap (λ xs. o ∷ xs) (sym (append-nil os))) (subst (λ b. StandsAs h i b l.acted l.late) going i.stand))))
+  restarts false h none i = by_state h.ledger.is_open refl
+    where
+      by_state : (b : Bool) → h.ledger.is_open ≡ b → After false h b
+      by_state true going =
+          let s : StandsAs h i true None h.ledger.late = subst (λ (x : Bool × Option Reply). StandsAs h i x.0 x.1 h.ledger.late) (λ j. (going j, none j)) i.stand in
+          restarted_so false true h i (omega (arith, ap length s.1), h.ledger.ahead, s.2 ∙ sym (append-nil h.ledger.ahead))
+      by_state false closed =
+          let l = h.ledger in
+          restarted_so false false h i (subst (λ b. Stands b l.acted l.late [] i.rest i.more) (sym closed)
+          (some_go l.acted l.late l.ahead [] l.ahead i.rest i.more (sym (append-nil l.ahead)) (subst (λ b. StandsAs h i b l.acted l.late) closed i.stand)))
 
   -- ---- the device
 
   -- one more is acted on, where all that were acted on before are settled
-  acts_as : (o : Order) (answer : Reply) (b : Bool) (after : List Order) (h : History) (i : Session h) → i.more ≡ [] → i.rest ≡ o ∷ after
-      → (let l = acted_on b answer h.ledger in Stands l.is_open l.ahead l.acted l.late after ((o, answer) ∷ []))
-      → (let l = acted_on b answer h.ledger in SessionIs l.is_open l.ahead l.acted l.late h.accepted (h.acted ++ (o, answer) ∷ []) h.ended)
-  acts_as o answer b after h i none front stand = record {
+  acts_so : (o : Order) (answer : Reply) (b : Bool) (now : Option Reply) (late : Option Order) (after : List Order) (h : History) (i : Session h) → i.more ≡ [] → i.rest ≡ o ∷ after
+      → Stands b now late h.ledger.ahead after ((o, answer) ∷ []) → SessionIs b h.ledger.ahead now late h.accepted (h.acted ++ (o, answer) ∷ []) h.ended
+  acts_so o answer b now late after h i none front stand = record {
     accepted = i.accepted;
     ended = i.ended;
     accepted_since = i.accepted_since;
@@ -306,30 +199,26 @@ module _ (began : History) where
     acted_since = ap (λ ds. ds ++ (o, answer) ∷ []) i.acted_since ∙ append_assoc began.acted i.acted ((o, answer) ∷ []);
     rest = after;
     more = (o, answer) ∷ [];
-    each = taken o answer i.acted i.rest after (began.ledger.ahead ++ i.accepted) i.each front;
+    each = i.each ∙ ap (λ os. map asked i.acted ++ os) front ∙ sym (append_assoc (map asked i.acted) (o ∷ []) after)
+        ∙ ap (λ os. os ++ after) (sym (map-append asked i.acted ((o, answer) ∷ [])));
     settled = ap (λ ds. ds ++ (o, answer) ∷ []) (i.settled ∙ ap (λ ds. settled_in i.ended ++ ds) none ∙ append-nil (settled_in i.ended));
     stand = stand;
   }
 
+  abbrev Acted : Order → Reply → History → Bool → Type 0
+  Acted o answer h b = let l = acted_on b answer h.ledger in SessionIs l.is_open l.ahead l.acted l.late h.accepted (h.acted ++ (o, answer) ∷ []) h.ended
+
   acts : (o : Order) (answer : Reply) (h : History) → MayActOn o h.ledger → Session h → Session (steps_on (Act o answer) h)
-  acts o answer h (inl (going, (os, front), none)) i = elim i.stand [
-    | inl s ↦ subst (λ b. (let l = acted_on b answer h.ledger in SessionIs l.is_open l.ahead l.acted l.late h.accepted (h.acted ++ (o, answer) ∷ []) h.ended)) (sym going)
-        (acts_as o answer true os h i s.none (s.rest_is ∙ front)
-        (inr (inl (record { going = going; order = o; answer = answer; one = refl; front = front; acted = refl; in_time = s.in_time }))))
-    | inr (inl s) ↦ absurd (let e : Some s.answer ≡ None = sym s.acted ∙ none in cc)
-    | inr (inr (inl s)) ↦ absurd (let e : true ≡ false = sym going ∙ s.closed in cc)
-    | inr (inr (inr s)) ↦ absurd (let e : true ≡ false = sym going ∙ s.closed in cc)
-  ]
-  acts o answer h (inr (closed, late)) i = elim i.stand [
-    | inl s ↦ absurd (let e : true ≡ false = sym s.going ∙ closed in cc)
-    | inr (inl s) ↦ absurd (let e : true ≡ false = sym s.going ∙ closed in cc)
-    | inr (inr (inl s)) ↦
-        let same : s.order ≡ o = (let e : Some s.order ≡ Some o = sym s.late_is ∙ late in cc) in
-        subst (λ b. (let l = acted_on b answer h.ledger in SessionIs l.is_open l.ahead l.acted l.late h.accepted (h.acted ++ (o, answer) ∷ []) h.ended)) (sym closed)
-        (acts_as o answer false (s.gone ++ h.ledger.ahead) h i s.none (s.rest_is ∙ ap (λ x. x ∷ s.gone ++ h.ledger.ahead) same)
-        (inr (inr (inr (record { closed = closed; gone = s.gone; one = omega arith; rest_is = refl; in_time = refl })))))
-    | inr (inr (inr s)) ↦ absurd (let e : Some o ≡ None = sym late ∙ s.in_time in cc)
-  ]
+  acts o answer h (inl (going, (os, front), none)) i =
+      let l = h.ledger in
+      let s : StandsAs h i true None l.late = subst (λ (x : Bool × Option Reply). StandsAs h i x.0 x.1 l.late) (λ j. (going j, none j)) i.stand in
+      subst (Acted o answer h) (sym going) (acts_so o answer l.is_open (Some answer) l.late os h i s.1 (s.2 ∙ front)
+      (subst (λ b. Stands b (Some answer) l.late l.ahead os ((o, answer) ∷ [])) (sym going) (s.0, o, refl, front)))
+  acts o answer h (inr (closed, late)) i =
+      let l = h.ledger in
+      let s : StandsAs h i false l.acted (Some o) = subst (λ (x : Bool × Option Order). StandsAs h i x.0 l.acted x.1) (λ j. (closed j, late j)) i.stand in
+      subst (Acted o answer h) (sym closed) (acts_so o answer l.is_open l.acted None (s.1 ++ l.ahead) h i s.0 s.2
+      (subst (λ b. Stands b l.acted None l.ahead (s.1 ++ l.ahead) ((o, answer) ∷ [])) (sym closed) (omega arith, s.1, refl)))
 
   -- ---- any step
 
@@ -349,14 +238,6 @@ module _ (began : History) where
   hold (step ∷ steps) h none allowed i =
       hold steps (steps_on step h) (All-tail BeginsNone step steps none) allowed.1 (keeps step h (All-head BeginsNone step steps none) allowed.0 i)
 
-  at_most_one : (h : History) (i : Session h) → length i.more ≤ 1
-  at_most_one h i = elim i.stand [
-    | inl s ↦ omega (arith, ap length s.none)
-    | inr (inl s) ↦ omega (arith, ap length s.one)
-    | inr (inr (inl s)) ↦ omega (arith, ap length s.none)
-    | inr (inr (inr s)) ↦ s.one
-  ]
-
   -- as it begins
   opens : Session (steps_on Open began)
   opens = record {
@@ -370,10 +251,10 @@ module _ (began : History) where
     more = [];
     each = append-nil began.ledger.ahead;
     settled = refl;
-    stand = inl (record { going = refl; none = refl; rest_is = refl; acted = refl; in_time = refl });
+    stand = (refl, refl, refl);
   }
 
-  holds : (since : List Step) → AreAllowed since (steps_on Open began) → All BeginsNone since → HoldsInSession began (runs since (steps_on Open began))
+  pub holds : (since : List Step) → AreAllowed since (steps_on Open began) → All BeginsNone since → HoldsInSession began (runs since (steps_on Open began))
   holds since allowed none =
       let h = runs since (steps_on Open began) in
       let i = hold since (steps_on Open began) none allowed opens in
@@ -385,7 +266,7 @@ module _ (began : History) where
         acted_since = i.acted_since;
         ended_since = i.ended_since;
         beginning = (i.rest, i.each);
-        settled = (i.more, i.settled, at_most_one h i);
+        settled = (i.more, i.settled, at_most_one h.ledger.is_open h.ledger.acted h.ledger.late h.ledger.ahead i.rest i.more i.stand);
       }
 
 -- ---- after any steps

@@ -2,6 +2,7 @@
 //! are laws.
 #![tactic(auto)]
 
+ghost use Rattle.osdp_ledger.specs.OneSession.{OneSessionHolds};
 ghost use Rattle.osdp_ledger_laws.specs.Lapses.{LapsedIsReportedNoMore};
 ghost use Rattle.osdp_ledger_laws.specs.Laws.{ActsOrOffers, PlainEndsAreTold, ReportsOnceASession, SkipsNoNeighbour};
 ghost use Rattle.osdp_ledger_laws.specs.Reports.{EachSessionReports, ReportsAreABeginning};
@@ -68,10 +69,16 @@ pub fn more_steps_happen()
     ensures { MoreStepsHappen }
 {}
 
+/// In one session, where nobody loses power, nothing is taken back and no event lapses: the commands that the device has acted on are a beginning of those
+/// accepted, and hold each settled one, with the device's answer, and at most one more. The events reported are a beginning of those queued.
+pub fn one_session_holds()
+    ensures { OneSessionHolds }
+{}
+
 /// In one session of plain steps as many commands are settled as were acted on, or one fewer. No more were acted on than were accepted, and no more events
 /// reported than queued.
 pub fn one_session_counts()
     ensures { OneSessionCounts }
 {
-    osdp_ledger::one_session_holds();
+    one_session_holds();
 }

@@ -1,6 +1,6 @@
 -- The names that most proofs of this crate cite, passed on from one place. Declares nothing.
 pub use Rattle.std.proofs.Common.{[], All, ap, append_assoc, arith, Bool, cond, Contains, drop, eqb, Err, false, filter, flat_map, inl, inr, is_some, leb, length, List, ltb, map, None, not, Ok, Option, refl, Result, Some, subst, suc, sym, take, true, zero, ℕ, ◌++◌, ◌+◌, ◌<◌, ◌==◌, ◌∙◌, ◌∷◌, ◌≡◌, ◌≢◌, ◌≤◌, ◌⊎◌}
-pub use Rattle.std.proofs.lemmas.List.{append-nil, length-append, length-map, map-append}
+pub use Rattle.std.proofs.lemmas.List.{append-nil, length-append, length-map, map-append, nil_from_length}
 pub use Rattle.std.specs.Prelude.{option_to_list, slice_index}
 pub use Rattle.std.proofs.lemmas.List.Elements.{All-head}
 pub use Rattle.osdp_frame.specs.Packet.{next_sequence, Packet}
@@ -17,7 +17,7 @@ pub use Rattle.osdp_ledger.specs.History.{AreAllowed, End, ends_at_restart, Forg
 pub use Rattle.osdp_ledger.specs.Ledger.{Act, acted_on, after, Card, Close, Doubt, is_in_front, Lapse, late_after, late_at_restart, Leave, Ledger, May, MayFollow, new_ledger, NoOffer, Offer, Offers, Open, Order, panel_restarted, Report as Reports, Reported, RestartDevice, RestartPanel, Settle, Step, Unreported}
 pub use Rattle.osdp_ledger.proofs.Events.{at_first, keeps}
 pub use Rattle.osdp_ledger.proofs.InTurn.{allowed_both, runs_then}
-pub use Rattle.osdp_ledger.proofs.Waiting.{Beyond, Events, IsUpTo, OfferIs, Rising}
+pub use Rattle.osdp_ledger.proofs.Waiting.{Beyond, Events, IsUpTo, OfferIs, Rising, filter_front}
 pub use Rattle.osdp_link_laws.specs.Beginning.{Begins, MaySubmit, MoveFits, MovesFit}
 pub use Rattle.osdp_link_laws.specs.Link.{after_move, Delivered, Delivery, LapseEvent, Link, LoseToController, LoseToReader, Lost, lost_at, Move, outstanding_command, Queue as QueueEvent, Reopen, Repeated, RestartController, RestartReader, Retarget, run, SetBusy, SetHandler, Submit, Tick, ToController, ToReader, Withdraw, WithdrawEvent}
 pub use Rattle.osdp_link_laws.specs.Peers.{ReadEachOther}

@@ -1,6 +1,6 @@
 -- An event is withdrawn: the ledger stays tied.
-use Rattle.osdp_link_ledger.proofs.Common.{◌≡◌, ◌≤◌, ◌+◌, ◌⊎◌, ◌==◌, ℕ, suc, Bool, true, false, not, cond, List, [], ◌∷◌, length, drop, filter, Contains, refl, sym, subst, ap, ◌∙◌, inl, inr, arith, All-head, Packet, Command, Event, State, EventQueue, never_offered, withdrawn, Card, Ledger, NoOffer, Offer, Reported, Unreported, Beyond, Rising, card_at, withdraws_event, Due}
-use Rattle.osdp_link_ledger.proofs.Lists.{FrontUnshown, IsOfferedFront, StandsAt, after_card, all_unoffered, events, filter_front, filter_second, front_card, not_offered}
+use Rattle.osdp_link_ledger.proofs.Common.{◌≡◌, ◌≤◌, ◌+◌, ◌⊎◌, ◌==◌, ℕ, suc, Bool, true, false, not, cond, List, [], ◌∷◌, length, drop, filter, Contains, refl, sym, subst, ap, ◌∙◌, inl, inr, arith, All-head, Packet, Command, Event, State, EventQueue, never_offered, withdrawn, Card, Ledger, NoOffer, Offer, Reported, Unreported, Beyond, Rising, card_at, withdraws_event, Due, filter_front}
+use Rattle.osdp_link_ledger.proofs.Lists.{FrontUnshown, IsOfferedFront, StandsAt, after_card, all_unoffered, events, filter_second, front_card, not_offered}
 use Rattle.osdp_link_ledger.proofs.Ties.{Leads, OffersAre, Placed, SessionIs, Ties}
 
 pub beyond_front : (shown : ℕ) (c : Card) (cs : List Card) → Beyond shown (c ∷ cs) → FrontUnshown shown cs

@@ -1,9 +1,9 @@
 -- An event lapses that was ever offered: the front leaves, and the ledger stays tied.
-use Rattle.osdp_link_ledger.proofs.Common.{◌≡◌, ◌==◌, ℕ, Bool, true, false, not, cond, ltb, List, [], ◌∷◌, length, drop, filter, Contains, refl, sym, subst, ap, ◌∙◌, inl, inr, arith, length-map, Packet, Command, Event, State, EventQueue, in_doubt, lapsed, Card, Lapse, Ledger, Beyond, Rising, card_at, gives_up_event, lapses_event, Due}
+use Rattle.osdp_link_ledger.proofs.Common.{◌≡◌, ◌==◌, ℕ, Bool, true, false, not, cond, ltb, List, [], ◌∷◌, length, drop, filter, Contains, refl, sym, subst, ap, ◌∙◌, inl, inr, arith, length-map, Packet, Command, Event, State, EventQueue, in_doubt, lapsed, Card, Lapse, Ledger, Beyond, Rising, card_at, gives_up_event, lapses_event, Due, nil_from_length, filter_front}
 use Rattle.std.proofs.lemmas.Bool.{ltb-true, ltb-false}
 use Rattle.osdp_ledger.specs.Ledger as ledger
 use Rattle.osdp_link_ledger.proofs.Events.{beyond_front, parts}
-use Rattle.osdp_link_ledger.proofs.Lists.{FrontUnshown, all_unoffered, events, filter_front, front_card, no_items, not_offered}
+use Rattle.osdp_link_ledger.proofs.Lists.{FrontUnshown, all_unoffered, events, front_card, not_offered}
 use Rattle.osdp_link_ledger.proofs.Ties.{Leads, OffersAre, Placed, SessionIs, Ties}
 
 -- these cards are left, and none of them was ever offered
@@ -59,7 +59,7 @@ by_parts : (all : List Event) (capacity room : ℕ) (offered ever : Bool) (state
     → Placed g → Ties state waiting (parts all capacity room offered ever) ps qs d g → Lapses (parts all capacity room offered ever) state waiting ps qs d g
 by_parts all capacity room offered false state waiting ps qs d g placed h = (tt, h)
 by_parts [] capacity room offered true state waiting ps qs d g placed h =
-    let none : g.cards ≡ [] = no_items g.cards (sym (length-map g.cards (λ (c : Card). c.event)) ∙ ap length h.cards) in
+    let none : g.cards ≡ [] = nil_from_length g.cards (sym (length-map g.cards (λ (c : Card). c.event)) ∙ ap length h.cards) in
     let gone : IsGone [] g g.cards = record { names = h.cards; front = subst (FrontUnshown g.shown) (sym none) tt } in
     (tt, with_gone [] capacity room offered (parts [] capacity room offered true) g g.cards placed gone state waiting ps qs d h)
 by_parts (e ∷ rest) capacity room offered true state waiting ps qs d g placed h =

@@ -1,5 +1,5 @@
 -- Lists of orders and of cards, and how long they are.
-use Rattle.osdp_link_ledger.proofs.Common.{◌≡◌, ◌≢◌, ◌≤◌, ◌<◌, ◌+◌, ◌==◌, ℕ, Bool, true, false, not, cond, List, [], ◌∷◌, ◌++◌, length, map, drop, filter, refl, ap, ◌∙◌, arith, length-append, Command, Event, Card, NoOffer, Offer, Order, Reported, Unreported, is_in_front, is_true, Rising, card_at, order_at}
+use Rattle.osdp_link_ledger.proofs.Common.{◌≡◌, ◌≢◌, ◌≤◌, ◌+◌, ◌==◌, ℕ, Bool, true, false, not, cond, List, [], ◌∷◌, ◌++◌, length, map, drop, filter, refl, ap, ◌∙◌, arith, length-append, Command, Event, Card, NoOffer, Offer, Order, Reported, Unreported, is_in_front, Rising, card_at, order_at, filter_front}
 use Rattle.std.proofs.lemmas.Bool.{ne_eqb}
 
 abbrev pub commands : List Order → List Command
@@ -12,10 +12,6 @@ events = map (λ c. c.event)
 pub none_counted : (b : Bool) (n : ℕ) → n ≡ 0 → cond b n 0 ≡ 0
 none_counted true n none = none
 none_counted false n none = refl
-
-pub no_items : {A : Type 0} (xs : List A) → length xs ≡ 0 → xs ≡ []
-no_items [] none = refl
-no_items (x ∷ xs) none = absurd (omega (arith, none))
 
 -- ---- orders
 
@@ -98,22 +94,7 @@ pub front_more : (shown : ℕ) (cards : List Card) (new : Card) → shown ≤ ne
 front_more shown [] new above front = above
 front_more shown (c ∷ cs) new above front = front
 
--- without one that stands before all of them
-pub filter_above : (c : Card) (low : ℕ) (cards : List Card) → c.place < low → Rising low cards → filter (λ d. not (d.place == c.place)) cards ≡ cards
-filter_above c low [] less rising = refl
-filter_above c low (d ∷ ds) less rising =
-    ap (λ b. cond (not b) (d ∷ filter (λ x. not (x.place == c.place)) ds) (filter (λ x. not (x.place == c.place)) ds))
-    (ne_eqb d.place c.place (λ same. omega (arith, same, less, rising.0)))
-    ∙ ap (λ cs. d ∷ cs) (filter_above c (d.place + 1) ds (omega (arith, less, rising.0)) rising.1)
-
-pub filter_front : (c : Card) (cards : List Card) (low : ℕ) → Rising low (c ∷ cards) → filter (λ d. not (d.place == c.place)) (c ∷ cards) ≡ cards
-filter_front c cards low rising =
-    ap (λ b. cond (not b) (c ∷ filter (λ x. not (x.place == c.place)) cards) (filter (λ x. not (x.place == c.place)) cards)) (eqb-same c.place)
-    ∙ filter_above c (c.place + 1) cards (omega arith) rising.1
-  where
-    eqb-same : (n : ℕ) → (n == n) ≡ true
-    eqb-same n = is_true n n refl
-
+-- without the second
 pub filter_second : (front c : Card) (cards : List Card) (low : ℕ) → Rising low (front ∷ c ∷ cards)
     → filter (λ d. not (d.place == c.place)) (front ∷ c ∷ cards) ≡ front ∷ cards
 filter_second front c cards low rising =

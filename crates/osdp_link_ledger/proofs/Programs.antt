@@ -1,5 +1,5 @@
 -- What programs do, and a loss of power: the ledger stays tied.
-use Rattle.osdp_link_ledger.proofs.Common.{◌≡◌, ◌+◌, ◌⊎◌, ℕ, Bool, true, false, List, [], ◌∷◌, ◌++◌, length, map, is_some, Option, Some, None, refl, sym, subst, ap, ◌∙◌, inl, inr, arith, append_assoc, append-nil, length-append, length-map, map-append, Packet, Command, Event, Reply, ControllerFault, State, Closed, Waiting, Pausing, Card, Ledger, May, NoOffer, Offer, Order, Reported, RestartDevice, RestartPanel, Unreported, late_after, late_at_restart, panel_restarted, asked, Link, outstanding_command, is_under_way, queues, submits, withdraws, Due}
+use Rattle.osdp_link_ledger.proofs.Common.{◌≡◌, ◌+◌, ◌⊎◌, ℕ, Bool, true, false, List, [], ◌∷◌, ◌++◌, length, map, is_some, Option, Some, None, refl, sym, subst, ap, ◌∙◌, inl, inr, arith, append_assoc, append-nil, length-append, length-map, map-append, Packet, Command, Event, Reply, ControllerFault, State, Closed, Waiting, Pausing, Card, Ledger, May, NoOffer, Offer, Order, Reported, RestartDevice, RestartPanel, Unreported, late_after, late_at_restart, panel_restarted, asked, Link, outstanding_command, is_under_way, queues, submits, withdraws, Due, nil_from_length}
 use Rattle.std.specs.Prelude.{drop, option_to_list}
 use Rattle.osdp_msg.specs.declared.limits.Room.{Room}
 use Rattle.osdp_controller.specs.Machine as controllers
@@ -7,7 +7,7 @@ use Rattle.osdp_controller_laws.proofs.Closed.{was_closed}
 use Rattle.osdp_reader.specs.Queue.{Queue as EventQueue, empty_queue, queued}
 use Rattle.osdp_link_laws.specs.Link as link
 use Rattle.osdp_link_ledger.proofs.Facts.{OutIs, out_of, reopened}
-use Rattle.osdp_link_ledger.proofs.Lists.{IsOfferedFront, commands, front_more, front_order, no_items, not_offered, one_more_unoffered, still_front}
+use Rattle.osdp_link_ledger.proofs.Lists.{IsOfferedFront, commands, front_more, front_order, not_offered, one_more_unoffered, still_front}
 use Rattle.osdp_link_ledger.proofs.Ties.{ActedIs, IsTied, Lasts, Leads, OffersAre, Placed, SessionIs, Ties}
 
 -- ---- a command is submitted
@@ -200,7 +200,7 @@ pub nothing_out : (ahead : List Order) (acted : Option Reply) (owing : List (Com
 nothing_out ahead acted owing pend acts out =
     let e : 0 ≡ length (pend ++ map asked owing) = ap length out in
     let both = length-append pend (map asked owing) in
-    (by_owing acts, no_items pend (omega (arith, e, both)))
+    (by_owing acts, nil_from_length pend (omega (arith, e, both)))
   where
     by_owing : ActedIs ahead acted owing → acted ≡ None
     by_owing (inl none) = none.acted
@@ -222,7 +222,7 @@ front_late ahead acted owing pend o c acts out command = by_owing acts
         let e : 1 ≡ length (pend ++ map asked owing) = ap length out in
         let long : length owing ≡ 1 = ap length one.owing in
         ap (λ a. commands (option_to_list (late_after a o))) one.acted
-        ∙ sym (no_items pend (omega (arith, e, long, length-append pend (map asked owing), length-map owing asked)))
+        ∙ sym (nil_from_length pend (omega (arith, e, long, length-append pend (map asked owing), length-map owing asked)))
 
 -- ---- the panel loses power
 

@@ -1,10 +1,10 @@
 -- What a report says: the ledger stays tied.
-use Rattle.osdp_link_ledger.proofs.Common.{◌≡◌, ◌+◌, ◌⊎◌, ℕ, suc, true, cond, List, [], ◌∷◌, ◌++◌, length, map, drop, Option, Some, None, refl, sym, subst, ap, ◌∙◌, inl, inr, arith, length-append, length-map, option_to_list, Packet, Command, Event, Reply, Report, State, Closed, Close, Doubt, Ledger, NoOffer, Offer, Reported, Settle, Unreported, asked, Link, is_under_way, unreported_in, offered_at, order_at, told, Due, IsTold}
+use Rattle.osdp_link_ledger.proofs.Common.{◌≡◌, ◌+◌, ◌⊎◌, ℕ, suc, true, cond, List, [], ◌∷◌, ◌++◌, length, map, drop, Option, Some, None, refl, sym, subst, ap, ◌∙◌, inl, inr, arith, length-append, length-map, option_to_list, Packet, Command, Event, Reply, Report, State, Closed, Close, Doubt, Ledger, NoOffer, Offer, Reported, Settle, Unreported, asked, Link, is_under_way, unreported_in, offered_at, order_at, told, Due, IsTold, nil_from_length}
 use Rattle.osdp_msg.specs.declared.reply.Reply.TheVariants as reply
 use Rattle.osdp_controller.specs.declared.report.Report.TheVariants as report
 use Rattle.osdp_ledger.specs.Ledger as ledger
 use Rattle.osdp_link_ledger.proofs.Facts.{DueAfterReport, OutIs, none_told, out_of}
-use Rattle.osdp_link_ledger.proofs.Lists.{IsOfferedFront, commands, front_order, no_items, not_offered}
+use Rattle.osdp_link_ledger.proofs.Lists.{IsOfferedFront, commands, front_order, not_offered}
 use Rattle.osdp_link_ledger.proofs.Programs.{front_late, nothing_out}
 use Rattle.osdp_link_ledger.proofs.Telling.{Stays, Tells}
 use Rattle.osdp_link_ledger.proofs.Ties.{ActedIs, IsTied, Lasts, Leads, OffersAre, Ties}
@@ -57,7 +57,7 @@ module _ {H : Type 0} (l : Link H) (d : Due) (g : Ledger) (f : OutIs l.controlle
   none_late c a owing out is =
       let long : length d.owing ≡ suc (length owing) = ap length is in
       let e : 1 ≡ length (d.pend ++ map asked d.owing) = ap length (sym out ∙ f s.way) in
-      no_items d.pend (omega (arith, e, long, length-append d.pend (map asked d.owing), length-map d.owing asked))
+      nil_from_length d.pend (omega (arith, e, long, length-append d.pend (map asked d.owing), length-map d.owing asked))
 
   settling : (c : Command) (a : Reply) (e : Due) (new : State) (ps qs : List Packet) → out_of state ≡ c ∷ [] → is_under_way new ≡ true → out_of new ≡ []
       → IsTold ((c, a) ∷ []) [] d e → Leads (Settle (order_at g.ahead c) a ∷ []) g (Becomes new ps qs e)

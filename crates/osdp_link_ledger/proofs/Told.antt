@@ -6,7 +6,7 @@ use Rattle.osdp_msg.specs.declared.reply.Reply.TheVariants as reply
 use Rattle.osdp_controller.specs.declared.report.Report.TheVariants as report
 use Rattle.osdp_ledger.specs.Ledger as ledger
 use Rattle.osdp_ledger.specs.OneSession.{settled_in}
-use Rattle.osdp_ledger.proofs.OneSession.{settled_more}
+use Rattle.osdp_ledger.proofs.Settled.{settled_more}
 
 -- ---- what a step tells
 

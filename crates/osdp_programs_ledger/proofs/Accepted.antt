@@ -14,10 +14,9 @@ use Rattle.osdp_sim.specs.Schedules.{HoldsAlong}
 use Rattle.osdp_sim.specs.declared.step.SimStep.{SimStep}
 use Rattle.osdp_sim.specs.declared.step.SimStep.TheVariants as step
 use Rattle.osdp_sim_bus.specs.Steps.{after_step, changes_site, fault_of, is_there, issued, site_issues, site_queues, site_queues_unless}
-use Rattle.osdp_sim_bus_laws.proofs.Idling.{IsIdle, idle_sites}
+use Rattle.osdp_sim_bus_laws.proofs.Idling.{SameOrders, idle_sites, orders_idle}
 use Rattle.osdp_sim_bus_laws.proofs.Places.{StaysAt, get_changed, other_changed, stays_all}
 use Rattle.osdp_sim_laws.proofs.Accepting.{IsNoOrder}
-use Rattle.osdp_sim_laws.proofs.Accounts.{report_leaves}
 use Rattle.osdp_calls.specs.Accepted.{accepted_by, all_accepted, all_queued, queued_at, queued_by}
 use Rattle.osdp_calls_instance.proofs.SimulatedBus.{Follows, Here, at_both, begins_so, fits_all, goes, step_follows, well_first, stations_are}
 use Rattle.osdp_calls_instance.proofs.SimulatedEnds.{sim_devices_are, sim_panels_are}
@@ -148,19 +147,6 @@ module _ {H : Type 0} where
 
     -- ---- a step
 
-    abbrev Same : ReaderSite H → ReaderSite H → Type 0
-    Same u v = (v.account.issued ≡ u.account.issued) × (v.account.queued ≡ u.account.queued)
-
-    same_idle : IsIdle answer_of after Same
-    same_idle = record {
-      same = λ u. (refl, refl);
-      both = λ u v w one more. (more.0 ∙ one.0, more.1 ∙ one.1);
-      hears = λ p u. (refl, refl);
-      told = λ r u. report_leaves (Some r) u.account;
-      busy = λ busy u. (refl, refl);
-      begins = λ u. (refl, refl);
-    }
-
     -- the site after it, whose account has more by what the calls have accepted
     record Adds (k : ℕ) (u : ReaderSite H) (cs : List Command) (es : List Event) (s : LineState H) : Type 0 where
       site : ReaderSite H
@@ -168,7 +154,7 @@ module _ {H : Type 0} where
       issues : site.account.issued ≡ u.account.issued ++ cs
       queues : site.account.queued ≡ u.account.queued ++ es
 
-    adds_none : (k : ℕ) (u : ReaderSite H) (s t : LineState H) → StaysAt Same k s.sites t.sites → slice_get s.sites k ≡ Some u → Adds k u [] [] t
+    adds_none : (k : ℕ) (u : ReaderSite H) (s t : LineState H) → StaysAt (SameOrders answer_of after) k s.sites t.sites → slice_get s.sites k ≡ Some u → Adds k u [] [] t
     adds_none k u s t stays at =
         let v = stays u at in
         record { site = v.0; there = v.1; issues = v.2.0 ∙ sym (append-nil u.account.issued); queues = v.2.1 ∙ sym (append-nil u.account.queued) }
@@ -198,7 +184,7 @@ module _ {H : Type 0} where
         → Adds k u (taken_up (i == k) fault c) [] (issued fault i c s)
     submit_adds k i c (Some fault) s u at =
         adds_as k u s [] (taken_up (i == k) (Some fault) c) [] [] (sym (refused_none (i == k) c fault)) refl
-        (adds_none k u s s (stays_all Same same_idle.same k s.sites) at)
+        (adds_none k u s s (stays_all (SameOrders answer_of after) (orders_idle answer_of after).same k s.sites) at)
     submit_adds k i c None s u at = elim (eqb_tells i k) [
       | inl same ↦
           adds_as k u (issued None i c s) (c ∷ []) (taken_up (i == k) None c) [] [] (sym (ap (λ b. taken_up b None c) same.0)) refl
@@ -210,7 +196,7 @@ module _ {H : Type 0} where
           })
       | inr differs ↦
           adds_as k u (issued None i c s) [] (taken_up (i == k) None c) [] [] (sym (ap (λ b. taken_up b None c) differs.0)) refl
-          (adds_none k u s (issued None i c s) (other_changed Same same_idle.same k i (site_issues c) s.sites (λ is. differs.1 (sym is))) at)
+          (adds_none k u s (issued None i c s) (other_changed (SameOrders answer_of after) (orders_idle answer_of after).same k i (site_issues c) s.sites (λ is. differs.1 (sym is))) at)
     ]
 
     -- an event
@@ -231,7 +217,7 @@ module _ {H : Type 0} where
       | inr differs ↦
           adds_as k u (changes_site i (site_queues e) s) [] (all_accepted answer_of after k steps l) [] (all_queued answer_of after k steps l)
           (sym (other_none o are differs.0).0) (sym (other_none o are differs.0).1)
-          (adds_none k u s (changes_site i (site_queues e) s) (other_changed Same same_idle.same k i (site_queues e) s.sites (λ is. differs.1 (sym is))) at)
+          (adds_none k u s (changes_site i (site_queues e) s) (other_changed (SameOrders answer_of after) (orders_idle answer_of after).same k i (site_queues e) s.sites (λ is. differs.1 (sym is))) at)
     ]
       where
         other_none : (p : Option (Held H)) → map call_of steps ≡ calls_at sim_panel (sim_device answer_of after) i (Queues e) p ++ [] → (i == k) ≡ false
@@ -273,14 +259,14 @@ module _ {H : Type 0} where
     quiet_adds k x s w l steps u idles are at =
         let none = nothing k steps l (each_mapped AcceptsNone call_of steps (subst (Each AcceptsNone) (sym are) (idle_none x s w idles))) in
         adds_as k u (after_step answer_of after x s) [] (all_accepted answer_of after k steps l) [] (all_queued answer_of after k steps l) (sym none.0) (sym none.1)
-        (adds_none k u s (after_step answer_of after x s) (idle_sites answer_of after Same same_idle k x s idles) at)
+        (adds_none k u s (after_step answer_of after x s) (idle_sites answer_of after (SameOrders answer_of after) (orders_idle answer_of after) k x s idles) at)
 
     absent : (k : ℕ) (s : LineState H) (l : InUse H) (steps : List (Step H)) (u : ReaderSite H) → map call_of steps ≡ [] → slice_get s.sites k ≡ Some u → AddsBy k u steps l s
     absent k s l steps u are at =
         let none = no_steps steps are in
         adds_as k u s [] (all_accepted answer_of after k steps l) [] (all_queued answer_of after k steps l)
         (sym (ap (λ xs. all_accepted answer_of after k xs l) none)) (sym (ap (λ xs. all_queued answer_of after k xs l) none))
-        (adds_none k u s s (stays_all Same same_idle.same k s.sites) at)
+        (adds_none k u s s (stays_all (SameOrders answer_of after) (orders_idle answer_of after).same k s.sites) at)
 
     step_adds : (k : ℕ) (x : SimStep) (s : LineState H) (w : Here answer_of after) (l : InUse H) (steps : List (Step H)) (u : ReaderSite H)
         → Follows answer_of after s w → IsLineOf sim_panel (sim_device answer_of after) w l → map call_of steps ≡ Own (step_calls answer_of after x s) w

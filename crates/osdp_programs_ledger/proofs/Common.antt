@@ -1,5 +1,6 @@
 -- The names that most proofs of this crate cite, passed on from one place. Declares nothing.
 pub use Rattle.std.proofs.Common.{[], ap, append_assoc, arith, Bool, cond, false, if◌then◌else◌, inl, inr, length, List, lt-ltb, map, None, Option, refl, Some, subst, suc, sym, true, zero, ℕ, ◌++◌, ◌+◌, ◌-◌, ◌==◌, ◌∙◌, ◌∷◌, ◌≡◌, ◌≤◌}
+pub use Rattle.std.proofs.lemmas.Bool.{and_parts, eqb-false, not-true, or_parts}
 pub use Rattle.std.proofs.lemmas.List.{append-nil, length-append}
 pub use Rattle.std.specs.Prelude.{drop, slice_get}
 pub use Rattle.osdp_msg.specs.declared.command.Command.{Command}
@@ -22,7 +23,7 @@ pub use Rattle.osdp_calls_instance.proofs.OwnCalls.{call_the_line, each_bus, spl
 pub use Rattle.osdp_bus.specs.Buses.{BusState, device_of, new_bus}
 pub use Rattle.osdp_bus.specs.declared.entry.Entry.{Entry}
 pub use Rattle.osdp_calls_ledger.specs.Promises.{LedgerHoldsOnce}
-pub use Rattle.osdp_calls_instance.proofs.SimSetUp.{both, is_not, neither, not_equal, runs_from_a_set_up}
+pub use Rattle.osdp_calls_instance.proofs.SimSetUp.{runs_from_a_set_up}
 pub use Rattle.osdp_device.specs.Status.{status_after, status_answer}
 pub use Rattle.osdp_calls_instance.specs.CPrograms.{c_device, c_panel}
 pub use Rattle.osdp_device.specs.Program.{program_after, program_answer}

@@ -1,5 +1,5 @@
 -- What each step adds to the account of a reader is what its moves add to the link of this reader.
-use Rattle.osdp_sim_bus_laws.proofs.Common.{◌≡◌, ◌-◌, ◌+◌, ◌||◌, if◌then◌else◌, cond, ℕ, zero, suc, Bool, true, false, not, List, [], ◌∷◌, ◌++◌, length, map, Option, Some, None, inl, inr, refl, sym, subst, ap, ◌∙◌, arith, is_some, length-append, slice_get-map, option_map, slice_get, packets_in, reading, spelling, IsPacket, Packet, comset_of, Command, Event, ControllerFault, Report, ReaderState, Answer, lacks_room, submit_refusal_at, after_next_report, BusFault, BusState, Delivered, Delivery, Lost, Repeated, Each, Net, NetMove, Site, changed, site_at, view, IsSubmitted, report_for, packets_on, tick_moves, handed, left, damage_fault, moment_after, SimStep, Issue, Queue, Busy, Wait, ToReader, ToController, Reopen, LineState, ReaderSite, StepFits, after_step, all_hear_each, changed_site, changes_site, fault_of, hears_run, is_quiet, is_there, issued, reopened, site_begins, site_hears, site_is_busy, site_issues, site_queues, site_queues_unless, takes_report, waited, FollowsSites, IsSiteOf, OneBus, each_reads, moment_of, moves_for}
+use Rattle.osdp_sim_bus_laws.proofs.Common.{◌≡◌, ◌-◌, ◌+◌, if◌then◌else◌, cond, ℕ, zero, suc, Bool, true, false, List, [], ◌∷◌, ◌++◌, length, map, Option, Some, None, inl, inr, refl, sym, subst, ap, ◌∙◌, arith, length-append, slice_get-map, option_map, slice_get, packets_in, reading, spelling, IsPacket, Packet, comset_of, Command, Event, ControllerFault, Report, ReaderState, Answer, lacks_room, submit_refusal_at, after_next_report, BusFault, BusState, Delivered, Delivery, Lost, Repeated, Each, Net, NetMove, Site, changed, site_at, view, IsSubmitted, report_for, packets_on, tick_moves, handed, left, damage_fault, moment_after, SimStep, Issue, Queue, Busy, Wait, ToReader, ToController, Reopen, LineState, ReaderSite, StepFits, after_step, all_hear_each, changed_site, changes_site, fault_of, hears_run, is_quiet, is_there, issued, reopened, site_begins, site_hears, site_is_busy, site_issues, site_queues, site_queues_unless, takes_report, waited, FollowsSites, IsSiteOf, OneBus, each_reads, moment_of, moves_for}
 use Rattle.std.proofs.lemmas.Bool.Decides.{eqb_tells}
 use Rattle.osdp_controller.specs.Machine as controllers
 use Rattle.osdp_controller_laws.proofs.Closed.{may_begin}
@@ -21,16 +21,12 @@ use Rattle.osdp_sim_bus.specs.Steps as steps
 use Rattle.osdp_sim_laws.specs.Moves.{delivery}
 use Rattle.osdp_sim_laws.proofs.Accounts.{Added, Adds, added_by, adds_command, adds_event, adds_nothing, adds_report, adds_session, adds_taken, all_added, and_nothing, nothing_added}
 use Rattle.osdp_sim_bus_laws.proofs.Delivering.{burst_tells}
+use Rattle.osdp_shared_line.proofs.Doing.{both_accept}
 use Rattle.osdp_sim_bus_laws.proofs.Following.{told_is}
 use Rattle.osdp_sim_bus_laws.proofs.Own.{OwnAdds, front_adds, one_if_other, one_if_same, one_own, one_own_adds, own_reads, panel_adds, taking, telling, tick_adds, told_by_burst}
 use Rattle.osdp_sim_bus_laws.proofs.Places.{get_changed, other_changed, within}
 use Rattle.osdp_sim_bus_laws.proofs.Sites.{told_as, told_sites}
 use Rattle.osdp_sim_bus_laws.proofs.Stepping.{coming_at, is_quiet_line, quiet_where}
-
-both_free : (refused : Bool) (fault : Option ControllerFault) → not (refused || is_some fault) ≡ true → (refused ≡ false) × (fault ≡ None)
-both_free true fault is = absurd cc
-both_free false None is = (refl, refl)
-both_free false (Some fault) is = absurd cc
 
 get_told : {H : Type 0} (i k : ℕ) (r : Option (ℕ × Report)) (u : ReaderSite H) (us : List (ReaderSite H)) → slice_get us k ≡ Some u
     → slice_get (told_sites i r us) k ≡ Some (told_as (report_for (i + k) r) u)
@@ -132,7 +128,7 @@ module _ {H : Type 0} (answer_of : H → Command → Answer) (after : H → Comm
   issued_adds : (f : Option BusFault) (j : ℕ) (c : Command) → IsSubmitted answer_of after f j c s.bus n → AddsAt (line.Submit j c ∷ []) (issued f j c s)
   issued_adds (Some fault) j c stays = with_added (line.Submit j c ∷ []) s u nothing_added (refused_adds j c stays) here (adds_nothing u.account)
   issued_adds None j c (bus, (v, there, takes, same)) =
-      let free = both_free (is_comset_refused j (comset_of c) v n.sites) (controllers.submit_refusal c v.controller) takes in
+      let free = both_accept (is_comset_refused j (comset_of c) v n.sites) (controllers.submit_refusal c v.controller) takes in
       let all = one_own answer_of after k t n at (line.Submit j c) in
       changed_adds j (line.Submit j c ∷ []) (link.Submit c) (site_issues c) (issued None j c s) refl
       (λ e. all ∙ ap (λ b. cond b [] (one_if j k (link.Submit c))) (ap (λ w. is_comset_refused j (comset_of c) w n.sites) (sym (its e)) ∙ free.0)

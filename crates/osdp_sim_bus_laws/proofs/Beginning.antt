@@ -1,19 +1,12 @@
 -- The line on which the first sessions of a bus's readers begin, as sites: it is set up, and the simulation begins as these.
 use Rattle.osdp_sim_bus_laws.proofs.Common.{◌≡◌, ◌≢◌, ◌<◌, ◌&&◌, ◌||◌, not, ℕ, zero, suc, Bool, true, false, All, List, [], ◌∷◌, length, map, Some, None, refl, sym, subst, ap, ◌∙◌, arith, leb-true, nat_le, slice_get, list_all, list_any, most_entries, BusConfig, Begins, Each, is_true, site_at, IsSetUp, view, device_of, NothingIsKept, AreSettings, are_apart, is_at, is_reader_in_range, Given, address_of, begun_device, new_site, set_up, begins, FollowsSites, SitesOf, first_net, first_site}
+use Rattle.std.proofs.lemmas.Bool.{and_parts}
 use Rattle.osdp_bus.specs.Settings.{controller_config}
 use Rattle.osdp_link_laws.specs.Progress.{NoComset}
 use Rattle.osdp_shared_line.specs.Line as line
 use Rattle.osdp_reader_laws.specs.Storing.{StoresItsOwn}
 
 -- ---- tests of lists
-
-first_of : (a b : Bool) → (a && b) ≡ true → a ≡ true
-first_of true b e = refl
-first_of false b e = absurd cc
-
-rest_of : (a b : Bool) → (a && b) ≡ true → b ≡ true
-rest_of true b e = e
-rest_of false b e = absurd cc
 
 neither : (a b : Bool) → not (a || b) ≡ true → (a ≡ true → ⊥) × (not b ≡ true)
 neither true b e = absurd cc
@@ -25,11 +18,11 @@ module _ {H : Type 0} where
   in_range k given [] all is = absurd cc
   in_range zero given (g ∷ readers) all is =
       let same : g ≡ given = cc in
-      let range = first_of (is_reader_in_range g) (list_all is_reader_in_range readers) all in
-      let below = leb-true (address_of g) 126 (first_of (nat_le (address_of g) 126) (nat_le 1 g.1 && nat_le g.1 1024) range) in
+      let range = (and_parts (is_reader_in_range g) (list_all is_reader_in_range readers) all).0 in
+      let below = leb-true (address_of g) 126 (and_parts (nat_le (address_of g) 126) (nat_le 1 g.1 && nat_le g.1 1024) range).0 in
       subst (λ (h : Given H). address_of h < 127) same (omega (arith, below))
   in_range (suc k) given (g ∷ readers) all is =
-      in_range k given readers (rest_of (is_reader_in_range g) (list_all is_reader_in_range readers) all) is
+      in_range k given readers (and_parts (is_reader_in_range g) (list_all is_reader_in_range readers) all).1 is
 
   nobody_at : (address k : ℕ) (given : Given H) (readers : List (Given H)) → not (list_any (is_at address) readers) ≡ true
       → site_at k readers ≡ Some given → address_of given ≢ address
@@ -47,14 +40,14 @@ module _ {H : Type 0} where
   apart zero zero g h (r ∷ readers) other all at_j at_k = absurd (other refl)
   apart zero (suc k) g h (r ∷ readers) other all at_j at_k =
       let same : r ≡ g = cc in
-      let none = first_of (not (list_any (is_at (address_of r)) readers)) (are_apart readers) all in
+      let none = (and_parts (not (list_any (is_at (address_of r)) readers)) (are_apart readers) all).0 in
       λ is. nobody_at (address_of r) k h readers none at_k (sym is ∙ sym (ap (λ (p : Given H). address_of p) same))
   apart (suc j) zero g h (r ∷ readers) other all at_j at_k =
       let same : r ≡ h = cc in
-      let none = first_of (not (list_any (is_at (address_of r)) readers)) (are_apart readers) all in
+      let none = (and_parts (not (list_any (is_at (address_of r)) readers)) (are_apart readers) all).0 in
       λ is. nobody_at (address_of r) j g readers none at_j (is ∙ sym (ap (λ (p : Given H). address_of p) same))
   apart (suc j) (suc k) g h (r ∷ readers) other all at_j at_k =
-      apart j k g h readers (λ e. other (ap suc e)) (rest_of (not (list_any (is_at (address_of r)) readers)) (are_apart readers) all) at_j at_k
+      apart j k g h readers (λ e. other (ap suc e)) (and_parts (not (list_any (is_at (address_of r)) readers)) (are_apart readers) all).1 at_j at_k
 
   -- ---- the sites
 
@@ -117,13 +110,13 @@ module _ {H : Type 0} where
   }
     where
       both : (list_all is_reader_in_range readers && are_apart readers) ≡ true
-      both = rest_of (nat_le (length readers) most_entries) (list_all is_reader_in_range readers && are_apart readers) settings.each
+      both = (and_parts (nat_le (length readers) most_entries) (list_all is_reader_in_range readers && are_apart readers) settings.each).1
 
       all : list_all is_reader_in_range readers ≡ true
-      all = first_of (list_all is_reader_in_range readers) (are_apart readers) both
+      all = (and_parts (list_all is_reader_in_range readers) (are_apart readers) both).0
 
       away : are_apart readers ≡ true
-      away = rest_of (list_all is_reader_in_range readers) (are_apart readers) both
+      away = (and_parts (list_all is_reader_in_range readers) (are_apart readers) both).1
 
   -- ---- the simulation begins as these sites
 

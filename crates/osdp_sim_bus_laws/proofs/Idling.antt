@@ -1,14 +1,10 @@
 -- What a step that is no order leaves of one of several readers.
-use Rattle.osdp_sim_bus_laws.proofs.Common.{◌≡◌, ◌<◌, ◌-◌, ◌&&◌, ℕ, suc, arith, Bool, true, false, if◌then◌else◌, List, [], ◌∷◌, length, Option, Some, None, refl, ◌∙◌, le-leb, nat_le, packets_in, Packet, Command, Report, Answer, after_next_report, handed, left, moment_after, SimStep, Issue, Queue, Busy, Wait, ToReader, ToController, Reopen, LineState, ReaderSite, after_step, all_hear, all_hear_each, changed_site, hears_run, is_there, reopened, report_told, site_begins, site_hears, site_is_busy, site_is_told, waited, IsInSession, IsNoOrder, report_leaves}
+use Rattle.osdp_sim_bus_laws.proofs.Common.{◌≡◌, ◌<◌, ◌-◌, ℕ, suc, arith, Bool, true, false, if◌then◌else◌, List, [], ◌∷◌, length, Option, Some, None, refl, ◌∙◌, le-leb, nat_le, packets_in, Packet, Command, Report, Answer, after_next_report, handed, left, moment_after, SimStep, Issue, Queue, Busy, Wait, ToReader, ToController, Reopen, LineState, ReaderSite, after_step, all_hear, all_hear_each, changed_site, hears_run, is_there, reopened, report_told, site_begins, site_hears, site_is_busy, site_is_told, waited, IsInSession, IsNoOrder, report_leaves}
+use Rattle.std.proofs.lemmas.Bool.{and_from}
 use Rattle.osdp_sim_bus_laws.proofs.Places.{StaysAt, stays_all, stays_changed, stays_each, stays_then}
 
 pub there_is : {H : Type 0} (k : ℕ) (s : LineState H) → k < length s.sites → is_there (suc k) s ≡ true
-there_is k s few = is_both (nat_le 1 (suc k)) (nat_le (suc k) (length s.sites)) (le-leb 1 (suc k) (omega arith)) (le-leb (suc k) (length s.sites) (omega (arith, few)))
-  where
-    is_both : (a b : Bool) → a ≡ true → b ≡ true → (a && b) ≡ true
-    is_both true true first last = refl
-    is_both true false first last = absurd cc
-    is_both false b first last = absurd cc
+there_is k s few = and_from (nat_le 1 (suc k)) (nat_le (suc k) (length s.sites)) (le-leb 1 (suc k) (omega arith)) (le-leb (suc k) (length s.sites) (omega (arith, few)))
 
 module _ {H : Type 0} (answer_of : H → Command → Answer) (after : H → Command → H) where
   -- what nothing but an order changes

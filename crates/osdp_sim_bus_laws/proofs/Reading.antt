@@ -9,11 +9,11 @@ use Rattle.osdp_shared_line.proofs.Sites.{some_same}
 -- ---- one in the middle
 
 module _ {A : Type 0} where
-  at_middle : (done : List A) (x : A) (rest : List A) → site_at (length done) (done ++ x ∷ rest) ≡ Some x
+  pub at_middle : (done : List A) (x : A) (rest : List A) → site_at (length done) (done ++ x ∷ rest) ≡ Some x
   at_middle [] x rest = refl
   at_middle (y ∷ done) x rest = at_middle done x rest
 
-  changed_middle : (done : List A) (x new : A) (rest : List A) → changed (length done) new (done ++ x ∷ rest) ≡ done ++ new ∷ rest
+  pub changed_middle : (done : List A) (x new : A) (rest : List A) → changed (length done) new (done ++ x ∷ rest) ≡ done ++ new ∷ rest
   changed_middle [] x new rest = refl
   changed_middle (y ∷ done) x new rest = ap (λ l. y ∷ l) (changed_middle done x new rest)
 

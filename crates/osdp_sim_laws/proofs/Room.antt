@@ -1,17 +1,16 @@
 -- Room for what waits, however long each message is.
-use Rattle.osdp_sim_laws.proofs.Common.{◌≡◌, ◌<◌, ◌≤◌, ◌+◌, ◌-◌, ◌*◌, ◌&&◌, ℕ, arith, Bool, true, false, ltb, leb, if◌then◌else◌, List, [], ◌∷◌, ◌++◌, length, drop, inl, inr, refl, sym, ap, ◌∙◌, le-leb, lt-ltb, ltb-true, leb_tells, length-append, next_sequence, most_data, Command, Event, Reply, Machine, Ticked, begins, gives_up, sends_frame, stays, ticks_in, tries_again, Session, State, Closed, Quiet, Idle, Waiting, Pausing, EventQueue, both, Each, HoldsAlong, SimStep, Issue, Queue}
+use Rattle.osdp_sim_laws.proofs.Common.{◌≡◌, ◌<◌, ◌≤◌, ◌+◌, ◌-◌, ◌*◌, ◌&&◌, ℕ, arith, Bool, true, false, ltb, leb, if◌then◌else◌, List, [], ◌∷◌, ◌++◌, length, drop, inl, inr, refl, sym, ap, ◌∙◌, le-leb, lt-ltb, ltb-true, leb_tells, length-append, next_sequence, most_data, Command, Event, Machine, Ticked, begins, gives_up, sends_frame, stays, ticks_in, tries_again, Session, State, Closed, Quiet, Idle, Waiting, Pausing, EventQueue, both, Each, HoldsAlong, SimStep, Issue, Queue}
+use Rattle.std.proofs.lemmas.Bool.{and_parts, not-false, not-true}
 use Rattle.std.specs.Option.{option_map_or}
-use Rattle.std.specs.Prelude.{not}
 use Rattle.osdp_msg.specs.CommandTable.{CommandFits, command_code, command_counts_agree, command_data, command_fault, command_length_allowed}
-use Rattle.osdp_msg.specs.Events.{EventFits, event_reply}
-use Rattle.osdp_msg.specs.ReplyTable.{ReplyFits, reply_code, reply_counts_agree, reply_data, reply_fault, reply_length_allowed}
+use Rattle.osdp_msg.specs.Events.{EventFits}
 use Rattle.osdp_msg.proofs.Commands.{commands}
-use Rattle.osdp_msg.proofs.Replies.{replies}
 use Rattle.osdp_msg.proofs.Table.{bounded}
 use Rattle.osdp_controller.specs.Held.{on_its_way}
 use Rattle.osdp_controller.specs.Machine as controllers
 use Rattle.osdp_controller.specs.declared.exchange.Exchange.TheVariants.{Opening, Polling}
 use Rattle.osdp_reader.specs.Queue as reader
+use Rattle.osdp_reader_laws.proofs.Places.{event_is_short}
 
 -- ---- how long a message is
 
@@ -23,17 +22,6 @@ command_is_short c fits =
     let well = commands.well code bytes c (record { code_is = refl; data_is = refl; fits = fits }) in
     let few = bounded (command_length_allowed code (length bytes)) (length bytes) (command_counts_agree code bytes) well in
     omega (arith, few)
-
-reply_is_short : (r : Reply) → ReplyFits r → length (reply_data r) ≤ most_data
-unfolding reply_fault
-reply_is_short r fits =
-    let code = reply_code r in
-    let bytes = reply_data r in
-    let well = replies.well code bytes r (record { code_is = refl; data_is = refl; fits = fits }) in
-    bounded (reply_length_allowed code (length bytes)) (length bytes) (reply_counts_agree code bytes) well
-
-pub event_is_short : (e : Event) → EventFits e → reader.event_size e ≤ 1 + most_data
-event_is_short e fits = let few = reply_is_short (event_reply e) fits in omega (arith, few)
 
 -- a step's command or event has its fields in their ranges
 abbrev pub OrderFits : SimStep → Type 0
@@ -86,30 +74,18 @@ no_room_for_command k c m is fits refused =
 pub no_room_for_event : (k : ℕ) (e : Event) (q : EventQueue) → ShortEvents k q → EventFits e → reader.lacks_room e q ≡ true → q.capacity ≤ k
 no_room_for_event k e q is fits refused =
     no_room k (length q.events) (reader.bytes_waiting q.events) q.capacity q.room (reader.event_size e) is (event_is_short e fits)
-    (not_so (reader.has_room e q) refused)
-  where
-    not_so : (b : Bool) → not b ≡ true → b ≡ false
-    not_so true e = absurd cc
-    not_so false e = refl
+    (not-true (reader.has_room e q) refused)
 
 -- a message that has room has a place
-left_true : (a b : Bool) → (a && b) ≡ true → a ≡ true
-left_true true b e = refl
-left_true false b e = absurd cc
-
 pub place_for_command : (c : Command) (m : Machine) → controllers.has_room c m ≡ true → length m.waiting < m.capacity
 place_for_command c m is =
     ltb-true (length m.waiting) m.capacity
-    (left_true (ltb (length m.waiting) m.capacity) (leb (controllers.command_size c) (m.room - controllers.bytes_kept m)) is)
+    (and_parts (ltb (length m.waiting) m.capacity) (leb (controllers.command_size c) (m.room - controllers.bytes_kept m)) is).0
 
 pub place_for_event : (e : Event) (q : EventQueue) → reader.lacks_room e q ≡ false → length q.events < q.capacity
 place_for_event e q is =
     ltb-true (length q.events) q.capacity
-    (left_true (ltb (length q.events) q.capacity) (leb (reader.event_size e) (q.room - reader.bytes_waiting q.events)) (so (reader.has_room e q) is))
-  where
-    so : (b : Bool) → not b ≡ false → b ≡ true
-    so true e = refl
-    so false e = absurd cc
+    (and_parts (ltb (length q.events) q.capacity) (leb (reader.event_size e) (q.room - reader.bytes_waiting q.events)) (not-false (reader.has_room e q) is)).0
 
 -- one more waits
 commands_bytes : (cs ds : List Command) → controllers.bytes_waiting (cs ++ ds) ≡ controllers.bytes_waiting cs + controllers.bytes_waiting ds

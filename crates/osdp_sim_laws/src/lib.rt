@@ -21,7 +21,7 @@ pub fn keeps_ledger<H: Handler>()
     osdp_link_ledger::holds_by_ledger::<H>();
     osdp_link_ledger::ledger_tells_moves::<H>();
     osdp_link_ledger::acts_have_answers_of_one_handler::<H>();
-    osdp_ledger::one_session_holds();
+    osdp_ledger_laws::one_session_holds();
 }
 
 /// What the laws of accounts stand on: a packet is read as it is spelled, the theory of one link, and its ledger.

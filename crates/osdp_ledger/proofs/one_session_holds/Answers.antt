@@ -1,5 +1,0 @@
-use Rattle.osdp_ledger.proofs.OneSession.{one_session_holds}
-use Rattle.osdp_ledger.proofs.one_session_holds.Goals as goal
-
-pub returns : goal.returns
-returns c = one_session_holds
