@@ -15,7 +15,8 @@
  *             but NAK 4, NAK 5 and BUSY are no such answers. An event is offered once an answer that carries it is to be written.
  *             docs/PROTOCOL.md has the other words.
  * Units.      Moments and times are in milliseconds, of any clock that doesn't go backwards. A moment that lies before the greatest
- *             one seen counts as that one. One that lies more than a day after it is refused (the setting `clock_limit`).
+ *             one seen counts as that one, but an event is as old as its own moment says. One that lies more than a day after the
+ *             greatest is refused (the setting `clock_limit`).
  *             Lengths and counts are in bytes where nothing else is said.
  * Ownership.  A handle is two words that the caller owns. All zeros is none: it holds no machine. `new` puts a machine on the heap and
  *             into the handle, and `free` takes it away. Bytes, texts and structs stay the caller's. No call keeps a pointer after it

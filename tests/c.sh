@@ -67,7 +67,9 @@ for language in "-std=c99 -xc" "-std=c11 -xc" "-std=c2x -xc" "-std=c++11 -xc++" 
 done
 # parts of the examples, which need no archive: a port that hasn't a rate, bytes of long ago, and files that are written where they would change
 build ports tests/c/ports.c examples/c/{port,owner}.c -Iexamples/c "${checked[@]}" -Wl,--wrap=clock_gettime,--wrap=tcsetattr,--wrap=write,--wrap=ppoll && passes "$work/ports"
-mkdir "$work/places" && build kept tests/c/kept.c examples/c/{journal,kept}.c -Iexamples/c "${checked[@]}" -Wl,--wrap=fsync && passes "$work/kept" "$work/places"
+mkdir "$work"/{places,journals} && build kept tests/c/kept.c examples/c/kept.c -Iexamples/c "${checked[@]}" -Wl,--wrap=fsync && passes "$work/kept" "$work/places"
+build journal tests/c/journal.c examples/c/{journal,kept}.c -Iexamples/c "${checked[@]}" -Wl,--wrap=ferror,--wrap=fsync,--wrap=write && passes "$work/journal" "$work/journals"
+build hands tests/c/hands.c "${checked[@]}" && passes "$work/hands"
 build texts tests/c/texts.c c/osdp_texts.c && passes "$work/texts"
 build structs tests/c/structs.c c/heap_malloc.c "$archive" && passes "$work/structs"
 build structs_checked tests/c/structs.c c/heap_malloc.c "$archive" "${checked[@]}" && passes "$work/structs_checked"

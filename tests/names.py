@@ -6,7 +6,9 @@
 - The constants of both have the same names and values, and the structs the same fields, in their order and of the same types.
 - Each constant has the number that a definition of crates/osdp_c_values/specs, or of the crates below, gives it, and each such number has a constant. Those of
   fields, for which there is no definition, have the number of the standard's tables; and so have those of crates/osdp_names/src/named.rt, and of rust/src/named.rs.
-- The functions of both have the same parameters, by names and types."""
+- The functions of both have the same parameters, by names and types.
+- include/osdp_site.h has the pause and the room of crates/osdp_site, its states hold the longest text, and each status has the number that its comment names.
+- A status says the same in C (c/osdp_texts.c) and in Rust (rust/src/error.rs), but where Rust has one error for several statuses."""
 import re
 import subprocess
 import sys
@@ -163,6 +165,34 @@ def named_in_rust():
     return {f"OSDP_{group.upper()}_{name}": value for group, body in groups for name, value in re.findall(r"(\w+) = (\w+),", body)}
 
 
+def statuses():
+    """The statuses of the header."""
+    return re.findall(r"\b(OSDP_\w+) = ", re.search(r"typedef enum osdp_status \{(.*?)\n\}", (TOP / "include/osdp.h").read_text(), re.S)[1])
+
+
+def texts_in_c():
+    """What c/osdp_texts.c says of each status."""
+    cases = re.findall(r"((?:    case OSDP_\w+:\n)+)        return \"(.*)\";", (TOP / "c/osdp_texts.c").read_text())
+    return {name: text for several, text in cases for name in re.findall(r"OSDP_\w+", several)}
+
+
+def texts_in_rust():
+    """What rust/src/error.rs says of each status. One error stands for several statuses without memory or room."""
+    code = (TOP / "rust/src/error.rs").read_text()
+    said = dict(re.findall(r'Error::(\w+) => "(.*)",', code))
+    errors = [(re.findall(r"sys::(OSDP_\w+)", several), error) for several, error in re.findall(r"((?:sys::OSDP_\w+\s*\|?\s*)+)=> \{?\s*Error::(\w+)", code)]
+    return {name: said[error] for several, error in errors for name in several if error not in ("NoMemory", "Full")}
+
+
+def judge_site():
+    """The constants of include/osdp_site.h: by the crate in Rattle, by the longest text (255 characters after six bytes), and by their comments, as `P5: ..`."""
+    text, crate = ((TOP / name).read_text() for name in ("include/osdp_site.h", "crates/osdp_site/src/site.rt"))
+    constants = {name: int(number) for name, number in re.findall(r"OSDP_SITE_(\w+) = (\d+)", text)}
+    wanted = {name.upper(): int(number) for name, number in re.findall(r"^            (pause|room): (\d+),$", crate, re.M)} | {"MOST_DATA": 6 + 255, "ANY_LENGTH": 0, "OK": 0}
+    wanted |= {name: int(number) for number, name in re.findall(r"/\* P(\d): [^*]*\*/\n    OSDP_SITE_(\w+) =", text)}
+    compare("constant OSDP_SITE", constants, wanted, "crates/osdp_site and the comments")
+
+
 def names(archive, *words):
     """The names that nm prints."""
     printed = subprocess.run(["nm", *words, archive], check=True, capture_output=True, text=True).stdout
@@ -176,6 +206,12 @@ def main():
     compare("constant", constants, defined(), SPECS)
     compare("constant", standard(), named(), "crates/osdp_names/src/named.rt")
     compare("constant", {name: name for name in standard()}, named_in_rust(), "rust/src/named.rs")
+    judge_site()
+    in_c, in_rust = texts_in_c(), texts_in_rust()
+    compare("text", {name: in_c.get(name) for name in in_rust}, in_rust, "rust/src/error.rs")
+    compare("text", dict.fromkeys(statuses(), True), dict.fromkeys(in_c, True), "c/osdp_texts.c")
+    if len(in_rust) < 18:
+        faults.append("texts of statuses are not there")
     compare("struct", {name: one for name, one in structs.items() if name != "osdp_block"}, rust()[2])
     for name in sorted((declared.keys() - HEAP - BESIDE) ^ names(sys.argv[1], "--defined-only", "--extern-only")):
         faults.append(f"{name}: only {'the header' if name in declared else 'the archive'} has it")

@@ -1,11 +1,14 @@
 #!/usr/bin/env bash
 # Runs `osdp-port`, over pyserial of the system's Python: the walk of an installer over pseudo terminals; a line that loses, damages and repeats bursts; and a
-# simulated line, where devices are found after a COMSET whose answers were lost; ports and files that fail. Runs the short examples in Python. Takes the path of the program.
+# simulated line, where devices are found after a COMSET whose answers were lost; ports and files that fail; and what its parts answer. Runs the short examples in Python. Takes the path of the program.
 set -u
 program=$(cd "$(dirname "$1")" && pwd)/$(basename "$1")
 cd "$(dirname "$0")/.." || exit 1
 /usr/bin/python3 -c 'import serial' || { echo 'pyserial is missing: apt-get install python3-serial'; exit 1; }
 failed=0
+timeout 60 /usr/bin/python3 -B tests/port_parts.py || failed=1
+timeout 60 /usr/bin/python3 -B tests/port_pieces.py || failed=1
+timeout 60 /usr/bin/python3 -B tests/port_machines.py || failed=1
 timeout 400 /usr/bin/python3 -B tests/port_places.py "$program" || failed=1
 timeout 300 /usr/bin/python3 -B tests/port_faults.py "$program" || failed=1
 timeout 300 /usr/bin/python3 -B tests/port_files.py "$program" || failed=1

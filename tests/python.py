@@ -17,6 +17,7 @@ import os
 import pickle
 import re
 import select
+import shutil
 import subprocess
 import sys
 import tempfile
@@ -183,6 +184,10 @@ def judge_pieces():
         tell("after noise", 1, len(list(device.hear(bytes(9000) + identify, 1))))
         tell("half a packet", 0, len(list(device.hear(identify[:4], 2))))
         tell("its other half", 1, len(list(device.hear(identify[4:], 3))))
+        cut = bytes.fromhex("5305280000")  # the beginning of a packet of 40 bytes
+        for now, ends in ((1000, lambda: device.tick(1020)), (2000, lambda: device.silence(2001))):
+            tell("two packets within a run", 0, len(list(device.hear(cut + identify * 2, now))))
+            tell("two packets of a run that is over", 2, len(list(ends())))
 
 
 def judge_refusals():
@@ -220,12 +225,18 @@ def judge_refusals():
                        ("an address of 2**32", lambda: osdp.Device(2**32)), ("a vendor of two bytes", lambda: osdp.Device(5, vendor=b"SI")),
                        ("an entry below 0", lambda: osdp.Panel().begin(-1, 0)), ("an entry of 2**64", lambda: osdp.Panel().waiting(2**64)),
                        ("a tamper of 256", lambda: osdp.Device(5).set_local(256, 0)), ("a busy of 2**32", lambda: osdp.Device(5).set_busy(2**32)),
+                       ("a maker of two bytes", lambda: osdp.Device(5).answer_maker(b"SI", b"")), ("firmware of two numbers", lambda: osdp.Device(5, firmware=(1, 2))),
                        ("an address of 2**32 of a panel", lambda: osdp.Panel().add(2**32)), ("a text of code 0x168", lambda: str(osdp.Message(0x168, bytes.fromhex("00051E00"), False)))):
         try:
             call()
             faults.append(f"{what} is taken")
         except ValueError:
             pass
+    try:
+        osdp.Panel(reply_waits=200)
+        faults.append("a setting that there isn't is taken")
+    except TypeError as error:
+        tell("a setting that there isn't", "a panel has no setting reply_waits", str(error))
     error = osdp.OsdpError(osdp.Status.NO_ENTRY)
     copied = pickle.loads(pickle.dumps(error))
     tell("a refusal in another process", (osdp.OsdpError, error.status, str(error)), (type(copied), copied.status, str(copied)))
@@ -300,9 +311,10 @@ def judge_device():
                     device.answer_refused(3)
                 panel.hear(answer.data, now)
             replies += [str(each.reply) for each in panel.reports() if each.kind is osdp.Kind.SETTLED]
-        device.event("KEYPAD 0 31")
+        device.event("KEYPAD 0 31"), device.event("KEYPAD 0 30")
         tell("lapsed", [], list(device.expire_events(5000, 1)))
-        tell("withdrawn", [(osdp.Expired.WITHDRAWN, "KEYPAD 0 31")], [(how, str(event)) for how, event in device.expire_events(14000, 1)])
+        expired = [(how, str(event), event.is_reply) for how, event in device.expire_events(14000, 1)]
+        tell("withdrawn", [(osdp.Expired.WITHDRAWN, "KEYPAD 0 31", True), (osdp.Expired.WITHDRAWN, "KEYPAD 0 30", True)], expired)
         device.event("KEYPAD 0 32")
         tell("never offered", (None, "KEYPAD 0 32", None), (device.lapse_event(), str(device.withdraw_event()), device.withdraw_event()))
         device.event("KEYPAD 0 33")
@@ -418,6 +430,13 @@ def judge_monitor():
                     tell(f"{row.place}: the monitor", (row.output.decode(), bool(row.status), ""), (text + monitor.text(), monitor.is_wrong(), monitor.text()))
                     told += 1
     tell("rows of a monitor", True, told >= 25)
+    long, short = osdp.Monitor(osdp.Prints.PACKETS), osdp.Monitor(osdp.Prints.PACKETS)
+    text = ""
+    for _ in range(300):
+        for monitor in (long, short):
+            monitor.hear(bytes.fromhex("53050700006041")), monitor.silence()
+        text += short.text()
+    tell("a text that is longer than a room", (True, True), (long.text() == text, len(text) > 4096))
     monitor = osdp.Monitor()
     monitor.close(), monitor.close()
     refused("a closed monitor", osdp.Status.NO_MACHINE, monitor.hear, b"")
@@ -439,6 +458,13 @@ def judge_no_library():
             words = [sys.executable, "-B", TOP / f"python/examples/{name}.py", "--help"]
             done = subprocess.run(words, capture_output=True, text=True, env={**os.environ, "OSDP_LIBRARY": path})
             tell(f"{name} with {path}", (1, "", True, 1), (done.returncode, done.stdout, done.stderr.startswith(said), len(done.stderr.splitlines())))
+    with tempfile.TemporaryDirectory() as folder:  # the library beside the package is taken, but where the variable names another one
+        shutil.copytree(TOP / "python/osdp", f"{folder}/osdp", ignore=shutil.ignore_patterns("__pycache__"))
+        (Path(folder) / "osdp/libosdp.so.0").symlink_to(os.environ["OSDP_LIBRARY"])
+        for named, wanted in (({}, osdp.__version__), ({"OSDP_LIBRARY": "/nowhere/libosdp.so.0"}, "")):
+            rest = {name: value for name, value in os.environ.items() if name != "OSDP_LIBRARY"}
+            done = subprocess.run([sys.executable, "-B", "-c", "import osdp; print(osdp.library_version())"], capture_output=True, text=True, env={**rest, "PYTHONPATH": folder, **named})
+            tell(f"the library beside the package, {named}", wanted, done.stdout.strip())
 
 
 def judge_door():

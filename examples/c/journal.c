@@ -71,20 +71,31 @@ static void set_event(const char *text)
     }
 }
 
+/* The text after a word, with which a line begins, and a number. NULL where there is none of these. */
+static const char *text_of(const char *line, const char *word, uint64_t *number)
+{
+    int length = 0;
+    if (strncmp(line, word, strlen(word)) != 0) {
+        return NULL;
+    }
+    line += strlen(word);
+    return sscanf(line, "%" SCNu64 " %n", number, &length) == 1 && length > 0 && line[length - 1] == ' ' && line[length] != '\0' ? line + length : NULL;
+}
+
 /* Takes a line of the journal, without its line feed. Whether it is one. */
 static bool take_line(const char *line)
 {
     uint64_t number;
-    int length = 0;
     if (strncmp(line, "event ", 6) == 0) {
         set_event(line + 6);
         return true;
     }
-    if (sscanf(line, "order %" SCNu64 " %n", &number, &length) == 1 && length > 0) {
-        add_order(number, line + length);
+    const char *text = text_of(line, "order ", &number);
+    if (text != NULL) {
+        add_order(number, text);
         return true;
     }
-    struct order *order = sscanf(line, "end %" SCNu64 " %n", &number, &length) == 1 && length > 0 ? take_order(number) : NULL;
+    struct order *order = text_of(line, "end ", &number) != NULL ? take_order(number) : NULL;
     bool is_end = order != NULL;
     free(order);
     return is_end;

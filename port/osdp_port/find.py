@@ -193,8 +193,8 @@ def opens(line, place, check, identity):
 
 
 def changes(line, found, address, rate, say):
-    """Gives a device another place, and confirms it by an opening there. Whether it is there."""
-    place = (found.address if address is None else address, found.rate if rate is None else rate)
+    """Gives a device another place, and confirms it by an opening there. Whether it is there: it may tell by its COM that it has taken another one."""
+    wanted = place = (found.address if address is None else address, found.rate if rate is None else rate)
     if not line.goes(place[1]):
         say(f"device {found.address} isn't changed")
         return False
@@ -214,8 +214,8 @@ def changes(line, found, address, rate, say):
     time.sleep(0.1)  # the device sets its port
     for each in (place, (found.address, found.rate)):
         if opens(line, each, found.check, found.identity):
-            say(f"{'set' if each == place else 'not set'}: device is at address {each[0]} rate {each[1]}")
-            return each == place
+            say(f"{'set' if each == wanted else 'not set'}: device is at address {each[0]} rate {each[1]}")
+            return each == wanted
     say(f"device {found.address} isn't found again: it may be at address {place[0]} rate {place[1]}; try find once more")
     return False
 

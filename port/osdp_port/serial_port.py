@@ -7,7 +7,7 @@ import termios
 import time
 
 from .faults import BAD_WORDS, NO_PROGRAM, Stop
-from .owner import holders
+from .owner import holders, others
 
 try:
     import serial
@@ -120,8 +120,8 @@ class Port:
         return has_rate(rate) and (self.has_own_rate or rate == self.rate)
 
     def others(self):
-        """Which other programs have it open already."""
-        return [] if "://" in self.path else holders(self.path)
+        """Which other programs have it open already, and may take bytes from it."""
+        return [] if "://" in self.path else others(self.path)
 
     def number(self):
         """The descriptor to wait on, where there is one."""
@@ -195,8 +195,8 @@ class Port:
             self.pulled()
         elif time.monotonic() - self.told_stolen >= STOLEN_AGAIN:
             self.told_stolen = time.monotonic()
-            others = self.others()
-            self.tell(f"bytes taken from {self.path} by {' and '.join(others) if others else 'another program'}: end it")
+            found = self.others()
+            self.tell(f"bytes taken from {self.path} by {' and '.join(found) if found else 'another program'}: end it")
 
     def write(self, burst):
         if self.serial is None:

@@ -46,6 +46,8 @@ class Journal:
             self.event = rest
             return
         number, _, text = rest.partition(" ")
+        if not text:
+            raise ValueError(line)
         if word == "order":
             self.last = int(number)
             self.orders[self.last] = text

@@ -148,12 +148,13 @@ fn refusals_have_their_reasons() {
     assert_eq!(device.event_text("KEYPAD 0 31"), Err(Error::Full));
 }
 
-/// Answers of the device at 5, worked by hand: BUSY, PDID, a RAW without bits to number 1, and NAK 3 to number 2.
+/// Answers of the device at 5, worked by hand: BUSY, PDID, a RAW without bits to number 1 and to number 3, and NAK 3 to number 2.
 const BUSY: [u8; 7] = [0x53, 0x85, 7, 0, 0, 0x79, 0xA8];
 const PDID: [u8; 19] = [
     0x53, 0x85, 19, 0, 0, 0x45, 1, 2, 3, 4, 5, 6, 7, 8, 9, 10, 11, 12, 0x82,
 ];
 const RAW_OF_NONE: [u8; 8] = [0x53, 0x85, 8, 0, 1, 0x50, 0, 0xCF];
+const RAW_OF_NONE_3: [u8; 8] = [0x53, 0x85, 8, 0, 3, 0x50, 0, 0xCD];
 const NAK_3: [u8; 8] = [0x53, 0x85, 8, 0, 2, 0x41, 3, 0xDA];
 
 /// When the panel is due next.
@@ -228,4 +229,11 @@ fn settings_are_those_of_the_panel() {
     panel.on_bytes(&NAK_3, at(2220)).unwrap();
     let nak = Reply::read(0x41, &[3]).unwrap();
     assert_eq!(report(&mut panel), Some(Report::Answered(nak)));
+    // so is the answer to a command that can't be read
+    let asked = Command::local_status();
+    panel.submit(door, &asked).unwrap();
+    assert_eq!(sent(&mut panel, 2230), 7);
+    panel.on_bytes(&RAW_OF_NONE_3, at(2240)).unwrap();
+    let (command, code) = (Some(asked), 0x50);
+    assert_eq!(report(&mut panel), Some(Report::Unread { command, code }));
 }

@@ -118,6 +118,13 @@ fn out() {
         panic!("another command");
     };
     assert!(outputs.eq(changes));
+    let four = [0, 1, 2, 3].map(|at| change(at, output::ON, 0));
+    assert!(
+        Command::out(&four)
+            .expect("four records")
+            .outputs()
+            .eq(four)
+    );
 }
 
 #[test]
@@ -143,6 +150,8 @@ fn led() {
         panic!("another command");
     };
     assert!(leds.eq([record]));
+    let four = [0, 1, 2, 3].map(|led| Led { led, ..record });
+    assert!(Command::led(&four).expect("four records").leds().eq(four));
 }
 
 #[test]

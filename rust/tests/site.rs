@@ -356,6 +356,41 @@ fn what_was_submitted_is_not_submitted_again() {
     assert_eq!(line.taken, [green, silent]);
 }
 
+/// A state that takes the place of one which was submitted goes out, and those beside it don't come again. Then the device is refreshed.
+#[test]
+fn a_new_state_goes_out() {
+    let mut line = line();
+    line.wants(&Command::color(color::GREEN).unwrap());
+    line.wants(&Command::sound(false));
+    line.run(3000);
+    line.taken.clear();
+    line.wants(&Command::color(color::RED).unwrap());
+    assert!(!line.site.is_refreshed(line.door));
+    line.run(4000);
+    line.wants(&Command::sound(true));
+    line.run(5000);
+    let (red, sound) = ("LED 0:0:0:0:0:0:0:0:1:1:0:1:1", "BUZ 0 2 5 5 0");
+    assert_eq!(line.taken, [red, sound]);
+    assert!(line.site.is_refreshed(line.door));
+}
+
+/// A state for which there is no room now keeps those after it waiting, though one of them would fit: they go out in their order, each once.
+#[test]
+fn what_has_no_room_goes_out_first() {
+    let four = PanelConfig {
+        capacity: 4,
+        ..PanelConfig::default()
+    };
+    let mut line = line_over(Panel::with_room(&four, 18).unwrap());
+    let text = |row| Command::text(&Text::new(b"ABCDE").unwrap().at(row, 1)); // 12 bytes with its code
+    line.wants(&text(1));
+    line.wants(&text(2));
+    line.wants(&Command::sound(false)); // 6 bytes
+    line.run(4000);
+    let (first, second) = ("TEXT 0 1 0 1 1 4142434445", "TEXT 0 1 0 2 1 4142434445");
+    assert_eq!(line.taken, [first, second, "BUZ 0 1 5 5 0"]);
+}
+
 /// All orders that wait are taken back before a session.
 #[test]
 fn no_stale_order_is_left() {

@@ -98,7 +98,12 @@ int main(int count, char **words)
     demand(is_pool == (refused > 0), "blocks were refused, or none was");
     struct osdp_block most = rattle_alloc(131072 - 16, 16);
     demand(most.ok, "what was given back isn't joined");
-    demand(!rattle_alloc(SIZE_MAX / 2, 16).ok, "more was given than there is");
+    struct osdp_block more = rattle_alloc(SIZE_MAX / 2, 16);
+    demand(!more.ok && more.block != NULL, "more was given than there is, or the pointer of none is null");
+    memset(most.block, 7, 131072 - 16);
+    more = rattle_realloc(most.block, 131072 - 16, SIZE_MAX / 2, 16);
+    demand(!more.ok && more.block != NULL, "a block became longer than there is, or the pointer of none is null");
+    demand(((unsigned char *)most.block)[0] == 7 && ((unsigned char *)most.block)[131071 - 16] == 7, "a block that couldn't become longer is gone");
     demand(!is_pool || !rattle_alloc(0, 1).ok, "more was given than there is");
     rattle_dealloc(most.block);
     return 0;

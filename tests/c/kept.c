@@ -1,5 +1,4 @@
-/* The files of the examples that keep places (examples/c/kept.c) and orders (journal.c): places are written
- * only where they would change, and a disk that fails leaves what stood there.
+/* The files of the examples that keep places (examples/c/kept.c): places are written only where they would change, and a disk that fails leaves what stood there.
  * What is written to the disk is counted. It needs no archive: `kept FOLDER`. Each fault is told, and the status is 1 then. */
 #define _GNU_SOURCE
 #include "kept.h"
@@ -12,7 +11,6 @@
 #include <sys/wait.h>
 #include <unistd.h>
 
-#include "journal.h"
 #include "words.h"
 
 static int faults, syncs;
@@ -168,42 +166,6 @@ static void place_is_kept(const char *path, const char *new)
     demand(read_kept(path, &address, &rate) && address == 7 && rate == 19200, "the place is read otherwise");
 }
 
-/* A journal that was cut within its last line: what is whole is read, the numbers go on, and the cut line is gone. It is written to the disk line by line. */
-static void reads_journal(const char *path)
-{
-    const char *const whole = "order 1 OUT 0:5:30\norder 2 LSTAT\nevent KEYPAD 0 31\nend 1 settled ACK\n";
-    char text[256];
-    FILE *file = fopen(path, "w");
-    demand(file != NULL && fprintf(file, "%sorder 3 IST", whole) > 0 && fclose(file) == 0, "there is no file");
-    syncs = 0;
-    open_journal(path);
-    demand(syncs == 2 && holds(path, whole), "a line that is cut stays in the journal, or the journal isn't on the disk");
-    demand(first_order() == 2 && is_last_event("KEYPAD 0 31") && !is_last_event("KEYPAD 0 32"), "a journal is read otherwise");
-    demand(note_order("ISTAT") == 3 && first_order() == 2 && syncs == 3, "an order isn't on the disk, or has another number or place");
-    note_end(2, "doubt");
-    demand(strcmp(told, "doubt 2 LSTAT\n") == 0 && first_order() == 3 && syncs == 4, "an end isn't told, or isn't on the disk");
-    note_event("KEYPAD 0 32");
-    demand(is_last_event("KEYPAD 0 32") && syncs == 5, "an event isn't on the disk");
-    snprintf(text, sizeof text, "%sorder 3 ISTAT\nend 2 doubt\nevent KEYPAD 0 32\n", whole);
-    demand(holds(path, text), "a journal is written otherwise");
-    (void)dup2(STDERR_FILENO, STDOUT_FILENO); /* what is said is no fault */
-    fails = faults == 0;
-    (void)note_order("OSTAT"); /* ends the program, since the disk fails */
-}
-
-static void journal_is_kept(const char *path)
-{
-    int status = 0;
-    fflush(stdout);
-    pid_t child = fork();
-    if (child == 0) {
-        reads_journal(path);
-        _exit(0);
-    }
-    (void)waitpid(child, &status, 0);
-    demand(WIFEXITED(status) && WEXITSTATUS(status) == FAILED, "a journal isn't kept, or a disk that fails doesn't end the program");
-}
-
 int main(int count, char **words)
 {
     if (count != 2 || chdir(words[1]) != 0) {
@@ -213,6 +175,5 @@ int main(int count, char **words)
     place_is_kept("place", "place.new");
     devices_are_told_apart("devices");
     others_are_refused("other");
-    journal_is_kept("journal");
     return faults == 0 ? 0 : 1;
 }

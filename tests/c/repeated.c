@@ -1,8 +1,10 @@
 /* A port in simulated time for examples/c/door_panel.c, which runs on it as it stands: `repeated CARDS RATE`, in place of a port's name how many cards are read.
  *
  * At the other end of the line stands a device. In each direction 5% of all bursts are lost, the last byte of 5% is changed, and 5% come twice, by a seeded
- * generator. Two cards that open the door are read in turn, the next one once the last was told. An order is an OUT that goes out and isn't a repeat. It is of
- * the card that was told last. Status 1 where a card makes a second order, where one is missing, or where none was told again, so that nothing was tried. */
+ * generator. Two cards that open the door are read in turn, each eighth one once more, and the next one once the last was told. An event is to be marked exactly
+ * where it is the first of its session and has the bytes of the last one before it. An order is an OUT that goes out and isn't a repeat. A marked card makes none,
+ * and each other one makes one before the next event. Status 1 where that is otherwise, where a card is missing, or where nothing was tried: no card was told again,
+ * or the same card wasn't read twice within a session. */
 #include "port.h"
 
 #include <stdio.h>
@@ -25,7 +27,8 @@ static uint64_t now, next_card = 500, chances[2] = { 0x9E3779B97F4A7C15u, 0xD1B5
 static osdp_device device;
 static struct osdp_burst last;       /* that the panel has sent */
 static struct osdp_message last_card; /* that the panel has told */
-static unsigned cards, read_cards, told, again, orders, second, unlocks, lost, orders_of_card;
+static bool is_first = true, may_order; /* whether no event of this session was told; whether the event that was told last is to make an order */
+static unsigned cards, read_cards, told, again, same, orders, second, missing, marks, unlocks, lost, orders_of_event;
 
 /* The next number of a direction, from 0 to 99. */
 static unsigned chance(int way)
@@ -82,22 +85,47 @@ static void device_hears(const uint8_t *bytes, size_t length)
     }
 }
 
-static void read_card(void)
+/* The card that is read as the Nth. */
+static const uint8_t *card_of(unsigned at)
 {
     static const uint8_t known[2][8] = { { 0, 0, 26, 0, 0x12, 0x34, 0x56, 0x40 }, { 0, 0, 26, 0, 0x65, 0x43, 0x21, 0x80 } };
-    if (osdp_device_event(&device, OSDP_RAW, known[read_cards % 2], 8) != OSDP_OK) {
+    return known[(at - at / 8) % 2];
+}
+
+static void read_card(void)
+{
+    if (osdp_device_event(&device, OSDP_RAW, card_of(read_cards), 8) != OSDP_OK) {
         stop(FAILED, "repeated: a card isn't taken");
     }
     read_cards++;
 }
 
+/* The event that was told last has made its orders: as many as it may. */
+static void has_ordered(void)
+{
+    missing += may_order && orders_of_event == 0;
+    second += orders_of_event > may_order;
+    may_order = false;
+    orders_of_event = 0;
+}
+
 /* All cards were read and told, or too much time has passed. */
 static _Noreturn void ends(void)
 {
-    bool holds = told == cards && second == 0 && again > 1;
-    printf("repeated: %u cards told of %u, %u of them again, %u orders, %u second orders, %u unlocks, %u sessions lost\n", told, cards, again, orders, second, unlocks, lost);
+    has_ordered();
+    bool holds = told == cards && second + missing + marks == 0 && again > 1 && same > 1;
+    printf("repeated: %u cards told of %u, %u of them again, %u the same in turn, %u orders, %u second orders, %u missing orders, %u wrong marks, %u unlocks, %u sessions lost\n",
+           told, cards, again, same, orders, second, missing, marks, unlocks, lost);
     osdp_device_free(&device);
     exit(holds ? 0 : 1);
+}
+
+/* Whether an event that the panel has told is one that it has told before: the device still holds it before the card that was read last, or that one was told. */
+static bool is_told_again(void)
+{
+    osdp_size waiting = 0;
+    (void)osdp_device_waiting(&device, &waiting);
+    return told == read_cards || waiting > 1;
 }
 
 /* What the panel tells. */
@@ -105,17 +133,23 @@ void __wrap_tell_report(const struct osdp_report *report);
 void __wrap_tell_report(const struct osdp_report *report)
 {
     lost += report->kind == OSDP_REPORT_LOST;
+    is_first = is_first || report->kind == OSDP_REPORT_OPENED;
     if (report->kind != OSDP_REPORT_EVENT) {
         return;
     }
-    if (told == read_cards || (last_card.length == report->reply.length && memcmp(last_card.data, report->reply.data, last_card.length) == 0)) {
-        again++;
-        return;
-    }
+    bool is_equal = last_card.code == report->reply.code && last_card.length == report->reply.length && memcmp(last_card.data, report->reply.data, last_card.length) == 0;
+    bool is_marked = is_first && is_equal, is_again = is_told_again();
+    has_ordered();
+    marks += report->detail != (is_marked ? OSDP_EVENT_MAYBE_AGAIN : 0u);
+    may_order = !is_marked;
+    is_first = false;
     last_card = report->reply;
-    told++;
-    orders_of_card = 0;
-    next_card = now + BETWEEN;
+    again += is_again;
+    same += is_equal && !is_marked;
+    if (!is_again) {
+        told++;
+        next_card = now + BETWEEN;
+    }
 }
 
 uint64_t moment(void)
@@ -169,7 +203,7 @@ void write_all(int port, const struct osdp_burst *burst)
     }
     if (burst->bytes[5] == OSDP_OUT && (last.length != burst->length || memcmp(last.bytes, burst->bytes, burst->length) != 0)) {
         orders++;
-        second += orders_of_card++ > 0;
+        orders_of_event++;
     }
     last = *burst;
     carry(OUT, burst);

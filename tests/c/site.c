@@ -96,6 +96,10 @@ static void refusals(void)
     demand(osdp_site_wants(&site, 1, &none) == OSDP_SITE_NO_ENTRY);
     none.length = 4; /* no BUZ has four bytes */
     demand(osdp_site_wants(&site, 0, &none) == OSDP_SITE_NO_STATE && entries[0].count == 0);
+    osdp_sound(false, &none);
+    none.present = 0;
+    demand(osdp_site_wants(&site, 0, &none) == OSDP_SITE_NO_STATE && entries[0].count == 0);
+    demand(!osdp_site_is_refreshed(&site, 0)); /* nothing is wanted of it, and it is offline */
 }
 
 /* Each control, each kind of LED, buzzer and text that says a state is taken as one. */
@@ -292,7 +296,7 @@ static void waits(void)
     demand(osdp_panel_free(&brisk) == OSDP_OK);
 }
 
-/* A turn takes what its own tick has reported, and a turn after a long sleep hears its bytes and sends its packet all the same. */
+/* A turn sends what its own bytes ask for, and takes what its own tick has reported; without a panel it gives no packet. A turn after a long sleep hears its bytes and sends its packet all the same. */
 static void turns(void)
 {
     static struct osdp_burst burst;
@@ -302,18 +306,22 @@ static void turns(void)
     for (int hears = 0; hears < 2; hears++) {
         make_brisk(&brisk, 1);
         osdp_site_new(&site, entries, 1, OSDP_SITE_ANY_LENGTH, 1000);
+        demand(wants_text("BUZ 0 1 5 5 0") == OSDP_SITE_OK);
         osdp_site_turn(&site, &brisk, NULL, 0, 1000, take_report, &burst);
-        demand(burst.length == 0);
+        demand(burst.length == 0 && !osdp_site_is_due(&site, 0, UINT64_MAX)); /* its session has begun */
         osdp_site_turn(&site, &brisk, NULL, 0, hears ? 1400 : late, take_report, &burst);
         demand(burst.length > 5 && burst.bytes[1] == 5 && burst.bytes[5] == OSDP_ID);
         if (hears) {
             osdp_site_turn(&site, &brisk, identifies, sizeof identifies, late, take_report, &burst);
-            demand(entries[0].is_online && entries[0].since == late);
+            demand(entries[0].is_online && entries[0].since == late && burst.length > 5 && burst.bytes[5] == OSDP_BUZ);
         } else {
             osdp_site_turn(&site, &brisk, NULL, 0, late + 200, take_report, &burst);
             demand(entries[0].begins == late + 1200);
         }
         demand(osdp_panel_free(&brisk) == OSDP_OK);
+        burst.length = 5;
+        osdp_site_turn(&site, &brisk, NULL, 0, late + 200, take_report, &burst);
+        demand(burst.length == 0);
     }
 }
 
